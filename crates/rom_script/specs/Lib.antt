@@ -1,0 +1,8 @@
+-- Streams of bytes, the lines of scripts, and the texts of results.
+pub mod Streams
+pub mod Limits
+pub mod Memory
+pub mod Lines
+pub mod Scripts
+pub mod Text
+pub mod Grown

@@ -1,0 +1,76 @@
+-- The lines of a script, and what each asks for.
+use Rattle.std.specs.Prelude.{◌≡◌, ℕ, ◌-◌, ◌^◌, ◌<◌, ◌==◌, List, [], ◌∷◌, ◌++◌, length, take, map, codes, decimal, slice_index, if◌then◌else◌}
+use Rattle.rom_model.specs.declared.call.Call.{Call}
+use Rattle.rom_model.specs.declared.call.Call.TheVariants as call
+use Rattle.rom_model.specs.declared.call.Query.{Query}
+use Rattle.rom_model.specs.declared.call.Query.TheVariants as query
+use Rattle.rom_model.specs.declared.line.Step.{Step}
+use Rattle.rom_model.specs.declared.line.Step.TheVariants.{Update, Ask, Unread}
+
+-- the byte goes onto the first piece
+abbrev pub onto_first : ℕ → List (List ℕ) → List (List ℕ)
+onto_first b [] = (b ∷ []) ∷ []
+onto_first b (piece ∷ pieces) = (b ∷ piece) ∷ pieces
+
+-- the pieces between the LFs; a last piece without LF counts if it isn't empty
+abbrev pub pieces_of : List ℕ → List (List ℕ)
+pieces_of [] = []
+pieces_of (b ∷ bs) = if b == 10 then [] ∷ pieces_of bs else onto_first b (pieces_of bs)
+
+-- one CR at a line's end isn't part of it
+abbrev pub without_cr : List ℕ → List ℕ
+without_cr piece = if slice_index piece (length piece - 1) == 13 then take (length piece - 1) piece else piece
+
+abbrev pub lines_of : List ℕ → List (List ℕ)
+lines_of bytes = map without_cr (pieces_of bytes)
+
+-- a space and a number, in digits without sign and without leading zero
+abbrev pub spaced : ℕ → List ℕ
+spaced n = 32 ∷ decimal n
+
+-- how a call is written
+abbrev pub call_line : Call → List ℕ
+call_line (call.Enq v) = codes "enq" ++ spaced v
+call_line call.Deq = codes "deq"
+call_line (call.Add k) = codes "add" ++ spaced k
+call_line (call.Rem k) = codes "rem" ++ spaced k
+call_line (call.Put k v) = codes "put" ++ spaced k ++ spaced v
+call_line (call.Del k) = codes "del" ++ spaced k
+call_line (call.Move a b d) = codes "move" ++ spaced a ++ spaced b ++ spaced d
+
+-- how a query is written
+abbrev pub query_line : Query → List ℕ
+query_line (query.Has k) = codes "has" ++ spaced k
+query_line (query.Get k) = codes "get" ++ spaced k
+query_line query.Peek = codes "peek"
+query_line query.Len = codes "len"
+query_line query.Total = codes "total"
+
+-- the calls that scripts may have today, with numbers that are words
+abbrev pub IsCallRead : Call → Type 0
+IsCallRead (call.Enq v) = v < 2 ^ 64
+IsCallRead call.Deq = Unit {0}
+IsCallRead other = ⊥
+
+-- the queries that scripts may have today
+abbrev pub IsQueryRead : Query → Type 0
+IsQueryRead query.Peek = Unit {0}
+IsQueryRead other = ⊥
+
+-- the step is one that scripts may have today
+abbrev pub IsStepRead : Step Call Query → Type 0
+IsStepRead (Update call) = IsCallRead call
+IsStepRead (Ask query) = IsQueryRead query
+IsStepRead Unread = Unit {0}
+
+-- The line is written as the step is, or as no step is.
+abbrev pub Reads : List ℕ → Step Call Query → Type 0
+Reads line (Update c) = IsCallRead c × (line ≡ call_line c)
+Reads line (Ask q) = IsQueryRead q × (line ≡ query_line q)
+Reads line Unread = ((c : Call) → IsCallRead c → line ≡ call_line c → ⊥) × ((q : Query) → IsQueryRead q → line ≡ query_line q → ⊥)
+
+-- each line is written as its step is
+abbrev pub AreRead : List (List ℕ) → List (Step Call Query) → Type 0
+AreRead [] [] = Unit {0}
+AreRead (line ∷ lines) (step ∷ steps) = Reads line step × AreRead lines steps
+AreRead lines steps = ⊥

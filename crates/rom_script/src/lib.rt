@@ -1,0 +1,28 @@
+//! The bytes of a run: where scripts come from and where texts go, what the lines of a script ask
+//! for, and the texts of results.
+//!
+//! The contracts promise that a script is exactly the lines of the bytes that its source had left,
+//! that each printing call writes exactly its text, or some of it from the front where the sink
+//! failed, and that a failure is answered only where the very object's count of faults rose.
+#![tactic(auto)]
+
+pub mod adapt;
+mod blocks;
+pub mod line;
+pub mod memory;
+pub mod names;
+pub mod print;
+pub mod read;
+pub mod report;
+pub mod script;
+pub mod streams;
+
+pub use adapt::Adapted;
+pub use line::{Line, line_end, read_line};
+pub use memory::{Bytes, Collect};
+pub use names::{Name, Names};
+pub use print::{print_answer, print_number, print_pieces, print_text, print_update};
+pub use read::{ReadRefused, read_bytes};
+pub use report::print_run;
+pub use script::{Script, read_script};
+pub use streams::{IoFailed, Sink, Source};

@@ -1,0 +1,137 @@
+//! Sources and sinks in memory, which tell their bytes and fail as they are told to.
+ghost use Rattle.std.specs.Prelude.{◌≡◌, ℕ, ◌+◌, ◌-◌, ◌<◌, ◌≤◌, List, [], length, take, vec_len, vec_capacity, Some, IfOk};
+
+use crate::streams::{IoFailed, Sink, Source};
+use std::alloc::{AllocError, Global};
+
+/// A text that is read in pieces.
+#[derive(Drop)]
+pub struct Bytes {
+    content: Vec<u8>,
+    piece: u64,
+    trips: Vec<u64>,
+    at: usize,
+    reads: u64,
+    faults: u64,
+    ghost within: { at ≤ vec_len content },
+    ghost some: { 0 < piece },
+}
+
+impl Bytes {
+    ghost use Rattle.rom_script.specs.Memory.{bytes_left};
+
+    /// A source that has this text left. Each read gives at most `piece` bytes, and the reads
+    /// whose numbers, counted from 1, are among the trips fail.
+    pub fn new(content: Vec<u8>, piece: u64, trips: Vec<u64>) -> Bytes
+        requires { 0 < piece }
+        ensures { bytes_left result ≡ content.items }
+    {
+        Bytes {
+            content,
+            piece,
+            trips,
+            at: 0,
+            reads: 0,
+            faults: 0,
+        }
+    }
+}
+
+fn copy_front(to: &mut [u8], from: &[u8], count: usize)
+    requires room { count ≤ length to.old }
+    requires there { count ≤ length from.now }
+    ensures { take count to.new ≡ take count from.now }
+{
+    to[..count].copy_from_slice(&from[..count]);
+}
+
+impl Source for Bytes {
+    ghost use Rattle.rom_script.specs.Memory.{bytes_left};
+
+    ghost left = { λ b. Some (bytes_left b) };
+
+    ghost faults = { λ b. b.faults };
+
+    ghost reads = { λ b. b.reads };
+
+    fn read(&mut self, buf: &mut [u8]) -> Result<u64, IoFailed> {
+        self.reads = self.reads.saturating_add(1);
+        if self.trips.contains(&self.reads) {
+            self.faults = self.faults.saturating_add(1);
+            return Err(IoFailed);
+        }
+        let rest = &self.content[self.at..];
+        let most = self.piece.min(buf.len() as u64).min(rest.len() as u64);
+        copy_front(buf, rest, most as usize);
+        self.at += most as usize;
+        Ok(most)
+    }
+}
+
+/// A sink with room for so many bytes.
+#[derive(Drop)]
+pub struct Collect {
+    bytes: Vec<u8>,
+    room: usize,
+    piece: u64,
+    faults: u64,
+    ghost within: { vec_len bytes ≤ room },
+    ghost reserved: { room ≤ vec_capacity bytes },
+    ghost some: { 0 < piece },
+}
+
+impl Collect {
+    ghost use Rattle.rom_script.specs.Memory.{bytes_taken, room_of};
+
+    /// A sink that has taken nothing. It takes at most `piece` bytes at a time and `room` bytes in
+    /// all; a write with no room left fails.
+    pub fn with_room(alloc: Global, room: u64, piece: u64) -> Result<Collect, AllocError>
+        requires { 0 < piece }
+        ensures empty { IfOk result (λ c. bytes_taken c ≡ []) }
+        ensures room { IfOk result (λ c. room_of c ≡ room) }
+    {
+        let bytes = Vec::with_capacity(alloc, room as usize)?;
+        Ok(Collect {
+            bytes,
+            room: room as usize,
+            piece,
+            faults: 0,
+        })
+    }
+
+    /// The bytes taken.
+    pub fn bytes(&self) -> &[u8]
+        ensures bytes { result.now ≡ bytes_taken self.now }
+        ensures within { length result.now ≤ room_of self.now }
+    {
+        &self.bytes
+    }
+}
+
+impl Sink for Collect {
+    ghost use Rattle.rom_script.specs.Memory.{bytes_taken};
+
+    ghost taken = { λ c. Some (bytes_taken c) };
+
+    ghost faults = { λ c. c.faults };
+
+    ghost Rest = { Unit {0} };
+
+    ghost rest = { λ _. tt };
+
+    fn write(&mut self, piece: &[u8]) -> Result<u64, IoFailed> {
+        let free = self.room - self.bytes.len();
+        if free == 0 {
+            self.faults = self.faults.saturating_add(1);
+            return Err(IoFailed);
+        }
+        let most = self.piece.min(piece.len() as u64).min(free as u64);
+        match self.bytes.extend_from_slice(&piece[..most as usize]) {
+            Ok(()) => Ok(most),
+            Err(_) => {
+                self.faults = self.faults.saturating_add(1);
+                Err(IoFailed)
+            }
+        }
+    }
+}
