@@ -15,7 +15,7 @@ use Rattle.rom_model.specs.declared.record.PassRecord.{PassRecord}
 use Rattle.rom_model.specs.History.{IsLegal, IsReplied, after, left, batch, batch_of, LAST_COUNT}
 use Rattle.rom_model.specs.Passes.{history_of, all_told, AreInOrder, batch_told}
 use Rattle.rom_model.specs.Story.{len_after}
-use Rattle.rom_model.specs.Singly.{singly, found_in}
+use Rattle.rom_model.specs.Singly.{singly, found_in, IsDone}
 use Rattle.rom_model.specs.Lawful.{asked, asked_by, done, done_by, posted_after}
 
 pub singly_more : (len faults : ℕ) (es fs : List Entry) → singly len faults (es ++ fs) ≡ singly len faults es ++ singly (len + length es) faults fs
@@ -83,12 +83,6 @@ callers_known k many [] all = tt
 callers_known k many (e ∷ es) all = (all.0, callers_known (k + 1) many es all.1)
 
 module _ {S C Q R A : Type 0} (m : Machine S C Q R A) where
-  -- an update's result is that it is done
-  abbrev pub IsDone : LineResult R A → Type 0
-  IsDone (outcome.Update (Done reply place)) = Unit {0}
-  IsDone (outcome.Update other) = ⊥
-  IsDone other = Unit {0}
-
   map_append : {X Y : Type 0} (f : X → Y) (xs ys : List X) → map f (xs ++ ys) ≡ map f xs ++ map f ys
   map_append f [] ys = refl
   map_append f (x ∷ xs) ys = ap (λ zs. f x ∷ zs) (map_append f xs ys)

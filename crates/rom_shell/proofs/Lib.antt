@@ -1,0 +1,4 @@
+-- Lemmas on the queue and on scripts.
+pub mod Playing
+pub mod QueueSteps
+pub mod Replies

@@ -1,0 +1,30 @@
+use Rattle.std.proofs.Common.{arith, subst, sym, length, take, [], ◌∷◌, ◌≤◌, ◌≡◌}
+use Rattle.std.specs.List.{AllByRecursion}
+use Rattle.std.proofs.lemmas.List.{take_all}
+use Rattle.rom_model.specs.History.{LAST_COUNT}
+use Rattle.rom_model.specs.Lawful.{IsLawful}
+use Rattle.rom_model.specs.Singly.{each_alone}
+use Rattle.rom_model.specs.Trio.{trio}
+use Rattle.rom_script.specs.Text.{ResultFits}
+use Rattle.rom_shell.proofs.Playing.{Progress, goes_on_at, lawful, one_more}
+use Rattle.rom_shell.proofs.play.play.Goals as goal
+
+pub loop-line-preserved : goal.loop-line-preserved
+loop-line-preserved c =
+    let before = c.loop-line.invariant in
+    record {
+      told = goes_on_at _ _ _ _ _ _ _ _ _ _ c.loop-line-test.true before.told c.take_line-told.ensures.taken c.push_reserved.ensures.items;
+      of_type = subst (AllByRecursion ResultFits) (sym c.push_reserved.ensures.items) (one_more ResultFits _ _ before.of_type c.take_line-told.ensures.fits);
+      results = omega (arith, c.push_reserved.ensures.len, before.results);
+      entries = omega (arith, c.take_line-told.ensures.len, before.entries);
+      results_room = omega (arith, c.push_reserved.ensures.capacity, before.results_room);
+      entries_room = omega (arith, c.take_line-told.ensures.capacity, before.entries_room);
+    }
+
+pub returns-clause-lawful : goal.returns-clause-lawful
+returns-clause-lawful c =
+    let loop = c.loop-line in
+    let whole : take loop.line-index c.args.lines.now ≡ c.args.lines.now = take_all loop.line-index c.args.lines.now (omega (arith, c.loop-line-test.false)) in
+    let all : Progress loop.queue loop.entries.items c.args.lines.now loop.results.items = subst (λ ls. Progress loop.queue loop.entries.items ls loop.results.items) whole loop.invariant.told in
+    let few : length loop.entries.items ≤ LAST_COUNT = omega (arith, loop.invariant.entries, c.loop-line-test.false, c.requires.few, loop.entries.ok, loop.auto.line-index-end) in
+    subst (λ story. IsLawful trio (each_alone story) (c.args.lines.now ∷ []) (loop.results.items ∷ [])) (sym c.of.ensures) (lawful loop.queue loop.entries.items c.args.lines.now loop.results.items all few)

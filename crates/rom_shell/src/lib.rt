@@ -1,0 +1,18 @@
+//! The commands of the program: from its words, its scripts and a device to a status and a text.
+//!
+//! `run` does all that the program does, and its contract carries the promise of the whole: each
+//! printed reply is what one queue, set and map give at its printed place in one history, each
+//! update once and in its caller's order, each read from one committed state.
+#![tactic(auto)]
+
+pub mod play;
+pub mod program;
+pub mod queue;
+pub mod session;
+pub mod status;
+pub mod words;
+
+pub use program::{Ended, run};
+pub use session::Session;
+pub use status::Status;
+pub use words::{DeviceWant, Wanted, files_of};

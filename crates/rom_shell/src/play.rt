@@ -1,0 +1,76 @@
+//! A script on a heap.
+ghost use Rattle.std.specs.Prelude.{◌≡◌, ◌≤◌, ◌<◌, ◌+◌, [], ◌∷◌, length, vec_len, vec_capacity, IfOk};
+ghost use Rattle.std.specs.List.{AllByRecursion};
+ghost use Rattle.rom_model.specs.Lawful.{IsLawful};
+ghost use Rattle.rom_model.specs.History.{LAST_COUNT};
+ghost use Rattle.rom_model.specs.Singly.{each_alone, IsDone};
+ghost use Rattle.rom_model.specs.Story.{count};
+ghost use Rattle.rom_model.specs.Trio.{trio};
+ghost use Rattle.rom_script.specs.Lines.{IsStepRead};
+ghost use Rattle.rom_script.specs.Text.{ResultFits};
+ghost use Rattle.rom_shell.specs.Playing.{Taken};
+ghost use Rattle.rom_shell.specs.Began.{began};
+ghost use Rattle.rom_shell.specs.Sessions.{story_of};
+
+use crate::queue::Queue;
+use crate::session::Session;
+use rom_model::{Answer, Entry, LineResult, Reply, Step, Updated, call_words, reply_words};
+use rom_script::Line;
+use std::alloc::{AllocError, Global};
+
+/// What a run did, and what the lines of its script were told.
+#[derive(Drop)]
+pub struct Played {
+    pub session: Session,
+    pub results: Vec<LineResult<Reply, Answer>>,
+}
+
+/// Does what a line asks for. It takes no memory.
+fn take_line(line: &Line, queue: &mut Queue, entries: &mut Vec<Entry>) -> LineResult<Reply, Answer>
+    requires read { IsStepRead line.now }
+    requires room { vec_len entries.old < vec_capacity entries.old }
+    ensures taken { Taken queue.old entries.old.items line.now result queue.new entries.new.items }
+    ensures fits { ResultFits result }
+    ensures capacity { vec_capacity entries.new ≡ vec_capacity entries.old }
+    ensures len { vec_len entries.new < vec_len entries.old + 2 }
+{
+    match line {
+        Step::Update(call) => {
+            let reply = queue.apply(call);
+            let place = entries.len() as u64;
+            entries.push_reserved(Entry {
+                caller: 1,
+                seq: place,
+                args: call_words(call),
+                reply: reply_words(&reply),
+            });
+            LineResult::Update(Updated::Done(reply, place))
+        }
+        Step::Ask(query) => LineResult::Read(queue.answer(query), entries.len() as u64),
+        Step::Unread => LineResult::Unread,
+    }
+}
+
+/// Runs the lines of one script in order, on a heap that begins empty. All memory is reserved
+/// before the first line, and `AllocError` comes before it.
+pub fn play(alloc: Global, lines: &[Line]) -> Result<Played, AllocError>
+    requires today { AllByRecursion IsStepRead lines.now }
+    requires few { length lines.now ≤ LAST_COUNT }
+    ensures lawful { IfOk result (λ played. IsLawful trio (each_alone (story_of played.session)) (lines.now ∷ []) (played.results.items ∷ [])) }
+    ensures each_done { IfOk result (λ played. AllByRecursion IsDone played.results.items) }
+    ensures of_type { IfOk result (λ played. AllByRecursion ResultFits played.results.items) }
+    ensures within { IfOk result (λ played. count (story_of played.session) ≤ LAST_COUNT) }
+    ensures began { IfOk result (λ played. (story_of played.session) ≡ began 4 (story_of played.session).history) }
+{
+    let mut queue = Queue::new(alloc)?;
+    let mut entries = Vec::with_capacity(alloc, lines.len())?;
+    let mut results = Vec::with_capacity(alloc, lines.len())?;
+    for line in lines {
+        let told = take_line(line, &mut queue, &mut entries);
+        results.push_reserved(told);
+    }
+    Ok(Played {
+        session: Session::of(4, entries),
+        results,
+    })
+}

@@ -1,0 +1,31 @@
+//! How a run ended, as a number.
+ghost use Rattle.std.specs.Prelude.{◌≡◌};
+ghost use Rattle.rom_shell.specs.Statuses.{number_of};
+
+/// The exit status of the program.
+#[derive(Clone, Copy, Debug, PartialEq, Eq)]
+pub enum Status {
+    /// All lines were read, and all is printed.
+    Done = 0,
+    /// As `Done`, but a line is no command.
+    Unread = 1,
+    /// The words are no command.
+    NotACommand = 2,
+    /// A script could not be opened or read.
+    ScriptFailed = 4,
+    /// The text could not be written.
+    SinkFailed = 5,
+    /// There was no memory, before any update.
+    NoMemory = 6,
+    /// A script has more bytes than it may.
+    ScriptTooLong = 8,
+}
+
+impl Status {
+    /// Its number.
+    pub fn number(self) -> u8
+        ensures { result ≡ number_of self }
+    {
+        self as u8
+    }
+}

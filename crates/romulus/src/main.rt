@@ -1,0 +1,76 @@
+//! Runs scripts on a heap: makes the device and the streams that the words name, and calls `run`.
+#![tactic(auto)]
+
+ghost use Rattle.std.specs.Prelude.{◌≡◌, length, IfOk};
+
+use rom_device::Ram;
+use rom_script::{Adapted, Names};
+use rom_shell::{DeviceWant, Status, files_of, run};
+use std::alloc::AllocError;
+use std::fs::File;
+use std::io::ErrorKind;
+use std::process::ExitCode;
+use std::{env, io};
+
+/// The words after the program's name. Words that are not text are no words, and so no command.
+fn words_of(rt: &HostRuntime) -> Result<Names, AllocError> {
+    let mut words = Names::new(rt.alloc());
+    match env::args(rt) {
+        Ok(args) => {
+            for word in args.skip(1) {
+                words.push(rt.alloc(), word.as_str())?;
+            }
+        }
+        Err(error) if error.kind() == ErrorKind::OutOfMemory => return Err(AllocError),
+        Err(_) => {}
+    }
+    Ok(words)
+}
+
+/// A script's file. One that cannot be opened is a source whose every read fails.
+fn source_of(rt: &HostRuntime, name: &str) -> Adapted<File> {
+    match File::open(rt, name) {
+        Ok(file) => Adapted::new(file),
+        Err(_) => Adapted::missing(),
+    }
+}
+
+/// The scripts' files, in order.
+fn sources_of(rt: &HostRuntime, names: &Names) -> Result<Vec<Adapted<File>>, AllocError>
+    ensures { IfOk result (λ sources. length sources.items ≡ length names.now) }
+{
+    let mut sources = Vec::new(rt.alloc());
+    for i in 0..names.len() {
+        let source = match names.at(i) {
+            Some(name) => source_of(rt, name),
+            None => unreachable!(),
+        };
+        sources.push(source)?;
+    }
+    Ok(sources)
+}
+
+/// Runs the command that the words are, and gives its status.
+fn start(rt: &HostRuntime) -> Result<u8, AllocError> {
+    let words = words_of(rt)?;
+    let wanted = files_of(rt.alloc(), &words)?;
+    let len = match wanted.device {
+        DeviceWant::Fresh(len) => len,
+        _ => 0,
+    };
+    let device = Ram::zeroed(rt.alloc(), len)?;
+    let sources = sources_of(rt, &wanted.scripts)?;
+    let mut out = Adapted::new(io::writer(rt));
+    let ended = run(rt.alloc(), &words, device, sources, &mut out);
+    Ok(ended.status)
+}
+
+fn main(rt: HostRuntime) -> ExitCode {
+    match start(&rt) {
+        Ok(status) => ExitCode::from(status),
+        Err(_) => {
+            let _ = println!(rt; "no memory");
+            ExitCode::from(Status::NoMemory.number())
+        }
+    }
+}
