@@ -20,7 +20,7 @@ use std::alloc::{AllocError, Global};
 
 /// What a run did, and what the lines of its script were told.
 #[derive(Drop)]
-pub struct Played {
+pub(crate) struct Played {
     pub session: Session,
     pub results: Vec<LineResult<Reply, Answer>>,
 }
@@ -53,14 +53,14 @@ fn take_line(line: &Line, queue: &mut Queue, entries: &mut Vec<Entry>) -> LineRe
 
 /// Runs the lines of one script in order, on a heap that begins empty. All memory is reserved
 /// before the first line, and `AllocError` comes before it.
-pub fn play(alloc: Global, lines: &[Line]) -> Result<Played, AllocError>
+pub(crate) fn play(alloc: Global, lines: &[Line]) -> Result<Played, AllocError>
     requires today { AllByRecursion IsStepRead lines.now }
     requires few { length lines.now ≤ LAST_COUNT }
     ensures lawful { IfOk result (λ played. IsLawful trio (each_alone (story_of played.session)) (lines.now ∷ []) (played.results.items ∷ [])) }
     ensures each_done { IfOk result (λ played. AllByRecursion IsDone played.results.items) }
     ensures of_type { IfOk result (λ played. AllByRecursion ResultFits played.results.items) }
     ensures within { IfOk result (λ played. count (story_of played.session) ≤ LAST_COUNT) }
-    ensures began { IfOk result (λ played. (story_of played.session) ≡ began 4 (story_of played.session).history) }
+    ensures began { IfOk result (λ played. story_of played.session ≡ began 4 0 (story_of played.session).history) }
 {
     let mut queue = Queue::new(alloc)?;
     let mut entries = Vec::with_capacity(alloc, lines.len())?;
@@ -70,7 +70,7 @@ pub fn play(alloc: Global, lines: &[Line]) -> Result<Played, AllocError>
         results.push_reserved(told);
     }
     Ok(Played {
-        session: Session::of(4, entries),
+        session: Session::of(4, 0, entries),
         results,
     })
 }
