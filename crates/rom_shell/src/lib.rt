@@ -16,3 +16,6 @@ pub use program::{Ended, run};
 pub use session::Session;
 pub use status::Status;
 pub use words::{DeviceWant, Wanted, files_of};
+
+#[cfg(test)]
+mod tests;
