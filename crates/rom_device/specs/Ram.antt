@@ -1,0 +1,13 @@
+-- What a contract sees of words in memory.
+use Rattle.std.specs.Prelude.{ℕ, List}
+use Rattle.rom_device.specs.declared.ram.Ram.{Ram}
+
+abbrev pub words_of : Ram → List ℕ
+words_of ram = ram.words.items
+
+-- how many writes and syncs were called
+abbrev pub write_count : Ram → ℕ
+write_count ram = ram.writes
+
+abbrev pub sync_count : Ram → ℕ
+sync_count ram = ram.syncs

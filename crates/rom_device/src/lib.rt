@@ -1,0 +1,17 @@
+//! Devices of 64-bit words, and what a stop may leave of them.
+//!
+//! A device is read and written one word at a time and made certain by a sync. The contract of
+//! `Device` says what each call does to the words, which images a stop during or after it may
+//! leave, and that a call fails only where the device's own count of faults rose. `specs/Device`
+//! has those rules for one call, a loop and a whole function alike, and `proofs/Going` the lemmas
+//! by which runs of calls are joined.
+#![tactic(auto)]
+
+mod device;
+mod ram;
+
+pub use device::{Device, Failed};
+pub use ram::Ram;
+
+#[cfg(test)]
+mod tests;
