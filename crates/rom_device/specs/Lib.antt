@@ -1,3 +1,7 @@
 -- The definitions that the contracts of this crate, and of those above it, cite.
 pub mod Device
 pub mod Ram
+pub mod Log
+pub mod Trips
+pub mod Memory
+pub mod Fuse

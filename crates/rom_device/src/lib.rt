@@ -7,11 +7,19 @@
 //! by which runs of calls are joined.
 #![tactic(auto)]
 
+mod call;
 mod device;
+mod fuse;
+mod memory;
 mod ram;
+mod trip;
 
+pub use call::{CallKind, Made};
 pub use device::{Device, Failed};
+pub use fuse::Fuse;
+pub use memory::Memory;
 pub use ram::Ram;
+pub use trip::Trip;
 
 #[cfg(test)]
 mod tests;
