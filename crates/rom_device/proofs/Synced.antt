@@ -2,7 +2,8 @@
 use Rattle.std.proofs.Common.{◌≡◌, ◌⊎◌, inl, inr, ⊎_elim, ℕ, ◌≤◌, true, List, [], ◌∷◌, ◌++◌, length, reverse, sym, ◌∙◌, ap, subst}
 use Rattle.std.proofs.lemmas.List.{reverse-append}
 use Rattle.rom_device.specs.Device.{After, Stays}
-use Rattle.rom_device.specs.Log.{now, May, Since, May_now}
+use Rattle.rom_device.specs.Log.{now, May, Since}
+use Rattle.rom_device.specs.Images.{May_now}
 use Rattle.rom_device.specs.declared.call.Made.{Made}
 use Rattle.rom_device.specs.declared.call.Made.TheVariants.{Sync}
 

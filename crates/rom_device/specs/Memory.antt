@@ -1,5 +1,5 @@
 -- What a contract sees of a memory device.
-use Rattle.std.specs.Prelude.{◌≡◌, ℕ, Bool, true, ◌||◌, if◌then◌else◌, List, [], ◌∷◌, ◌++◌, length, reverse, nat_le, is_some, is_none, Option, Some, None}
+use Rattle.std.specs.Prelude.{◌≡◌, ℕ, Bool, true, ◌||◌, if◌then◌else◌, List, [], ◌∷◌, ◌++◌, length, reverse, nat_le, is_some, is_none, Option, Some, None, ◌<◌, ◌≤◌, slice_index}
 use Rattle.rom_device.specs.declared.call.CallKind.{CallKind}
 use Rattle.rom_device.specs.declared.call.CallKind as kind
 use Rattle.rom_device.specs.declared.call.Made.{Made}
@@ -7,6 +7,7 @@ use Rattle.rom_device.specs.declared.call.Made.TheVariants.{Read, Write, Sync}
 use Rattle.rom_device.specs.declared.trip.Trip.{Trip}
 use Rattle.rom_device.specs.declared.memory.Memory.{Memory}
 use Rattle.rom_device.specs.Log.{now}
+use Rattle.rom_device.specs.Choice.{picked}
 use Rattle.rom_device.specs.Trips.{trip_at}
 
 -- the words at its making
@@ -67,3 +68,13 @@ pub record KeepsRest (old new : Memory) : Type 0 where
   pub start : start_of new ≡ start_of old
   pub room : room_of new ≡ room_of old
   pub trips : trips_of new ≡ trips_of old
+
+-- each word of the image is its possible value of that number, modulo how many there are; a missing
+-- number is 0
+pub record Picks (m : Memory) (numbers image : List ℕ) : Type 0 where
+  pub as_long : length image ≡ length (start_of m)
+  pub each : (k : ℕ) → k < length (start_of m) → slice_index image k ≡ picked (start_of m) (reverse (calls_of m)) k (slice_index numbers k)
+
+-- some numbers, none past the number of calls made, pick the image
+abbrev pub IsPicked : Memory → List ℕ → Type 0
+IsPicked m image = (numbers : List ℕ) × ((k : ℕ) → k < length (start_of m) → slice_index numbers k ≤ length (calls_of m)) × Picks m numbers image

@@ -9,6 +9,7 @@
 
 mod call;
 mod device;
+mod followed;
 mod fuse;
 mod memory;
 mod ram;

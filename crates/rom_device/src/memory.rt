@@ -8,6 +8,7 @@ ghost use Rattle.rom_device.specs.Trips.{trip_at};
 
 use crate::call::{CallKind, Made};
 use crate::device::{Device, Failed};
+use crate::followed::picked_value;
 use crate::trip::Trip;
 use std::alloc::{AllocError, Global};
 
@@ -60,7 +61,7 @@ fn trip_among(trips: &[Trip], made: &[Made], call: CallKind, at: u64) -> Option<
 }
 
 impl Memory {
-    ghost use Rattle.rom_device.specs.Memory.{start_of, calls_of, room_of, trips_of, words_of, fault_count_of};
+    ghost use Rattle.rom_device.specs.Memory.{start_of, calls_of, room_of, trips_of, words_of, fault_count_of, Picks, IsPicked};
 
     /// A device of these words, with room for so many calls. It takes no memory later.
     pub fn new(
@@ -99,6 +100,34 @@ impl Memory {
         ensures { result ≡ length (calls_of self.now) }
     {
         self.made.len() as u64
+    }
+
+    /// What a stop now may leave, by a choice of a number for each word. The possible values of a
+    /// word are its last synced value and then those written to it since, in order. The word gets
+    /// the one of that number, counted from 0, modulo how many there are. A missing number is 0.
+    /// It takes no memory.
+    pub fn crash(self, choice: &[u64]) -> Vec<u64>
+        ensures picked { Picks self choice.now result.items }
+        ensures left { ⟦<Memory as Device>⟧.leaves self result.items }
+
+        // No image is left out: each that a stop may leave is that of some choice.
+        ensures every { (image : List ℕ) → ⟦<Memory as Device>⟧.leaves self image → IsPicked self image }
+    {
+        let Memory {
+            start,
+            mut words,
+            made,
+            room: _,
+            trips: _,
+            faults: _,
+            writes: _,
+            syncs: _,
+        } = self;
+        for at in 0..words.len() {
+            let number = choice.get(at).copied().unwrap_or(0);
+            words[at] = picked_value(&start, &made, at as u64, number);
+        }
+        words
     }
 }
 
@@ -214,7 +243,7 @@ impl Device for Memory {
         Ok(())
     }
 
-    ghost use Rattle.rom_device.specs.Log.{May_now, length-now, length-May, Since_now, Since_only};
+    ghost use Rattle.rom_device.specs.Images.{May_now, length-now, length-May, Since_now, Since_only};
 
     ghost tells_both = { λ _. refl };
 
