@@ -8,3 +8,6 @@ pub mod Followed
 pub mod Trips
 pub mod Memory
 pub mod Fuse
+pub mod File
+pub mod Run
+pub mod Windows

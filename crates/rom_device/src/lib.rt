@@ -9,14 +9,18 @@
 
 mod call;
 mod device;
+mod file;
 mod followed;
 mod fuse;
 mod memory;
 mod ram;
+mod run;
 mod trip;
+mod windows;
 
 pub use call::{CallKind, Made};
 pub use device::{Device, Failed};
+pub use file::FileDevice;
 pub use fuse::Fuse;
 pub use memory::Memory;
 pub use ram::Ram;
