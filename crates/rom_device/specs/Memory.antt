@@ -29,8 +29,16 @@ trips_of m = m.trips.items
 abbrev pub words_of : Memory → List ℕ
 words_of m = now (start_of m) (reverse (calls_of m))
 
+-- how often it has failed
 abbrev pub fault_count_of : Memory → ℕ
 fault_count_of m = m.faults
+
+-- how many writes and syncs were called
+abbrev pub write_count_of : Memory → ℕ
+write_count_of m = m.writes
+
+abbrev pub sync_count_of : Memory → ℕ
+sync_count_of m = m.syncs
 
 -- whether the room is used up
 abbrev pub is_full : Memory → Bool

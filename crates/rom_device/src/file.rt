@@ -1,5 +1,5 @@
 //! The words of a file.
-ghost use Rattle.std.specs.Prelude.{◌≡◌, ◌≢◌, ◌+◌, ◌*◌, ◌/◌, ◌<◌, ◌≤◌, ◌^◌, ℕ, Some, None, IfSome, IsTrue};
+ghost use Rattle.std.specs.Prelude.{◌≡◌, ◌≢◌, ◌+◌, ◌*◌, ◌/◌, ◌<◌, ◌≤◌, ◌^◌, ℕ, Some, None, IfSome, IsTrue, IsFalse, is_none};
 ghost use Rattle.std.specs.Bool.{OnTrue, OnFalse};
 
 use crate::device::{Device, Failed};
@@ -47,28 +47,34 @@ fn read_words(file: &File, at: u64, count: usize, scratch: &mut [u8; RUN_BYTES])
 }
 
 impl FileDevice {
-    ghost use Rattle.rom_device.specs.File.{length_of};
+    ghost use Rattle.rom_device.specs.File.{length_of, fault_count_of, is_missing};
     ghost use Rattle.rom_device.specs.Run.{word_of};
     ghost use Rattle.rom_device.specs.Windows.{word_in, IsMissed};
 
     /// The words of an open file of so many bytes. A rest of less than a word is no part of them.
     /// The device keeps that length, whatever becomes of the file's.
     pub fn new(file: File, bytes: u64) -> FileDevice
-        ensures { length_of result ≡ bytes / 8 }
+        ensures length { length_of result ≡ bytes / 8 }
+        ensures faults { fault_count_of result ≡ 0 }
+        ensures there { IsFalse (is_missing result) }
     {
         FileDevice::of(Some(file), bytes / 8)
     }
 
     /// A device of 8 words whose every call fails, for a file that could not be opened.
     pub fn missing() -> FileDevice
-        ensures { length_of result ≡ 8 }
+        ensures length { length_of result ≡ 8 }
+        ensures faults { fault_count_of result ≡ 0 }
+        ensures missing { IsTrue (is_missing result) }
     {
         FileDevice::of(None, 8)
     }
 
     fn of(file: Option<File>, len: u64) -> FileDevice
         requires { len * 8 < 2 ^ 64 }
-        ensures { result.len ≡ len }
+        ensures len { result.len ≡ len }
+        ensures failed { result.failed ≡ 0 }
+        ensures file { is_missing result ≡ is_none file }
     {
         FileDevice {
             file,
@@ -92,6 +98,7 @@ impl FileDevice {
         ensures failed { self.new.failed ≡ self.old.failed }
         ensures writes { self.new.writes ≡ self.old.writes }
         ensures syncs { self.new.syncs ≡ self.old.syncs }
+        ensures file { is_missing self.new ≡ is_missing self.old }
     {
         if self.pending.is_empty() {
             return true;
@@ -114,6 +121,7 @@ impl FileDevice {
         ensures failed { self.new.failed ≡ self.old.failed }
         ensures writes { self.new.writes ≡ self.old.writes }
         ensures syncs { self.new.syncs ≡ self.old.syncs }
+        ensures file { is_missing self.new ≡ is_missing self.old }
         ensures pending { self.new.pending ≡ self.old.pending }
     {
         let count = (self.len - at).min(RUN_WORDS as u64) as usize;
@@ -132,9 +140,14 @@ impl FileDevice {
         ensures failed { self.new.failed ≡ self.old.failed }
         ensures writes { self.new.writes ≡ self.old.writes }
         ensures syncs { self.new.syncs ≡ self.old.syncs }
-        ensures waits { IfSome (word_of self.old.pending at) (λ word. result ≡ Some word) }
-        ensures window { word_of self.old.pending at ≡ None → IfSome (word_in self.old.windows at) (λ word. result ≡ Some word) }
+        ensures file { is_missing self.new ≡ is_missing self.old }
+        ensures waits { IsFalse (is_missing self.old) → IfSome (word_of self.old.pending at) (λ word. result ≡ Some word) }
+        ensures window { IsFalse (is_missing self.old) → word_of self.old.pending at ≡ None → IfSome (word_in self.old.windows at) (λ word. result ≡ Some word) }
+        ensures missing { IsTrue (is_missing self.old) → result ≡ None }
     {
+        if self.file.is_none() {
+            return None;
+        }
         let waits = self.pending.get(at);
         if waits.is_some() {
             return waits;
@@ -161,6 +174,8 @@ impl FileDevice {
         ensures failed { self.new.failed ≡ self.old.failed }
         ensures writes { self.new.writes ≡ self.old.writes }
         ensures syncs { self.new.syncs ≡ self.old.syncs }
+        ensures file { is_missing self.new ≡ is_missing self.old }
+        ensures missing { IsTrue (is_missing self.old) → IsFalse result }
     {
         if self.file.is_none() {
             return false;
@@ -182,7 +197,9 @@ impl FileDevice {
         ensures failed { self.new.failed ≡ self.old.failed }
         ensures writes { self.new.writes ≡ self.old.writes }
         ensures syncs { self.new.syncs ≡ self.old.syncs }
+        ensures file { is_missing self.new ≡ is_missing self.old }
         ensures handed { OnTrue result (self.new.pending.count ≡ 0) }
+        ensures missing { IsTrue (is_missing self.old) → IsFalse result }
     {
         if self.unsure || !self.hand_over() {
             return false;
@@ -196,7 +213,9 @@ impl FileDevice {
 }
 
 impl Device for FileDevice {
-    ghost use Rattle.std.specs.Prelude.{false, []};
+    ghost use Rattle.std.specs.Prelude.{◌≡◌, ◌*◌, ◌<◌, ◌^◌, IsTrue, IsErr, false, []};
+    ghost use Rattle.rom_model.specs.Faults.{HasCause, counted};
+    ghost use Rattle.rom_device.specs.File.{length_of, is_missing};
     ghost use Rattle.std.proofs.Common.{arith};
 
     ghost size = { λ f. f.len };
@@ -227,7 +246,14 @@ impl Device for FileDevice {
         self.failed
     }
 
-    fn read(&mut self, at: u64) -> Result<u64, Failed> {
+    fn read(&mut self, at: u64) -> Result<u64, Failed>
+        requires { at < length_of self.old }
+        ensures size { ⟦<FileDevice as Device>⟧.size self.new ≡ ⟦<FileDevice as Device>⟧.size self.old }
+        ensures writes { ⟦<FileDevice as Device>⟧.writes self.new ≡ ⟦<FileDevice as Device>⟧.writes self.old }
+        ensures syncs { ⟦<FileDevice as Device>⟧.syncs self.new ≡ ⟦<FileDevice as Device>⟧.syncs self.old }
+        ensures cause { HasCause (⟦<FileDevice as Device>⟧.faults self.old) (⟦<FileDevice as Device>⟧.faults self.new) result }
+        ensures missing { IsTrue (is_missing self.old) → IsErr result × IsTrue (is_missing self.new) }
+    {
         let Some(word) = self.find(at) else {
             self.failed = self.failed.saturating_add(1);
             return Err(Failed);
@@ -235,7 +261,14 @@ impl Device for FileDevice {
         Ok(word)
     }
 
-    fn write(&mut self, at: u64, value: u64) -> Result<(), Failed> {
+    fn write(&mut self, at: u64, value: u64) -> Result<(), Failed>
+        requires { at < length_of self.old }
+        ensures size { ⟦<FileDevice as Device>⟧.size self.new ≡ ⟦<FileDevice as Device>⟧.size self.old }
+        ensures writes { ⟦<FileDevice as Device>⟧.writes self.new ≡ counted (⟦<FileDevice as Device>⟧.writes self.old) }
+        ensures syncs { ⟦<FileDevice as Device>⟧.syncs self.new ≡ ⟦<FileDevice as Device>⟧.syncs self.old }
+        ensures cause { HasCause (⟦<FileDevice as Device>⟧.faults self.old) (⟦<FileDevice as Device>⟧.faults self.new) result }
+        ensures missing { IsTrue (is_missing self.old) → IsErr result × IsTrue (is_missing self.new) }
+    {
         self.writes = self.writes.saturating_add(1);
         if !self.keep(at, value) {
             self.failed = self.failed.saturating_add(1);
@@ -244,7 +277,13 @@ impl Device for FileDevice {
         Ok(())
     }
 
-    fn sync(&mut self) -> Result<(), Failed> {
+    fn sync(&mut self) -> Result<(), Failed>
+        ensures size { ⟦<FileDevice as Device>⟧.size self.new ≡ ⟦<FileDevice as Device>⟧.size self.old }
+        ensures writes { ⟦<FileDevice as Device>⟧.writes self.new ≡ ⟦<FileDevice as Device>⟧.writes self.old }
+        ensures syncs { ⟦<FileDevice as Device>⟧.syncs self.new ≡ counted (⟦<FileDevice as Device>⟧.syncs self.old) }
+        ensures cause { HasCause (⟦<FileDevice as Device>⟧.faults self.old) (⟦<FileDevice as Device>⟧.faults self.new) result }
+        ensures missing { IsTrue (is_missing self.old) → IsErr result × IsTrue (is_missing self.new) }
+    {
         self.syncs = self.syncs.saturating_add(1);
         if !self.make_certain() {
             self.failed = self.failed.saturating_add(1);

@@ -22,6 +22,7 @@ impl<D: Device> Fuse<D> {
     pub fn new(inner: D, calls: u64) -> Fuse<D>
         ensures inner { inner_of result ≡ inner }
         ensures left { calls_left result ≡ calls }
+        ensures faults { ⟦<Fuse<D> as Device>⟧.faults result ≡ D.faults inner }
     {
         Fuse {
             inner,

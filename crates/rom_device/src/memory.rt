@@ -61,7 +61,7 @@ fn trip_among(trips: &[Trip], made: &[Made], call: CallKind, at: u64) -> Option<
 }
 
 impl Memory {
-    ghost use Rattle.rom_device.specs.Memory.{start_of, calls_of, room_of, trips_of, words_of, fault_count_of, Picks, IsPicked};
+    ghost use Rattle.rom_device.specs.Memory.{start_of, calls_of, room_of, trips_of, words_of, fault_count_of, write_count_of, sync_count_of, Picks, IsPicked};
 
     /// A device of these words, with room for so many calls. It takes no memory later.
     pub fn new(
@@ -75,6 +75,8 @@ impl Memory {
         ensures room { IfOk result (λ m. room_of m ≡ room) }
         ensures trips { IfOk result (λ m. trips_of m ≡ trips.items) }
         ensures faults { IfOk result (λ m. fault_count_of m ≡ 0) }
+        ensures writes { IfOk result (λ m. write_count_of m ≡ 0) }
+        ensures syncs { IfOk result (λ m. sync_count_of m ≡ 0) }
     {
         Ok(Memory {
             start: words.clone()?,

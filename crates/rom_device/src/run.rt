@@ -11,7 +11,8 @@ pub const RUN_WORDS: usize = 512;
 /// How many bytes these are.
 pub const RUN_BYTES: usize = 4096;
 
-/// At most 512 adjacent words of a file, from the place `first` on.
+/// At most 512 adjacent words of a file, from the place `first` on. These are as many as a page of
+/// the file has.
 #[derive(Drop)]
 pub struct Run {
     first: u64,
@@ -75,13 +76,21 @@ impl Run {
         true
     }
 
-    /// Whether the word at that place is the next, and there is room for it. Each place is next to
-    /// no words.
+    /// Whether the word at that place may be added. A run ends where a page of the file does, so
+    /// that whole pages are handed over as such.
     pub fn is_next(&self, at: u64) -> bool
         ensures { IsTrue result ↔ Follows self.now at }
     {
-        self.count == 0
-            || (self.count < RUN_WORDS && self.first <= at && at - self.first == self.count as u64)
+        if self.count == 0 {
+            return true;
+        }
+        if self.count == RUN_WORDS {
+            return false;
+        }
+        if at % RUN_WORDS as u64 == 0 {
+            return false;
+        }
+        self.first <= at && at - self.first == self.count as u64
     }
 
     /// Adds the next word.
