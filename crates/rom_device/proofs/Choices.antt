@@ -5,11 +5,11 @@ use Rattle.std.proofs.lemmas.Bool.{cases_eq, cases_lt}
 use Rattle.std.proofs.lemmas.Bool.Decides.{nat_tests}
 use Rattle.std.proofs.lemmas.Grind.{same_number_lists}
 use Rattle.rom_device.specs.Device.{Writes}
-use Rattle.rom_device.specs.Log.{now, May}
+use Rattle.rom_device.specs.Log.{words_after, MayLeave}
 use Rattle.rom_device.specs.Choice.{possible, picked}
 use Rattle.rom_device.specs.declared.call.Made.{Made}
 use Rattle.rom_device.specs.declared.call.Made.TheVariants.{Read, Write, Sync}
-use Rattle.rom_device.specs.Images.{length-now, length-May}
+use Rattle.rom_device.specs.Images.{length-words_after, length-MayLeave}
 
 abbrev pub Among : ℕ → List ℕ → Type 0
 Among x [] = ⊥
@@ -39,18 +39,18 @@ some base (Write at value lands ∷ log) k = go (at == k) (some base log k)
     go : (t : Bool) → ((x : ℕ) × Among x (possible base log k)) → (x : ℕ) × Among x (if t then possible base log k ++ value ∷ [] else possible base log k)
     go true w = first (possible base log k) w
     go false w = w
-some base (Sync true ∷ log) k = (slice_index (now base log) k, inl refl)
+some base (Sync true ∷ log) k = (slice_index (words_after base log) k, inl refl)
 some base (Sync false ∷ log) k = some base log k
 
 one : (i base : List ℕ) → length i ≡ length base → ((k : ℕ) → k < length base → Among (slice_index i k) (slice_index base k ∷ [])) → i ≡ base
 one i base long each = same_number_lists i base long (λ k lt. ⊎_elim (λ is. is) (λ none. absurd none) (each k (omega (arith, lt, long))))
 
 -- an image whose words are each among the possible values may be left
-pub chosen_may : (base : List ℕ) (log : List Made) (i : List ℕ) → length i ≡ length base → ((k : ℕ) → k < length base → Among (slice_index i k) (possible base log k)) → May base log i
+pub chosen_may : (base : List ℕ) (log : List Made) (i : List ℕ) → length i ≡ length base → ((k : ℕ) → k < length base → Among (slice_index i k) (possible base log k)) → MayLeave base log i
 chosen_may base [] i long each = one i base long each
 chosen_may base (Read at ∷ log) i long each = chosen_may base log i long each
 chosen_may base (Sync false ∷ log) i long each = chosen_may base log i long each
-chosen_may base (Sync true ∷ log) i long each = one i (now base log) (long ∙ sym (length-now base log)) (λ k lt. each k (omega (arith, lt, length-now base log)))
+chosen_may base (Sync true ∷ log) i long each = one i (words_after base log) (long ∙ sym (length-words_after base log)) (λ k lt. each k (omega (arith, lt, length-words_after base log)))
 chosen_may base (Write at value lands ∷ log) i long each = elim (cases_lt at (length base)) [
   | inl inside ↦ ⊎_elim
       (λ old. record { from = i; was = chosen_may base log i long (λ k lt. elim (cases_eq at k) [ inl same ↦ subst (λ a. Among (slice_index i a) (possible base log a)) same old | inr other ↦ before k lt other ]); by = inl refl })
@@ -94,12 +94,12 @@ among_more x v (y ∷ ys) (inl is) = inl is
 among_more x v (y ∷ ys) (inr more) = inr (among_more x v ys more)
 
 -- a word of an image that a stop may leave is one of its possible values
-pub may_among : (base : List ℕ) (log : List Made) (i : List ℕ) → May base log i → (k : ℕ) → k < length base → Among (slice_index i k) (possible base log k)
+pub may_among : (base : List ℕ) (log : List Made) (i : List ℕ) → MayLeave base log i → (k : ℕ) → k < length base → Among (slice_index i k) (possible base log k)
 may_among base [] i is k lt = inl (ap (λ w. slice_index w k) is)
 may_among base (Read at ∷ log) i may k lt = may_among base log i may k lt
 may_among base (Sync true ∷ log) i is k lt = inl (ap (λ w. slice_index w k) is)
 may_among base (Sync false ∷ log) i may k lt = may_among base log i may k lt
-may_among base (Write at value lands ∷ log) i may k lt = written may.from may.by (length-May base log may.from may.was) (may_among base log may.from may.was k lt)
+may_among base (Write at value lands ∷ log) i may k lt = written may.from may.by (length-MayLeave base log may.from may.was) (may_among base log may.from may.was k lt)
   where
     kept : (x : ℕ) → Among x (possible base log k) → Among x (if at == k then possible base log k ++ value ∷ [] else possible base log k)
     kept x is = elim (at == k) as (λ t. Among x (if t then possible base log k ++ value ∷ [] else possible base log k)) [ true ↦ among_more x value (possible base log k) is | false ↦ is ]
@@ -139,7 +139,7 @@ possible_many base (Write at value lands ∷ log) k = go (at == k) (possible_man
     go true many = (omega (arith, many.0, length-append (possible base log k) (value ∷ [])), omega (arith, many.1, length-append (possible base log k) (value ∷ [])))
     go false many = (many.0, omega (arith, many.1))
 
-pub picked_may : (base : List ℕ) (log : List Made) (i choice : List ℕ) → length i ≡ length base → ((k : ℕ) → k < length base → slice_index i k ≡ picked base log k (slice_index choice k)) → May base log i
+pub picked_may : (base : List ℕ) (log : List Made) (i choice : List ℕ) → length i ≡ length base → ((k : ℕ) → k < length base → slice_index i k ≡ picked base log k (slice_index choice k)) → MayLeave base log i
 picked_may base log i choice long each = chosen_may base log i long (λ k lt.
     let some : 0 < length (possible base log k) = (possible_many base log k).0 in
     let below : slice_index choice k % length (possible base log k) < length (possible base log k) = omega (arith, some) in
@@ -158,7 +158,7 @@ numbers (suc m) P each =
     at (suc j) lt n ns first rest = rest j (omega (arith, lt))
 
 -- each image that a stop may leave is picked by some choice
-pub may_picked : (base : List ℕ) (log : List Made) (i : List ℕ) → May base log i → (choice : List ℕ) × ((k : ℕ) → k < length base → (slice_index choice k ≤ length log) × (slice_index i k ≡ picked base log k (slice_index choice k)))
+pub may_picked : (base : List ℕ) (log : List Made) (i : List ℕ) → MayLeave base log i → (choice : List ℕ) × ((k : ℕ) → k < length base → (slice_index choice k ≤ length log) × (slice_index i k ≡ picked base log k (slice_index choice k)))
 may_picked base log i may = numbers (length base) (λ k n. (n ≤ length log) × (slice_index i k ≡ picked base log k n)) (λ k lt.
     let w = number_among (slice_index i k) (possible base log k) (may_among base log i may k lt) in
     let whole : w.0 % length (possible base log k) ≡ w.0 = mod-eq_of_lt w.1 in

@@ -4,8 +4,8 @@ use Rattle.std.proofs.Math.ListN.{get_or-append}
 use Rattle.std.proofs.Math.Seq.{get_or-append_seam}
 use Rattle.std.proofs.lemmas.Bool.{cases_eq}
 use Rattle.std.proofs.lemmas.Bool.Decides.{nat_tests}
-use Rattle.rom_device.specs.Log.{now}
-use Rattle.rom_device.specs.Images.{length-now}
+use Rattle.rom_device.specs.Log.{words_after}
+use Rattle.rom_device.specs.Images.{length-words_after}
 use Rattle.rom_device.specs.Choice.{possible}
 use Rattle.rom_device.specs.Followed.{IsFollowed}
 use Rattle.rom_device.specs.declared.call.Made.{Made}
@@ -13,11 +13,11 @@ use Rattle.rom_device.specs.declared.call.Made.TheVariants.{Write}
 use Rattle.rom_device.specs.declared.followed.Followed.{Followed}
 
 module _ (base : List ℕ) (log : List Made) (w : Followed) (is : IsFollowed base log w) (value : ℕ) (lands : Bool) (inside : w.at < length base) where
-  reads_written : (reads : ℕ) → reads ≡ (if lands then value else w.reads) → reads ≡ slice_index (now base (Write w.at value lands ∷ log)) w.at
+  reads_written : (reads : ℕ) → reads ≡ (if lands then value else w.reads) → reads ≡ slice_index (words_after base (Write w.at value lands ∷ log)) w.at
   reads_written reads e = e ∙ go lands
     where
-      go : (b : Bool) → (if b then value else w.reads) ≡ slice_index (if b then set (now base log) w.at value else now base log) w.at
-      go true = let long : w.at < length (now base log) = omega (arith, inside, length-now base log) in sym (rw get_or-set_same refl)
+      go : (b : Bool) → (if b then value else w.reads) ≡ slice_index (if b then set (words_after base log) w.at value else words_after base log) w.at
+      go true = let long : w.at < length (words_after base log) = omega (arith, inside, length-words_after base log) in sym (rw get_or-set_same refl)
       go false = is.reads
 
   possible_written : possible base (Write w.at value lands ∷ log) w.at ≡ possible base log w.at ++ value ∷ []

@@ -2,41 +2,41 @@
 -- device.
 use Rattle.std.proofs.Common.{◌≡◌, inl, inr, ℕ, true, false, List, [], ◌∷◌, length, refl, arith, length-set, ap, ◌∙◌}
 use Rattle.rom_device.specs.Device.{Writes}
-use Rattle.rom_device.specs.Log.{now, May, Since}
+use Rattle.rom_device.specs.Log.{words_after, MayLeave, MayLeaveSince}
 use Rattle.rom_device.specs.declared.call.Made.{Made}
 use Rattle.rom_device.specs.declared.call.Made.TheVariants.{Read, Write, Sync}
 
-pub May_now : (base : List ℕ) (log : List Made) → May base log (now base log)
-May_now base [] = refl
-May_now base (Read at ∷ log) = May_now base log
-May_now base (Write at value true ∷ log) = record { from = now base log; was = May_now base log; by = inr refl }
-May_now base (Write at value false ∷ log) = record { from = now base log; was = May_now base log; by = inl refl }
-May_now base (Sync true ∷ log) = refl
-May_now base (Sync false ∷ log) = May_now base log
+pub may_leave_words : (base : List ℕ) (log : List Made) → MayLeave base log (words_after base log)
+may_leave_words base [] = refl
+may_leave_words base (Read at ∷ log) = may_leave_words base log
+may_leave_words base (Write at value true ∷ log) = record { from = words_after base log; was = may_leave_words base log; by = inr refl }
+may_leave_words base (Write at value false ∷ log) = record { from = words_after base log; was = may_leave_words base log; by = inl refl }
+may_leave_words base (Sync true ∷ log) = refl
+may_leave_words base (Sync false ∷ log) = may_leave_words base log
 
-pub length-now : (base : List ℕ) (log : List Made) → length (now base log) ≡ length base
-length-now base [] = refl
-length-now base (Read at ∷ log) = length-now base log
-length-now base (Write at value true ∷ log) = length-set (now base log) at value ∙ length-now base log
-length-now base (Write at value false ∷ log) = length-now base log
-length-now base (Sync done ∷ log) = length-now base log
+pub length-words_after : (base : List ℕ) (log : List Made) → length (words_after base log) ≡ length base
+length-words_after base [] = refl
+length-words_after base (Read at ∷ log) = length-words_after base log
+length-words_after base (Write at value true ∷ log) = length-set (words_after base log) at value ∙ length-words_after base log
+length-words_after base (Write at value false ∷ log) = length-words_after base log
+length-words_after base (Sync done ∷ log) = length-words_after base log
 
-pub length-May : (base : List ℕ) (log : List Made) (i : List ℕ) → May base log i → length i ≡ length base
-length-May base [] i is = ap length is
-length-May base (Read at ∷ log) i may = length-May base log i may
-length-May base (Write at value lands ∷ log) i may = Writes_length at value may.from i may.by ∙ length-May base log may.from may.was
+pub length-MayLeave : (base : List ℕ) (log : List Made) (i : List ℕ) → MayLeave base log i → length i ≡ length base
+length-MayLeave base [] i is = ap length is
+length-MayLeave base (Read at ∷ log) i may = length-MayLeave base log i may
+length-MayLeave base (Write at value lands ∷ log) i may = Writes_length at value may.from i may.by ∙ length-MayLeave base log may.from may.was
   where
     Writes_length : (at value : ℕ) (old new : List ℕ) → Writes at value old new → length new ≡ length old
     Writes_length at value old new (inl same) = ap length same
     Writes_length at value old new (inr set_there) = ap length set_there ∙ length-set old at value
-length-May base (Sync true ∷ log) i is = ap length is ∙ length-now base log
-length-May base (Sync false ∷ log) i may = length-May base log i may
+length-MayLeave base (Sync true ∷ log) i is = ap length is ∙ length-words_after base log
+length-MayLeave base (Sync false ∷ log) i may = length-MayLeave base log i may
 
-pub Since_now : (base : List ℕ) (t : ℕ) (log : List Made) (i : List ℕ) → May base log i → Since base t log i
-Since_now base t [] i may = may
-Since_now base t (made ∷ log) i may = inl may
+pub since_counts_now : (base : List ℕ) (t : ℕ) (log : List Made) (i : List ℕ) → MayLeave base log i → MayLeaveSince base t log i
+since_counts_now base t [] i may = may
+since_counts_now base t (made ∷ log) i may = inl may
 
-pub Since_only : (base : List ℕ) (log : List Made) (i : List ℕ) → Since base (length log) log i → May base log i
-Since_only base [] i since = since
-Since_only base (made ∷ log) i (inl may) = may
-Since_only base (made ∷ log) i (inr earlier) = absurd (omega (arith, earlier.0))
+pub since_only_now : (base : List ℕ) (log : List Made) (i : List ℕ) → MayLeaveSince base (length log) log i → MayLeave base log i
+since_only_now base [] i since = since
+since_only_now base (made ∷ log) i (inl may) = may
+since_only_now base (made ∷ log) i (inr earlier) = absurd (omega (arith, earlier.0))

@@ -19,21 +19,21 @@ place_of (Write at value lands) = at
 place_of (Sync done) = 0
 
 -- the words as they read
-abbrev pub now : List ℕ → List Made → List ℕ
-now base [] = base
-now base (Read at ∷ log) = now base log
-now base (Write at value lands ∷ log) = if lands then slice_set (now base log) at value else now base log
-now base (Sync done ∷ log) = now base log
+abbrev pub words_after : List ℕ → List Made → List ℕ
+words_after base [] = base
+words_after base (Read at ∷ log) = words_after base log
+words_after base (Write at value lands ∷ log) = if lands then slice_set (words_after base log) at value else words_after base log
+words_after base (Sync done ∷ log) = words_after base log
 
 -- a stop may leave this image
-abbrev pub May : List ℕ → List Made → List ℕ → Type 0
-May base [] i = i ≡ base
-May base (Read at ∷ log) i = May base log i
-May base (Write at value lands ∷ log) i = After (Writes at value) (May base log) i
-May base (Sync true ∷ log) i = i ≡ now base log
-May base (Sync false ∷ log) i = May base log i
+abbrev pub MayLeave : List ℕ → List Made → List ℕ → Type 0
+MayLeave base [] i = i ≡ base
+MayLeave base (Read at ∷ log) i = MayLeave base log i
+MayLeave base (Write at value lands ∷ log) i = After (Writes at value) (MayLeave base log) i
+MayLeave base (Sync true ∷ log) i = i ≡ words_after base log
+MayLeave base (Sync false ∷ log) i = MayLeave base log i
 
 -- a stop at some moment since t might have left it; the moment is the number of calls made
-abbrev pub Since : List ℕ → ℕ → List Made → List ℕ → Type 0
-Since base t [] i = May base [] i
-Since base t (made ∷ log) i = May base (made ∷ log) i ⊎ ((t ≤ length log) × Since base t log i)
+abbrev pub MayLeaveSince : List ℕ → ℕ → List Made → List ℕ → Type 0
+MayLeaveSince base t [] i = MayLeave base [] i
+MayLeaveSince base t (made ∷ log) i = MayLeave base (made ∷ log) i ⊎ ((t ≤ length log) × MayLeaveSince base t log i)

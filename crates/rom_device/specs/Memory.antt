@@ -6,7 +6,7 @@ use Rattle.rom_device.specs.declared.call.Made.{Made}
 use Rattle.rom_device.specs.declared.call.Made.TheVariants.{Read, Write, Sync}
 use Rattle.rom_device.specs.declared.trip.Trip.{Trip}
 use Rattle.rom_device.specs.declared.memory.Memory.{Memory}
-use Rattle.rom_device.specs.Log.{now}
+use Rattle.rom_device.specs.Log.{words_after}
 use Rattle.rom_device.specs.Choice.{picked}
 use Rattle.rom_device.specs.Trips.{trip_at}
 
@@ -27,7 +27,7 @@ trips_of m = m.trips.items
 
 -- the words as they read
 abbrev pub words_of : Memory → List ℕ
-words_of m = now (start_of m) (reverse (calls_of m))
+words_of m = words_after (start_of m) (reverse (calls_of m))
 
 -- how often it has failed
 abbrev pub fault_count_of : Memory → ℕ
@@ -71,7 +71,7 @@ sync_made m = Sync (is_none (trip_of m kind.TheVariants.Sync 0))
 abbrev pub calls_with : Memory → Made → List Made
 calls_with m made = if is_full m then calls_of m else calls_of m ++ made ∷ []
 
--- a call changes neither of these
+-- a call changes none of these
 pub record KeepsRest (old new : Memory) : Type 0 where
   pub start : start_of new ≡ start_of old
   pub room : room_of new ≡ room_of old

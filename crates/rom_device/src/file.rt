@@ -170,6 +170,7 @@ impl FileDevice {
         ensures window { OnTrue result (IfSome (word_in self.new.windows at) (λ word. word ≡ value)) }
         ensures others { (b : ℕ) → b ≢ at → word_in self.new.windows b ≡ word_in self.old.windows b }
         ensures kept { OnFalse result (self.new.pending ≡ self.old.pending) }
+        ensures stays { OnFalse result (self.new.windows ≡ self.old.windows) }
         ensures len { self.new.len ≡ self.old.len }
         ensures failed { self.new.failed ≡ self.old.failed }
         ensures writes { self.new.writes ≡ self.old.writes }

@@ -1,5 +1,5 @@
 //! The values that a stop may leave in one word of a memory device.
-ghost use Rattle.std.specs.Prelude.{◌≡◌, ◌+◌, ◌<◌, ◌^◌, [], ◌∷◌, ℕ, List, length, reverse, slice_index};
+ghost use Rattle.std.specs.Prelude.{◌≡◌, ◌+◌, ◌<◌, ◌^◌, [], ◌∷◌, ℕ, List, length, reverse};
 ghost use Rattle.rom_device.specs.Choice.{picked};
 ghost use Rattle.rom_device.specs.declared.call.Made.{Made};
 

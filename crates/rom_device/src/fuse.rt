@@ -1,5 +1,5 @@
 //! A device that passes some calls on and then fails each, as one that was unplugged.
-ghost use Rattle.std.specs.Prelude.{◌≡◌, ◌+◌, ◌-◌, ◌<◌, ◌≤◌, ◌^◌, IsTrue, IsErr, if◌then◌else◌, ◌↔◌};
+ghost use Rattle.std.specs.Prelude.{◌≡◌, ◌+◌, ◌-◌, ◌<◌, IsTrue, IsErr, if◌then◌else◌, ◌↔◌};
 ghost use Rattle.rom_model.specs.Faults.{HasCause, counted};
 
 use crate::device::{Device, Failed};
@@ -66,7 +66,7 @@ impl<D: Device> Fuse<D> {
 }
 
 impl<D: Device> Device for Fuse<D> {
-    ghost use Rattle.std.specs.Prelude.{◌≡◌, ◌+◌, ◌-◌, ◌<◌, ◌≤◌, ◌^◌, ℕ, List, IsErr, IsTrue, IfOk, OnOk, OnErr, slice_index, slice_set, min};
+    ghost use Rattle.std.specs.Prelude.{◌≡◌, ◌+◌, ◌-◌, ◌<◌, ℕ, List, IsErr, IsTrue, IfOk, OnOk, OnErr, slice_index, slice_set, min};
     ghost use Rattle.rom_model.specs.Faults.{LAST, HasCause, counted};
     ghost use Rattle.rom_device.specs.Device.{Runs, Stays, Writes};
     ghost use Rattle.std.proofs.Common.{arith};

@@ -1,9 +1,9 @@
 //! Words in memory with listed faults, and a list of all calls made.
-ghost use Rattle.std.specs.Prelude.{◌≡◌, ◌+◌, ◌<◌, ◌≤◌, ◌^◌, ◌∷◌, ◌++◌, [], ℕ, List, Bool, true, false, IfOk, IfErr, IfSome, OnErr, OnOk, IsTrue, IsErr, IsSome, ◌↔◌, length, reverse, vec_len, vec_capacity, slice_index, slice_set, if◌then◌else◌, is_err};
+ghost use Rattle.std.specs.Prelude.{◌≡◌, ◌+◌, ◌<◌, ◌≤◌, ◌^◌, ◌∷◌, ◌++◌, [], ℕ, List, true, false, IfOk, OnErr, OnOk, IsTrue, IsErr, ◌↔◌, length, reverse, vec_len, vec_capacity, slice_index, slice_set, if◌then◌else◌, is_err};
 ghost use Rattle.std.specs.Bool.{OnTrue, OnFalse};
 ghost use Rattle.rom_model.specs.Faults.{HasCause, counted};
 ghost use Rattle.rom_device.specs.Device.{Runs, Stays, Writes};
-ghost use Rattle.rom_device.specs.Log.{now};
+ghost use Rattle.rom_device.specs.Log.{words_after};
 ghost use Rattle.rom_device.specs.Trips.{trip_at};
 
 use crate::call::{CallKind, Made};
@@ -30,7 +30,7 @@ pub struct Memory {
     ghost small: { length start.items < 2 ^ 64 },
     ghost fits: { faults < 2 ^ 64 },
     ghost as_long: { vec_len words ≡ vec_len start },
-    ghost replayed: { words.items ≡ now start.items (reverse made.items) },
+    ghost replayed: { words.items ≡ words_after start.items (reverse made.items) },
     ghost within: { vec_len made ≤ room },
     ghost reserved: { room ≤ vec_capacity made },
 }
@@ -135,22 +135,22 @@ impl Memory {
 
 impl Device for Memory {
     ghost use Rattle.std.specs.Prelude.{refl};
-    ghost use Rattle.rom_device.specs.Log.{May, Since};
+    ghost use Rattle.rom_device.specs.Log.{MayLeave, MayLeaveSince};
     ghost use Rattle.rom_device.specs.Memory.{start_of, calls_of, words_of, fault_count_of, fails, calls_with, read_made, write_made, sync_made, KeepsRest};
 
     ghost size = { λ m. length m.start.items };
 
     ghost tells_words = { true };
 
-    ghost words = { λ m. now m.start.items (reverse m.made.items) };
+    ghost words = { λ m. words_after m.start.items (reverse m.made.items) };
 
     ghost tells_images = { true };
 
-    ghost leaves = { λ m. May m.start.items (reverse m.made.items) };
+    ghost leaves = { λ m. MayLeave m.start.items (reverse m.made.items) };
 
     ghost clock = { λ m. length (reverse m.made.items) };
 
-    ghost left_since = { λ m t. Since m.start.items t (reverse m.made.items) };
+    ghost left_since = { λ m t. MayLeaveSince m.start.items t (reverse m.made.items) };
 
     ghost faults = { λ m. m.faults };
 
@@ -245,19 +245,19 @@ impl Device for Memory {
         Ok(())
     }
 
-    ghost use Rattle.rom_device.specs.Images.{May_now, length-now, length-May, Since_now, Since_only};
+    ghost use Rattle.rom_device.specs.Images.{may_leave_words, length-words_after, length-MayLeave, since_counts_now, since_only_now};
 
     ghost tells_both = { λ _. refl };
 
-    ghost reads_image = { λ m _. May_now m.start.items (reverse m.made.items) };
+    ghost reads_image = { λ m _. may_leave_words m.start.items (reverse m.made.items) };
 
-    ghost words_fit = { λ m _. length-now m.start.items (reverse m.made.items) };
+    ghost words_fit = { λ m _. length-words_after m.start.items (reverse m.made.items) };
 
-    ghost images_fit = { λ m i _ may. length-May m.start.items (reverse m.made.items) i may };
+    ghost images_fit = { λ m i _ may. length-MayLeave m.start.items (reverse m.made.items) i may };
 
-    ghost counts_now = { λ m t i _ _ may. Since_now m.start.items t (reverse m.made.items) i may };
+    ghost counts_now = { λ m t i _ _ may. since_counts_now m.start.items t (reverse m.made.items) i may };
 
-    ghost only_now = { λ m i _ since. Since_only m.start.items (reverse m.made.items) i since };
+    ghost only_now = { λ m i _ since. since_only_now m.start.items (reverse m.made.items) i since };
 
     ghost size_fits = { λ m. m.small };
 

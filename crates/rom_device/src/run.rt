@@ -98,6 +98,7 @@ impl Run {
         requires { Follows self.old at }
         ensures added { held_of self.new ≡ held_of self.old ++ value ∷ [] }
         ensures word { word_of self.new at ≡ Some value }
+        ensures others { (b : ℕ) → b ≢ at → word_of self.new b ≡ word_of self.old b }
         ensures first { self.new.first + self.old.count ≡ at }
         ensures count { self.new.count ≡ self.old.count + 1 }
     {

@@ -46,8 +46,11 @@ fn words_in_memory_are_read_back(rt: HostRuntime) -> Result<(), Fail> {
 }
 
 #[test]
-fn too_many_words_are_want_of_memory(rt: HostRuntime) {
+fn what_does_not_fit_is_want_of_memory(rt: HostRuntime) {
     assert!(rt; Ram::zeroed(rt.alloc(), u64::MAX).is_err());
+    let none = Vec::new(rt.alloc());
+    let memory = Memory::new(rt.alloc(), none, u64::MAX, Vec::new(rt.alloc()));
+    assert!(rt; memory.is_err());
 }
 
 /// A trip of calls of any word.

@@ -1,6 +1,6 @@
 use Rattle.std.proofs.Common.{◌≡◌, ◌<◌, length, reverse, arith, rules}
 use Rattle.std.proofs.lemmas.List.{length-reverse}
-use Rattle.rom_device.specs.Images.{length-May}
+use Rattle.rom_device.specs.Images.{length-MayLeave}
 use Rattle.rom_device.proofs.Choices.{picked_may, may_picked}
 use Rattle.rom_device.proofs.memory.Memory.crash.Goals as goal
 
@@ -15,6 +15,6 @@ returns-clause-every c image may =
     let base = c.args.self.start.items in
     let log = reverse c.args.self.made.items in
     let choice = may_picked base log image may in
-    let long : length image ≡ length base = length-May base log image may in
+    let long : length image ≡ length base = length-MayLeave base log image may in
     let many : length log ≡ length c.args.self.made.items = length-reverse c.args.self.made.items in
     (choice.0, (λ k lt. omega (arith, many, (choice.1 k lt).0)), record { as_long = long; each = λ k lt. (choice.1 k lt).1 })
