@@ -1,5 +1,5 @@
 //! A device, and the rules of what a stop may leave of it.
-ghost use Rattle.std.specs.Prelude.{◌≡◌, ◌+◌, ◌<◌, ◌≤◌, ◌^◌, List, ℕ, Bool, length, IfOk, OnOk, OnErr, IsTrue, slice_set, slice_index};
+ghost use Rattle.std.specs.Prelude.{◌≡◌, ◌<◌, ◌≤◌, ◌^◌, List, ℕ, Bool, length, IfOk, OnOk, OnErr, IsTrue, slice_set, slice_index};
 ghost use Rattle.rom_model.specs.Faults.{HasCause, counted};
 ghost use Rattle.rom_device.specs.Device.{Runs, Stays, Writes};
 
