@@ -12,6 +12,8 @@ pub mod codes;
 pub mod entry;
 pub mod line;
 pub mod record;
+#[cfg(test)]
+mod tests;
 pub mod words;
 
 pub use call::{Answer, Call, Query, Reply, Updated};
