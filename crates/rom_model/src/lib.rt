@@ -12,6 +12,8 @@ mod codes;
 mod entry;
 mod line;
 mod record;
+#[cfg(test)]
+mod tests;
 mod words;
 
 pub use call::{Answer, Call, Query, Reply, Updated};
