@@ -36,10 +36,9 @@ done | sort -n >"$times"
 awk '{ t[NR] = $1 / 100 } END { printf "time: %.2f ms, the middle of %d runs from %.2f to %.2f\n", t[(NR + 1) / 2], NR, t[1], t[NR] }' "$times"
 
 if [ -x /usr/bin/time ]; then
-    /usr/bin/time -v "$program" try "$script" 2>"$folder/memory" >"$text"
-    sed -n 's/^[[:space:]]*Maximum resident set size (kbytes): /memory at most, in KiB: /p' "$folder/memory"
+    /usr/bin/time -f 'one run: %U s in the program, %S s in the system; memory at most: %M KiB' "$program" try "$script" >"$text"
 else
-    echo "memory: /usr/bin/time is not here"
+    echo "processor time and memory: /usr/bin/time is not here"
 fi
 
 if command -v strace >/dev/null; then
