@@ -16,6 +16,8 @@ pub mod read;
 pub mod report;
 pub mod script;
 pub mod streams;
+#[cfg(test)]
+mod tests;
 
 pub use adapt::Adapted;
 pub use line::{Line, line_end, read_line};
