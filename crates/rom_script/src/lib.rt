@@ -16,6 +16,8 @@ mod read;
 mod report;
 mod script;
 mod streams;
+#[cfg(test)]
+mod tests;
 
 pub use adapt::Adapted;
 pub use line::{Line, line_end, read_line};
