@@ -16,9 +16,12 @@ piece_of b = b.piece
 abbrev pub trips_of : Bytes → List ℕ
 trips_of b = b.trips.items
 
--- how many reads were made, and how many of them failed
+-- how many reads were made, how many of them gave no byte, and how many failed
 abbrev pub reads_of : Bytes → ℕ
 reads_of b = b.reads
+
+abbrev pub idle_of : Bytes → ℕ
+idle_of b = b.idle
 
 abbrev pub read_faults_of : Bytes → ℕ
 read_faults_of b = b.faults

@@ -1,5 +1,5 @@
 -- What calls take from a source and give to a sink, where these tell their bytes.
-use Rattle.std.specs.Prelude.{ℕ, ◌+◌, ◌≤◌, List, length, take, Option, Result, MatchResult}
+use Rattle.std.specs.Prelude.{ℕ, ◌==◌, Bool, true, List, take, Option, Result, Ok, Err, MatchResult}
 use Rattle.std.specs.Io.KnownBytes.{Appends, Consumes}
 
 -- the sink has taken some of the text, from its front
@@ -10,9 +10,13 @@ AppendsFront old new text = (n : ℕ) × Appends old new (take n text)
 abbrev pub Prints : {T E : Type 0} → Option (List ℕ) → Option (List ℕ) → Result T E → List ℕ → Type 0
 Prints old new result text = MatchResult result (λ _. Appends old new text) (λ _. AppendsFront old new text)
 
--- Such bytes were taken from a source, one at least by each read but one.
-pub record Takes (Such : List ℕ → Type 0) (old new : Option (List ℕ)) (reads_old reads_new : ℕ) : Type 0 where
+-- such bytes were taken from a source
+pub record Takes (Such : List ℕ → Type 0) (old new : Option (List ℕ)) : Type 0 where
   pub bytes : List ℕ
   pub consumed : Consumes old new bytes
   pub such : Such bytes
-  pub by_reads : reads_new ≤ reads_old + length bytes + 1
+
+-- whether a read gave no byte
+abbrev pub is_idle : {E : Type 0} → Result ℕ E → Bool
+is_idle (Ok n) = n == 0
+is_idle (Err e) = true

@@ -10,64 +10,71 @@ use std::io::{Read, Write};
 pub struct Adapted<R> {
     inner: Option<R>,
     faults: u64,
-    reads: u64,
+    idle: u64,
 }
 
 impl<R> Adapted<R> {
     ghost use Rattle.std.specs.Prelude.{◌≡◌, true, false};
-    ghost use Rattle.rom_script.specs.Adapts.{is_missing};
+    ghost use Rattle.rom_script.specs.Adapts.{faults_of, idle_of, is_missing};
 
     /// The source or sink that this reader or writer is.
     pub fn new(inner: R) -> Self
-        ensures { is_missing result ≡ false }
+        ensures present { is_missing result ≡ false }
+        ensures counts { (idle_of result ≡ 0) × (faults_of result ≡ 0) }
     {
         Adapted {
             inner: Some(inner),
             faults: 0,
-            reads: 0,
+            idle: 0,
         }
     }
 
     /// What stands for a file that could not be opened: each call fails and raises the count.
     pub fn missing() -> Self
-        ensures { is_missing result ≡ true }
+        ensures missing { is_missing result ≡ true }
+        ensures counts { (idle_of result ≡ 0) × (faults_of result ≡ 0) }
     {
         Adapted {
             inner: None,
             faults: 0,
-            reads: 0,
+            idle: 0,
         }
     }
 }
 
 impl<R: Read> Source for Adapted<R> {
-    ghost use Rattle.std.specs.Prelude.{◌≡◌, ◌<◌, ◌≤◌, length, IfOk, IsErr, IsTrue};
+    ghost use Rattle.std.specs.Prelude.{◌≡◌, ◌<◌, ◌≤◌, length, IfOk, IsErr, IsTrue, if◌then◌else◌};
     ghost use Rattle.rom_model.specs.Faults.{HasCause, counted};
     ghost use Rattle.rom_script.specs.Adapts.{is_missing};
+    ghost use Rattle.rom_script.specs.Streams.{is_idle};
 
     ghost left = { λ _. None };
 
     ghost faults = { λ a. a.faults };
 
-    ghost reads = { λ a. a.reads };
+    ghost idle = { λ a. a.idle };
 
     fn read(&mut self, buf: &mut [u8]) -> Result<u64, IoFailed>
         requires { 0 < length buf.old }
         ensures within { IfOk result (λ n. n ≤ length buf.new) }
         ensures cause { HasCause self.old.faults self.new.faults result }
-        ensures reads { self.new.reads ≡ counted self.old.reads }
+        ensures idle { self.new.idle ≡ (if is_idle result then counted self.old.idle else self.old.idle) }
 
         ensures missing { IsTrue (is_missing self.old) → IsErr result }
         ensures kept { is_missing self.new ≡ is_missing self.old }
     {
-        self.reads = self.reads.saturating_add(1);
         let answer = match &mut self.inner {
             Some(reader) => reader.read(buf).ok(),
             None => None,
         };
         match answer {
+            Some(0) => {
+                self.idle = self.idle.saturating_add(1);
+                Ok(0)
+            }
             Some(count) => Ok(count as u64),
             None => {
+                self.idle = self.idle.saturating_add(1);
                 self.faults = self.faults.saturating_add(1);
                 Err(IoFailed)
             }

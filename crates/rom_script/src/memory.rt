@@ -1,5 +1,5 @@
 //! Sources and sinks in memory, which tell their bytes and fail as they are told to.
-ghost use Rattle.std.specs.Prelude.{◌≡◌, ℕ, ◌+◌, ◌-◌, ◌<◌, ◌≤◌, List, [], length, take, vec_len, vec_capacity, Some, IfOk};
+ghost use Rattle.std.specs.Prelude.{◌≡◌, ℕ, ◌+◌, ◌-◌, ◌<◌, ◌≤◌, List, [], length, take, vec_len, vec_capacity, Some, IfOk, if◌then◌else◌};
 
 use crate::streams::{IoFailed, Sink, Source};
 use std::alloc::{AllocError, Global};
@@ -12,13 +12,14 @@ pub struct Bytes {
     trips: Vec<u64>,
     at: usize,
     reads: u64,
+    idle: u64,
     faults: u64,
     ghost within: { at ≤ vec_len content },
     ghost some: { 0 < piece },
 }
 
 impl Bytes {
-    ghost use Rattle.rom_script.specs.Memory.{bytes_left, piece_of, trips_of, reads_of, read_faults_of};
+    ghost use Rattle.rom_script.specs.Memory.{bytes_left, piece_of, trips_of, reads_of, idle_of, read_faults_of};
 
     /// A source that has this text left. Each read gives at most `piece` bytes, and the reads
     /// whose numbers, counted from 1, are among the trips fail.
@@ -27,7 +28,7 @@ impl Bytes {
         ensures left { bytes_left result ≡ content.items }
         ensures piece { piece_of result ≡ piece }
         ensures trips { trips_of result ≡ trips.items }
-        ensures counts { (reads_of result ≡ 0) × (read_faults_of result ≡ 0) }
+        ensures counts { (reads_of result ≡ 0) × (idle_of result ≡ 0) × (read_faults_of result ≡ 0) }
     {
         Bytes {
             content,
@@ -35,6 +36,7 @@ impl Bytes {
             trips,
             at: 0,
             reads: 0,
+            idle: 0,
             faults: 0,
         }
     }
@@ -49,30 +51,34 @@ fn copy_front(to: &mut [u8], from: &[u8], count: usize)
 }
 
 impl Source for Bytes {
-    ghost use Rattle.std.specs.Prelude.{IsErr, IsTrue, ◌↔◌};
+    ghost use Rattle.std.specs.Prelude.{IsErr, IsTrue, is_err, ◌↔◌};
     ghost use Rattle.std.specs.Io.KnownBytes.{ReadConsumes};
     ghost use Rattle.rom_model.specs.Faults.{HasCause, counted};
-    ghost use Rattle.rom_script.specs.Memory.{bytes_left, piece_of, trips_of, reads_of, read_faults_of, trips_at};
+    ghost use Rattle.rom_script.specs.Memory.{bytes_left, piece_of, trips_of, reads_of, idle_of, read_faults_of, trips_at};
+    ghost use Rattle.rom_script.specs.Streams.{is_idle};
 
     ghost left = { λ b. Some (bytes_left b) };
 
     ghost faults = { λ b. b.faults };
 
-    ghost reads = { λ b. b.reads };
+    ghost idle = { λ b. b.idle };
 
     /// It fails exactly where a trip is due, and gives at most its piece.
     fn read(&mut self, buf: &mut [u8]) -> Result<u64, IoFailed>
         ensures within { IfOk result (λ n. n ≤ length buf.new) }
         ensures bytes { ReadConsumes (Some (bytes_left self.old)) (Some (bytes_left self.new)) result buf.new }
         ensures cause { HasCause (read_faults_of self.old) (read_faults_of self.new) result }
-        ensures reads { reads_of self.new ≡ counted (reads_of self.old) }
+        ensures idle { idle_of self.new ≡ (if is_idle result then counted (idle_of self.old) else idle_of self.old) }
 
+        ensures reads { reads_of self.new ≡ counted (reads_of self.old) }
+        ensures faults { read_faults_of self.new ≡ (if is_err result then counted (read_faults_of self.old) else read_faults_of self.old) }
         ensures fails { IsErr result ↔ IsTrue (trips_at self.old (reads_of self.new)) }
         ensures piece { IfOk result (λ n. n ≤ piece_of self.old) }
         ensures rest { (piece_of self.new ≡ piece_of self.old) × (trips_of self.new ≡ trips_of self.old) }
     {
         self.reads = self.reads.saturating_add(1);
         if self.trips.contains(&self.reads) {
+            self.idle = self.idle.saturating_add(1);
             self.faults = self.faults.saturating_add(1);
             return Err(IoFailed);
         }
@@ -80,6 +86,9 @@ impl Source for Bytes {
         let most = self.piece.min(buf.len() as u64).min(rest.len() as u64);
         copy_front(buf, rest, most as usize);
         self.at += most as usize;
+        if most == 0 {
+            self.idle = self.idle.saturating_add(1);
+        }
         Ok(most)
     }
 }
@@ -127,9 +136,9 @@ impl Collect {
 }
 
 impl Sink for Collect {
-    ghost use Rattle.std.specs.Prelude.{IsErr, ◌↔◌};
+    ghost use Rattle.std.specs.Prelude.{IsErr, is_err, ◌↔◌};
     ghost use Rattle.std.specs.Io.KnownBytes.{WriteAppends};
-    ghost use Rattle.rom_model.specs.Faults.{HasCause};
+    ghost use Rattle.rom_model.specs.Faults.{HasCause, counted};
     ghost use Rattle.rom_script.specs.Memory.{bytes_taken, room_of, write_piece_of, write_faults_of};
 
     ghost taken = { λ c. Some (bytes_taken c) };
@@ -147,6 +156,7 @@ impl Sink for Collect {
         ensures bytes { WriteAppends (Some (bytes_taken self.old)) (Some (bytes_taken self.new)) result piece.now }
         ensures cause { HasCause (write_faults_of self.old) (write_faults_of self.new) result }
 
+        ensures faults { write_faults_of self.new ≡ (if is_err result then counted (write_faults_of self.old) else write_faults_of self.old) }
         ensures fails { IsErr result ↔ (length (bytes_taken self.old) ≡ room_of self.old) }
         ensures piece { IfOk result (λ n. n ≤ write_piece_of self.old) }
         ensures rest { (room_of self.new ≡ room_of self.old) × (write_piece_of self.new ≡ write_piece_of self.old) }

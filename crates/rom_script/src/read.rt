@@ -35,7 +35,7 @@ impl From<AllocError> for ReadRefused {
 }
 
 /// Reads all that a source has left. Whatever it answers, it has taken at most one byte more than
-/// a script may have, and one at least by each read but the last; what it has taken is lost to the
+/// a script may have, and at most one read gave it nothing; what it has taken is lost to the
 /// source after an `Err`.
 pub fn read_bytes<S: Source>(alloc: Global, source: &mut S) -> Result<Vec<u8>, ReadRefused>
     ensures all { IfOk result (λ bytes. Consumes (S.left source.old) (S.left source.new) bytes.items) }
@@ -43,10 +43,12 @@ pub fn read_bytes<S: Source>(alloc: Global, source: &mut S) -> Result<Vec<u8>, R
     ensures fits { IfOk result (λ bytes. FitsScript bytes.items) }
 
     ensures failed { result ≡ Err ReadRefused.Failed → Rose (S.faults source.old) (S.faults source.new) }
-    ensures failed_early { result ≡ Err ReadRefused.Failed → Takes FitsScript (S.left source.old) (S.left source.new) (S.reads source.old) (S.reads source.new) }
-    ensures too_long { result ≡ Err ReadRefused.TooLong → Takes IsTooLong (S.left source.old) (S.left source.new) (S.reads source.old) (S.reads source.new) }
+    ensures failed_early { result ≡ Err ReadRefused.Failed → Takes FitsScript (S.left source.old) (S.left source.new) }
+    ensures too_long { result ≡ Err ReadRefused.TooLong → Takes IsTooLong (S.left source.old) (S.left source.new) }
+    ensures unbroken { result ≡ Err ReadRefused.TooLong → S.idle source.new ≡ S.idle source.old }
 
-    ensures takes { Takes IsReadAtMost (S.left source.old) (S.left source.new) (S.reads source.old) (S.reads source.new) }
+    ensures takes { Takes IsReadAtMost (S.left source.old) (S.left source.new) }
+    ensures turns { S.idle source.new ≤ S.idle source.old + 1 }
     ensures later { S.faults source.old ≤ S.faults source.new }
 {
     let mut bytes = Vec::new(alloc);

@@ -68,10 +68,12 @@ pub fn read_script<S: Source>(alloc: Global, source: &mut S) -> Result<Script, R
     ensures to_its_end { OnOk result (IsAtEnd (S.left source.new)) }
 
     ensures failed { result ≡ Err ReadRefused.Failed → Rose (S.faults source.old) (S.faults source.new) }
-    ensures failed_early { result ≡ Err ReadRefused.Failed → Takes FitsScript (S.left source.old) (S.left source.new) (S.reads source.old) (S.reads source.new) }
-    ensures too_long { result ≡ Err ReadRefused.TooLong → Takes IsTooLong (S.left source.old) (S.left source.new) (S.reads source.old) (S.reads source.new) }
+    ensures failed_early { result ≡ Err ReadRefused.Failed → Takes FitsScript (S.left source.old) (S.left source.new) }
+    ensures too_long { result ≡ Err ReadRefused.TooLong → Takes IsTooLong (S.left source.old) (S.left source.new) }
+    ensures unbroken { result ≡ Err ReadRefused.TooLong → S.idle source.new ≡ S.idle source.old }
 
-    ensures takes { Takes IsReadAtMost (S.left source.old) (S.left source.new) (S.reads source.old) (S.reads source.new) }
+    ensures takes { Takes IsReadAtMost (S.left source.old) (S.left source.new) }
+    ensures turns { S.idle source.new ≤ S.idle source.old + 1 }
     ensures later { S.faults source.old ≤ S.faults source.new }
 {
     let bytes = read_bytes(alloc, source)?;

@@ -1,7 +1,8 @@
 //! Where scripts come from and where texts go.
-ghost use Rattle.std.specs.Prelude.{◌≡◌, ℕ, ◌<◌, ◌≤◌, List, length, Option, IfOk};
+ghost use Rattle.std.specs.Prelude.{◌≡◌, ℕ, ◌<◌, ◌≤◌, List, length, Option, IfOk, if◌then◌else◌};
 ghost use Rattle.std.specs.Io.KnownBytes.{ReadConsumes, WriteAppends};
 ghost use Rattle.rom_model.specs.Faults.{HasCause, counted};
+ghost use Rattle.rom_script.specs.Streams.{is_idle};
 
 /// A read or a write failed.
 #[derive(Clone, Copy, Debug, PartialEq, Eq)]
@@ -15,8 +16,8 @@ pub trait Source {
     /// How often a read has failed, up to 2^64 - 1.
     ghost faults: { Self → ℕ };
 
-    /// How many reads were made, up to 2^64 - 1.
-    ghost reads: { Self → ℕ };
+    /// How many reads gave no byte, by a failure or at the end, up to 2^64 - 1.
+    ghost idle: { Self → ℕ };
 
     /// Reads the next bytes into the front of `buf`, and says how many they are. `Ok(0)` is the
     /// end of the input. After `IoFailed` the same bytes are left.
@@ -25,7 +26,7 @@ pub trait Source {
         ensures within { IfOk result (λ n. n ≤ length buf.new) }
         ensures bytes { ReadConsumes (left self.old) (left self.new) result buf.new }
         ensures cause { HasCause (faults self.old) (faults self.new) result }
-        ensures reads { reads self.new ≡ counted (reads self.old) };
+        ensures idle { idle self.new ≡ (if is_idle result then counted (idle self.old) else idle self.old) };
 }
 
 /// Bytes that are written piece by piece.

@@ -86,10 +86,10 @@ digit_one : decimal (0 + 1) ≡ 49 ∷ []
 digit_one = decimal_digit 1 (omega arith)
 
 -- the one script failed
-pub first_failed : {S : Type 0} (left : S → Option (List ℕ)) (faults reads : S → ℕ) (xs : List S) (s after : S) (old new : Option (List ℕ)) (was now : ℕ) → xs ≡ s ∷ [] →
-    Rose (faults s) (faults after) → Takes FitsScript (left s) (left after) (reads s) (reads after) → IsTold old new (codes "script 1 failed") was now →
+pub first_failed : {S : Type 0} (left : S → Option (List ℕ)) (faults : S → ℕ) (xs : List S) (s after : S) (old new : Option (List ℕ)) (was now : ℕ) → xs ≡ s ∷ [] →
+    Rose (faults s) (faults after) → Takes FitsScript (left s) (left after) → IsTold old new (codes "script 1 failed") was now →
     SourceFailed (map left xs) (map left (slice_set xs 0 after)) (map faults xs) (map faults (slice_set xs 0 after)) old new was now
-first_failed left faults reads xs s after old new was now is rose takes told =
+first_failed left faults xs s after old new was now is rose takes told =
     subst (λ ys. SourceFailed (map left ys) (map left (slice_set ys 0 after)) (map faults ys) (map faults (slice_set ys 0 after)) old new was now) (sym is) (record {
       script = 0;
       first = record { stands = omega arith; others_fit = tt; others_read = tt };
@@ -101,15 +101,16 @@ first_failed left faults reads xs s after old new was now is rose takes told =
     })
 
 -- the one script is too long
-pub first_too_long : {S : Type 0} (left : S → Option (List ℕ)) (reads : S → ℕ) (xs : List S) (s after : S) (old new : Option (List ℕ)) (was now : ℕ) → xs ≡ s ∷ [] →
-    Takes IsTooLong (left s) (left after) (reads s) (reads after) → IsTold old new (codes "script 1 too long") was now →
-    SourceTooLong (map left xs) (map left (slice_set xs 0 after)) old new was now
-first_too_long left reads xs s after old new was now is takes told =
-    subst (λ ys. SourceTooLong (map left ys) (map left (slice_set ys 0 after)) old new was now) (sym is) (record {
+pub first_too_long : {S : Type 0} (left : S → Option (List ℕ)) (idle : S → ℕ) (xs : List S) (s after : S) (old new : Option (List ℕ)) (was now : ℕ) → xs ≡ s ∷ [] →
+    Takes IsTooLong (left s) (left after) → idle after ≡ idle s → IsTold old new (codes "script 1 too long") was now →
+    SourceTooLong (map left xs) (map left (slice_set xs 0 after)) (map idle xs) (map idle (slice_set xs 0 after)) old new was now
+first_too_long left idle xs s after old new was now is takes unbroken told =
+    subst (λ ys. SourceTooLong (map left ys) (map left (slice_set ys 0 after)) (map idle ys) (map idle (slice_set ys 0 after)) old new was now) (sym is) (record {
       script = 0;
       first = record { stands = omega arith; others_fit = tt; others_read = tt };
       taken = takes.bytes;
       given = takes.consumed;
       many = takes.such;
+      unbroken = unbroken;
       told = subst (λ ds. IsTold old new (codes "script " ++ ds ++ codes " too long") was now) (sym digit_one) told;
     })

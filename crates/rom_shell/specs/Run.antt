@@ -120,11 +120,12 @@ pub record SourceFailed (before after : List (Option (List ℕ))) (faults_before
   pub few : FitsScript taken
   pub told : IsTold old new (codes "script " ++ decimal (script + 1) ++ codes " failed") sink_before sink_now
 
--- The first script that fails has given more bytes than a script may have, and the line names it.
-pub record SourceTooLong (before after : List (Option (List ℕ))) (old new : Option (List ℕ)) (sink_before sink_now : ℕ) : Type 0 where
+-- The first script that fails has given more bytes than a script may have, some by each read, and the line names it.
+pub record SourceTooLong (before after : List (Option (List ℕ))) (idle_before idle_after : List ℕ) (old new : Option (List ℕ)) (sink_before sink_now : ℕ) : Type 0 where
   pub script : ℕ
   pub first : IsFirstToFail script before after
   pub taken : List ℕ
   pub given : Consumes (source_at before script) (source_at after script) taken
   pub many : IsTooLong taken
+  pub unbroken : slice_index idle_after script ≡ slice_index idle_before script
   pub told : IsTold old new (codes "script " ++ decimal (script + 1) ++ codes " too long") sink_before sink_now

@@ -80,11 +80,13 @@ fn run_script<S: Source, O: Sink>(
 
     ensures refused { IfErr result (λ status. (status ≡ Status.ScriptFailed) ⊎ (status ≡ Status.NoMemory) ⊎ (status ≡ Status.ScriptTooLong)) }
     ensures failed { result ≡ Err Status.ScriptFailed → Rose (S.faults script.old) (S.faults script.new) }
-    ensures failed_early { result ≡ Err Status.ScriptFailed → Takes FitsScript (S.left script.old) (S.left script.new) (S.reads script.old) (S.reads script.new) }
+    ensures failed_early { result ≡ Err Status.ScriptFailed → Takes FitsScript (S.left script.old) (S.left script.new) }
     ensures failed_told { result ≡ Err Status.ScriptFailed → IsTold (O.taken out.old) (O.taken out.new) (codes "script 1 failed") (O.faults out.old) (O.faults out.new) }
-    ensures too_long { result ≡ Err Status.ScriptTooLong → Takes IsTooLong (S.left script.old) (S.left script.new) (S.reads script.old) (S.reads script.new) }
+    ensures too_long { result ≡ Err Status.ScriptTooLong → Takes IsTooLong (S.left script.old) (S.left script.new) }
+    ensures unbroken { result ≡ Err Status.ScriptTooLong → S.idle script.new ≡ S.idle script.old }
     ensures too_long_told { result ≡ Err Status.ScriptTooLong → IsTold (O.taken out.old) (O.taken out.new) (codes "script 1 too long") (O.faults out.old) (O.faults out.new) }
     ensures no_memory_told { result ≡ Err Status.NoMemory → IsTold (O.taken out.old) (O.taken out.new) (codes "no memory") (O.faults out.old) (O.faults out.new) }
+    ensures turns { S.idle script.new ≤ S.idle script.old + 1 }
     ensures sources_later { S.faults script.old ≤ S.faults script.new }
     ensures sink_later { O.faults out.old ≤ O.faults out.new }
 {
@@ -149,7 +151,7 @@ pub fn run<D: Device + Send, S: Source, O: Sink>(
     ensures not_a_command_told { result.status ≡ 2 → IsTold (O.taken out.old) (O.taken out.new) (codes "not a command") (O.faults out.old) (O.faults out.new) }
     ensures source_failed { result.status ≡ 4 → SourceFailed (map S.left scripts.items) (map S.left result.scripts.items) (map S.faults scripts.items) (map S.faults result.scripts.items) (O.taken out.old) (O.taken out.new) (O.faults out.old) (O.faults out.new) }
     ensures no_memory_told { result.status ≡ 6 → IsTold (O.taken out.old) (O.taken out.new) (codes "no memory") (O.faults out.old) (O.faults out.new) }
-    ensures too_long { result.status ≡ 8 → SourceTooLong (map S.left scripts.items) (map S.left result.scripts.items) (O.taken out.old) (O.taken out.new) (O.faults out.old) (O.faults out.new) }
+    ensures too_long { result.status ≡ 8 → SourceTooLong (map S.left scripts.items) (map S.left result.scripts.items) (map S.idle scripts.items) (map S.idle result.scripts.items) (O.taken out.old) (O.taken out.new) (O.faults out.old) (O.faults out.new) }
 
     // A text is that of one list of results and one count.
     ensures determined { TextDetermines }

@@ -34,14 +34,14 @@ returns-in-Err-clause-source_failed g c = λ four.
     let some : IsSome (command c.args.words.now) = search rules in
     let one = only c.args.scripts.items c.index_mut.result.now (c.requires ∙ one_script c.args.words.now some) c.index_mut.ensures.value in
     let is = failed_by c.in-Err.status _ c.number-in-Err.ensures four in
-    first_failed g.S.Source.left g.S.Source.faults g.S.Source.reads c.args.scripts.items c.index_mut.result.now _ _ _ _ _ one (c.in-Err.ensures.failed is) (c.in-Err.ensures.failed_early is) (c.in-Err.ensures.failed_told is)
+    first_failed g.S.Source.left g.S.Source.faults c.args.scripts.items c.index_mut.result.now _ _ _ _ _ one (c.in-Err.ensures.failed is) (c.in-Err.ensures.failed_early is) (c.in-Err.ensures.failed_told is)
 
 pub returns-in-Err-clause-too_long : goal.returns-in-Err-clause-too_long
 returns-in-Err-clause-too_long g c = λ eight.
     let some : IsSome (command c.args.words.now) = search rules in
     let one = only c.args.scripts.items c.index_mut.result.now (c.requires ∙ one_script c.args.words.now some) c.index_mut.ensures.value in
     let is = too_long_by c.in-Err.status _ c.number-in-Err.ensures eight in
-    first_too_long g.S.Source.left g.S.Source.reads c.args.scripts.items c.index_mut.result.now _ _ _ _ _ one (c.in-Err.ensures.too_long is) (c.in-Err.ensures.too_long_told is)
+    first_too_long g.S.Source.left g.S.Source.idle c.args.scripts.items c.index_mut.result.now _ _ _ _ _ one (c.in-Err.ensures.too_long is) (c.in-Err.ensures.unbroken is) (c.in-Err.ensures.too_long_told is)
 
 pub returns-in-Err-clause-determined : goal.returns-in-Err-clause-determined
 returns-in-Err-clause-determined g c = text_determines
