@@ -3,7 +3,8 @@ use Rattle.std.proofs.Common.{◌≡◌, ◌≢◌, ◌⊎◌, inl, inr, ℕ, �
 use Rattle.std.proofs.lemmas.List.{get_or-take, get_or-drop, length-take}
 use Rattle.std.proofs.lemmas.Grind.{same_number_lists}
 use Rattle.rom_device.specs.Device.{Writes}
-use Rattle.rom_header.specs.Fresh.{IsNew, NoneOrNew, IsLaid, Within}
+use Rattle.rom_header.specs.Fresh.{IsNew, NoneOrNew, IsLaid}
+use Rattle.rom_header.specs.Writing.{Within}
 use Rattle.rom_header.specs.Layout.{part, main_of, back_of, region_len, back_at, words_needed, MAGIC}
 
 -- the three runs of writes lay a heap out

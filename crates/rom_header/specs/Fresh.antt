@@ -5,12 +5,6 @@ use Rattle.rom_header.specs.Regions.{IsHeap}
 use Rattle.rom_header.specs.declared.fresh.FormatRefused.{FormatRefused}
 use Rattle.rom_header.specs.declared.fresh.FormatRefused.TheVariants.{AlreadyAHeap, TooSmall, Device}
 
--- Only words from that place on, so many of them, differ.
-pub record Within (at len : ℕ) (old new : List ℕ) : Type 0 where
-  pub as_long : length new ≡ length old
-  pub before : (k : ℕ) → k < at → slice_index new k ≡ slice_index old k
-  pub behind : (k : ℕ) → at + len ≤ k → slice_index new k ≡ slice_index old k
-
 -- The words are a heap of this order whose state is IDLE, with this image in both regions.
 pub record IsNew (order : ℕ) (image words : List ℕ) : Type 0 where
   pub heap : IsHeap order words

@@ -2,7 +2,8 @@
 ghost use Rattle.std.specs.Prelude.{List, ℕ, ◌*◌, ◌≡◌, ◌≢◌, ◌+◌, ◌<◌, ◌≤◌, ◌↔◌, IfOk, OnOk, IsTrue, length, slice_index, slice_set};
 ghost use Rattle.rom_model.specs.Faults.{HasCause, Rose};
 ghost use Rattle.rom_device.specs.Device.{Runs, Leaves, Stays, Writes};
-ghost use Rattle.rom_header.specs.Fresh.{IsNew, NoneOrNew, Nothing, IsRefused, IsFormatAnswer, IsLaid, Within};
+ghost use Rattle.rom_header.specs.Fresh.{IsNew, NoneOrNew, Nothing, IsRefused, IsFormatAnswer, IsLaid};
+ghost use Rattle.rom_header.specs.Writing.{Within};
 ghost use Rattle.rom_header.specs.Layout.{region_len, words_needed, MAGIC};
 
 use crate::geometry::Geometry;

@@ -2,7 +2,7 @@
 ghost use Rattle.std.specs.Prelude.{◌≡◌, ◌<◌, ◌≤◌, ℕ, List, IsTrue, IfOk, IfSome, IfNone};
 ghost use Rattle.rom_model.specs.Faults.{Rose};
 ghost use Rattle.rom_device.specs.Device.{Runs, Stays};
-ghost use Rattle.rom_header.specs.Headers.{IsAnswer, IsOrderAnswer, state_word};
+ghost use Rattle.rom_header.specs.Headers.{IsAnswer, IsOrderAnswer};
 ghost use Rattle.rom_header.specs.Layout.{words_needed};
 
 use crate::geometry::Geometry;
@@ -26,6 +26,23 @@ pub enum State {
     Mutating,
     /// Main: it is being copied to back. The word is 2.
     Copying,
+}
+
+impl State {
+    ghost use Rattle.rom_header.specs.Headers.{state_word};
+
+    /// The state that a word stands for, if any.
+    pub fn of(word: u64) -> Option<State>
+        ensures some { IfSome result (λ state. word ≡ state_word state) }
+        ensures none { IfNone result (2 < word) }
+    {
+        match word {
+            0 => Some(State::Idle),
+            1 => Some(State::Mutating),
+            2 => Some(State::Copying),
+            _ => None,
+        }
+    }
 }
 
 /// An accepted header.
@@ -89,19 +106,6 @@ fn read_order<D: Device>(device: &mut D) -> Result<Geometry, HeaderRefused>
     }
 }
 
-/// The state that a word stands for, if any.
-fn state_of(word: u64) -> Option<State>
-    ensures some { IfSome result (λ state. word ≡ state_word state) }
-    ensures none { IfNone result (2 < word) }
-{
-    match word {
-        0 => Some(State::Idle),
-        1 => Some(State::Mutating),
-        2 => Some(State::Copying),
-        _ => None,
-    }
-}
-
 /// Reads the header, and refuses what is no heap by the first test that fails. It changes no word.
 pub fn read_header<D: Device>(device: &mut D) -> Result<Header, HeaderRefused>
     // Where the device tells its words, the answer is exactly theirs.
@@ -126,7 +130,7 @@ pub fn read_header<D: Device>(device: &mut D) -> Result<Header, HeaderRefused>
         return Err(HeaderRefused::TooSmall { need, have });
     }
     let word = device.read(3)?;
-    match state_of(word) {
+    match State::of(word) {
         Some(state) => Ok(Header { geometry, state }),
         None => Err(HeaderRefused::BadState(word)),
     }

@@ -1,7 +1,8 @@
 use Rattle.std.proofs.Common.{◌≡◌, ◌≢◌, ℕ, ◌+◌, ◌*◌, ◌<◌, ◌≤◌, List, length, get_or, arith, subst, sym, ◌∙◌}
 use Rattle.rom_device.specs.Device.{Leaves}
 use Rattle.rom_device.proofs.Going.{leaves_none, leaves_on, leaves_then}
-use Rattle.rom_header.specs.Fresh.{NoneOrNew, IsNew, Within}
+use Rattle.rom_header.specs.Fresh.{NoneOrNew, IsNew}
+use Rattle.rom_header.specs.Writing.{Within}
 use Rattle.rom_header.specs.Layout.{region_len, words_needed, MAGIC}
 use Rattle.rom_header.proofs.Making.{still_none, sealed, made}
 use Rattle.rom_header.proofs.fresh.build.Goals as goal

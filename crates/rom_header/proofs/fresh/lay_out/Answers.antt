@@ -1,5 +1,5 @@
 use Rattle.std.proofs.Common.{◌≡◌, ◌∙◌, ℕ, ◌+◌, ◌<◌, arith, length, get_or, subst}
-use Rattle.rom_header.specs.Fresh.{Within}
+use Rattle.rom_header.specs.Writing.{Within}
 use Rattle.rom_header.proofs.Making.{laid}
 use Rattle.rom_header.proofs.fresh.lay_out.Goals as goal
 

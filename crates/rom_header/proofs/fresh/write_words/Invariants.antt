@@ -1,6 +1,6 @@
 use Rattle.std.proofs.Common.{◌≡◌, ℕ, ◌+◌, ◌<◌, ◌≤◌, IsTrue, get_or, length}
 use Rattle.rom_device.specs.Device.{Runs}
-use Rattle.rom_header.specs.Fresh.{Within}
+use Rattle.rom_header.specs.Writing.{Within}
 use Rattle.rom_header.proofs.fresh.write_words.Given as goal
 
 -- the words so far are written
