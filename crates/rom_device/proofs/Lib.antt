@@ -1,2 +1,4 @@
 pub mod Going
+mod Choices
 mod Synced
+mod Writing

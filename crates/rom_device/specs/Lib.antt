@@ -2,6 +2,12 @@
 pub mod Device
 pub mod Ram
 pub mod Log
+pub mod Images
+pub mod Choice
+pub mod Followed
 pub mod Trips
 pub mod Memory
 pub mod Fuse
+pub mod File
+pub mod Run
+pub mod Windows

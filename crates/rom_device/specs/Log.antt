@@ -1,7 +1,6 @@
 -- What the calls of a memory device leave. A log has the newest call first, so that each definition
 -- says what one call more changes.
-use Rattle.std.specs.Prelude.{◌≡◌, ◌⊎◌, ℕ, ◌≤◌, true, false, if◌then◌else◌, List, [], ◌∷◌, length, slice_set, refl}
-use Rattle.std.proofs.Common.{inl, inr, arith, length-set, ap, ◌∙◌}
+use Rattle.std.specs.Prelude.{◌≡◌, ◌⊎◌, ℕ, ◌≤◌, true, false, if◌then◌else◌, List, [], ◌∷◌, length, slice_set}
 use Rattle.rom_device.specs.Device.{After, Writes}
 use Rattle.rom_device.specs.declared.call.CallKind.{CallKind}
 use Rattle.rom_device.specs.declared.call.CallKind as kind
@@ -20,56 +19,21 @@ place_of (Write at value lands) = at
 place_of (Sync done) = 0
 
 -- the words as they read
-abbrev pub now : List ℕ → List Made → List ℕ
-now base [] = base
-now base (Read at ∷ log) = now base log
-now base (Write at value lands ∷ log) = if lands then slice_set (now base log) at value else now base log
-now base (Sync done ∷ log) = now base log
+abbrev pub words_after : List ℕ → List Made → List ℕ
+words_after base [] = base
+words_after base (Read at ∷ log) = words_after base log
+words_after base (Write at value lands ∷ log) = if lands then slice_set (words_after base log) at value else words_after base log
+words_after base (Sync done ∷ log) = words_after base log
 
 -- a stop may leave this image
-abbrev pub May : List ℕ → List Made → List ℕ → Type 0
-May base [] i = i ≡ base
-May base (Read at ∷ log) i = May base log i
-May base (Write at value lands ∷ log) i = After (Writes at value) (May base log) i
-May base (Sync true ∷ log) i = i ≡ now base log
-May base (Sync false ∷ log) i = May base log i
+abbrev pub MayLeave : List ℕ → List Made → List ℕ → Type 0
+MayLeave base [] i = i ≡ base
+MayLeave base (Read at ∷ log) i = MayLeave base log i
+MayLeave base (Write at value lands ∷ log) i = After (Writes at value) (MayLeave base log) i
+MayLeave base (Sync true ∷ log) i = i ≡ words_after base log
+MayLeave base (Sync false ∷ log) i = MayLeave base log i
 
 -- a stop at some moment since t might have left it; the moment is the number of calls made
-abbrev pub Since : List ℕ → ℕ → List Made → List ℕ → Type 0
-Since base t [] i = May base [] i
-Since base t (made ∷ log) i = May base (made ∷ log) i ⊎ ((t ≤ length log) × Since base t log i)
-
-pub May_now : (base : List ℕ) (log : List Made) → May base log (now base log)
-May_now base [] = refl
-May_now base (Read at ∷ log) = May_now base log
-May_now base (Write at value true ∷ log) = record { from = now base log; was = May_now base log; by = inr refl }
-May_now base (Write at value false ∷ log) = record { from = now base log; was = May_now base log; by = inl refl }
-May_now base (Sync true ∷ log) = refl
-May_now base (Sync false ∷ log) = May_now base log
-
-pub length-now : (base : List ℕ) (log : List Made) → length (now base log) ≡ length base
-length-now base [] = refl
-length-now base (Read at ∷ log) = length-now base log
-length-now base (Write at value true ∷ log) = length-set (now base log) at value ∙ length-now base log
-length-now base (Write at value false ∷ log) = length-now base log
-length-now base (Sync done ∷ log) = length-now base log
-
-pub length-May : (base : List ℕ) (log : List Made) (i : List ℕ) → May base log i → length i ≡ length base
-length-May base [] i is = ap length is
-length-May base (Read at ∷ log) i may = length-May base log i may
-length-May base (Write at value lands ∷ log) i may = Writes_length at value may.from i may.by ∙ length-May base log may.from may.was
-  where
-    Writes_length : (at value : ℕ) (old new : List ℕ) → Writes at value old new → length new ≡ length old
-    Writes_length at value old new (inl same) = ap length same
-    Writes_length at value old new (inr set_there) = ap length set_there ∙ length-set old at value
-length-May base (Sync true ∷ log) i is = ap length is ∙ length-now base log
-length-May base (Sync false ∷ log) i may = length-May base log i may
-
-pub Since_now : (base : List ℕ) (t : ℕ) (log : List Made) (i : List ℕ) → May base log i → Since base t log i
-Since_now base t [] i may = may
-Since_now base t (made ∷ log) i may = inl may
-
-pub Since_only : (base : List ℕ) (log : List Made) (i : List ℕ) → Since base (length log) log i → May base log i
-Since_only base [] i since = since
-Since_only base (made ∷ log) i (inl may) = may
-Since_only base (made ∷ log) i (inr earlier) = absurd (omega (arith, earlier.0))
+abbrev pub MayLeaveSince : List ℕ → ℕ → List Made → List ℕ → Type 0
+MayLeaveSince base t [] i = MayLeave base [] i
+MayLeaveSince base t (made ∷ log) i = MayLeave base (made ∷ log) i ⊎ ((t ≤ length log) × MayLeaveSince base t log i)

@@ -1,5 +1,5 @@
 //! A device, and the rules of what a stop may leave of it.
-ghost use Rattle.std.specs.Prelude.{◌≡◌, ◌+◌, ◌<◌, ◌≤◌, ◌^◌, List, ℕ, Bool, length, IfOk, OnOk, OnErr, IsTrue, slice_set, slice_index};
+ghost use Rattle.std.specs.Prelude.{◌≡◌, ◌<◌, ◌≤◌, ◌^◌, List, ℕ, Bool, length, IfOk, OnOk, OnErr, IsTrue, slice_set, slice_index};
 ghost use Rattle.rom_model.specs.Faults.{HasCause, counted};
 ghost use Rattle.rom_device.specs.Device.{Runs, Stays, Writes};
 
@@ -52,7 +52,7 @@ pub trait Device {
     fn fault_count(&self) -> u64
         ensures { result ≡ faults self.now };
 
-    /// The word at that place. A read changes nothing but the count of faults.
+    /// The word at that place. A read changes no word, and a stop may leave what it might before.
     fn read(&mut self, at: u64) -> Result<u64, Failed>
         requires { at < size self.old }
         ensures word { IsTrue tells_words → IfOk result (λ word. word ≡ slice_index (words self.old) at) }
@@ -75,8 +75,8 @@ pub trait Device {
         ensures syncs { syncs self.new ≡ syncs self.old }
         ensures cause { HasCause (faults self.old) (faults self.new) result };
 
-    /// Makes the words certain: after `Ok` a stop leaves them as they read. After `Failed` nothing
-    /// has become certain, and a stop may leave what it might before.
+    /// Makes the words certain: after `Ok` a stop leaves them as they read. After `Failed` it is
+    /// promised of none, and a stop leaves nothing that it might not have left before.
     fn sync(&mut self) -> Result<(), Failed>
         ensures certain { IsTrue tells_images → OnOk result ((i : List ℕ) → leaves self.new i → i ≡ words self.old) }
         ensures words { IsTrue tells_words → words self.new ≡ words self.old }

@@ -1,5 +1,5 @@
 //! A device that passes some calls on and then fails each, as one that was unplugged.
-ghost use Rattle.std.specs.Prelude.{◌≡◌, ◌+◌, ◌-◌, ◌<◌, ◌≤◌, ◌^◌, IsTrue, IsErr, if◌then◌else◌, ◌↔◌};
+ghost use Rattle.std.specs.Prelude.{◌≡◌, ◌+◌, ◌-◌, ◌<◌, IsTrue, IsErr, if◌then◌else◌, ◌↔◌};
 ghost use Rattle.rom_model.specs.Faults.{HasCause, counted};
 
 use crate::device::{Device, Failed};
@@ -22,6 +22,7 @@ impl<D: Device> Fuse<D> {
     pub fn new(inner: D, calls: u64) -> Fuse<D>
         ensures inner { inner_of result ≡ inner }
         ensures left { calls_left result ≡ calls }
+        ensures faults { ⟦<Fuse<D> as Device>⟧.faults result ≡ D.faults inner }
     {
         Fuse {
             inner,
@@ -65,7 +66,7 @@ impl<D: Device> Fuse<D> {
 }
 
 impl<D: Device> Device for Fuse<D> {
-    ghost use Rattle.std.specs.Prelude.{◌≡◌, ◌+◌, ◌-◌, ◌<◌, ◌≤◌, ◌^◌, ℕ, List, IsErr, IsTrue, IfOk, OnOk, OnErr, slice_index, slice_set, min};
+    ghost use Rattle.std.specs.Prelude.{◌≡◌, ◌+◌, ◌-◌, ◌<◌, ℕ, List, IsErr, IsTrue, IfOk, OnOk, OnErr, slice_index, slice_set, min};
     ghost use Rattle.rom_model.specs.Faults.{LAST, HasCause, counted};
     ghost use Rattle.rom_device.specs.Device.{Runs, Stays, Writes};
     ghost use Rattle.std.proofs.Common.{arith};

@@ -5,17 +5,27 @@
 //! leave, and that a call fails only where the device's own count of faults rose. `specs/Device`
 //! has those rules for one call, a loop and a whole function alike, and `proofs/Going` the lemmas
 //! by which runs of calls are joined.
+//!
+//! `Ram` never fails. `Memory` fails exactly where it is told to, and a crash of it gives each
+//! image that a stop may leave, and no other. `Fuse` fails from some call on. `FileDevice` has the
+//! words of a file, and of these no contract speaks: that the file keeps what it was given, and
+//! that its sync makes it certain, is taken on trust.
 #![tactic(auto)]
 
 mod call;
 mod device;
+mod file;
+mod followed;
 mod fuse;
 mod memory;
 mod ram;
+mod run;
 mod trip;
+mod windows;
 
 pub use call::{CallKind, Made};
 pub use device::{Device, Failed};
+pub use file::FileDevice;
 pub use fuse::Fuse;
 pub use memory::Memory;
 pub use ram::Ram;

@@ -1,13 +1,14 @@
 //! Words in memory with listed faults, and a list of all calls made.
-ghost use Rattle.std.specs.Prelude.{◌≡◌, ◌+◌, ◌<◌, ◌≤◌, ◌^◌, ◌∷◌, ◌++◌, [], ℕ, List, Bool, true, false, IfOk, IfErr, IfSome, OnErr, OnOk, IsTrue, IsErr, IsSome, ◌↔◌, length, reverse, vec_len, vec_capacity, slice_index, slice_set, if◌then◌else◌, is_err};
+ghost use Rattle.std.specs.Prelude.{◌≡◌, ◌+◌, ◌<◌, ◌≤◌, ◌^◌, ◌∷◌, ◌++◌, [], ℕ, List, true, false, IfOk, OnErr, OnOk, IsTrue, IsErr, ◌↔◌, length, reverse, vec_len, vec_capacity, slice_index, slice_set, if◌then◌else◌, is_err};
 ghost use Rattle.std.specs.Bool.{OnTrue, OnFalse};
 ghost use Rattle.rom_model.specs.Faults.{HasCause, counted};
 ghost use Rattle.rom_device.specs.Device.{Runs, Stays, Writes};
-ghost use Rattle.rom_device.specs.Log.{now};
+ghost use Rattle.rom_device.specs.Log.{words_after};
 ghost use Rattle.rom_device.specs.Trips.{trip_at};
 
 use crate::call::{CallKind, Made};
 use crate::device::{Device, Failed};
+use crate::followed::picked_value;
 use crate::trip::Trip;
 use std::alloc::{AllocError, Global};
 
@@ -29,7 +30,7 @@ pub struct Memory {
     ghost small: { length start.items < 2 ^ 64 },
     ghost fits: { faults < 2 ^ 64 },
     ghost as_long: { vec_len words ≡ vec_len start },
-    ghost replayed: { words.items ≡ now start.items (reverse made.items) },
+    ghost replayed: { words.items ≡ words_after start.items (reverse made.items) },
     ghost within: { vec_len made ≤ room },
     ghost reserved: { room ≤ vec_capacity made },
 }
@@ -60,7 +61,7 @@ fn trip_among(trips: &[Trip], made: &[Made], call: CallKind, at: u64) -> Option<
 }
 
 impl Memory {
-    ghost use Rattle.rom_device.specs.Memory.{start_of, calls_of, room_of, trips_of, words_of, fault_count_of};
+    ghost use Rattle.rom_device.specs.Memory.{start_of, calls_of, room_of, trips_of, words_of, fault_count_of, write_count_of, sync_count_of, Picks, IsPicked};
 
     /// A device of these words, with room for so many calls. It takes no memory later.
     pub fn new(
@@ -74,6 +75,8 @@ impl Memory {
         ensures room { IfOk result (λ m. room_of m ≡ room) }
         ensures trips { IfOk result (λ m. trips_of m ≡ trips.items) }
         ensures faults { IfOk result (λ m. fault_count_of m ≡ 0) }
+        ensures writes { IfOk result (λ m. write_count_of m ≡ 0) }
+        ensures syncs { IfOk result (λ m. sync_count_of m ≡ 0) }
     {
         Ok(Memory {
             start: words.clone()?,
@@ -100,26 +103,54 @@ impl Memory {
     {
         self.made.len() as u64
     }
+
+    /// What a stop now may leave, by a choice of a number for each word. The possible values of a
+    /// word are its last synced value and then those written to it since, in order. The word gets
+    /// the one of that number, counted from 0, modulo how many there are. A missing number is 0.
+    /// It takes no memory.
+    pub fn crash(self, choice: &[u64]) -> Vec<u64>
+        ensures picked { Picks self choice.now result.items }
+        ensures left { ⟦<Memory as Device>⟧.leaves self result.items }
+
+        // No image is left out: each that a stop may leave is that of some choice.
+        ensures every { (image : List ℕ) → ⟦<Memory as Device>⟧.leaves self image → IsPicked self image }
+    {
+        let Memory {
+            start,
+            mut words,
+            made,
+            room: _,
+            trips: _,
+            faults: _,
+            writes: _,
+            syncs: _,
+        } = self;
+        for at in 0..words.len() {
+            let number = choice.get(at).copied().unwrap_or(0);
+            words[at] = picked_value(&start, &made, at as u64, number);
+        }
+        words
+    }
 }
 
 impl Device for Memory {
     ghost use Rattle.std.specs.Prelude.{refl};
-    ghost use Rattle.rom_device.specs.Log.{May, Since};
+    ghost use Rattle.rom_device.specs.Log.{MayLeave, MayLeaveSince};
     ghost use Rattle.rom_device.specs.Memory.{start_of, calls_of, words_of, fault_count_of, fails, calls_with, read_made, write_made, sync_made, KeepsRest};
 
     ghost size = { λ m. length m.start.items };
 
     ghost tells_words = { true };
 
-    ghost words = { λ m. now m.start.items (reverse m.made.items) };
+    ghost words = { λ m. words_after m.start.items (reverse m.made.items) };
 
     ghost tells_images = { true };
 
-    ghost leaves = { λ m. May m.start.items (reverse m.made.items) };
+    ghost leaves = { λ m. MayLeave m.start.items (reverse m.made.items) };
 
     ghost clock = { λ m. length (reverse m.made.items) };
 
-    ghost left_since = { λ m t. Since m.start.items t (reverse m.made.items) };
+    ghost left_since = { λ m t. MayLeaveSince m.start.items t (reverse m.made.items) };
 
     ghost faults = { λ m. m.faults };
 
@@ -214,19 +245,19 @@ impl Device for Memory {
         Ok(())
     }
 
-    ghost use Rattle.rom_device.specs.Log.{May_now, length-now, length-May, Since_now, Since_only};
+    ghost use Rattle.rom_device.specs.Images.{may_leave_words, length-words_after, length-MayLeave, since_counts_now, since_only_now};
 
     ghost tells_both = { λ _. refl };
 
-    ghost reads_image = { λ m _. May_now m.start.items (reverse m.made.items) };
+    ghost reads_image = { λ m _. may_leave_words m.start.items (reverse m.made.items) };
 
-    ghost words_fit = { λ m _. length-now m.start.items (reverse m.made.items) };
+    ghost words_fit = { λ m _. length-words_after m.start.items (reverse m.made.items) };
 
-    ghost images_fit = { λ m i _ may. length-May m.start.items (reverse m.made.items) i may };
+    ghost images_fit = { λ m i _ may. length-MayLeave m.start.items (reverse m.made.items) i may };
 
-    ghost counts_now = { λ m t i _ _ may. Since_now m.start.items t (reverse m.made.items) i may };
+    ghost counts_now = { λ m t i _ _ may. since_counts_now m.start.items t (reverse m.made.items) i may };
 
-    ghost only_now = { λ m i _ since. Since_only m.start.items (reverse m.made.items) i since };
+    ghost only_now = { λ m i _ since. since_only_now m.start.items (reverse m.made.items) i since };
 
     ghost size_fits = { λ m. m.small };
 

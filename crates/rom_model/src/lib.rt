@@ -7,12 +7,14 @@
 //! and a reply have exactly the words of the tables, and that the words stand for nothing else.
 #![tactic(auto)]
 
-pub mod call;
-pub mod codes;
-pub mod entry;
-pub mod line;
-pub mod record;
-pub mod words;
+mod call;
+mod codes;
+mod entry;
+mod line;
+mod record;
+#[cfg(test)]
+mod tests;
+mod words;
 
 pub use call::{Answer, Call, Query, Reply, Updated};
 pub use codes::{call_words, reply_words};

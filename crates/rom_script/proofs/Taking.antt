@@ -8,13 +8,13 @@ use Rattle.rom_model.specs.Faults.{counted}
 use Rattle.rom_script.specs.Streams.{Takes}
 
 -- a further read took nothing
-pub takes_kept : (Such : ℕ → Type 0) (a b c : Option (List ℕ)) (bytes : List ℕ) (first before after : ℕ) →
-    Consumes a b bytes → Keeps b c → Such (length bytes) → before ≤ first + length bytes → after ≡ counted before → Takes Such a c first after
+pub takes_kept : (Such : List ℕ → Type 0) (a b c : Option (List ℕ)) (bytes : List ℕ) (first before after : ℕ) →
+    Consumes a b bytes → Keeps b c → Such bytes → before ≤ first + length bytes → after ≡ counted before → Takes Such a c first after
 takes_kept Such a b c bytes first before after so_far kept such by_reads one = record { bytes = bytes; consumed = Consumes-kept a b c bytes so_far kept; such = such; by_reads = omega arith }
 
 -- a further read took these bytes
-pub takes_more : (Such : ℕ → Type 0) (a b c : Option (List ℕ)) (bytes piece : List ℕ) (first before after : ℕ) →
-    Consumes a b bytes → Consumes b c piece → Such (length (bytes ++ piece)) → before ≤ first + length bytes → after ≡ counted before → Takes Such a c first after
+pub takes_more : (Such : List ℕ → Type 0) (a b c : Option (List ℕ)) (bytes piece : List ℕ) (first before after : ℕ) →
+    Consumes a b bytes → Consumes b c piece → Such (bytes ++ piece) → before ≤ first + length bytes → after ≡ counted before → Takes Such a c first after
 takes_more Such a b c bytes piece first before after so_far now such by_reads one =
     record { bytes = bytes ++ piece; consumed = Consumes-trans a b c bytes piece so_far now; such = such; by_reads = omega (arith, length-append bytes piece) }
 

@@ -2,6 +2,7 @@
 pub mod Streams
 pub mod Limits
 pub mod Memory
+pub mod Adapts
 pub mod Lines
 pub mod Scripts
 pub mod Text

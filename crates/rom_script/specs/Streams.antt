@@ -10,9 +10,9 @@ AppendsFront old new text = (n : ℕ) × Appends old new (take n text)
 abbrev pub Prints : {T E : Type 0} → Option (List ℕ) → Option (List ℕ) → Result T E → List ℕ → Type 0
 Prints old new result text = MatchResult result (λ _. Appends old new text) (λ _. AppendsFront old new text)
 
--- Bytes were taken from a source, one at least by each read but one; their number is such.
-pub record Takes (Such : ℕ → Type 0) (old new : Option (List ℕ)) (reads_old reads_new : ℕ) : Type 0 where
+-- Such bytes were taken from a source, one at least by each read but one.
+pub record Takes (Such : List ℕ → Type 0) (old new : Option (List ℕ)) (reads_old reads_new : ℕ) : Type 0 where
   pub bytes : List ℕ
   pub consumed : Consumes old new bytes
-  pub such : Such (length bytes)
+  pub such : Such bytes
   pub by_reads : reads_new ≤ reads_old + length bytes + 1

@@ -14,8 +14,13 @@ pub struct Adapted<R> {
 }
 
 impl<R> Adapted<R> {
+    ghost use Rattle.std.specs.Prelude.{◌≡◌, true, false};
+    ghost use Rattle.rom_script.specs.Adapts.{is_missing};
+
     /// The source or sink that this reader or writer is.
-    pub fn new(inner: R) -> Self {
+    pub fn new(inner: R) -> Self
+        ensures { is_missing result ≡ false }
+    {
         Adapted {
             inner: Some(inner),
             faults: 0,
@@ -24,7 +29,9 @@ impl<R> Adapted<R> {
     }
 
     /// What stands for a file that could not be opened: each call fails and raises the count.
-    pub fn missing() -> Self {
+    pub fn missing() -> Self
+        ensures { is_missing result ≡ true }
+    {
         Adapted {
             inner: None,
             faults: 0,
@@ -34,13 +41,25 @@ impl<R> Adapted<R> {
 }
 
 impl<R: Read> Source for Adapted<R> {
+    ghost use Rattle.std.specs.Prelude.{◌≡◌, ◌<◌, ◌≤◌, length, IfOk, IsErr, IsTrue};
+    ghost use Rattle.rom_model.specs.Faults.{HasCause, counted};
+    ghost use Rattle.rom_script.specs.Adapts.{is_missing};
+
     ghost left = { λ _. None };
 
     ghost faults = { λ a. a.faults };
 
     ghost reads = { λ a. a.reads };
 
-    fn read(&mut self, buf: &mut [u8]) -> Result<u64, IoFailed> {
+    fn read(&mut self, buf: &mut [u8]) -> Result<u64, IoFailed>
+        requires { 0 < length buf.old }
+        ensures within { IfOk result (λ n. n ≤ length buf.new) }
+        ensures cause { HasCause self.old.faults self.new.faults result }
+        ensures reads { self.new.reads ≡ counted self.old.reads }
+
+        ensures missing { IsTrue (is_missing self.old) → IsErr result }
+        ensures kept { is_missing self.new ≡ is_missing self.old }
+    {
         self.reads = self.reads.saturating_add(1);
         let answer = match &mut self.inner {
             Some(reader) => reader.read(buf).ok(),
@@ -57,6 +76,10 @@ impl<R: Read> Source for Adapted<R> {
 }
 
 impl<W: Write> Sink for Adapted<W> {
+    ghost use Rattle.std.specs.Prelude.{◌≡◌, ◌<◌, ◌≤◌, length, IfOk, IsErr, IsTrue};
+    ghost use Rattle.rom_model.specs.Faults.{HasCause};
+    ghost use Rattle.rom_script.specs.Adapts.{is_missing};
+
     ghost taken = { λ _. None };
 
     ghost faults = { λ a. a.faults };
@@ -66,7 +89,14 @@ impl<W: Write> Sink for Adapted<W> {
     ghost rest = { λ _. tt };
 
     /// A writer that takes nothing has failed.
-    fn write(&mut self, piece: &[u8]) -> Result<u64, IoFailed> {
+    fn write(&mut self, piece: &[u8]) -> Result<u64, IoFailed>
+        requires { 0 < length piece.now }
+        ensures some { IfOk result (λ n. (0 < n) × (n ≤ length piece.now)) }
+        ensures cause { HasCause self.old.faults self.new.faults result }
+
+        ensures missing { IsTrue (is_missing self.old) → IsErr result }
+        ensures kept { is_missing self.new ≡ is_missing self.old }
+    {
         let answer = match &mut self.inner {
             Some(writer) => writer.write(piece).ok(),
             None => None,

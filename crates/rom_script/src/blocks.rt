@@ -80,7 +80,7 @@ impl<'a, O: Sink> Blocks<'a, O> {
     /// Puts the first bytes of a piece behind those that wait, as many as there is room for.
     fn put(&mut self, piece: &[u8]) -> u64
         requires some { 0 < length piece.now }
-        requires room { array_vec_len self.old.block < 4096 }
+        requires room { array_vec_len self.old.block < BLOCK }
         ensures count { (0 < result) × (result ≤ length piece.now) }
         ensures waits { drop self.new.handed self.new.block.items ≡ drop self.old.handed self.old.block.items ++ take result piece.now }
         ensures out { self.new.out.now ≡ self.old.out.now }
@@ -116,9 +116,9 @@ impl<'a, O: Sink> Sink for Blocks<'a, O> {
 
     ghost faults = { λ b. O.faults b.out.now };
 
-    ghost Rest = { ℕ × Option (List ℕ) };
+    ghost Rest = { ℕ × Option (List ℕ) × O.Rest };
 
-    ghost rest = { λ b. (b.out.ghost_name, O.taken b.opened.value) };
+    ghost rest = { λ b. (b.out.ghost_name, O.taken b.opened.value, O.rest b.out.now) };
 
     fn write(&mut self, piece: &[u8]) -> Result<u64, IoFailed> {
         if self.block.is_full() {

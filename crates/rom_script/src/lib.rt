@@ -6,16 +6,16 @@
 //! failed, and that a failure is answered only where the very object's count of faults rose.
 #![tactic(auto)]
 
-pub mod adapt;
+mod adapt;
 mod blocks;
-pub mod line;
-pub mod memory;
-pub mod names;
-pub mod print;
-pub mod read;
-pub mod report;
-pub mod script;
-pub mod streams;
+mod line;
+mod memory;
+mod names;
+mod print;
+mod read;
+mod report;
+mod script;
+mod streams;
 
 pub use adapt::Adapted;
 pub use line::{Line, line_end, read_line};

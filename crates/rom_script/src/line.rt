@@ -1,5 +1,5 @@
 //! The lines of a script.
-ghost use Rattle.std.specs.Prelude.{◌≡◌, ◌≢◌, ℕ, ◌^◌, ◌<◌, ◌≤◌, ◌∷◌, length, drop, slice_index, slice_range, decimal, IfSome, IfNone};
+ghost use Rattle.std.specs.Prelude.{◌≡◌, ◌≢◌, ◌⊎◌, ℕ, ◌-◌, ◌^◌, ◌<◌, ◌≤◌, ◌∷◌, length, drop, slice_index, slice_range, decimal, IfSome, IfNone};
 ghost use Rattle.rom_script.specs.Lines.{Reads, IsStepRead, lines_of};
 ghost use Rattle.rom_script.specs.Lines as lines;
 
@@ -70,6 +70,7 @@ fn piece_len(bytes: &[u8]) -> usize
 pub fn line_end(bytes: &[u8], start: u64) -> (u64, u64)
     requires { start < length bytes.now }
     ensures line { lines_of (drop start bytes.now) ≡ slice_range bytes.now start result.0 ∷ lines_of (drop result.1 bytes.now) }
+    ensures next { (result.1 ≡ length bytes.now) ⊎ (slice_index bytes.now (result.1 - 1) ≡ 10) }
     ensures order { (start ≤ result.0) × (result.0 ≤ result.1) × (start < result.1) × (result.1 ≤ length bytes.now) }
 {
     let rest = &bytes[start as usize..];

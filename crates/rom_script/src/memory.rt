@@ -18,13 +18,16 @@ pub struct Bytes {
 }
 
 impl Bytes {
-    ghost use Rattle.rom_script.specs.Memory.{bytes_left};
+    ghost use Rattle.rom_script.specs.Memory.{bytes_left, piece_of, trips_of, reads_of, read_faults_of};
 
     /// A source that has this text left. Each read gives at most `piece` bytes, and the reads
     /// whose numbers, counted from 1, are among the trips fail.
     pub fn new(content: Vec<u8>, piece: u64, trips: Vec<u64>) -> Bytes
         requires { 0 < piece }
-        ensures { bytes_left result ≡ content.items }
+        ensures left { bytes_left result ≡ content.items }
+        ensures piece { piece_of result ≡ piece }
+        ensures trips { trips_of result ≡ trips.items }
+        ensures counts { (reads_of result ≡ 0) × (read_faults_of result ≡ 0) }
     {
         Bytes {
             content,
@@ -46,7 +49,10 @@ fn copy_front(to: &mut [u8], from: &[u8], count: usize)
 }
 
 impl Source for Bytes {
-    ghost use Rattle.rom_script.specs.Memory.{bytes_left};
+    ghost use Rattle.std.specs.Prelude.{IsErr, IsTrue, ◌↔◌};
+    ghost use Rattle.std.specs.Io.KnownBytes.{ReadConsumes};
+    ghost use Rattle.rom_model.specs.Faults.{HasCause, counted};
+    ghost use Rattle.rom_script.specs.Memory.{bytes_left, piece_of, trips_of, reads_of, read_faults_of, trips_at};
 
     ghost left = { λ b. Some (bytes_left b) };
 
@@ -54,7 +60,17 @@ impl Source for Bytes {
 
     ghost reads = { λ b. b.reads };
 
-    fn read(&mut self, buf: &mut [u8]) -> Result<u64, IoFailed> {
+    /// It fails exactly where a trip is due, and gives at most its piece.
+    fn read(&mut self, buf: &mut [u8]) -> Result<u64, IoFailed>
+        ensures within { IfOk result (λ n. n ≤ length buf.new) }
+        ensures bytes { ReadConsumes (Some (bytes_left self.old)) (Some (bytes_left self.new)) result buf.new }
+        ensures cause { HasCause (read_faults_of self.old) (read_faults_of self.new) result }
+        ensures reads { reads_of self.new ≡ counted (reads_of self.old) }
+
+        ensures fails { IsErr result ↔ IsTrue (trips_at self.old (reads_of self.new)) }
+        ensures piece { IfOk result (λ n. n ≤ piece_of self.old) }
+        ensures rest { (piece_of self.new ≡ piece_of self.old) × (trips_of self.new ≡ trips_of self.old) }
+    {
         self.reads = self.reads.saturating_add(1);
         if self.trips.contains(&self.reads) {
             self.faults = self.faults.saturating_add(1);
@@ -81,7 +97,7 @@ pub struct Collect {
 }
 
 impl Collect {
-    ghost use Rattle.rom_script.specs.Memory.{bytes_taken, room_of};
+    ghost use Rattle.rom_script.specs.Memory.{bytes_taken, room_of, write_piece_of, write_faults_of};
 
     /// A sink that has taken nothing. It takes at most `piece` bytes at a time and `room` bytes in
     /// all; a write with no room left fails.
@@ -89,6 +105,8 @@ impl Collect {
         requires { 0 < piece }
         ensures empty { IfOk result (λ c. bytes_taken c ≡ []) }
         ensures room { IfOk result (λ c. room_of c ≡ room) }
+        ensures piece { IfOk result (λ c. write_piece_of c ≡ piece) }
+        ensures faults { IfOk result (λ c. write_faults_of c ≡ 0) }
     {
         let bytes = Vec::with_capacity(alloc, room as usize)?;
         Ok(Collect {
@@ -109,7 +127,10 @@ impl Collect {
 }
 
 impl Sink for Collect {
-    ghost use Rattle.rom_script.specs.Memory.{bytes_taken};
+    ghost use Rattle.std.specs.Prelude.{IsErr, ◌↔◌};
+    ghost use Rattle.std.specs.Io.KnownBytes.{WriteAppends};
+    ghost use Rattle.rom_model.specs.Faults.{HasCause};
+    ghost use Rattle.rom_script.specs.Memory.{bytes_taken, room_of, write_piece_of, write_faults_of};
 
     ghost taken = { λ c. Some (bytes_taken c) };
 
@@ -119,7 +140,17 @@ impl Sink for Collect {
 
     ghost rest = { λ _. tt };
 
-    fn write(&mut self, piece: &[u8]) -> Result<u64, IoFailed> {
+    /// It fails exactly where no room is left, and takes at most its piece.
+    fn write(&mut self, piece: &[u8]) -> Result<u64, IoFailed>
+        requires { 0 < length piece.now }
+        ensures some { IfOk result (λ n. (0 < n) × (n ≤ length piece.now)) }
+        ensures bytes { WriteAppends (Some (bytes_taken self.old)) (Some (bytes_taken self.new)) result piece.now }
+        ensures cause { HasCause (write_faults_of self.old) (write_faults_of self.new) result }
+
+        ensures fails { IsErr result ↔ (length (bytes_taken self.old) ≡ room_of self.old) }
+        ensures piece { IfOk result (λ n. n ≤ write_piece_of self.old) }
+        ensures rest { (room_of self.new ≡ room_of self.old) × (write_piece_of self.new ≡ write_piece_of self.old) }
+    {
         let free = self.room - self.bytes.len();
         if free == 0 {
             self.faults = self.faults.saturating_add(1);
@@ -128,10 +159,7 @@ impl Sink for Collect {
         let most = self.piece.min(piece.len() as u64).min(free as u64);
         match self.bytes.extend_from_slice(&piece[..most as usize]) {
             Ok(()) => Ok(most),
-            Err(_) => {
-                self.faults = self.faults.saturating_add(1);
-                Err(IoFailed)
-            }
+            Err(_) => unreachable!(),
         }
     }
 }

@@ -2,7 +2,7 @@
 ghost use Rattle.std.specs.Prelude.{◌≡◌, ℕ, ◌+◌, ◌<◌, ◌≤◌, length, vec_len, IfOk, IfSome, OnOk};
 ghost use Rattle.std.specs.Io.KnownBytes.{Consumes, IsAtEnd};
 ghost use Rattle.rom_model.specs.Faults.{Rose};
-ghost use Rattle.rom_script.specs.Limits.{FitsScript};
+ghost use Rattle.rom_script.specs.Limits.{FitsScript, IsTooLong, IsReadAtMost};
 ghost use Rattle.rom_script.specs.Streams.{Takes};
 
 use crate::streams::Source;
@@ -43,15 +43,15 @@ pub fn read_bytes<S: Source>(alloc: Global, source: &mut S) -> Result<Vec<u8>, R
     ensures fits { IfOk result (λ bytes. FitsScript bytes.items) }
 
     ensures failed { result ≡ Err ReadRefused.Failed → Rose (S.faults source.old) (S.faults source.new) }
-    ensures failed_early { result ≡ Err ReadRefused.Failed → Takes (λ n. n ≤ MAX_BYTES) (S.left source.old) (S.left source.new) (S.reads source.old) (S.reads source.new) }
-    ensures too_long { result ≡ Err ReadRefused.TooLong → Takes (λ n. n ≡ MAX_BYTES + 1) (S.left source.old) (S.left source.new) (S.reads source.old) (S.reads source.new) }
+    ensures failed_early { result ≡ Err ReadRefused.Failed → Takes FitsScript (S.left source.old) (S.left source.new) (S.reads source.old) (S.reads source.new) }
+    ensures too_long { result ≡ Err ReadRefused.TooLong → Takes IsTooLong (S.left source.old) (S.left source.new) (S.reads source.old) (S.reads source.new) }
 
-    ensures takes { Takes (λ n. n ≤ MAX_BYTES + 1) (S.left source.old) (S.left source.new) (S.reads source.old) (S.reads source.new) }
+    ensures takes { Takes IsReadAtMost (S.left source.old) (S.left source.new) (S.reads source.old) (S.reads source.new) }
     ensures later { S.faults source.old ≤ S.faults source.new }
 {
     let mut bytes = Vec::new(alloc);
     let mut block = [0; BLOCK];
-    for _ in 0..=MAX_BYTES {
+    while bytes.len() <= MAX_BYTES {
         // One byte past the greatest number tells that there are too many.
         let most = BLOCK.min(MAX_BYTES + 1 - bytes.len());
         let Ok(count) = source.read(&mut block[..most]) else {
@@ -61,9 +61,6 @@ pub fn read_bytes<S: Source>(alloc: Global, source: &mut S) -> Result<Vec<u8>, R
             return Ok(bytes);
         }
         bytes.extend_from_slice(&block[..count as usize])?;
-        if bytes.len() > MAX_BYTES {
-            return Err(ReadRefused::TooLong);
-        }
     }
-    unreachable!()
+    Err(ReadRefused::TooLong)
 }

@@ -73,6 +73,7 @@ fn print_through<O: Sink>(
     requires opened { O.taken out.old.opened.value ≡ O.taken out.old.out.now }
     ensures text { Prints (O.taken out.old.out.now) (O.taken out.new.out.now) result (text (results.now ∷ []) count) }
     ensures cause { HasCause (O.faults out.old.out.now) (O.faults out.new.out.now) result }
+    ensures rest { O.rest out.new.out.now ≡ O.rest out.old.out.now }
     ensures same_sink { out.new.out.ghost_name ≡ out.old.out.ghost_name }
 {
     print_whole(out, results, count)?;
@@ -89,6 +90,7 @@ pub fn print_run<O: Sink>(
 ) -> Result<(), IoFailed>
     ensures text { Prints (O.taken out.old) (O.taken out.new) result (text (results.now ∷ []) count) }
     ensures cause { HasCause (O.faults out.old) (O.faults out.new) result }
+    ensures rest { O.rest out.new ≡ O.rest out.old }
 {
     let mut blocks = Blocks::over(out);
     print_through(&mut blocks, results, count)

@@ -4,7 +4,7 @@ ghost use Rattle.std.specs.List.{AllByRecursion};
 ghost use Rattle.std.specs.Io.KnownBytes.{IsAtEnd};
 ghost use Rattle.rom_model.specs.Faults.{Rose};
 ghost use Rattle.rom_script.specs.declared.read.TheConstants.{MAX_BYTES};
-ghost use Rattle.rom_script.specs.Limits.{FitsScript};
+ghost use Rattle.rom_script.specs.Limits.{FitsScript, IsTooLong, IsReadAtMost};
 ghost use Rattle.rom_script.specs.Lines.{AreRead, IsStepRead, lines_of};
 ghost use Rattle.rom_script.specs.Scripts.{steps_of};
 ghost use Rattle.rom_script.specs.Streams.{Takes};
@@ -68,10 +68,10 @@ pub fn read_script<S: Source>(alloc: Global, source: &mut S) -> Result<Script, R
     ensures to_its_end { OnOk result (IsAtEnd (S.left source.new)) }
 
     ensures failed { result ≡ Err ReadRefused.Failed → Rose (S.faults source.old) (S.faults source.new) }
-    ensures failed_early { result ≡ Err ReadRefused.Failed → Takes (λ n. n ≤ MAX_BYTES) (S.left source.old) (S.left source.new) (S.reads source.old) (S.reads source.new) }
-    ensures too_long { result ≡ Err ReadRefused.TooLong → Takes (λ n. n ≡ MAX_BYTES + 1) (S.left source.old) (S.left source.new) (S.reads source.old) (S.reads source.new) }
+    ensures failed_early { result ≡ Err ReadRefused.Failed → Takes FitsScript (S.left source.old) (S.left source.new) (S.reads source.old) (S.reads source.new) }
+    ensures too_long { result ≡ Err ReadRefused.TooLong → Takes IsTooLong (S.left source.old) (S.left source.new) (S.reads source.old) (S.reads source.new) }
 
-    ensures takes { Takes (λ n. n ≤ MAX_BYTES + 1) (S.left source.old) (S.left source.new) (S.reads source.old) (S.reads source.new) }
+    ensures takes { Takes IsReadAtMost (S.left source.old) (S.left source.new) (S.reads source.old) (S.reads source.new) }
     ensures later { S.faults source.old ≤ S.faults source.new }
 {
     let bytes = read_bytes(alloc, source)?;

@@ -36,9 +36,10 @@ pub trait Sink {
     /// How often a write has failed, up to 2^64 - 1.
     ghost faults: { Self → ℕ };
 
-    /// What of it no write changes.
+    /// What else contracts must know of it.
     ghost Rest: { Type 0 };
 
+    /// That of this sink, which no write changes.
     ghost rest: { Self → Rest };
 
     /// Takes the first bytes of the piece, at least one, and says how many. After `IoFailed` it

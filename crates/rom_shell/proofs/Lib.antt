@@ -2,3 +2,4 @@
 pub mod Playing
 pub mod QueueSteps
 pub mod Replies
+pub mod Counting

@@ -21,7 +21,7 @@ use Rattle.rom_model.specs.Machine.{on_words}
 use Rattle.rom_model.specs.Story.{Story, own}
 use Rattle.rom_model.specs.Singly.{singly, each_alone, IsDone}
 use Rattle.rom_model.specs.Lawful.{Answers, IsFresh, IsLawful, entry_of, done}
-use Rattle.rom_model.proofs.Alone.{made, all_done, in_order, told_caller, callers_known, asked_done, singly_more, singly_len, told_in}
+use Rattle.rom_model.proofs.Alone.{made, all_called, all_done, in_order, told_caller, callers_known, asked_done, singly_more, singly_len, told_in}
 use Rattle.rom_model.specs.Trio.{trio}
 use Rattle.rom_model.proofs.Grow.{GoesOn, own_more, after_more, legal_more, answers_on, answers_more, fresh_more, least_more, least_after_all, posted_after_all, posted_more, done_more}
 use Rattle.rom_shell.specs.Queue.{queue_state}
@@ -40,7 +40,7 @@ read_back (Move a b d) = refl
 
 -- the story of these entries, each with a pass of its own
 abbrev pub begun : List Entry → Story State
-begun es = each_alone (began 4 es)
+begun es = each_alone (began 4 0 es)
 
 -- The script so far was told what the entries say.
 pub record Progress (queue : List ℕ) (es : List Entry) (ls : List (Step Call Query)) (rs : List (LineResult Reply Answer)) : Type 0 where
@@ -161,6 +161,7 @@ lawful queue es ls rs p few =
       );
       legal = p.legal;
       recorded = record {
+        calls = all_called trio 4 empty 0 0 0 es p.legal;
         made = sym (made (on_words trio) 4 empty 0 0 0 es p.legal few');
         in_order = in_order (on_words trio) 4 empty 0 0 0 es p.legal few' (positive es (from_one es p.known));
         in_doubt = tt;

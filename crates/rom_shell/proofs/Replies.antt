@@ -1,15 +1,14 @@
 -- What a run of one script leaves to be said of it.
-use Rattle.std.specs.Prelude.{◌≡◌, ℕ, ◌+◌, ◌≤◌, Bool, true, false, cond, List, [], ◌∷◌, ◌++◌, length, map, codes, decimal, IfSome, IsSome, slice_set, Option, Some, None, Result, Err}
+use Rattle.std.specs.Prelude.{◌≡◌, ℕ, ◌+◌, Bool, true, false, cond, List, [], ◌∷◌, ◌++◌, length, map, codes, decimal, IfSome, IsSome, slice_set, Option, Some, None, Result, Err}
 use Rattle.std.proofs.Common.{refl, sym, ap, subst, ◌∙◌, get_or, arith}
 use Rattle.std.proofs.lemmas.Fmt.{decimal_digit}
 use Rattle.std.specs.Io.KnownBytes.{IsAtEnd}
 use Rattle.rom_model.specs.State.{State}
 use Rattle.rom_model.specs.Story.{Story}
 use Rattle.rom_model.specs.Faults.{Rose}
-use Rattle.rom_script.specs.Limits.{FitsScript}
+use Rattle.rom_script.specs.Limits.{FitsScript, IsTooLong}
 use Rattle.rom_script.specs.Lines.{AreRead, lines_of}
 use Rattle.rom_script.specs.Streams.{Takes}
-use Rattle.rom_script.specs.declared.read.TheConstants.{MAX_BYTES}
 use Rattle.rom_model.specs.declared.call.Call.{Call}
 use Rattle.rom_model.specs.declared.call.Query.{Query}
 use Rattle.rom_model.specs.declared.line.Step.{Step}
@@ -18,7 +17,7 @@ use Rattle.rom_shell.specs.declared.status.Status.{Status}
 use Rattle.rom_shell.specs.declared.status.Status.TheVariants.{ScriptFailed, ScriptTooLong}
 use Rattle.rom_shell.specs.Words.{Command, Try, command, scripts_of}
 use Rattle.rom_shell.specs.Running.{Ran}
-use Rattle.rom_shell.specs.Run.{AreScripts, AreWithin, AreAtEnd, HasReplies, IsOpening, IsTold, SourceFailed, SourceTooLong}
+use Rattle.rom_shell.specs.Run.{AreScripts, AreWithin, AreAtEnd, HasReplies, IsTold, SourceFailed, SourceTooLong}
 
 one_where : (b : Bool) (script : List ℕ) → let asked = cond b (Some (Try (script ∷ []))) None in IsSome asked → length (scripts_of asked) ≡ 1
 one_where true script some = refl
@@ -42,8 +41,10 @@ are_scripts : (source : Option (List ℕ)) (steps : List (Step Call Query)) → 
 are_scripts (Some bytes) steps read = (read, tt)
 are_scripts None steps read = tt
 
-replies_of : (asked : Option Command) (story : Story State) (source old new : Option (List ℕ)) (status : ℕ) → IsSome asked → Ran story source old new status → HasReplies asked story (source ∷ []) old new status
-replies_of (Some (Try scripts)) story source old new status some ran = record {
+replies_of : (asked : Option Command) (words : Option (List ℕ)) (story : Story State) (source old new : Option (List ℕ)) (status : ℕ) → IsSome asked → Ran story source old new status →
+    HasReplies asked words story (source ∷ []) old new status
+replies_of (Some (Try names)) words story source old new status some ran = record {
+  opening = (ap (λ s. s.order) ran.began_empty, ap (λ s. s.opening) ran.began_empty, ap (λ s. s.opening_count) ran.began_empty);
   scripts = ran.steps ∷ [];
   results = ran.results ∷ [];
   read = are_scripts source ran.steps ran.read;
@@ -53,7 +54,7 @@ replies_of (Some (Try scripts)) story source old new status some ran = record {
   within = ran.within;
   printed = ran.printed;
 }
-replies_of None story source old new status some ran = absurd (let no : ⊥ = cc in no)
+replies_of None words story source old new status some ran = absurd (let no : ⊥ = cc in no)
 
 number_four : (status : Status) → number_of status ≡ 4 → status ≡ ScriptFailed
 number_four ScriptFailed is = refl
@@ -71,14 +72,9 @@ pub too_long_by : {T : Type 0} (status : Status) (n : ℕ) → n ≡ number_of s
 too_long_by {T} status n is eight = ap (λ (s : Status). let r : Result T Status = Err s in r) (number_eight status (sym is ∙ eight))
 
 -- the results of a run of one script
-pub has_replies : {S : Type 0} (left : S → Option (List ℕ)) (asked : Option Command) (story : Story State) (xs : List S) (s : S) (old new : Option (List ℕ)) (status : ℕ) →
-    IsSome asked → xs ≡ s ∷ [] → Ran story (left s) old new status → HasReplies asked story (map left xs) old new status
-has_replies left asked story xs s old new status some is ran = subst (λ ys. HasReplies asked story (map left ys) old new status) (sym is) (replies_of asked story (left s) old new status some ran)
-
--- its heap began empty
-pub opening_is : (asked : Option Command) (story : Story State) (source old new : Option (List ℕ)) (status : ℕ) → IsSome asked → Ran story source old new status → IsOpening asked story
-opening_is (Some (Try scripts)) story source old new status some ran = (ap (λ s. s.order) ran.began_empty, ap (λ s. s.opening) ran.began_empty, ap (λ s. s.opening_count) ran.began_empty)
-opening_is None story source old new status some ran = absurd (let no : ⊥ = cc in no)
+pub has_replies : {S : Type 0} (left : S → Option (List ℕ)) (asked : Option Command) (words : Option (List ℕ)) (story : Story State) (xs : List S) (s : S) (old new : Option (List ℕ)) (status : ℕ) →
+    IsSome asked → xs ≡ s ∷ [] → Ran story (left s) old new status → HasReplies asked words story (map left xs) old new status
+has_replies left asked words story xs s old new status some is ran = subst (λ ys. HasReplies asked words story (map left ys) old new status) (sym is) (replies_of asked words story (left s) old new status some ran)
 
 pub all_fit : {S : Type 0} (left : S → Option (List ℕ)) (xs : List S) (s : S) → xs ≡ s ∷ [] → IfSome (left s) FitsScript → AreWithin (map left xs)
 all_fit left xs s is fits = subst (λ ys. AreWithin (map left ys)) (sym is) (fits, tt)
@@ -91,7 +87,7 @@ digit_one = decimal_digit 1 (omega arith)
 
 -- the one script failed
 pub first_failed : {S : Type 0} (left : S → Option (List ℕ)) (faults reads : S → ℕ) (xs : List S) (s after : S) (old new : Option (List ℕ)) (was now : ℕ) → xs ≡ s ∷ [] →
-    Rose (faults s) (faults after) → Takes (λ n. n ≤ MAX_BYTES) (left s) (left after) (reads s) (reads after) → IsTold old new (codes "script 1 failed") was now →
+    Rose (faults s) (faults after) → Takes FitsScript (left s) (left after) (reads s) (reads after) → IsTold old new (codes "script 1 failed") was now →
     SourceFailed (map left xs) (map left (slice_set xs 0 after)) (map faults xs) (map faults (slice_set xs 0 after)) old new was now
 first_failed left faults reads xs s after old new was now is rose takes told =
     subst (λ ys. SourceFailed (map left ys) (map left (slice_set ys 0 after)) (map faults ys) (map faults (slice_set ys 0 after)) old new was now) (sym is) (record {
@@ -106,7 +102,7 @@ first_failed left faults reads xs s after old new was now is rose takes told =
 
 -- the one script is too long
 pub first_too_long : {S : Type 0} (left : S → Option (List ℕ)) (reads : S → ℕ) (xs : List S) (s after : S) (old new : Option (List ℕ)) (was now : ℕ) → xs ≡ s ∷ [] →
-    Takes (λ n. n ≡ MAX_BYTES + 1) (left s) (left after) (reads s) (reads after) → IsTold old new (codes "script 1 too long") was now →
+    Takes IsTooLong (left s) (left after) (reads s) (reads after) → IsTold old new (codes "script 1 too long") was now →
     SourceTooLong (map left xs) (map left (slice_set xs 0 after)) old new was now
 first_too_long left reads xs s after old new was now is takes told =
     subst (λ ys. SourceTooLong (map left ys) (map left (slice_set ys 0 after)) old new was now) (sym is) (record {

@@ -4,6 +4,6 @@ use Rattle.rom_model.specs.State.{State, empty}
 use Rattle.rom_model.specs.Story.{Story}
 use Rattle.rom_model.specs.declared.entry.Entry.{Entry}
 
--- these updates were done on it; no pass is recorded, and no device failed
-abbrev pub began : ℕ → List Entry → Story State
-began order entries = record { order = order; opening = empty; opening_count = 0; opening_faults = 0; history = entries; records = []; in_doubt = None }
+-- These updates were done on it, after so many that were counted before. No pass is recorded, and no device failed.
+abbrev pub began : ℕ → ℕ → List Entry → Story State
+began order opening_count entries = record { order = order; opening = empty; opening_count = opening_count; opening_faults = 0; history = entries; records = []; in_doubt = None }

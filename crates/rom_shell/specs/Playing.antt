@@ -1,5 +1,5 @@
 -- What becomes of a line.
-use Rattle.std.specs.Prelude.{◌≡◌, ℕ, List, [], ◌∷◌, ◌++◌, length}
+use Rattle.std.specs.Prelude.{◌≡◌, ℕ, Bool, true, false, List, [], ◌∷◌, ◌++◌, length}
 use Rattle.rom_model.specs.declared.call.Call.{Call}
 use Rattle.rom_model.specs.declared.call.Query.{Query}
 use Rattle.rom_model.specs.declared.call.Reply.{Reply}
@@ -14,6 +14,11 @@ use Rattle.rom_model.specs.State.{State, step, tell}
 use Rattle.rom_model.specs.Lawful.{entry_of}
 use Rattle.rom_model.specs.Trio.{trio}
 use Rattle.rom_shell.specs.Queue.{queue_state}
+
+-- whether the line asks for an update
+abbrev pub is_update : Step Call Query → Bool
+is_update (line.Update call) = true
+is_update other = false
 
 -- A line of caller 1 on the queue, after these entries: its result, and the queue and the entries after it.
 abbrev pub Taken : List ℕ → List Entry → Step Call Query → LineResult Reply Answer → List ℕ → List Entry → Type 0

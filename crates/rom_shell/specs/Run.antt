@@ -16,10 +16,9 @@ use Rattle.rom_model.specs.Story.{Story, count}
 use Rattle.rom_model.specs.Lawful.{IsLawful}
 use Rattle.rom_model.specs.Singly.{each_alone, IsDone}
 use Rattle.rom_model.specs.Trio.{trio}
-use Rattle.rom_script.specs.Limits.{FitsScript}
+use Rattle.rom_script.specs.Limits.{FitsScript, IsTooLong}
 use Rattle.rom_script.specs.Lines.{AreRead, lines_of}
 use Rattle.rom_script.specs.Streams.{AppendsFront}
-use Rattle.rom_script.specs.declared.read.TheConstants.{MAX_BYTES}
 use Rattle.rom_script.specs.Text.{text, line_text, AreOfType}
 use Rattle.rom_shell.specs.Words.{Command, Try}
 
@@ -28,27 +27,37 @@ abbrev pub IsStatus : Option Command → ℕ → Type 0
 IsStatus (Some (Try scripts)) status = (status ≡ 0) ⊎ (status ≡ 1) ⊎ (status ≡ 4) ⊎ (status ≡ 5) ⊎ (status ≡ 6) ⊎ (status ≡ 8)
 IsStatus None status = status ≡ 2
 
--- those of them with which it has run its scripts, and leaves a session
-abbrev pub HasSession : Option Command → ℕ → Type 0
-HasSession (Some (Try scripts)) status = (status ≡ 0) ⊎ (status ≡ 1) ⊎ (status ≡ 5)
-HasSession None status = ⊥
+-- With these statuses a command has run its scripts, and leaves a session.
+abbrev pub HasRun : Option Command → ℕ → Type 0
+HasRun (Some (Try scripts)) status = (status ≡ 0) ⊎ (status ≡ 1) ⊎ (status ≡ 5)
+HasRun None status = ⊥
 
--- the heap that its session begins with
-abbrev pub IsOpening : Option Command → Story State → Type 0
-IsOpening (Some (Try scripts)) story = (story.order ≡ 4) × (story.opening ≡ empty) × (story.opening_count ≡ 0)
-IsOpening None story = ⊥
+-- With these it has run nothing, and leaves none.
+abbrev pub HasNotRun : Option Command → ℕ → Type 0
+HasNotRun (Some (Try scripts)) status = (status ≡ 4) ⊎ (status ≡ 6) ⊎ (status ≡ 8)
+HasNotRun None status = Unit {0}
 
--- what it prints of its results and the count at closing
-abbrev pub printed_text : Option Command → List (List (LineResult Reply Answer)) → ℕ → List ℕ
-printed_text (Some (Try scripts)) results count = text results count
-printed_text None results count = []
+-- The heap that its session begins with, on a device of which these words are told, if any.
+abbrev pub IsOpening : Option Command → Option (List ℕ) → Story State → Type 0
+IsOpening (Some (Try scripts)) words story = (story.order ≡ 4) × (story.opening ≡ empty) × (story.opening_count ≡ 0)
+IsOpening None words story = ⊥
 
--- the steps are those of the scripts, where their sources tell their bytes
+-- what it prints of its session and its results
+abbrev pub printed_text : Option Command → Story State → List (List (LineResult Reply Answer)) → List ℕ
+printed_text (Some (Try scripts)) story results = text results (count story)
+printed_text None story results = []
+
+-- the steps are those of the sources, where these tell their bytes
 abbrev pub AreScripts : List (Option (List ℕ)) → List (List (Step Call Query)) → Type 0
 AreScripts [] [] = Unit {0}
 AreScripts (Some bytes ∷ sources) (steps ∷ scripts) = AreRead (lines_of bytes) steps × AreScripts sources scripts
 AreScripts (None ∷ sources) (steps ∷ scripts) = AreScripts sources scripts
 AreScripts sources scripts = ⊥
+
+-- the scripts that it runs, which are those of its sources
+abbrev pub AreRun : Option Command → List (Option (List ℕ)) → List (List (Step Call Query)) → Type 0
+AreRun (Some (Try names)) sources scripts = AreScripts sources scripts
+AreRun None sources scripts = ⊥
 
 -- each source that tells its bytes has no more than a script may
 abbrev pub AreWithin : List (Option (List ℕ)) → Type 0
@@ -67,11 +76,11 @@ abbrev pub status_of : List (List (LineResult Reply Answer)) → ℕ
 status_of results = if list_any (λ rs. list_any is_unread rs) results then 1 else 0
 
 -- What was printed are the results of one history, which is the story's.
-pub record HasReplies (asked : Option Command) (story : Story State) (sources : List (Option (List ℕ))) (old new : Option (List ℕ)) (status : ℕ) : Type 0 where
+pub record HasReplies (asked : Option Command) (words : Option (List ℕ)) (story : Story State) (sources : List (Option (List ℕ))) (old new : Option (List ℕ)) (status : ℕ) : Type 0 where
+  pub opening : IsOpening asked words story
   pub scripts : List (List (Step Call Query))
   pub results : List (List (LineResult Reply Answer))
-  -- the steps are those of the scripts
-  pub read : AreScripts sources scripts
+  pub read : AreRun asked sources scripts
   -- each update was done by a pass of its own
   pub lawful : IsLawful trio (each_alone story) scripts results
   pub each_done : AllByRecursion (λ rs. AllByRecursion IsDone rs) results
@@ -79,12 +88,17 @@ pub record HasReplies (asked : Option Command) (story : Story State) (sources : 
   pub of_type : AreOfType results
   pub within : count story ≤ LAST_COUNT
   -- the text is printed, or some of it where the sink failed
-  pub printed : ((status ≡ status_of results) × Appends old new (printed_text asked results (count story)))
-      ⊎ ((status ≡ 5) × AppendsFront old new (printed_text asked results (count story)))
+  pub printed : ((status ≡ status_of results) × Appends old new (printed_text asked story results))
+      ⊎ ((status ≡ 5) × AppendsFront old new (printed_text asked story results))
 
 -- The line is printed, or some of it where the sink failed.
 abbrev pub IsTold : Option (List ℕ) → Option (List ℕ) → List ℕ → ℕ → ℕ → Type 0
 IsTold old new line before now = Appends old new (line_text line) ⊎ (AppendsFront old new (line_text line) × Rose before now)
+
+-- the words of a device, where it tells them
+abbrev pub told_words : Bool → List ℕ → Option (List ℕ)
+told_words true words = Some words
+told_words false words = None
 
 -- what the source of this number tells
 abbrev pub source_at : List (Option (List ℕ)) → ℕ → Option (List ℕ)
@@ -103,7 +117,7 @@ pub record SourceFailed (before after : List (Option (List ℕ))) (faults_before
   pub rose : Rose (slice_index faults_before script) (slice_index faults_after script)
   pub taken : List ℕ
   pub given : Consumes (source_at before script) (source_at after script) taken
-  pub few : length taken ≤ MAX_BYTES
+  pub few : FitsScript taken
   pub told : IsTold old new (codes "script " ++ decimal (script + 1) ++ codes " failed") sink_before sink_now
 
 -- The first script that fails has given more bytes than a script may have, and the line names it.
@@ -112,5 +126,5 @@ pub record SourceTooLong (before after : List (Option (List ℕ))) (old new : Op
   pub first : IsFirstToFail script before after
   pub taken : List ℕ
   pub given : Consumes (source_at before script) (source_at after script) taken
-  pub many : length taken ≡ MAX_BYTES + 1
+  pub many : IsTooLong taken
   pub told : IsTold old new (codes "script " ++ decimal (script + 1) ++ codes " too long") sink_before sink_now

@@ -24,7 +24,7 @@ use Rattle.rom_shell.specs.Run.{status_of}
 pub record Ran (story : Story State) (source old new : Option (List ℕ)) (status : ℕ) : Type 0 where
   pub steps : List (Step Call Query)
   pub results : List (LineResult Reply Answer)
-  pub began_empty : story ≡ began 4 story.history
+  pub began_empty : story ≡ began 4 0 story.history
   pub read : IfSome source (λ bytes. AreRead (lines_of bytes) steps)
   pub lawful : IsLawful trio (each_alone story) (steps ∷ []) (results ∷ [])
   pub each_done : AllByRecursion IsDone results

@@ -5,4 +5,4 @@ use Rattle.rom_shell.specs.Began.{began}
 use Rattle.rom_shell.specs.declared.session.Session.{Session}
 
 abbrev pub story_of : Session → Story State
-story_of session = began session.order session.entries.items
+story_of session = began session.order session.opening_count session.entries.items

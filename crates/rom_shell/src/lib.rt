@@ -5,14 +5,17 @@
 //! update once and in its caller's order, each read from one committed state.
 #![tactic(auto)]
 
-pub mod play;
-pub mod program;
-pub mod queue;
-pub mod session;
-pub mod status;
-pub mod words;
+mod play;
+mod program;
+mod queue;
+mod session;
+mod status;
+mod words;
 
 pub use program::{Ended, run};
 pub use session::Session;
 pub use status::Status;
 pub use words::{DeviceWant, Wanted, files_of};
+
+#[cfg(test)]
+mod tests;

@@ -1,5 +1,5 @@
 //! A script on a heap.
-ghost use Rattle.std.specs.Prelude.{◌≡◌, ◌≤◌, ◌<◌, ◌+◌, [], ◌∷◌, length, vec_len, vec_capacity, IfOk};
+ghost use Rattle.std.specs.Prelude.{◌≡◌, ◌≤◌, ◌<◌, ◌+◌, [], ◌∷◌, length, vec_len, vec_capacity, count_by, false, IfOk, IsTrue};
 ghost use Rattle.std.specs.List.{AllByRecursion};
 ghost use Rattle.rom_model.specs.Lawful.{IsLawful};
 ghost use Rattle.rom_model.specs.History.{LAST_COUNT};
@@ -8,7 +8,8 @@ ghost use Rattle.rom_model.specs.Story.{count};
 ghost use Rattle.rom_model.specs.Trio.{trio};
 ghost use Rattle.rom_script.specs.Lines.{IsStepRead};
 ghost use Rattle.rom_script.specs.Text.{ResultFits};
-ghost use Rattle.rom_shell.specs.Playing.{Taken};
+ghost use Rattle.rom_shell.specs.Playing.{Taken, is_update};
+ghost use Rattle.rom_shell.specs.Playing as playing;
 ghost use Rattle.rom_shell.specs.Began.{began};
 ghost use Rattle.rom_shell.specs.Sessions.{story_of};
 
@@ -20,7 +21,7 @@ use std::alloc::{AllocError, Global};
 
 /// What a run did, and what the lines of its script were told.
 #[derive(Drop)]
-pub struct Played {
+pub(crate) struct Played {
     pub session: Session,
     pub results: Vec<LineResult<Reply, Answer>>,
 }
@@ -28,11 +29,12 @@ pub struct Played {
 /// Does what a line asks for. It takes no memory.
 fn take_line(line: &Line, queue: &mut Queue, entries: &mut Vec<Entry>) -> LineResult<Reply, Answer>
     requires read { IsStepRead line.now }
-    requires room { vec_len entries.old < vec_capacity entries.old }
+    requires room { IsTrue (is_update line.now) → vec_len entries.old < vec_capacity entries.old }
     ensures taken { Taken queue.old entries.old.items line.now result queue.new entries.new.items }
     ensures fits { ResultFits result }
     ensures capacity { vec_capacity entries.new ≡ vec_capacity entries.old }
-    ensures len { vec_len entries.new < vec_len entries.old + 2 }
+    ensures update { IsTrue (is_update line.now) → vec_len entries.new ≡ vec_len entries.old + 1 }
+    ensures no_update { is_update line.now ≡ false → vec_len entries.new ≡ vec_len entries.old }
 {
     match line {
         Step::Update(call) => {
@@ -51,26 +53,39 @@ fn take_line(line: &Line, queue: &mut Queue, entries: &mut Vec<Entry>) -> LineRe
     }
 }
 
+fn is_update(line: &Line) -> bool
+    ensures { result ≡ playing.is_update line.now }
+{
+    matches!(line, Step::Update(_))
+}
+
+/// How many updates a script asks for.
+fn count_updates(lines: &[Line]) -> usize
+    ensures { result ≡ count_by playing.is_update lines.now }
+{
+    lines.iter().filter(|line| is_update(line)).count()
+}
+
 /// Runs the lines of one script in order, on a heap that begins empty. All memory is reserved
 /// before the first line, and `AllocError` comes before it.
-pub fn play(alloc: Global, lines: &[Line]) -> Result<Played, AllocError>
+pub(crate) fn play(alloc: Global, lines: &[Line]) -> Result<Played, AllocError>
     requires today { AllByRecursion IsStepRead lines.now }
     requires few { length lines.now ≤ LAST_COUNT }
     ensures lawful { IfOk result (λ played. IsLawful trio (each_alone (story_of played.session)) (lines.now ∷ []) (played.results.items ∷ [])) }
     ensures each_done { IfOk result (λ played. AllByRecursion IsDone played.results.items) }
     ensures of_type { IfOk result (λ played. AllByRecursion ResultFits played.results.items) }
     ensures within { IfOk result (λ played. count (story_of played.session) ≤ LAST_COUNT) }
-    ensures began { IfOk result (λ played. (story_of played.session) ≡ began 4 (story_of played.session).history) }
+    ensures began { IfOk result (λ played. story_of played.session ≡ began 4 0 (story_of played.session).history) }
 {
     let mut queue = Queue::new(alloc)?;
-    let mut entries = Vec::with_capacity(alloc, lines.len())?;
+    let mut entries = Vec::with_capacity(alloc, count_updates(lines))?;
     let mut results = Vec::with_capacity(alloc, lines.len())?;
     for line in lines {
         let told = take_line(line, &mut queue, &mut entries);
         results.push_reserved(told);
     }
     Ok(Played {
-        session: Session::of(4, entries),
+        session: Session::of(4, 0, entries),
         results,
     })
 }

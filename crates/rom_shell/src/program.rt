@@ -1,13 +1,12 @@
 //! The top call: all that the program does.
-ghost use Rattle.std.specs.Prelude.{◌≡◌, ◌<◌, ◌≤◌, ◌+◌, ◌↔◌, ◌⊎◌, ℕ, List, [], ◌∷◌, length, map, codes, None, IfSome, IfOk, IfErr, OnOk, IsSome};
+ghost use Rattle.std.specs.Prelude.{◌≡◌, ◌<◌, ◌≤◌, ◌+◌, ◌↔◌, ◌⊎◌, ℕ, List, [], ◌∷◌, length, map, codes, None, IfSome, IfOk, IfErr, OnOk, IsSome, IsNone};
 ghost use Rattle.std.specs.List.{list_any};
 ghost use Rattle.std.specs.Io.KnownBytes.{Consumes, IsAtEnd};
 ghost use Rattle.rom_model.specs.Faults.{Rose};
-ghost use Rattle.rom_script.specs.declared.read.TheConstants.{MAX_BYTES};
-ghost use Rattle.rom_script.specs.Limits.{FitsScript};
+ghost use Rattle.rom_script.specs.Limits.{FitsScript, IsTooLong};
 ghost use Rattle.rom_script.specs.Streams.{Takes};
 ghost use Rattle.rom_script.specs.Text.{TextDetermines};
-ghost use Rattle.rom_shell.specs.Run.{AreAtEnd, AreWithin, HasReplies, HasSession, IsOpening, IsStatus, IsTold, SourceFailed, SourceTooLong};
+ghost use Rattle.rom_shell.specs.Run.{AreAtEnd, AreWithin, HasNotRun, HasReplies, HasRun, IsStatus, IsTold, SourceFailed, SourceTooLong, told_words};
 ghost use Rattle.rom_shell.specs.Running.{Ran};
 ghost use Rattle.rom_shell.specs.Sessions.{story_of};
 ghost use Rattle.rom_shell.specs.Statuses.{number_of};
@@ -81,9 +80,9 @@ fn run_script<S: Source, O: Sink>(
 
     ensures refused { IfErr result (λ status. (status ≡ Status.ScriptFailed) ⊎ (status ≡ Status.NoMemory) ⊎ (status ≡ Status.ScriptTooLong)) }
     ensures failed { result ≡ Err Status.ScriptFailed → Rose (S.faults script.old) (S.faults script.new) }
-    ensures failed_early { result ≡ Err Status.ScriptFailed → Takes (λ n. n ≤ MAX_BYTES) (S.left script.old) (S.left script.new) (S.reads script.old) (S.reads script.new) }
+    ensures failed_early { result ≡ Err Status.ScriptFailed → Takes FitsScript (S.left script.old) (S.left script.new) (S.reads script.old) (S.reads script.new) }
     ensures failed_told { result ≡ Err Status.ScriptFailed → IsTold (O.taken out.old) (O.taken out.new) (codes "script 1 failed") (O.faults out.old) (O.faults out.new) }
-    ensures too_long { result ≡ Err Status.ScriptTooLong → Takes (λ n. n ≡ MAX_BYTES + 1) (S.left script.old) (S.left script.new) (S.reads script.old) (S.reads script.new) }
+    ensures too_long { result ≡ Err Status.ScriptTooLong → Takes IsTooLong (S.left script.old) (S.left script.new) (S.reads script.old) (S.reads script.new) }
     ensures too_long_told { result ≡ Err Status.ScriptTooLong → IsTold (O.taken out.old) (O.taken out.new) (codes "script 1 too long") (O.faults out.old) (O.faults out.new) }
     ensures no_memory_told { result ≡ Err Status.NoMemory → IsTold (O.taken out.old) (O.taken out.new) (codes "no memory") (O.faults out.old) (O.faults out.new) }
     ensures sources_later { S.faults script.old ≤ S.faults script.new }
@@ -121,7 +120,7 @@ fn run_script<S: Source, O: Sink>(
 /// words names.
 ///
 /// All memory is taken before the first update. The device is handed back as it came.
-pub fn run<D: Device, S: Source, O: Sink>(
+pub fn run<D: Device + Send, S: Source, O: Sink>(
     alloc: Global,
     words: &Names,
     device: D,
@@ -131,18 +130,22 @@ pub fn run<D: Device, S: Source, O: Sink>(
     requires { length scripts.items ≡ length (scripts_of (command words.now)) }
 
     ensures device { result.device ≡ device }
+    ensures sources { length result.scripts.items ≡ length scripts.items }
+    ensures sink_later { O.faults out.old ≤ O.faults out.new }
     ensures statuses { IsStatus (command words.now) result.status }
-    ensures session { IsSome result.session ↔ HasSession (command words.now) result.status }
+    ensures session { HasRun (command words.now) result.status → IsSome result.session }
+    ensures no_session { HasNotRun (command words.now) result.status → IsNone result.session }
 
     // Where the scripts were run, the results of one history are printed.
-    ensures opening { IfSome result.session (λ session. IsOpening (command words.now) (story_of session)) }
-    ensures replies { IfSome result.session (λ session. HasReplies (command words.now) (story_of session) (map S.left scripts.items) (O.taken out.old) (O.taken out.new) result.status) }
+    ensures replies { IfSome result.session (λ session. HasReplies (command words.now) (told_words D.tells_words (D.words device)) (story_of session)
+        (map S.left scripts.items) (O.taken out.old) (O.taken out.new) result.status) }
     ensures fit { IsSome result.session → AreWithin (map S.left scripts.items) }
     ensures read { IsSome result.session → AreAtEnd (map S.left result.scripts.items) }
     ensures sink_failed { result.status ≡ 5 → Rose (O.faults out.old) (O.faults out.new) }
 
     // Else one line says why not.
     ensures not_a_command { (result.status ≡ 2) ↔ (command words.now ≡ None) }
+    ensures unread { result.status ≡ 2 → result.scripts ≡ scripts }
     ensures not_a_command_told { result.status ≡ 2 → IsTold (O.taken out.old) (O.taken out.new) (codes "not a command") (O.faults out.old) (O.faults out.new) }
     ensures source_failed { result.status ≡ 4 → SourceFailed (map S.left scripts.items) (map S.left result.scripts.items) (map S.faults scripts.items) (map S.faults result.scripts.items) (O.taken out.old) (O.taken out.new) (O.faults out.old) (O.faults out.new) }
     ensures no_memory_told { result.status ≡ 6 → IsTold (O.taken out.old) (O.taken out.new) (codes "no memory") (O.faults out.old) (O.faults out.new) }

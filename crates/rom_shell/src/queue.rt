@@ -17,7 +17,7 @@ const ROOM: usize = 15;
 
 /// Numbers in the order in which they came. A contract sees their list.
 #[derive(Drop)]
-pub struct Queue {
+pub(crate) struct Queue {
     items: VecDeque<u64>,
 }
 
@@ -70,9 +70,12 @@ impl Queue {
         ensures answer { result ≡ tell (queue_state self.now) query.now }
         ensures fits { AnswerFits result }
     {
-        match self.items.front() {
-            Some(v) => Answer::Head(*v),
-            None => Answer::Empty,
+        match query {
+            Query::Peek => match self.items.front() {
+                Some(v) => Answer::Head(*v),
+                None => Answer::Empty,
+            },
+            _ => unreachable!(),
         }
     }
 }

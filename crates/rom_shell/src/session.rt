@@ -1,5 +1,6 @@
 //! What a run did.
-ghost use Rattle.std.specs.Prelude.{◌≡◌};
+ghost use Rattle.std.specs.Prelude.{◌≡◌, ◌+◌, ◌^◌, ◌≤◌, vec_len};
+ghost use Rattle.rom_model.specs.History.{LAST_COUNT};
 ghost use Rattle.rom_model.specs.Story.{count};
 
 use rom_model::Entry;
@@ -9,24 +10,32 @@ use rom_model::Entry;
 #[derive(Drop)]
 pub struct Session {
     order: u32,
+    opening_count: u64,
     entries: Vec<Entry>,
+    ghost within: { opening_count + vec_len entries ≤ 2 ^ 62 },
 }
 
 impl Session {
     ghost use Rattle.rom_shell.specs.Sessions.{story_of};
     ghost use Rattle.rom_shell.specs.Began.{began};
 
-    /// The session of these updates on a heap of this order.
-    pub fn of(order: u32, entries: Vec<Entry>) -> Self
-        ensures { story_of result ≡ began order entries.items }
+    /// The session of these updates on a heap of this order, which had counted so many before.
+    pub(crate) fn of(order: u32, opening_count: u64, entries: Vec<Entry>) -> Self
+        requires { opening_count + vec_len entries ≤ LAST_COUNT }
+        ensures { story_of result ≡ began order opening_count entries.items }
     {
-        Session { order, entries }
+        Session {
+            order,
+            opening_count,
+            entries,
+        }
     }
 
     /// The count of updates at closing.
     pub fn count(&self) -> u64
-        ensures { result ≡ count (story_of self.now) }
+        ensures count { result ≡ count (story_of self.now) }
+        ensures within { result ≤ LAST_COUNT }
     {
-        self.entries.len() as u64
+        self.opening_count + self.entries.len() as u64
     }
 }

@@ -41,7 +41,7 @@ fn is_plain_word(word: &str) -> bool
 
 /// Whether the words are a command. Today they are one where they are `try` and one more word
 /// that is not empty, and that begins with a dash only where it is a dash alone.
-pub fn is_command(words: &Names) -> bool
+pub(crate) fn is_command(words: &Names) -> bool
     ensures { IsTrue result ↔ IsSome (command words.now) }
 {
     let (Some(name), Some(script)) = (words.at(0), words.at(1)) else {

@@ -12,7 +12,7 @@ pub returns-in-Ok-clause-replies : goal.returns-in-Ok-clause-replies
 returns-in-Ok-clause-replies g c =
     let some : IsSome (command c.args.words.now) = search rules in
     let one = only c.args.scripts.items c.index_mut.result.now (c.requires ∙ one_script c.args.words.now some) c.index_mut.ensures.value in
-    has_replies g.S.Source.left (command c.args.words.now) _ c.args.scripts.items c.index_mut.result.now _ _ _ some one (rw c.number-in-Ok.ensures c.in-Ok.ensures.ran)
+    has_replies g.S.Source.left (command c.args.words.now) _ _ c.args.scripts.items c.index_mut.result.now _ _ _ some one (rw c.number-in-Ok.ensures c.in-Ok.ensures.ran)
 
 pub returns-in-Ok-clause-fit : goal.returns-in-Ok-clause-fit
 returns-in-Ok-clause-fit g c = λ is.

@@ -1,0 +1,76 @@
+use crate::{Args, Back, Call, Reply, Words, call_words, reply_words};
+
+/// The words are these, and past them there is none.
+fn are<const N: usize>(words: &Words<N>, wanted: &[u64]) -> bool {
+    let mut same = words.len() == wanted.len() as u64 && words.at(words.len()).is_none();
+    for (i, word) in wanted.iter().enumerate() {
+        same = same && words.at(i as u64) == Some(*word);
+    }
+    same
+}
+
+#[test]
+fn calls_and_replies_have_the_words_of_the_tables(rt: HostRuntime) {
+    let calls: [(Call, &[u64]); 8] = [
+        (Call::Enq(0), &[1, 0]),
+        (Call::Enq(u64::MAX), &[1, u64::MAX]),
+        (Call::Deq, &[2]),
+        (Call::Add(31), &[3, 31]),
+        (Call::Rem(41), &[4, 41]),
+        (Call::Put(51, 52), &[5, 51, 52]),
+        (Call::Del(61), &[6, 61]),
+        (Call::Move(71, 72, 73), &[7, 71, 72, 73]),
+    ];
+    for (call, words) in calls {
+        assert!(rt; are(&call_words(&call), words), "at {call:?}");
+    }
+    let replies: [(Reply, &[u64]); 13] = [
+        (Reply::Queued, &[1]),
+        (Reply::Full, &[2]),
+        (Reply::Head(31), &[3, 31]),
+        (Reply::Empty, &[4]),
+        (Reply::Added, &[5]),
+        (Reply::Present, &[6]),
+        (Reply::Removed, &[7]),
+        (Reply::Absent, &[8]),
+        (Reply::NoPrior, &[9]),
+        (Reply::Was(101), &[10, 101]),
+        (Reply::Moved, &[11]),
+        (Reply::Short(u64::MAX), &[12, u64::MAX]),
+        (Reply::Over, &[13]),
+    ];
+    for (reply, words) in replies {
+        assert!(rt; are(&reply_words(&reply), words), "at {reply:?}");
+    }
+}
+
+/// Fills empty words with 1, 2, 3 and so on; how many had room.
+fn filled<const N: usize>(words: &mut Words<N>) -> u64 {
+    for word in 1..=100 {
+        if !words.push(word) {
+            return words.len();
+        }
+    }
+    words.len()
+}
+
+#[test]
+fn words_of_calls_and_replies_have_room_for_40_and_20(rt: HostRuntime) {
+    let mut args = Args::new();
+    assert_eq!(rt; args.at(0), None);
+    assert_eq!(rt; filled(&mut args), 40);
+    assert!(rt; !args.push(7));
+    assert_eq!(rt;
+        (args.at(0), args.at(39), args.at(40)),
+        (Some(1), Some(40), None)
+    );
+    assert_eq!(rt; args.at(u64::MAX), None);
+
+    let mut back = Back::new();
+    assert_eq!(rt; filled(&mut back), 20);
+    assert!(rt; !back.push(7));
+    assert_eq!(rt;
+        (back.at(0), back.at(19), back.at(20)),
+        (Some(1), Some(20), None)
+    );
+}

@@ -1,0 +1,242 @@
+//! Scripts and words, to the byte, over sources and sinks in memory.
+ghost use Rattle.std.specs.Prelude.{◌<◌};
+
+use crate::play::play;
+use crate::queue::Queue;
+use crate::words::is_command;
+use crate::{DeviceWant, Ended, files_of, run};
+use rom_device::Ram;
+use rom_model::{Answer, Call, LineResult, Query, Reply, Step, Updated};
+use rom_script::{Bytes, Collect, Names};
+use std::alloc::{AllocError, Global};
+use std::test::Fail;
+
+/// Room for each text of a short script.
+const AMPLE: u64 = 1024;
+
+/// The greatest number of bytes in a script.
+const MOST: usize = 1_048_576;
+
+/// Sixteen updates fill the queue and find it full; one leaves it, and one more has room.
+const FILL: &str =
+    "enq 1\nenq 2\nenq 3\nenq 4\nenq 5\nenq 6\nenq 7\nenq 8\nenq 9\nenq 10\nenq 11\nenq 12\nenq 13\nenq 14\nenq 15\nenq 16\ndeq\nenq 1\n";
+
+const FILLED: &str =
+    "caller 1\nqueued @0\nqueued @1\nqueued @2\nqueued @3\nqueued @4\nqueued @5\nqueued @6\nqueued @7\nqueued @8\nqueued @9\nqueued @10\nqueued @11\nqueued @12\nqueued @13\nqueued @14\nfull @15\nhead 1 @16\nqueued @17\ncount 18\n";
+
+/// Tries a script that comes in pieces of this length.
+fn tried(
+    alloc: Global,
+    script: Vec<u8>,
+    piece: u64,
+    trips: &[u64],
+    out: &mut Collect,
+) -> Result<Ended<Ram, Bytes>, AllocError>
+    requires { 0 < piece }
+{
+    let mut words = Names::new(alloc);
+    words.push(alloc, "try")?;
+    words.push(alloc, "script")?;
+    let mut scripts = Vec::new(alloc);
+    scripts.push(Bytes::new(script, piece, trips.to_vec(alloc)?))?;
+    let device = Ram::zeroed(alloc, 232)?;
+    Ok(run(alloc, &words, device, scripts, out))
+}
+
+/// The status of a short script and the bytes that a sink with this room takes.
+fn told(
+    alloc: Global,
+    script: &str,
+    trips: &[u64],
+    room: u64,
+) -> Result<(u8, Vec<u8>), AllocError> {
+    let mut out = Collect::with_room(alloc, room, 5)?;
+    let ended = tried(alloc, script.as_bytes().to_vec(alloc)?, 3, trips, &mut out)?;
+    Ok((ended.status, out.bytes().to_vec(alloc)?))
+}
+
+#[test]
+fn scripts_are_told_their_replies(rt: HostRuntime) -> Result<(), Fail> {
+    let rows: [(&str, &str, u8); 4] = [
+        ("", "caller 1\ncount 0\n", 0),
+        (
+            "enq 9\ndeq\ndeq\n",
+            "caller 1\nqueued @0\nhead 9 @1\nempty @2\ncount 3\n",
+            0,
+        ),
+        (FILL, FILLED, 0),
+        (
+            "peek\nenq 18446744073709551615\npeek\nPUT 1 1",
+            "caller 1\nempty #0\nqueued @0\nhead 18446744073709551615 #1\nunread\ncount 1\n",
+            1,
+        ),
+    ];
+    for (script, text, status) in rows {
+        let (found, bytes) = told(rt.alloc(), script, &[], AMPLE)?;
+        assert_eq!(rt; found, status, "at {script}");
+        assert!(rt; bytes.as_slice() == text.as_bytes(), "at {script}");
+    }
+    Ok(())
+}
+
+#[test]
+fn the_session_counts_its_updates(rt: HostRuntime) -> Result<(), Fail> {
+    let alloc = rt.alloc();
+    let mut out = Collect::with_room(alloc, AMPLE, 5)?;
+    let script = b"enq 9\ndeq\ndeq\n".to_vec(alloc)?;
+    let ended = tried(alloc, script, 3, &[], &mut out)?;
+    assert_eq!(rt; ended.session.ok_or("no session")?.count(), 3);
+    let mut none = Collect::with_room(alloc, AMPLE, 5)?;
+    let ended = tried(alloc, b"enq 9".to_vec(alloc)?, 3, &[2], &mut none)?;
+    assert!(rt; ended.session.is_none());
+    Ok(())
+}
+
+#[test]
+fn other_words_are_no_command(rt: HostRuntime) -> Result<(), Fail> {
+    let alloc = rt.alloc();
+    let rows: [&[&str]; 8] = [
+        &[],
+        &["try"],
+        &["try", "-x"],
+        &["TRY", "a"],
+        &["help"],
+        &["run", "F"],
+        &["try", "a", "b"],
+        &["try", ""],
+    ];
+    let line = b"not a command\n";
+    for row in rows {
+        let mut words = Names::new(alloc);
+        for word in row {
+            words.push(alloc, word)?;
+        }
+        assert!(rt; !is_command(&words), "at {row:?}");
+        let wanted = files_of(alloc, &words)?;
+        assert!(rt; matches!(wanted.device, DeviceWant::Nothing), "at {row:?}");
+        assert_eq!(rt; wanted.scripts.len(), 0, "at {row:?}");
+        for room in 0..=line.len() {
+            let device = Ram::zeroed(alloc, 0)?;
+            let scripts: Vec<Bytes> = Vec::new(alloc);
+            let mut out = Collect::with_room(alloc, room as u64, 5)?;
+            let ended = run(alloc, &words, device, scripts, &mut out);
+            assert_eq!(rt; ended.status, 2, "at {row:?}");
+            assert!(rt; out.bytes() == &line[..room], "at {row:?}");
+        }
+    }
+    Ok(())
+}
+
+#[test]
+fn try_names_one_script(rt: HostRuntime) -> Result<(), Fail> {
+    let alloc = rt.alloc();
+    for script in ["x", "-"] {
+        let mut words = Names::new(alloc);
+        words.push(alloc, "try")?;
+        words.push(alloc, script)?;
+        let wanted = files_of(alloc, &words)?;
+        assert!(rt;
+            matches!(wanted.device, DeviceWant::Fresh(232)),
+            "at {script}"
+        );
+        assert_eq!(rt; wanted.scripts.len(), 1, "at {script}");
+        assert!(rt; wanted.scripts.at(0) == Some(script), "at {script}");
+    }
+    Ok(())
+}
+
+#[test]
+fn a_dash_alone_is_a_script(rt: HostRuntime) -> Result<(), Fail> {
+    let alloc = rt.alloc();
+    let mut words = Names::new(alloc);
+    words.push(alloc, "try")?;
+    words.push(alloc, "-")?;
+    let mut scripts = Vec::new(alloc);
+    scripts.push(Bytes::new(b"deq\n".to_vec(alloc)?, 3, Vec::new(alloc)))?;
+    let mut out = Collect::with_room(alloc, AMPLE, 5)?;
+    let ended = run(alloc, &words, Ram::zeroed(alloc, 232)?, scripts, &mut out);
+    assert_eq!(rt; ended.status, 0);
+    assert!(rt; out.bytes() == b"caller 1\nempty @0\ncount 1\n".as_slice());
+    Ok(())
+}
+
+#[test]
+fn a_full_sink_has_the_front_of_the_text(rt: HostRuntime) -> Result<(), Fail> {
+    let (status, bytes) = told(rt.alloc(), "enq 9", &[], 10)?;
+    assert_eq!(rt; status, 5);
+    assert!(rt; bytes.as_slice() == b"caller 1\nq".as_slice());
+    let text = FILLED.as_bytes();
+    for room in 0..=text.len() {
+        let (status, bytes) = told(rt.alloc(), FILL, &[], room as u64)?;
+        assert_eq!(rt; status, if room < text.len() { 5 } else { 0 }, "at {room}");
+        assert!(rt; bytes.as_slice() == &text[..room], "at {room}");
+    }
+    Ok(())
+}
+
+#[test]
+fn a_failed_read_is_told(rt: HostRuntime) -> Result<(), Fail> {
+    // Five reads give the fourteen bytes, and the sixth tells their end.
+    let script = "enq 9\ndeq\ndeq\n";
+    let line = b"script 1 failed\n";
+    for read in 1..=6u64 {
+        let (status, bytes) = told(rt.alloc(), script, &[read], AMPLE)?;
+        assert_eq!(rt; status, 4, "at {read}");
+        assert!(rt; bytes.as_slice() == line.as_slice(), "at {read}");
+    }
+    let (status, _) = told(rt.alloc(), script, &[7], AMPLE)?;
+    assert_eq!(rt; status, 0);
+    for room in 0..line.len() {
+        let (status, bytes) = told(rt.alloc(), script, &[3], room as u64)?;
+        assert_eq!(rt; status, 4, "at {room}");
+        assert!(rt; bytes.as_slice() == &line[..room], "at {room}");
+    }
+    Ok(())
+}
+
+#[test]
+fn the_longest_script_is_run(rt: HostRuntime) -> Result<(), Fail> {
+    let alloc = rt.alloc();
+    let script = vec![in alloc; b'\n'; MOST]?;
+    let mut out = Collect::with_room(alloc, 8 * MOST as u64, 4096)?;
+    let ended = tried(alloc, script, 4096, &[], &mut out)?;
+    assert_eq!(rt; ended.status, 1);
+    let mut text = b"caller 1\n".to_vec(alloc)?;
+    for _ in 0..MOST {
+        text.extend_from_slice(b"unread\n")?;
+    }
+    text.extend_from_slice(b"count 0\n")?;
+    assert!(rt; out.bytes() == text.as_slice());
+    Ok(())
+}
+
+#[test]
+fn a_longer_script_is_refused(rt: HostRuntime) -> Result<(), Fail> {
+    let alloc = rt.alloc();
+    let script = vec![in alloc; b'\n'; MOST + 1]?;
+    let mut out = Collect::with_room(alloc, AMPLE, 5)?;
+    let ended = tried(alloc, script, 4096, &[], &mut out)?;
+    assert_eq!(rt; ended.status, 8);
+    assert!(rt; out.bytes() == b"script 1 too long\n".as_slice());
+    Ok(())
+}
+
+#[test]
+fn lines_are_played_in_order(rt: HostRuntime) -> Result<(), Fail> {
+    let queue = Queue::new(rt.alloc())?;
+    assert_eq!(rt; queue.answer(&Query::Peek), Answer::Empty);
+    let lines = [
+        Step::Update(Call::Enq(9)),
+        Step::Unread,
+        Step::Ask(Query::Peek),
+    ];
+    let played = play(rt.alloc(), &lines)?;
+    assert_eq!(rt; played.session.count(), 1);
+    let told = [
+        LineResult::Update(Updated::Done(Reply::Queued, 0)),
+        LineResult::Unread,
+        LineResult::Read(Answer::Head(9), 1),
+    ];
+    assert!(rt; played.results.as_slice() == told.as_slice());
+    Ok(())
+}
