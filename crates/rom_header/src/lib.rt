@@ -13,3 +13,6 @@ pub mod header;
 pub use fresh::{FormatRefused, write_new};
 pub use geometry::Geometry;
 pub use header::{Header, HeaderRefused, State, read_header};
+
+#[cfg(test)]
+mod tests;

@@ -10,3 +10,6 @@ mod copy;
 mod recovery;
 
 pub use recovery::{RecoverRefused, Recovered, recover};
+
+#[cfg(test)]
+mod tests;
