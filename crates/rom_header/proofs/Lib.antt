@@ -1,0 +1,2 @@
+-- Lemmas on parts and on a new heap.
+pub mod Making

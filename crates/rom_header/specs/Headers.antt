@@ -1,0 +1,45 @@
+-- What is read of a header.
+use Rattle.std.specs.Prelude.{◌≡◌, ◌≢◌, ◌⊎◌, ℕ, ◌<◌, ◌≤◌, List, length, slice_index, Result, Ok, Err}
+use Rattle.rom_header.specs.Layout.{words_needed, MAGIC}
+use Rattle.rom_header.specs.Regions.{IsHeap}
+use Rattle.rom_header.specs.declared.header.State.{State}
+use Rattle.rom_header.specs.declared.header.State.TheVariants.{Idle, Mutating, Copying}
+use Rattle.rom_header.specs.declared.header.Header.{Header}
+use Rattle.rom_header.specs.declared.header.HeaderRefused.{HeaderRefused}
+use Rattle.rom_header.specs.declared.header.HeaderRefused.TheVariants.{NotAHeap, BadVersion, BadOrder, TooSmall, BadState, Device}
+
+-- the word that stands for a state
+abbrev pub state_word : State → ℕ
+state_word Idle = 0
+state_word Mutating = 1
+state_word Copying = 2
+
+-- the first words of a heap, up to its order, which is one that there is
+pub record HasOrder (words : List ℕ) (order : ℕ) : Type 0 where
+  pub magic : slice_index words 0 ≡ MAGIC
+  pub version : slice_index words 1 ≡ 1
+  pub order_is : slice_index words 2 ≡ order
+  pub least : 4 ≤ order
+  pub most : order ≤ 16
+
+-- The answer is the header, or the first refusal whose test fails. A device that fails may answer so in place of either.
+abbrev pub IsAnswer : List ℕ → Result Header HeaderRefused → Type 0
+IsAnswer words (Ok header) = IsHeap header.geometry words × (slice_index words 3 ≡ state_word header.state)
+IsAnswer words (Err (TooSmall need have)) =
+    (have ≡ length words) × (((need ≡ 8) × (have < 8)) ⊎ ((8 ≤ have) × HasOrder words (slice_index words 2) × (need ≡ words_needed (slice_index words 2)) × (have < need)))
+IsAnswer words (Err NotAHeap) = (8 ≤ length words) × (slice_index words 0 ≢ MAGIC)
+IsAnswer words (Err (BadVersion version)) = (8 ≤ length words) × (slice_index words 0 ≡ MAGIC) × (version ≡ slice_index words 1) × (version ≢ 1)
+IsAnswer words (Err (BadOrder order)) =
+    (8 ≤ length words) × (slice_index words 0 ≡ MAGIC) × (slice_index words 1 ≡ 1) × (order ≡ slice_index words 2) × ((order < 4) ⊎ (16 < order))
+IsAnswer words (Err (BadState state)) =
+    HasOrder words (slice_index words 2) × (words_needed (slice_index words 2) ≤ length words) × (state ≡ slice_index words 3) × (2 < state)
+IsAnswer words (Err Device) = Unit {0}
+
+-- So of the first three words alone.
+abbrev pub IsOrderAnswer : List ℕ → Result ℕ HeaderRefused → Type 0
+IsOrderAnswer words (Ok order) = HasOrder words order
+IsOrderAnswer words (Err NotAHeap) = slice_index words 0 ≢ MAGIC
+IsOrderAnswer words (Err (BadVersion version)) = (slice_index words 0 ≡ MAGIC) × (version ≡ slice_index words 1) × (version ≢ 1)
+IsOrderAnswer words (Err (BadOrder order)) = (slice_index words 0 ≡ MAGIC) × (slice_index words 1 ≡ 1) × (order ≡ slice_index words 2) × ((order < 4) ⊎ (16 < order))
+IsOrderAnswer words (Err Device) = Unit {0}
+IsOrderAnswer words (Err other) = ⊥

@@ -1,0 +1,6 @@
+-- The layout of a heap on a device, and the region that counts.
+pub mod Layout
+pub mod Writing
+pub mod Regions
+pub mod Headers
+pub mod Fresh

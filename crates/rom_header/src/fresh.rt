@@ -1,0 +1,154 @@
+//! The making of a new heap.
+ghost use Rattle.std.specs.Prelude.{List, ℕ, ◌*◌, ◌≡◌, ◌≢◌, ◌+◌, ◌<◌, ◌≤◌, ◌↔◌, IfOk, OnOk, IsTrue, length, slice_index, slice_set};
+ghost use Rattle.rom_model.specs.Faults.{HasCause, Rose};
+ghost use Rattle.rom_device.specs.Device.{Runs, Leaves, Stays, Writes};
+ghost use Rattle.rom_header.specs.Fresh.{IsNew, NoneOrNew, Nothing, IsRefused, IsFormatAnswer, IsLaid};
+ghost use Rattle.rom_header.specs.Writing.{Within};
+ghost use Rattle.rom_header.specs.Layout.{region_len, words_needed, MAGIC};
+
+use crate::geometry::Geometry;
+use crate::header::{MAGIC, VERSION};
+use rom_device::{Device, Failed};
+
+/// Why no heap was made.
+#[derive(Clone, Copy, Debug, PartialEq, Eq)]
+pub enum FormatRefused {
+    /// Word 0 is the magic.
+    AlreadyAHeap,
+    /// The device has fewer words than a heap of this order needs.
+    TooSmall { need: u64, have: u64 },
+    /// The device failed. It may hold no heap, or the whole new one.
+    Device,
+}
+
+impl From<Failed> for FormatRefused {
+    ghost use Rattle.rom_header.specs.declared.fresh.FormatRefused.TheVariants.{Device};
+
+    ghost from_gives = { λ _ e. e ≡ Device };
+
+    fn from(_: Failed) -> Self {
+        FormatRefused::Device
+    }
+}
+
+/// Writes words one after another.
+fn write_words<D: Device>(device: &mut D, at: u64, words: &[u64]) -> Result<(), Failed>
+    requires { at + length words.now ≤ D.size device.old }
+    ensures size { D.size device.new ≡ D.size device.old }
+    ensures outside { IsTrue D.tells_words → Within at (length words.now) (D.words device.old) (D.words device.new) }
+    ensures written { IsTrue D.tells_words → OnOk result ((k : ℕ) → k < length words.now → slice_index (D.words device.new) (at + k) ≡ slice_index words.now k) }
+    ensures images { IsTrue D.tells_images → Runs D.clock D.leaves D.left_since (Within at (length words.now)) device.old device.new }
+    ensures cause { HasCause (D.faults device.old) (D.faults device.new) result }
+{
+    for i in 0..words.len() {
+        device.write(at + i as u64, words[i])?;
+    }
+    Ok(())
+}
+
+/// Writes all of a new heap but its magic.
+fn lay_out<D: Device>(device: &mut D, geometry: Geometry, image: &[u64]) -> Result<(), Failed>
+    requires fits { words_needed geometry ≤ D.size device.old }
+    requires image { length image.now ≡ region_len geometry }
+    ensures size { D.size device.new ≡ D.size device.old }
+    ensures outside { IsTrue D.tells_words → Within 1 (7 + 2 * region_len geometry) (D.words device.old) (D.words device.new) }
+    ensures laid { IsTrue D.tells_words → OnOk result (IsLaid geometry image.now (D.words device.new)) }
+    ensures images { IsTrue D.tells_images → Runs D.clock D.leaves D.left_since (Within 1 (7 + 2 * region_len geometry)) device.old device.new }
+    ensures cause { HasCause (D.faults device.old) (D.faults device.new) result }
+{
+    write_words(device, geometry.main(), image)?;
+    write_words(device, geometry.back(), image)?;
+    let header = [VERSION, u64::from(geometry.order()), 0, 0, 0, 0, 0];
+    write_words(device, 1, &header)?;
+    Ok(())
+}
+
+/// Makes the words certain, writes the magic, and makes it certain.
+fn seal<D: Device>(device: &mut D) -> Result<(), Failed>
+    requires { 0 < D.size device.old }
+    ensures size { D.size device.new ≡ D.size device.old }
+    ensures words { IsTrue D.tells_words → OnOk result (D.words device.new ≡ slice_set (D.words device.old) 0 0x524F4D554C555331) }
+    ensures outside { IsTrue D.tells_words → Within 0 1 (D.words device.old) (D.words device.new) }
+    ensures certain { IsTrue D.tells_images → OnOk result ((i : List ℕ) → D.leaves device.new i → i ≡ D.words device.new) }
+    ensures images { IsTrue D.tells_images → Leaves D.clock D.left_since (Writes 0 0x524F4D554C555331 (D.words device.old)) device.old device.new }
+    ensures cause { HasCause (D.faults device.old) (D.faults device.new) result }
+{
+    device.sync()?;
+    device.write(0, MAGIC)?;
+    device.sync()
+}
+
+/// Makes the heap where no magic stands and no write is unsynced.
+fn build<D: Device>(device: &mut D, geometry: Geometry, image: &[u64]) -> Result<(), Failed>
+    requires fits { words_needed geometry ≤ D.size device.old }
+    requires order { (4 ≤ geometry) × (geometry ≤ 16) }
+    requires image { length image.now ≡ region_len geometry }
+    requires none { IsTrue D.tells_words → slice_index (D.words device.old) 0 ≢ 0x524F4D554C555331 }
+    requires certain { IsTrue D.tells_images → (i : List ℕ) → D.leaves device.old i → i ≡ D.words device.old }
+    ensures size { D.size device.new ≡ D.size device.old }
+    ensures made { IsTrue D.tells_words → OnOk result (IsNew geometry image.now (D.words device.new)) }
+    ensures others { IsTrue D.tells_words → Within 0 (words_needed geometry) (D.words device.old) (D.words device.new) }
+    ensures certain { IsTrue D.tells_images → OnOk result ((i : List ℕ) → D.leaves device.new i → i ≡ D.words device.new) }
+    ensures images { IsTrue D.tells_images → Leaves D.clock D.left_since (NoneOrNew geometry image.now) device.old device.new }
+    ensures cause { HasCause (D.faults device.old) (D.faults device.new) result }
+{
+    lay_out(device, geometry, image)?;
+    seal(device)?;
+    Ok(())
+}
+
+/// Makes certain what the words are, and says whether a heap stands there.
+fn is_heap<D: Device>(device: &mut D) -> Result<bool, Failed>
+    requires { 0 < D.size device.old }
+    ensures answer { IsTrue D.tells_words → IfOk result (λ is. IsTrue is ↔ (slice_index (D.words device.old) 0 ≡ MAGIC)) }
+    ensures words { IsTrue D.tells_words → D.words device.new ≡ D.words device.old }
+    ensures certain { IsTrue D.tells_images → OnOk result ((i : List ℕ) → D.leaves device.new i → i ≡ D.words device.new) }
+    ensures images { IsTrue D.tells_images → Runs D.clock D.leaves D.left_since Stays device.old device.new }
+    ensures size { D.size device.new ≡ D.size device.old }
+    ensures cause { HasCause (D.faults device.old) (D.faults device.new) result }
+{
+    device.sync()?;
+    let magic = device.read(0)?;
+    Ok(magic == MAGIC)
+}
+
+/// Makes a new heap of this order with this image as its region, unless a heap stands there. The
+/// region is read by nobody here; it is to be that of a new heap.
+///
+/// Stopped at any moment, it leaves the device as it was, or without a heap, or with the whole new
+/// one; so it can be run again. Words behind the heap's stay.
+pub fn write_new<D: Device>(
+    device: &mut D,
+    geometry: Geometry,
+    image: &[u64],
+) -> Result<(), FormatRefused>
+    requires { length image.now ≡ region_len geometry }
+
+    ensures answer { IsTrue D.tells_words → IsFormatAnswer geometry (D.words device.old) result }
+    ensures cause { result ≡ Err FormatRefused.Device → Rose (D.faults device.old) (D.faults device.new) }
+    ensures later { D.faults device.old ≤ D.faults device.new }
+
+    ensures made { IsTrue D.tells_words → OnOk result (IsNew geometry image.now (D.words device.new)) }
+    ensures certain { IsTrue D.tells_images → OnOk result ((i : List ℕ) → D.leaves device.new i → i ≡ D.words device.new) }
+    ensures others { IsTrue D.tells_words → Within 0 (words_needed geometry) (D.words device.old) (D.words device.new) }
+    ensures size { D.size device.new ≡ D.size device.old }
+
+    // What a stop may leave since the call began.
+    ensures images { IsTrue D.tells_images → Leaves D.clock D.left_since (NoneOrNew geometry image.now) device.old device.new }
+    ensures refused { IsTrue D.tells_images → IsRefused geometry (D.words device.old) → Leaves D.clock D.left_since Nothing device.old device.new }
+    ensures refused_words { IsTrue D.tells_words → IsRefused geometry (D.words device.old) → D.words device.new ≡ D.words device.old }
+{
+    let have = device.len();
+    let need = geometry.need();
+    if have == 0 {
+        return Err(FormatRefused::TooSmall { need, have });
+    }
+    if is_heap(device)? {
+        return Err(FormatRefused::AlreadyAHeap);
+    }
+    if have < need {
+        return Err(FormatRefused::TooSmall { need, have });
+    }
+    build(device, geometry, image)?;
+    Ok(())
+}

@@ -1,0 +1,92 @@
+//! How many words a heap has, and where they stand.
+ghost use Rattle.std.specs.Prelude.{◌≡◌, ◌^◌, ◌⊎◌, ◌<◌, ◌≤◌, IfSome, IfNone};
+ghost use Rattle.rom_header.specs.Layout.{region_len, words_needed, MAIN, back_at};
+
+use std::marker::Model;
+
+/// The least and the greatest order of a heap.
+const LEAST: u64 = 4;
+
+const MOST: u64 = 16;
+
+/// The sizes and places of a heap of some order from 4 to 16. A contract sees the order. All are
+/// in words.
+#[derive(Clone, Copy, Debug, PartialEq, Eq)]
+pub struct Geometry {
+    order: u32,
+}
+
+impl Model for Geometry {
+    ghost use Rattle.std.specs.Prelude.{◌≡◌, ℕ, ◌≤◌, refl};
+
+    ghost Value = { ℕ };
+
+    ghost view = { λ g. g.order };
+
+    ghost invariant = { λ g. (4 ≤ g.order) × (g.order ≤ 16) };
+
+    ghost inverse = { λ n. record { order = n } };
+
+    ghost inverse_ok = { λ g p i. record { order = g.order } };
+}
+
+impl Geometry {
+    /// That of an order, or none where the order is not 4 to 16.
+    pub fn of(order: u64) -> Option<Geometry>
+        ensures some { IfSome result (λ geometry. (geometry ≡ order) × (4 ≤ order) × (order ≤ 16)) }
+        ensures none { IfNone result ((order < 4) ⊎ (16 < order)) }
+    {
+        if order < LEAST || order > MOST {
+            return None;
+        }
+        Some(Geometry {
+            order: order as u32,
+        })
+    }
+
+    /// The order.
+    pub fn order(&self) -> u32
+        ensures order { result ≡ self.now }
+        ensures least { 4 ≤ result }
+        ensures most { result ≤ 16 }
+    {
+        self.order
+    }
+
+    /// How many blocks a region has.
+    pub fn blocks(&self) -> u64
+        ensures blocks { result ≡ 2 ^ self.now }
+        ensures most { result ≤ 65536 }
+    {
+        1 << self.order
+    }
+
+    /// How many words a region has.
+    pub fn region(&self) -> u64
+        ensures region { result ≡ region_len self.now }
+        ensures most { result ≤ 393232 }
+    {
+        16 + 6 * self.blocks()
+    }
+
+    /// Where main begins.
+    pub fn main(&self) -> u64
+        ensures { result ≡ MAIN }
+    {
+        8
+    }
+
+    /// Where back begins.
+    pub fn back(&self) -> u64
+        ensures { result ≡ back_at self.now }
+    {
+        8 + self.region()
+    }
+
+    /// How many words a device needs for the heap.
+    pub fn need(&self) -> u64
+        ensures { result ≡ words_needed self.now }
+    {
+        8 + 2 * self.region()
+    }
+}

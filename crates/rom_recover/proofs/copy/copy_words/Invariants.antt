@@ -1,0 +1,15 @@
+use Rattle.std.proofs.Common.{◌≡◌, ◌≤◌, IsTrue}
+use Rattle.rom_device.specs.Device.{Runs}
+use Rattle.rom_header.specs.Writing.{Within}
+use Rattle.rom_recover.specs.Copied.{Copied}
+use Rattle.rom_recover.proofs.copy.copy_words.Given as goal
+
+-- the words so far are copied
+abbrev pub invariant-loop-i : goal.invariant-loop-i
+invariant-loop-i g l = record {
+  size : g.D.Device.size l.device ≡ g.D.Device.size l.fn.device;
+  others : IsTrue g.D.Device.tells_words → Within l.to l.len (g.D.Device.words l.fn.device) (g.D.Device.words l.device);
+  copied : IsTrue g.D.Device.tells_words → Copied l.from l.to l.i (g.D.Device.words l.fn.device) (g.D.Device.words l.device);
+  images : IsTrue g.D.Device.tells_images → Runs g.D.Device.clock g.D.Device.leaves g.D.Device.left_since (Within l.to l.len) l.fn.device l.device;
+  later : g.D.Device.faults l.fn.device ≤ g.D.Device.faults l.device;
+}

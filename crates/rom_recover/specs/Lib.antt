@@ -1,0 +1,3 @@
+-- What recovery does.
+pub mod Copied
+pub mod Recovered

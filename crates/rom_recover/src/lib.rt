@@ -1,0 +1,15 @@
+//! Recovery: it makes both regions of a heap the one that counts.
+//!
+//! Under MUTATING back counts and is copied to main; under COPYING main counts and is copied to
+//! back; under IDLE both count, and a difference is refused. The contract of `recover` promises
+//! that it may be stopped at any moment and run again: every image that a stop leaves has the same
+//! region that counts.
+#![tactic(auto)]
+
+mod copy;
+mod recovery;
+
+pub use recovery::{RecoverRefused, Recovered, recover};
+
+#[cfg(test)]
+mod tests;

@@ -1,0 +1,172 @@
+//! Recovery of heaps of order 4, by their words.
+use crate::{RecoverRefused, Recovered, recover};
+use rom_device::{CallKind, Device, Fuse, Memory, Trip};
+use rom_header::{State, read_header};
+use std::alloc::{AllocError, Global};
+use std::process::Abort;
+use std::test::Fail;
+
+/// Room for all calls of a test.
+const AMPLE: u64 = 1000;
+
+/// How many calls it takes to read the header and to copy a region.
+const CALLS: u64 = 233;
+
+/// A new region up to its blocks, whose words are 0: the root, and then the tree.
+const ROOT_AND_TREE: [u64; 48] = [
+    1, 1, 0, 0, 0, 0, 0, 0, 48, 0, 0, 0, 0, 0, 0, 0, 0, 4, 3, 4, 2, 3, 3, 3, 1, 2, 2, 2, 2, 2, 2,
+    2, 0, 1, 1, 1, 1, 1, 1, 1, 1, 1, 1, 1, 1, 1, 1, 1,
+];
+
+/// What differs from it once 9 was enqueued: offset and word.
+const ENQUEUED: [(usize, u64); 7] = [(2, 1), (3, 52), (4, 52), (5, 1), (24, 0), (33, 0), (52, 9)];
+
+/// The region of a new heap of order 4.
+fn fresh_region(alloc: Global) -> Result<Vec<u64>, AllocError> {
+    let mut words = ROOT_AND_TREE.to_vec(alloc)?;
+    for _ in 0..64 {
+        words.push(0)?;
+    }
+    Ok(words)
+}
+
+/// A new region with these words, by offset.
+fn changed_region(alloc: Global, changes: &[(usize, u64)]) -> Result<Vec<u64>, AllocError> {
+    let mut words = fresh_region(alloc)?;
+    for (offset, word) in changes {
+        if *offset < words.len() {
+            words[*offset] = *word;
+        }
+    }
+    Ok(words)
+}
+
+/// The words of a heap of order 4. Those of the header that are never read are not 0, and three
+/// stand behind the heap.
+fn heap(alloc: Global, state: u64, main: &[u64], back: &[u64]) -> Result<Vec<u64>, AllocError> {
+    let mut words = [0x524F_4D55_4C55_5331, 1, 4, state, 44, 45, 46, 47].to_vec(alloc)?;
+    for part in [main, back, &[91, 92, 93]] {
+        for word in part {
+            words.push(*word)?;
+        }
+    }
+    Ok(words)
+}
+
+/// Recovers the heap on the device, if its header is accepted.
+fn opened<D: Device>(device: &mut D) -> Option<Result<Recovered, RecoverRefused>> {
+    match read_header(device) {
+        Ok(header) => Some(recover(device, header.geometry)),
+        Err(_) => None,
+    }
+}
+
+/// Recovers these words, and asserts what is found and left.
+fn recovers<R: Abort + AllocGlobal>(
+    rt: &R,
+    words: Vec<u64>,
+    found: State,
+    want: &[u64],
+) -> Result<(), Fail> {
+    let mut memory = Memory::new(rt.alloc(), words, AMPLE, Vec::new(rt.alloc()))?;
+    assert_eq!(rt; opened(&mut memory), Some(Ok(Recovered { found })));
+    assert_eq!(rt; memory.words(), want);
+    Ok(())
+}
+
+/// What is left where recovery of these words is stopped after so many calls. Each word that may be
+/// one of several is the one of that number.
+fn stopped(
+    alloc: Global,
+    words: Vec<u64>,
+    calls: u64,
+    number: u64,
+) -> Result<Vec<u64>, AllocError> {
+    let memory = Memory::new(alloc, words, AMPLE, Vec::new(alloc))?;
+    let mut fuse = Fuse::new(memory, calls);
+    let _ = opened(&mut fuse);
+    let choice = vec![in alloc; number; 235]?;
+    Ok(fuse.inner().crash(choice.as_slice()))
+}
+
+/// Stops recovery of these words after many numbers of calls, and recovers what is left.
+fn recovers_once_stopped<R: Abort + AllocGlobal>(
+    rt: &R,
+    words: &[u64],
+    want: &[u64],
+) -> Result<(), Fail> {
+    for calls in 0..CALLS + 1 {
+        if calls <= 12 || calls % 7 == 0 || calls + 6 > CALLS {
+            for number in 0..2 {
+                let left = stopped(rt.alloc(), words.to_vec(rt.alloc())?, calls, number)?;
+                let mut memory = Memory::new(rt.alloc(), left, AMPLE, Vec::new(rt.alloc()))?;
+                let again = opened(&mut memory);
+                assert!(rt;
+                    matches!(again, Some(Ok(_))),
+                    "after {calls} calls, {number}"
+                );
+                assert_eq!(rt; memory.words(), want, "after {calls} calls, {number}");
+            }
+        }
+    }
+    Ok(())
+}
+
+#[test]
+fn back_counts_while_main_is_changed(rt: HostRuntime) -> Result<(), Fail> {
+    let fresh = fresh_region(rt.alloc())?;
+    let torn = vec![in rt.alloc(); 77u64; 112]?;
+    let words = heap(rt.alloc(), 1, torn.as_slice(), fresh.as_slice())?;
+    let want = heap(rt.alloc(), 0, fresh.as_slice(), fresh.as_slice())?;
+    recovers(&rt, words.clone()?, State::Mutating, want.as_slice())?;
+    recovers_once_stopped(&rt, words.as_slice(), want.as_slice())
+}
+
+#[test]
+fn main_counts_while_it_is_copied(rt: HostRuntime) -> Result<(), Fail> {
+    let region = changed_region(rt.alloc(), &ENQUEUED)?;
+    let torn = vec![in rt.alloc(); 77u64; 112]?;
+    let words = heap(rt.alloc(), 2, region.as_slice(), torn.as_slice())?;
+    let want = heap(rt.alloc(), 0, region.as_slice(), region.as_slice())?;
+    recovers(&rt, words.clone()?, State::Copying, want.as_slice())?;
+    recovers_once_stopped(&rt, words.as_slice(), want.as_slice())
+}
+
+#[test]
+fn a_recovery_takes_its_calls(rt: HostRuntime) -> Result<(), Fail> {
+    let fresh = fresh_region(rt.alloc())?;
+    let words = heap(rt.alloc(), 1, fresh.as_slice(), fresh.as_slice())?;
+    let mut memory = Memory::new(rt.alloc(), words, AMPLE, Vec::new(rt.alloc()))?;
+    assert!(rt; opened(&mut memory).is_some());
+    assert_eq!(rt; memory.calls_made(), CALLS);
+    Ok(())
+}
+
+#[test]
+fn twins_that_differ_are_refused(rt: HostRuntime) -> Result<(), Fail> {
+    let fresh = fresh_region(rt.alloc())?;
+    let same = heap(rt.alloc(), 0, fresh.as_slice(), fresh.as_slice())?;
+    recovers(&rt, same.clone()?, State::Idle, same.as_slice())?;
+    let main = changed_region(rt.alloc(), &[(2, 5), (111, 6)])?;
+    let back = changed_region(rt.alloc(), &[(2, 4)])?;
+    let words = heap(rt.alloc(), 0, main.as_slice(), back.as_slice())?;
+    // A write would fail, and count as a fault.
+    let first_write = Trip {
+        call: CallKind::Write,
+        from: 0,
+        to: 235,
+        nth: 1,
+        keeps_new: true,
+    };
+    let trips = [first_write].to_vec(rt.alloc())?;
+    let mut memory = Memory::new(rt.alloc(), words.clone()?, AMPLE, trips)?;
+    let twins = RecoverRefused::Twins {
+        offset: 2,
+        main: 5,
+        back: 4,
+    };
+    assert_eq!(rt; opened(&mut memory), Some(Err(twins)));
+    assert_eq!(rt; memory.fault_count(), 0);
+    assert_eq!(rt; memory.words(), words.as_slice());
+    Ok(())
+}
