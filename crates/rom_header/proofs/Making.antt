@@ -1,11 +1,11 @@
 -- A new heap while it is made.
-use Rattle.std.proofs.Common.{◌≡◌, ◌≢◌, ◌⊎◌, inl, inr, ℕ, ◌+◌, ◌*◌, ◌^◌, ◌<◌, ◌≤◌, List, length, get_or, set, take, drop, refl, sym, ◌∙◌, subst, arith, length-set, get_or-set_other, get_or-set_same, length-drop}
+use Rattle.std.proofs.Common.{◌≡◌, ◌≢◌, inl, inr, ℕ, ◌+◌, ◌<◌, ◌≤◌, List, length, get_or, set, drop, refl, sym, ◌∙◌, subst, arith, length-set, get_or-set_other, get_or-set_same, length-drop}
 use Rattle.std.proofs.lemmas.List.{get_or-take, get_or-drop, length-take}
 use Rattle.std.proofs.lemmas.Grind.{same_number_lists}
 use Rattle.rom_device.specs.Device.{Writes}
 use Rattle.rom_header.specs.Fresh.{IsNew, NoneOrNew, IsLaid}
 use Rattle.rom_header.specs.Writing.{Within}
-use Rattle.rom_header.specs.Layout.{part, main_of, back_of, region_len, back_at, words_needed, MAGIC}
+use Rattle.rom_header.specs.Layout.{part, region_len, back_at, words_needed, MAGIC}
 
 -- the three runs of writes lay a heap out
 pub laid : (order : ℕ) (image x y z : List ℕ) → length image ≡ region_len order →

@@ -1,6 +1,5 @@
 -- What a copy of the region that counts leaves.
-use Rattle.std.proofs.Common.{◌≡◌, ◌≢◌, ◌⊎◌, inl, inr, ⊎_elim, ℕ, ◌+◌, ◌*◌, ◌<◌, ◌≤◌, List, length, get_or, set, take, drop, refl, sym, ◌∙◌, ap, subst, arith, length-set, get_or-set_other, get_or-set_same}
-use Rattle.rom_device.specs.Device.{Writes}
+use Rattle.std.proofs.Common.{◌≡◌, ◌⊎◌, inl, inr, ⊎_elim, ℕ, ◌+◌, ◌*◌, ◌<◌, ◌≤◌, List, length, get_or, set, refl, sym, ◌∙◌, subst, arith, get_or-set_same}
 use Rattle.rom_header.specs.Writing.{Within}
 use Rattle.rom_recover.specs.Copied.{Copied, Redone}
 use Rattle.rom_header.specs.Layout.{main_of, back_of, back_at, region_len}

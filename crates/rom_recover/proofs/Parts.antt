@@ -1,11 +1,10 @@
 -- What changes of the region that counts.
-use Rattle.std.proofs.Common.{◌≡◌, ◌≢◌, ◌⊎◌, inl, inr, ℕ, ◌+◌, ◌*◌, ◌<◌, ◌≤◌, List, length, get_or, set, take, drop, refl, sym, ◌∙◌, ap, subst, arith, length-set, length-drop, get_or-set_other, get_or-set_same}
+use Rattle.std.proofs.Common.{◌≡◌, inl, inr, ℕ, ◌+◌, ◌<◌, ◌≤◌, List, length, get_or, drop, refl, sym, ◌∙◌, arith, length-drop}
 use Rattle.std.proofs.lemmas.List.{get_or-take, get_or-drop, length-take}
-use Rattle.std.proofs.lemmas.Grind.{same_number_lists, common_steps}
-use Rattle.rom_device.specs.Device.{Writes, Stays}
+use Rattle.std.proofs.lemmas.Grind.{same_number_lists}
 use Rattle.rom_header.specs.Writing.{Within}
 use Rattle.rom_header.specs.Layout.{part, main_of, back_of, back_at, region_len}
-use Rattle.rom_header.specs.Regions.{IsHeap, Region, SameRegion, Counts}
+use Rattle.rom_header.specs.Regions.{IsHeap, SameRegion}
 
 length-part : (at len : ℕ) (x y : List ℕ) → length y ≡ length x → length (part at len y) ≡ length (part at len x)
 length-part at len x y e = omega (arith, length-take len (drop at y), length-take len (drop at x), length-drop at x, length-drop at y)

@@ -1,5 +1,5 @@
 -- Runs of writes in a range.
-use Rattle.std.proofs.Common.{◌≡◌, ◌≢◌, ◌⊎◌, inl, inr, ℕ, ◌+◌, ◌<◌, ◌≤◌, List, length, get_or, set, refl, sym, ◌∙◌, ap, subst, arith, length-set, get_or-set_other, get_or-set_same}
+use Rattle.std.proofs.Common.{◌≢◌, inl, inr, ℕ, ◌+◌, ◌<◌, ◌≤◌, List, set, refl, sym, ◌∙◌, subst, arith, length-set, get_or-set_other}
 use Rattle.rom_device.specs.Device.{Writes, Stays}
 use Rattle.rom_header.specs.Writing.{Within}
 

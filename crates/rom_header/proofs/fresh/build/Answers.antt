@@ -1,5 +1,4 @@
-use Rattle.std.proofs.Common.{◌≡◌, ◌≢◌, ℕ, ◌+◌, ◌*◌, ◌<◌, ◌≤◌, List, length, get_or, arith, subst, sym, ◌∙◌}
-use Rattle.rom_device.specs.Device.{Leaves}
+use Rattle.std.proofs.Common.{◌≢◌, ℕ, ◌+◌, ◌*◌, ◌≤◌, List, length, get_or, arith, subst, sym, ◌∙◌}
 use Rattle.rom_device.proofs.Going.{leaves_none, leaves_on, leaves_then}
 use Rattle.rom_header.specs.Fresh.{NoneOrNew, IsNew}
 use Rattle.rom_header.specs.Writing.{Within}

@@ -1,4 +1,4 @@
-use Rattle.std.proofs.Common.{◌≡◌, List, ℕ}
+use Rattle.std.proofs.Common.{List, ℕ}
 use Rattle.rom_device.proofs.Going.{leaves_none, leaves_still, leaves_then}
 use Rattle.rom_header.specs.Fresh.{NoneOrNew}
 use Rattle.rom_header.proofs.fresh.write_new.Goals as goal

@@ -1,6 +1,6 @@
 use Rattle.std.proofs.Common.{◌≡◌, ℕ, ◌+◌, ◌<◌, ◌≤◌, List, IsTrue, get_or}
 use Rattle.rom_device.specs.Device.{Runs, Stays}
-use Rattle.rom_header.specs.Layout.{back_at, region_len}
+use Rattle.rom_header.specs.Layout.{back_at}
 use Rattle.rom_recover.proofs.recovery.compare.Given as goal
 
 -- the regions are the same so far

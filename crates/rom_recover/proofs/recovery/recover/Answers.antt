@@ -1,4 +1,4 @@
-use Rattle.std.proofs.Common.{◌≡◌, ◌∙◌, sym, ap, subst, List, ℕ, IsTrue, get_or, rules}
+use Rattle.std.proofs.Common.{◌≡◌, ◌∙◌, sym, ap, subst, List, ℕ, get_or}
 use Rattle.rom_device.specs.Device.{Leaves}
 use Rattle.rom_device.proofs.Going.{leaves_none, leaves_still, leaves_then}
 use Rattle.rom_header.specs.Headers.{state_word}

@@ -1,7 +1,7 @@
-use Rattle.std.proofs.Common.{◌≡◌, inl, inr, ap, ◌∙◌}
+use Rattle.std.proofs.Common.{inl, inr, ap, ◌∙◌}
 use Rattle.rom_device.proofs.Going.{leaves_by}
 use Rattle.rom_header.specs.Headers.{state_word}
-use Rattle.rom_recover.proofs.CopyBack.{redone_same, redone_done, redone_others}
+use Rattle.rom_recover.proofs.CopyBack.{redone_same, redone_done}
 use Rattle.rom_recover.proofs.recovery.restore.Goals as goal
 
 pub returns-in_err-redo-in-Mutating-clause-images : goal.returns-in_err-redo-in-Mutating-clause-images
