@@ -1,5 +1,5 @@
 -- What a run of one script leaves to be said of it.
-use Rattle.std.specs.Prelude.{◌≡◌, ℕ, ◌+◌, Bool, true, false, cond, List, [], ◌∷◌, ◌++◌, length, map, codes, decimal, IfSome, IsSome, slice_set, Option, Some, None, Result, Err}
+use Rattle.std.specs.Prelude.{◌≡◌, ℕ, ◌+◌, ◌≤◌, Bool, true, false, cond, List, [], ◌∷◌, ◌++◌, length, map, codes, decimal, IfSome, IsSome, slice_set, Option, Some, None, Result, Err}
 use Rattle.std.proofs.Common.{refl, sym, ap, subst, ◌∙◌, get_or, arith}
 use Rattle.std.proofs.lemmas.Fmt.{decimal_digit}
 use Rattle.std.specs.Io.KnownBytes.{IsAtEnd}
@@ -17,7 +17,7 @@ use Rattle.rom_shell.specs.declared.status.Status.{Status}
 use Rattle.rom_shell.specs.declared.status.Status.TheVariants.{ScriptFailed, ScriptTooLong}
 use Rattle.rom_shell.specs.Words.{Command, Try, command, scripts_of}
 use Rattle.rom_shell.specs.Running.{Ran}
-use Rattle.rom_shell.specs.Run.{AreScripts, AreWithin, AreAtEnd, HasReplies, IsTold, SourceFailed, SourceTooLong}
+use Rattle.rom_shell.specs.Run.{AreScripts, AreAskedOnce, AreWithin, AreAtEnd, HasReplies, IsTold, SourceFailed, SourceTooLong}
 
 one_where : (b : Bool) (script : List ℕ) → let asked = cond b (Some (Try (script ∷ []))) None in IsSome asked → length (scripts_of asked) ≡ 1
 one_where true script some = refl
@@ -114,3 +114,12 @@ first_too_long left idle xs s after old new was now is takes unbroken told =
       unbroken = unbroken;
       told = subst (λ ds. IsTold old new (codes "script " ++ ds ++ codes " too long") was now) (sym digit_one) told;
     })
+
+-- none was asked at all
+pub unasked : (counts : List ℕ) → AreAskedOnce counts counts
+unasked [] = tt
+unasked (n ∷ counts) = (omega arith, unasked counts)
+
+-- the one script was asked
+pub asked_once : {S : Type 0} (idle : S → ℕ) (xs : List S) (s after : S) → xs ≡ s ∷ [] → idle after ≤ idle s + 1 → AreAskedOnce (map idle xs) (map idle (slice_set xs 0 after))
+asked_once idle xs s after is turns = subst (λ ys. AreAskedOnce (map idle ys) (map idle (slice_set ys 0 after))) (sym is) (turns, tt)

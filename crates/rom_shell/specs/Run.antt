@@ -42,11 +42,6 @@ abbrev pub IsOpening : Option Command → Option (List ℕ) → Story State → 
 IsOpening (Some (Try scripts)) words story = (story.order ≡ 4) × (story.opening ≡ empty) × (story.opening_count ≡ 0)
 IsOpening None words story = ⊥
 
--- what it prints of its session and its results
-abbrev pub printed_text : Option Command → Story State → List (List (LineResult Reply Answer)) → List ℕ
-printed_text (Some (Try scripts)) story results = text results (count story)
-printed_text None story results = []
-
 -- the steps are those of the sources, where these tell their bytes
 abbrev pub AreScripts : List (Option (List ℕ)) → List (List (Step Call Query)) → Type 0
 AreScripts [] [] = Unit {0}
@@ -63,6 +58,12 @@ AreRun None sources scripts = ⊥
 abbrev pub AreWithin : List (Option (List ℕ)) → Type 0
 AreWithin sources = AllByRecursion (λ left. IfSome left FitsScript) sources
 
+-- of each source one read at most gave no byte: none was asked again after a failure or at its end
+abbrev pub AreAskedOnce : List ℕ → List ℕ → Type 0
+AreAskedOnce [] [] = Unit {0}
+AreAskedOnce (was ∷ before) (now ∷ after) = (now ≤ was + 1) × AreAskedOnce before after
+AreAskedOnce before after = ⊥
+
 -- no byte is left in a source that tells its bytes
 abbrev pub AreAtEnd : List (Option (List ℕ)) → Type 0
 AreAtEnd sources = AllByRecursion IsAtEnd sources
@@ -74,6 +75,12 @@ is_unread other = false
 -- the status of results that are all printed: 1 where a line is unread, and else 0
 abbrev pub status_of : List (List (LineResult Reply Answer)) → ℕ
 status_of results = if list_any (λ rs. list_any is_unread rs) results then 1 else 0
+
+-- What it prints of its session and its results: the text, or some of it where the sink failed.
+abbrev pub IsPrinted : Option Command → Story State → List (List (LineResult Reply Answer)) → Option (List ℕ) → Option (List ℕ) → ℕ → Type 0
+IsPrinted (Some (Try scripts)) story results old new status =
+    ((status ≡ status_of results) × Appends old new (text results (count story))) ⊎ ((status ≡ 5) × AppendsFront old new (text results (count story)))
+IsPrinted None story results old new status = ⊥
 
 -- What was printed are the results of one history, which is the story's.
 pub record HasReplies (asked : Option Command) (words : Option (List ℕ)) (story : Story State) (sources : List (Option (List ℕ))) (old new : Option (List ℕ)) (status : ℕ) : Type 0 where
@@ -87,9 +94,7 @@ pub record HasReplies (asked : Option Command) (words : Option (List ℕ)) (stor
   -- their numbers are words, and so is the count
   pub of_type : AreOfType results
   pub within : count story ≤ LAST_COUNT
-  -- the text is printed, or some of it where the sink failed
-  pub printed : ((status ≡ status_of results) × Appends old new (printed_text asked story results))
-      ⊎ ((status ≡ 5) × AppendsFront old new (printed_text asked story results))
+  pub printed : IsPrinted asked story results old new status
 
 -- The line is printed, or some of it where the sink failed.
 abbrev pub IsTold : Option (List ℕ) → Option (List ℕ) → List ℕ → ℕ → ℕ → Type 0
@@ -104,7 +109,7 @@ told_words false words = None
 abbrev pub source_at : List (Option (List ℕ)) → ℕ → Option (List ℕ)
 source_at sources i = unwrap_or (slice_get sources i) None
 
--- The scripts before this one fail in nothing: they were read to their ends, and have no more bytes than they may.
+-- The scripts before this one were read to their ends, and have no more bytes than they may.
 pub record IsFirstToFail (i : ℕ) (before after : List (Option (List ℕ))) : Type 0 where
   pub stands : i < length before
   pub others_fit : AreWithin (take i before)

@@ -6,7 +6,7 @@ ghost use Rattle.rom_model.specs.Faults.{Rose};
 ghost use Rattle.rom_script.specs.Limits.{FitsScript, IsTooLong};
 ghost use Rattle.rom_script.specs.Streams.{Takes};
 ghost use Rattle.rom_script.specs.Text.{TextDetermines};
-ghost use Rattle.rom_shell.specs.Run.{AreAtEnd, AreWithin, HasNotRun, HasReplies, HasRun, IsStatus, IsTold, SourceFailed, SourceTooLong, told_words};
+ghost use Rattle.rom_shell.specs.Run.{AreAskedOnce, AreAtEnd, AreWithin, HasNotRun, HasReplies, HasRun, IsStatus, IsTold, SourceFailed, SourceTooLong, told_words};
 ghost use Rattle.rom_shell.specs.Running.{Ran};
 ghost use Rattle.rom_shell.specs.Sessions.{story_of};
 ghost use Rattle.rom_shell.specs.Statuses.{number_of};
@@ -133,6 +133,7 @@ pub fn run<D: Device + Send, S: Source, O: Sink>(
 
     ensures device { result.device ≡ device }
     ensures sources { length result.scripts.items ≡ length scripts.items }
+    ensures turns { AreAskedOnce (map S.idle scripts.items) (map S.idle result.scripts.items) }
     ensures sink_later { O.faults out.old ≤ O.faults out.new }
     ensures statuses { IsStatus (command words.now) result.status }
     ensures session { HasRun (command words.now) result.status → IsSome result.session }

@@ -165,6 +165,16 @@ fn a_full_sink_has_the_front_of_the_text(rt: HostRuntime) -> Result<(), Fail> {
     let (status, bytes) = told(rt.alloc(), "enq 9", &[], 10)?;
     assert_eq!(rt; status, 5);
     assert!(rt; bytes.as_slice() == b"caller 1\nq".as_slice());
+
+    // The update is done, though its reply is not printed.
+    let mut out = Collect::with_room(rt.alloc(), 10, 5)?;
+    let ended = tried(rt.alloc(), b"enq 9".to_vec(rt.alloc())?, 3, &[], &mut out)?;
+    let done = match &ended.session {
+        Some(session) => session.count(),
+        None => 0,
+    };
+    assert_eq!(rt; done, 1);
+
     let text = FILLED.as_bytes();
     for room in 0..=text.len() {
         let (status, bytes) = told(rt.alloc(), FILL, &[], room as u64)?;

@@ -56,7 +56,7 @@ fn start(rt: &HostRuntime) -> Result<u8, AllocError> {
     let wanted = files_of(rt.alloc(), &words)?;
     let len = match wanted.device {
         DeviceWant::Fresh(len) => len,
-        _ => 0,
+        DeviceWant::Nothing | DeviceWant::Old(_) | DeviceWant::Made(..) => 0,
     };
     let device = Ram::zeroed(rt.alloc(), len)?;
     let sources = sources_of(rt, &wanted.scripts)?;

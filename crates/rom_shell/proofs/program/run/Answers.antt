@@ -1,7 +1,7 @@
 use Rattle.std.proofs.Common.{IsSome, ◌∙◌, rules}
 use Rattle.rom_script.proofs.Determined.{text_determines}
 use Rattle.rom_shell.specs.Words.{command}
-use Rattle.rom_shell.proofs.Replies.{one_script, only, has_replies, all_fit, all_read, first_failed, first_too_long, failed_by, too_long_by}
+use Rattle.rom_shell.proofs.Replies.{one_script, only, has_replies, all_fit, all_read, first_failed, first_too_long, failed_by, too_long_by, unasked, asked_once}
 use Rattle.rom_shell.proofs.program.run.Goals as goal
 
 pub returns-then-not-is_command-clause-determined :
@@ -45,3 +45,18 @@ returns-in-Err-clause-too_long g c = λ eight.
 
 pub returns-in-Err-clause-determined : goal.returns-in-Err-clause-determined
 returns-in-Err-clause-determined g c = text_determines
+
+pub returns-then-not-is_command-clause-turns : goal.returns-then-not-is_command-clause-turns
+returns-then-not-is_command-clause-turns g c = unasked _
+
+pub returns-in-Ok-clause-turns : goal.returns-in-Ok-clause-turns
+returns-in-Ok-clause-turns g c =
+    let some : IsSome (command c.args.words.now) = search rules in
+    let one = only c.args.scripts.items c.index_mut.result.now (c.requires ∙ one_script c.args.words.now some) c.index_mut.ensures.value in
+    asked_once g.S.Source.idle c.args.scripts.items c.index_mut.result.now _ one c.in-Ok.ensures.turns
+
+pub returns-in-Err-clause-turns : goal.returns-in-Err-clause-turns
+returns-in-Err-clause-turns g c =
+    let some : IsSome (command c.args.words.now) = search rules in
+    let one = only c.args.scripts.items c.index_mut.result.now (c.requires ∙ one_script c.args.words.now some) c.index_mut.ensures.value in
+    asked_once g.S.Source.idle c.args.scripts.items c.index_mut.result.now _ one c.in-Err.ensures.turns
