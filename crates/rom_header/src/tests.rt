@@ -1,9 +1,12 @@
 //! Headers and new heaps of order 4, by their words.
 use crate::{FormatRefused, Geometry, HeaderRefused, State, read_header, write_new};
-use rom_device::{CallKind, Memory, Trip};
+use rom_device::{CallKind, Device, FileDevice, Memory, Trip};
 use std::alloc::{AllocError, Global};
+use std::fs::{File, OpenOptions};
+use std::path::PathBuf;
 use std::process::Abort;
 use std::test::Fail;
+use std::{env, fs, process};
 
 /// Room for all calls of a test.
 const AMPLE: u64 = 1000;
@@ -48,14 +51,14 @@ fn zeros(alloc: Global, len: usize, trips: &[Trip]) -> Result<Memory, AllocError
 }
 
 /// Makes a new heap of order 4.
-fn format<R: Abort + AllocGlobal>(
+fn format<R: Abort + AllocGlobal, D: Device>(
     rt: &R,
-    memory: &mut Memory,
+    device: &mut D,
 ) -> Result<Option<FormatRefused>, Fail> {
     let geometry = Geometry::of(4).ok_or("order 4")?;
     let image = fresh_region(rt.alloc())?;
     assert_eq!(rt; image.len() as u64, geometry.region());
-    Ok(write_new(memory, geometry, image.as_slice()).err())
+    Ok(write_new(device, geometry, image.as_slice()).err())
 }
 
 #[test]
@@ -143,6 +146,60 @@ fn a_device_that_fails_leaves_none_or_all_of_a_new_heap(rt: HostRuntime) -> Resu
         let first = memory.words().first().copied();
         assert_eq!(rt; first, Some(magic), "at {call:?} {nth}");
     }
+    Ok(())
+}
+
+/// A file of 232 words that are 0, of this test process alone.
+fn zeroed_file(rt: &HostRuntime) -> Result<PathBuf, Fail> {
+    let file = format!(in rt.alloc(); "rom_header_{}", process::id(rt.process()))?;
+    let path = env::temp_dir(rt)?.join(rt.alloc(), file.as_str())?;
+    fs::write(
+        rt,
+        path.as_path(),
+        vec![in rt.alloc(); 0u8; 1856]?.as_slice(),
+    )?;
+    Ok(path)
+}
+
+/// The file, opened for reading and writing.
+fn opened(rt: &HostRuntime, path: &PathBuf) -> Result<File, Fail> {
+    Ok(
+        OpenOptions::new()
+            .read(true)
+            .write(true)
+            .open(rt, path.as_path())?,
+    )
+}
+
+/// The word at a place, where there is one and the read does not fail.
+fn get<D: Device>(device: &mut D, at: u64) -> Option<u64> {
+    if at < device.len() {
+        device.read(at).ok()
+    } else {
+        None
+    }
+}
+
+#[test]
+fn a_file_becomes_a_heap(rt: HostRuntime) -> Result<(), Fail> {
+    let path = zeroed_file(&rt)?;
+    {
+        let mut device = FileDevice::new(opened(&rt, &path)?, 1856);
+        assert_eq!(rt; format(&rt, &mut device)?, None);
+    }
+    let mut device = FileDevice::new(opened(&rt, &path)?, 1856);
+    let header = read_header(&mut device).ok().ok_or("no header")?;
+    assert_eq!(rt; header.geometry.order(), 4);
+    assert_eq!(rt; header.state, State::Idle);
+    let want = fresh_heap(rt.alloc(), 0)?;
+    for at in 0..233 {
+        let word = want.as_slice().get(at as usize).copied();
+        assert_eq!(rt; get(&mut device, at), word, "at {at}");
+    }
+    let bytes = fs::read(&rt, path.as_path())?;
+    assert_eq!(rt; bytes.len(), 1856);
+    assert_eq!(rt; &bytes[..8], b"1SULUMOR".as_slice());
+    fs::remove_file(&rt, path.as_path())?;
     Ok(())
 }
 

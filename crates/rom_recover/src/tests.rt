@@ -74,39 +74,51 @@ fn recovers<R: Abort + AllocGlobal>(
     Ok(())
 }
 
+/// For each word which of its possible ones a stop leaves: each time the first, each time the
+/// second, or a mix by word or by 16 words.
+fn choice(alloc: Global, kind: u64) -> Result<Vec<u64>, AllocError> {
+    let mut numbers = Vec::new(alloc);
+    for at in 0..235u64 {
+        let number = match kind {
+            0 => 0,
+            1 => 1,
+            2 => at % 2,
+            _ => at / 16 % 2,
+        };
+        numbers.push(number)?;
+    }
+    Ok(numbers)
+}
+
 /// What is left where recovery of these words is stopped after so many calls. Each word that may be
-/// one of several is the one of that number.
+/// one of several is that of the choice.
 fn stopped(
     alloc: Global,
     words: Vec<u64>,
     calls: u64,
-    number: u64,
+    choice: &[u64],
 ) -> Result<Vec<u64>, AllocError> {
     let memory = Memory::new(alloc, words, AMPLE, Vec::new(alloc))?;
     let mut fuse = Fuse::new(memory, calls);
     let _ = opened(&mut fuse);
-    let choice = vec![in alloc; number; 235]?;
-    Ok(fuse.inner().crash(choice.as_slice()))
+    Ok(fuse.inner().crash(choice))
 }
 
-/// Stops recovery of these words after many numbers of calls, and recovers what is left.
+/// Stops recovery of these words after each number of calls, and recovers what is left.
 fn recovers_once_stopped<R: Abort + AllocGlobal>(
     rt: &R,
     words: &[u64],
     want: &[u64],
 ) -> Result<(), Fail> {
-    for calls in 0..CALLS + 1 {
-        if calls <= 12 || calls % 7 == 0 || calls + 6 > CALLS {
-            for number in 0..2 {
-                let left = stopped(rt.alloc(), words.to_vec(rt.alloc())?, calls, number)?;
-                let mut memory = Memory::new(rt.alloc(), left, AMPLE, Vec::new(rt.alloc()))?;
-                let again = opened(&mut memory);
-                assert!(rt;
-                    matches!(again, Some(Ok(_))),
-                    "after {calls} calls, {number}"
-                );
-                assert_eq!(rt; memory.words(), want, "after {calls} calls, {number}");
-            }
+    for kind in 0..4 {
+        let choice = choice(rt.alloc(), kind)?;
+        for calls in 0..CALLS + 1 {
+            let words = words.to_vec(rt.alloc())?;
+            let left = stopped(rt.alloc(), words, calls, choice.as_slice())?;
+            let mut memory = Memory::new(rt.alloc(), left, AMPLE, Vec::new(rt.alloc()))?;
+            let again = opened(&mut memory);
+            assert!(rt; matches!(again, Some(Ok(_))), "after {calls} calls, {kind}");
+            assert_eq!(rt; memory.words(), want, "after {calls} calls, {kind}");
         }
     }
     Ok(())
