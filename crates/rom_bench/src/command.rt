@@ -1,0 +1,54 @@
+//! The command line.
+use rom_header::{Geometry, State};
+
+/// What is to be done with a file.
+#[derive(Clone, Copy)]
+pub enum Action {
+    /// Makes a heap of this order where none stands.
+    Make(Geometry),
+    /// Writes this state into the header.
+    Mark(State),
+    /// Reads the header and recovers.
+    Open,
+    /// Does the same by a plain loop.
+    Plain,
+    /// Times both, so many rounds of each state.
+    Time(u64),
+}
+
+/// An action and the name of its file.
+#[derive(Drop)]
+pub struct Command {
+    pub action: Action,
+    pub file: String,
+}
+
+/// The action of that name with that number.
+fn action_of(name: &str, number: Option<u64>) -> Option<Action> {
+    match (name, number) {
+        ("make", Some(order)) => Some(Action::Make(Geometry::of(order)?)),
+        ("mark", Some(word)) => Some(Action::Mark(State::of(word)?)),
+        ("open", None) => Some(Action::Open),
+        ("plain", None) => Some(Action::Plain),
+        ("time", Some(rounds)) => Some(Action::Time(rounds)),
+        _ => None,
+    }
+}
+
+impl Command {
+    /// The command that the words are, if any.
+    pub fn read(words: Vec<String>) -> Option<Command> {
+        let mut words = words.into_iter();
+        let name = words.next()?;
+        let file = words.next()?;
+        let number = match words.next() {
+            Some(word) => Some(word.as_str().parse::<u64>().ok()?),
+            None => None,
+        };
+        if words.next().is_some() {
+            return None;
+        }
+        let action = action_of(name.as_str(), number)?;
+        Some(Command { action, file })
+    }
+}

@@ -1,0 +1,72 @@
+//! Times the opening and recovery of a heap in a file, beside a plain loop that makes such calls.
+//!
+//! It stands apart from the program. Nothing is promised of its answers; it is proved that it
+//! does not panic and that it meets the conditions of what it calls.
+#![tactic(auto)]
+
+mod command;
+mod heap;
+mod plain;
+mod rounds;
+
+use command::{Action, Command};
+use rom_header::State;
+use std::process::ExitCode;
+use std::{env, io};
+
+const USAGE: &str =
+    "rom_bench make FILE ORDER | mark FILE STATE | open FILE | plain FILE | time FILE ROUNDS";
+
+/// What the words after the program's name ask for.
+fn wanted(rt: &HostRuntime) -> io::Result<Option<Command>> {
+    let mut words = Vec::new(rt.alloc());
+    for word in env::args(rt)?.skip(1) {
+        words.push(word)?;
+    }
+    Ok(Command::read(words))
+}
+
+/// Says which state was found, or that there is no heap to open.
+fn tell(rt: &HostRuntime, found: Option<State>) -> io::Result<bool> {
+    match found {
+        Some(state) => println!(rt; "{}", heap::name_of(state))?,
+        None => println!(rt; "no heap to open")?,
+    }
+    Ok(found.is_some())
+}
+
+/// Does what is asked for. `false` says that there was no heap, or none could be made.
+fn done(rt: &HostRuntime, command: &Command) -> io::Result<bool> {
+    let path = command.file.as_str();
+    match command.action {
+        Action::Make(geometry) => {
+            let mut device = heap::device_at(rt, path)?;
+            heap::make(rt.alloc(), &mut device, geometry)
+        }
+        Action::Mark(state) => {
+            let mut device = heap::device_at(rt, path)?;
+            Ok(heap::mark(&mut device, state))
+        }
+        Action::Open => {
+            let mut device = heap::device_at(rt, path)?;
+            tell(rt, heap::open(&mut device))
+        }
+        Action::Plain => {
+            let file = heap::file_at(rt, path)?;
+            tell(rt, plain::open(&file)?)
+        }
+        Action::Time(rounds) => rounds::time(rt, path, rounds),
+    }
+}
+
+fn main(rt: HostRuntime) -> io::Result<ExitCode> {
+    let Some(command) = wanted(&rt)? else {
+        println!(&rt; "{}", USAGE)?;
+        return Ok(ExitCode::from(2));
+    };
+    if done(&rt, &command)? {
+        Ok(ExitCode::SUCCESS)
+    } else {
+        Ok(ExitCode::from(1))
+    }
+}
