@@ -1,4 +1,9 @@
-use crate::{Args, Back, Call, Reply, Words, call_words, reply_words};
+ghost use Rattle.std.specs.Prelude.{◌≡◌, ◌<◌, length, false};
+
+use crate::{
+    Args, Back, Call, Reply, Space, VecSpace, Words, bucket, call_words, reply_words, store_changed,
+};
+use std::test::Fail;
 
 /// The words are these, and past them there is none.
 fn are<const N: usize>(words: &Words<N>, wanted: &[u64]) -> bool {
@@ -73,4 +78,39 @@ fn words_of_calls_and_replies_have_room_for_40_and_20(rt: HostRuntime) {
         (back.at(0), back.at(19), back.at(20)),
         (Some(1), Some(20), None)
     );
+}
+
+/// Stores three words: one that differs, one that stays, and one that differs.
+fn store_three<M: Space>(space: &mut M)
+    requires length { 2 < length (M.image space.old) }
+    requires free { M.has_limit ≡ false }
+{
+    store_changed(space, 0, u64::MAX);
+    store_changed(space, 1, 0);
+    store_changed(space, 2, 5);
+}
+
+#[test]
+fn words_in_memory_are_loaded_and_stored(rt: HostRuntime) -> Result<(), Fail> {
+    let mut space = VecSpace::zeroed(rt.alloc(), 3)?;
+    store_three(&mut space);
+    assert_eq!(rt; space.words(), [u64::MAX, 0, 5].as_slice());
+
+    let mut space = VecSpace::of([7, 8, 9, 10].to_vec(rt.alloc())?);
+    store_three(&mut space);
+    assert_eq!(rt; space.words(), [u64::MAX, 0, 5, 10].as_slice());
+
+    assert!(rt; VecSpace::zeroed(rt.alloc(), u64::MAX).is_err());
+    Ok(())
+}
+
+#[test]
+fn keys_have_the_buckets_of_the_table(rt: HostRuntime) {
+    for (key, number) in [(0, 0), (1, 2), (2, 0), (3, 3), (4, 1), (5, 0)] {
+        assert_eq!(rt; bucket(4, key), number, "at {key}");
+    }
+    // The product of the greatest key and the factor is 2^64 less the factor: 0x61C8_8646...
+    assert_eq!(rt; bucket(4, u64::MAX), 1);
+    assert_eq!(rt; bucket(16, u64::MAX), 0x61C8 >> 2);
+    assert_eq!(rt; bucket(16, 1), 0x9E37 >> 2);
 }
