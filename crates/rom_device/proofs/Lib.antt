@@ -2,3 +2,4 @@ pub mod Going
 mod Choices
 mod Synced
 mod Writing
+mod Agreeing

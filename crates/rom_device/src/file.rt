@@ -1,6 +1,8 @@
 //! The words of a file.
 ghost use Rattle.std.specs.Prelude.{◌≡◌, ◌≢◌, ◌+◌, ◌*◌, ◌/◌, ◌<◌, ◌≤◌, ◌^◌, ℕ, Some, None, IfSome, IsTrue, IsFalse, is_none};
 ghost use Rattle.std.specs.Bool.{OnTrue, OnFalse};
+ghost use Rattle.rom_device.specs.Run.{word_of, Follows};
+ghost use Rattle.rom_device.specs.Windows.{word_in, Agrees, IsApart, IsMissed};
 
 use crate::device::{Device, Failed};
 use crate::run::{RUN_BYTES, RUN_WORDS, Run};
@@ -14,11 +16,16 @@ use std::os::unix::fs::FileExt;
 /// one after another, to hand them over in one call. So a write promises no more than that the
 /// word reads so from now on, and a sync alone makes it certain. What could not be handed over
 /// still reads as written, and is tried again.
+///
+/// Whatever word waits and was also read ahead is the same at both places, so a read looks in the
+/// windows first. `apart` says that no window meets the page that is being written: then the next
+/// word of it is only put behind the others.
 pub struct FileDevice {
     file: Option<File>,
     len: u64,
     windows: Windows,
     pending: Run,
+    apart: bool,
     scratch: [u8; RUN_BYTES],
     unsure: bool,
     failed: u64,
@@ -27,6 +34,9 @@ pub struct FileDevice {
     ghost small: { len * 8 < 2 ^ 64 },
     ghost fits: { failed < 2 ^ 64 },
     ghost inside: { pending.first + pending.count ≤ len },
+    ghost agree: { Agrees pending windows },
+    ghost by_itself: { IsTrue apart → IsFalse (is_none file) × (0 < pending.count) × IsApart pending windows },
+    ghost none_read: { IsTrue (is_none file) → (b : ℕ) → word_in windows b ≡ None },
 }
 
 // Hands these words over in one call.
@@ -47,9 +57,7 @@ fn read_words(file: &File, at: u64, count: usize, scratch: &mut [u8; RUN_BYTES])
 }
 
 impl FileDevice {
-    ghost use Rattle.rom_device.specs.File.{length_of, fault_count_of, is_missing};
-    ghost use Rattle.rom_device.specs.Run.{word_of};
-    ghost use Rattle.rom_device.specs.Windows.{word_in, IsMissed};
+    ghost use Rattle.rom_device.specs.File.{length_of, fault_count_of, is_missing, KeepsCounts};
 
     /// The words of an open file of so many bytes. A rest of less than a word is no part of them.
     /// The device keeps that length, whatever becomes of the file's.
@@ -81,6 +89,7 @@ impl FileDevice {
             len,
             windows: Windows::empty(),
             pending: Run::empty(),
+            apart: false,
             scratch: [0; RUN_BYTES],
             unsure: false,
             failed: 0,
@@ -90,15 +99,13 @@ impl FileDevice {
     }
 
     // Hands over what waits. `false` says that it still waits.
+    #[inline(never)]
     fn hand_over(&mut self) -> bool
         ensures handed { OnTrue result (self.new.pending.count ≡ 0) }
+        ensures none { OnTrue result ((b : ℕ) → word_of self.new.pending b ≡ None) }
         ensures kept { OnFalse result (self.new.pending ≡ self.old.pending) }
         ensures windows { self.new.windows ≡ self.old.windows }
-        ensures len { self.new.len ≡ self.old.len }
-        ensures failed { self.new.failed ≡ self.old.failed }
-        ensures writes { self.new.writes ≡ self.old.writes }
-        ensures syncs { self.new.syncs ≡ self.old.syncs }
-        ensures file { is_missing self.new ≡ is_missing self.old }
+        ensures rest { KeepsCounts self.old self.new }
     {
         if self.pending.is_empty() {
             return true;
@@ -110,6 +117,7 @@ impl FileDevice {
             return false;
         }
         self.pending.clear();
+        self.apart = false;
         true
     }
 
@@ -117,11 +125,9 @@ impl FileDevice {
     fn read_ahead(&mut self, at: u64) -> Option<u64>
         requires inside { at < self.old.len }
         requires missed { IsMissed self.old.windows at }
-        ensures len { self.new.len ≡ self.old.len }
-        ensures failed { self.new.failed ≡ self.old.failed }
-        ensures writes { self.new.writes ≡ self.old.writes }
-        ensures syncs { self.new.syncs ≡ self.old.syncs }
-        ensures file { is_missing self.new ≡ is_missing self.old }
+        requires clear { (b : ℕ) → at ≤ b → b < at + 512 → word_of self.old.pending b ≡ None }
+        ensures read { IfSome result (λ word. word_in self.new.windows at ≡ Some word) }
+        ensures rest { KeepsCounts self.old self.new }
         ensures pending { self.new.pending ≡ self.old.pending }
     {
         let count = (self.len - at).min(RUN_WORDS as u64) as usize;
@@ -130,19 +136,18 @@ impl FileDevice {
             return None;
         }
         self.windows.load(at, &self.scratch[..count * 8]);
+        self.apart = self.apart && !self.windows.meet(self.pending.first());
         self.windows.get(at)
     }
 
-    // The word at that place: as it waits, as it was read ahead, or else as the file has it.
-    fn find(&mut self, at: u64) -> Option<u64>
-        requires { at < self.old.len }
-        ensures len { self.new.len ≡ self.old.len }
-        ensures failed { self.new.failed ≡ self.old.failed }
-        ensures writes { self.new.writes ≡ self.old.writes }
-        ensures syncs { self.new.syncs ≡ self.old.syncs }
-        ensures file { is_missing self.new ≡ is_missing self.old }
+    // The word at a place that no window has: as it waits, or else as the file has it.
+    #[cold]
+    #[inline(never)]
+    fn find_afresh(&mut self, at: u64) -> Option<u64>
+        requires inside { at < self.old.len }
+        requires missed { IsMissed self.old.windows at }
+        ensures rest { KeepsCounts self.old self.new }
         ensures waits { IsFalse (is_missing self.old) → IfSome (word_of self.old.pending at) (λ word. result ≡ Some word) }
-        ensures window { IsFalse (is_missing self.old) → word_of self.old.pending at ≡ None → IfSome (word_in self.old.windows at) (λ word. result ≡ Some word) }
         ensures missing { IsTrue (is_missing self.old) → result ≡ None }
     {
         if self.file.is_none() {
@@ -152,18 +157,87 @@ impl FileDevice {
         if waits.is_some() {
             return waits;
         }
-        let window = self.windows.get(at);
-        if window.is_some() {
-            return window;
-        }
-        if !self.hand_over() {
+        // Words that wait elsewhere may go on waiting, and so fill their page.
+        if self.pending.meets(at) && !self.hand_over() {
             return None;
         }
         self.read_ahead(at)
     }
 
+    // The word at that place: as it was read ahead, as it waits, or else as the file has it.
+    #[inline(always)]
+    fn find(&mut self, at: u64) -> Option<u64>
+        requires { at < self.old.len }
+        ensures rest { KeepsCounts self.old self.new }
+        ensures waits { IsFalse (is_missing self.old) → IfSome (word_of self.old.pending at) (λ word. result ≡ Some word) }
+        ensures window { IfSome (word_in self.old.windows at) (λ word. result ≡ Some word) }
+        ensures missing { IsTrue (is_missing self.old) → result ≡ None }
+    {
+        if let Some(word) = self.windows.get(at) {
+            return Some(word);
+        }
+        self.find_afresh(at)
+    }
+
+    // Hands over what waits, unless the word at that place is the next. `false` says that it still
+    // waits.
+    fn make_room(&mut self, at: u64) -> bool
+        ensures follows { OnTrue result (Follows self.new.pending at) }
+        ensures others { (b : ℕ) → word_of self.old.pending b ≡ None → word_of self.new.pending b ≡ None }
+        ensures kept { OnFalse result (self.new.pending ≡ self.old.pending) }
+        ensures windows { self.new.windows ≡ self.old.windows }
+        ensures rest { KeepsCounts self.old self.new }
+    {
+        if self.pending.is_next(at) {
+            return true;
+        }
+        self.hand_over()
+    }
+
+    // Notes whether the words that wait are on a page that no window meets.
+    fn note_apart(&mut self)
+        ensures pending { self.new.pending ≡ self.old.pending }
+        ensures windows { self.new.windows ≡ self.old.windows }
+        ensures rest { KeepsCounts self.old self.new }
+    {
+        self.apart = self.file.is_some()
+            && !self.pending.is_empty()
+            && !self.windows.meet(self.pending.first());
+    }
+
+    // Keeps a word wherever it stands: in its place among those that wait, as the next of them, or
+    // once these were handed over.
+    #[cold]
+    #[inline(never)]
+    fn keep_anywhere(&mut self, at: u64, value: u64) -> bool
+        requires { at < self.old.len }
+        ensures waits { OnTrue result (word_of self.new.pending at ≡ Some value) }
+        ensures window { OnTrue result (IfSome (word_in self.new.windows at) (λ word. word ≡ value)) }
+        ensures others { (b : ℕ) → b ≢ at → word_in self.new.windows b ≡ word_in self.old.windows b }
+        ensures kept { OnFalse result (self.new.pending ≡ self.old.pending) }
+        ensures stays { OnFalse result (self.new.windows ≡ self.old.windows) }
+        ensures rest { KeepsCounts self.old self.new }
+        ensures missing { IsTrue (is_missing self.old) → IsFalse result }
+    {
+        if self.file.is_none() {
+            return false;
+        }
+        if self.pending.set(at, value) {
+            self.windows.set(at, value);
+            return true;
+        }
+        if !self.make_room(at) {
+            return false;
+        }
+        self.pending.append(at, value);
+        self.windows.set(at, value);
+        self.note_apart();
+        true
+    }
+
     // Keeps a written word until it is handed over. `false` says that there was no place for it,
     // and then the word stays as it was.
+    #[inline(always)]
     fn keep(&mut self, at: u64, value: u64) -> bool
         requires { at < self.old.len }
         ensures waits { OnTrue result (word_of self.new.pending at ≡ Some value) }
@@ -171,34 +245,20 @@ impl FileDevice {
         ensures others { (b : ℕ) → b ≢ at → word_in self.new.windows b ≡ word_in self.old.windows b }
         ensures kept { OnFalse result (self.new.pending ≡ self.old.pending) }
         ensures stays { OnFalse result (self.new.windows ≡ self.old.windows) }
-        ensures len { self.new.len ≡ self.old.len }
-        ensures failed { self.new.failed ≡ self.old.failed }
-        ensures writes { self.new.writes ≡ self.old.writes }
-        ensures syncs { self.new.syncs ≡ self.old.syncs }
-        ensures file { is_missing self.new ≡ is_missing self.old }
+        ensures rest { KeepsCounts self.old self.new }
         ensures missing { IsTrue (is_missing self.old) → IsFalse result }
     {
-        if self.file.is_none() {
-            return false;
+        if self.apart && self.pending.goes_on(at) {
+            self.pending.push(at, value);
+            return true;
         }
-        if !self.pending.set(at, value) {
-            if !self.pending.is_next(at) && !self.hand_over() {
-                return false;
-            }
-            self.pending.append(at, value);
-        }
-        self.windows.set(at, value);
-        true
+        self.keep_anywhere(at, value)
     }
 
     // Makes all words certain. After a sync of the file that failed the system may have dropped
     // what it could not write, and answer the next one with success. So none is believed then.
     fn make_certain(&mut self) -> bool
-        ensures len { self.new.len ≡ self.old.len }
-        ensures failed { self.new.failed ≡ self.old.failed }
-        ensures writes { self.new.writes ≡ self.old.writes }
-        ensures syncs { self.new.syncs ≡ self.old.syncs }
-        ensures file { is_missing self.new ≡ is_missing self.old }
+        ensures rest { KeepsCounts self.old self.new }
         ensures handed { OnTrue result (self.new.pending.count ≡ 0) }
         ensures missing { IsTrue (is_missing self.old) → IsFalse result }
     {
@@ -214,9 +274,9 @@ impl FileDevice {
 }
 
 impl Device for FileDevice {
-    ghost use Rattle.std.specs.Prelude.{◌≡◌, ◌*◌, ◌<◌, ◌^◌, IsTrue, IsErr, false, []};
+    ghost use Rattle.std.specs.Prelude.{◌≡◌, ◌*◌, ◌<◌, ◌^◌, IsTrue, IsErr, false, [], is_err, if◌then◌else◌};
     ghost use Rattle.rom_model.specs.Faults.{HasCause, counted};
-    ghost use Rattle.rom_device.specs.File.{length_of, is_missing};
+    ghost use Rattle.rom_device.specs.File.{length_of, fault_count_of, is_missing};
     ghost use Rattle.std.proofs.Common.{arith};
 
     ghost size = { λ f. f.len };
@@ -247,12 +307,14 @@ impl Device for FileDevice {
         self.failed
     }
 
+    #[inline(always)]
     fn read(&mut self, at: u64) -> Result<u64, Failed>
         requires { at < length_of self.old }
         ensures size { ⟦<FileDevice as Device>⟧.size self.new ≡ ⟦<FileDevice as Device>⟧.size self.old }
         ensures writes { ⟦<FileDevice as Device>⟧.writes self.new ≡ ⟦<FileDevice as Device>⟧.writes self.old }
         ensures syncs { ⟦<FileDevice as Device>⟧.syncs self.new ≡ ⟦<FileDevice as Device>⟧.syncs self.old }
         ensures cause { HasCause (⟦<FileDevice as Device>⟧.faults self.old) (⟦<FileDevice as Device>⟧.faults self.new) result }
+        ensures faults { fault_count_of self.new ≡ (if is_err result then counted (fault_count_of self.old) else fault_count_of self.old) }
         ensures missing { IsTrue (is_missing self.old) → IsErr result × IsTrue (is_missing self.new) }
     {
         let Some(word) = self.find(at) else {
@@ -262,12 +324,14 @@ impl Device for FileDevice {
         Ok(word)
     }
 
+    #[inline(always)]
     fn write(&mut self, at: u64, value: u64) -> Result<(), Failed>
         requires { at < length_of self.old }
         ensures size { ⟦<FileDevice as Device>⟧.size self.new ≡ ⟦<FileDevice as Device>⟧.size self.old }
         ensures writes { ⟦<FileDevice as Device>⟧.writes self.new ≡ counted (⟦<FileDevice as Device>⟧.writes self.old) }
         ensures syncs { ⟦<FileDevice as Device>⟧.syncs self.new ≡ ⟦<FileDevice as Device>⟧.syncs self.old }
         ensures cause { HasCause (⟦<FileDevice as Device>⟧.faults self.old) (⟦<FileDevice as Device>⟧.faults self.new) result }
+        ensures faults { fault_count_of self.new ≡ (if is_err result then counted (fault_count_of self.old) else fault_count_of self.old) }
         ensures missing { IsTrue (is_missing self.old) → IsErr result × IsTrue (is_missing self.new) }
     {
         self.writes = self.writes.saturating_add(1);
@@ -283,6 +347,7 @@ impl Device for FileDevice {
         ensures writes { ⟦<FileDevice as Device>⟧.writes self.new ≡ ⟦<FileDevice as Device>⟧.writes self.old }
         ensures syncs { ⟦<FileDevice as Device>⟧.syncs self.new ≡ counted (⟦<FileDevice as Device>⟧.syncs self.old) }
         ensures cause { HasCause (⟦<FileDevice as Device>⟧.faults self.old) (⟦<FileDevice as Device>⟧.faults self.new) result }
+        ensures faults { fault_count_of self.new ≡ (if is_err result then counted (fault_count_of self.old) else fault_count_of self.old) }
         ensures missing { IsTrue (is_missing self.old) → IsErr result × IsTrue (is_missing self.new) }
     {
         self.syncs = self.syncs.saturating_add(1);
@@ -318,6 +383,7 @@ impl Drop for FileDevice {
             len: _,
             windows: _,
             pending,
+            apart: _,
             mut scratch,
             unsure: _,
             failed: _,
@@ -325,7 +391,9 @@ impl Drop for FileDevice {
             syncs: _,
         } = self;
         if let Some(file) = &file {
-            let _ = pending.is_empty() || write_run(file, &pending, &mut scratch);
+            if !pending.is_empty() {
+                let _ = write_run(file, &pending, &mut scratch);
+            }
         }
     }
 }

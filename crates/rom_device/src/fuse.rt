@@ -16,13 +16,16 @@ pub struct Fuse<D> {
 }
 
 impl<D: Device> Fuse<D> {
-    ghost use Rattle.rom_device.specs.Fuse.{inner_of, calls_left};
+    ghost use Rattle.rom_device.specs.Fuse.{inner_of, calls_left, own_faults_of};
 
     /// A device that passes `calls` calls on to this one.
     pub fn new(inner: D, calls: u64) -> Fuse<D>
         ensures inner { inner_of result ≡ inner }
         ensures left { calls_left result ≡ calls }
         ensures faults { ⟦<Fuse<D> as Device>⟧.faults result ≡ D.faults inner }
+        ensures own_faults { own_faults_of result ≡ 0 }
+        ensures writes { ⟦<Fuse<D> as Device>⟧.writes result ≡ 0 }
+        ensures syncs { ⟦<Fuse<D> as Device>⟧.syncs result ≡ 0 }
     {
         Fuse {
             inner,
@@ -70,7 +73,7 @@ impl<D: Device> Device for Fuse<D> {
     ghost use Rattle.rom_model.specs.Faults.{LAST, HasCause, counted};
     ghost use Rattle.rom_device.specs.Device.{Runs, Stays, Writes};
     ghost use Rattle.std.proofs.Common.{arith};
-    ghost use Rattle.rom_device.specs.Fuse.{inner_of, calls_left};
+    ghost use Rattle.rom_device.specs.Fuse.{inner_of, calls_left, own_faults_of};
 
     ghost size = { λ f. D.size f.inner };
 
@@ -114,6 +117,10 @@ impl<D: Device> Device for Fuse<D> {
         ensures left { calls_left self.new ≡ calls_left self.old - 1 }
         ensures spent { calls_left self.old ≡ 0 → IsErr result × (inner_of self.new ≡ inner_of self.old) }
         ensures passed { 0 < calls_left self.old → HasCause (D.faults (inner_of self.old)) (D.faults (inner_of self.new)) result }
+        ensures own_fault { calls_left self.old ≡ 0 → own_faults_of self.new ≡ counted (own_faults_of self.old) }
+        ensures no_own_fault { 0 < calls_left self.old → own_faults_of self.new ≡ own_faults_of self.old }
+        ensures inner_writes { D.writes (inner_of self.new) ≡ D.writes (inner_of self.old) }
+        ensures inner_syncs { D.syncs (inner_of self.new) ≡ D.syncs (inner_of self.old) }
     {
         if !self.passes() {
             return Err(Failed);
@@ -134,7 +141,10 @@ impl<D: Device> Device for Fuse<D> {
         ensures left { calls_left self.new ≡ calls_left self.old - 1 }
         ensures spent { calls_left self.old ≡ 0 → IsErr result × (inner_of self.new ≡ inner_of self.old) }
         ensures passed { 0 < calls_left self.old → HasCause (D.faults (inner_of self.old)) (D.faults (inner_of self.new)) result }
+        ensures own_fault { calls_left self.old ≡ 0 → own_faults_of self.new ≡ counted (own_faults_of self.old) }
+        ensures no_own_fault { 0 < calls_left self.old → own_faults_of self.new ≡ own_faults_of self.old }
         ensures reached { 0 < calls_left self.old → D.writes (inner_of self.new) ≡ counted (D.writes (inner_of self.old)) }
+        ensures inner_syncs { D.syncs (inner_of self.new) ≡ D.syncs (inner_of self.old) }
     {
         self.writes = self.writes.saturating_add(1);
         if !self.passes() {
@@ -155,7 +165,10 @@ impl<D: Device> Device for Fuse<D> {
         ensures left { calls_left self.new ≡ calls_left self.old - 1 }
         ensures spent { calls_left self.old ≡ 0 → IsErr result × (inner_of self.new ≡ inner_of self.old) }
         ensures passed { 0 < calls_left self.old → HasCause (D.faults (inner_of self.old)) (D.faults (inner_of self.new)) result }
+        ensures own_fault { calls_left self.old ≡ 0 → own_faults_of self.new ≡ counted (own_faults_of self.old) }
+        ensures no_own_fault { 0 < calls_left self.old → own_faults_of self.new ≡ own_faults_of self.old }
         ensures reached { 0 < calls_left self.old → D.syncs (inner_of self.new) ≡ counted (D.syncs (inner_of self.old)) }
+        ensures inner_writes { D.writes (inner_of self.new) ≡ D.writes (inner_of self.old) }
     {
         self.syncs = self.syncs.saturating_add(1);
         if !self.passes() {

@@ -1,5 +1,5 @@
 //! Some adjacent words of a file.
-ghost use Rattle.std.specs.Prelude.{◌≡◌, ◌+◌, ◌-◌, ◌*◌, ◌/◌, ◌<◌, ◌≤◌, [], ◌∷◌, ◌++◌, length, IsTrue, ◌↔◌, IsSome, Some, None, ℕ, ◌≢◌, flat_map};
+ghost use Rattle.std.specs.Prelude.{◌≡◌, ◌+◌, ◌-◌, ◌*◌, ◌/◌, ◌<◌, ◌≤◌, ◌^◌, [], ◌∷◌, ◌++◌, length, IsTrue, ◌↔◌, IsSome, Some, None, ℕ, ◌≢◌, flat_map};
 ghost use Rattle.std.specs.Bool.{OnTrue, OnFalse};
 ghost use Rattle.byteorder.specs.Endian.{IsRead, little_bytes, little_number};
 
@@ -19,6 +19,7 @@ pub struct Run {
     count: usize,
     cells: [u64; RUN_WORDS],
     ghost within: { count ≤ 512 },
+    ghost low: { first + count ≤ 2 ^ 64 },
 }
 
 impl Run {
@@ -27,6 +28,7 @@ impl Run {
     pub fn empty() -> Run
         ensures first { result.first ≡ 0 }
         ensures none { held_of result ≡ [] }
+        ensures words { (b : ℕ) → word_of result b ≡ None }
     {
         Run {
             first: 0,
@@ -36,23 +38,28 @@ impl Run {
     }
 
     pub fn is_empty(&self) -> bool
-        ensures { IsTrue result ↔ (self.now.count ≡ 0) }
+        ensures empty { IsTrue result ↔ (self.now.count ≡ 0) }
+        ensures words { OnTrue result ((b : ℕ) → word_of self.now b ≡ None) }
     {
         self.count == 0
     }
 
     // Where the word at that place stands among the words, if the run has it.
+    #[inline(always)]
     fn index_of(&self, at: u64) -> Option<usize>
         ensures { result ≡ index_in self.now at }
     {
-        if self.first <= at && at - self.first < self.count as u64 {
-            Some((at - self.first) as usize)
+        // A place before the first gives a number past every count, so one comparison tells both.
+        let index = at.wrapping_sub(self.first);
+        if index < self.count as u64 {
+            Some(index as usize)
         } else {
             None
         }
     }
 
     /// The word at that place, if the run has it.
+    #[inline(always)]
     pub fn get(&self, at: u64) -> Option<u64>
         ensures { result ≡ word_of self.now at }
     {
@@ -60,7 +67,17 @@ impl Run {
         Some(self.cells[index])
     }
 
+    /// Whether it has any of the 512 words from that place on.
+    pub fn meets(&self, at: u64) -> bool
+        ensures { OnFalse result ((b : ℕ) → at ≤ b → b < at + 512 → word_of self.now b ≡ None) }
+    {
+        !self.is_empty()
+            && at.saturating_sub(self.first) < self.count as u64
+            && self.first.saturating_sub(at) < RUN_WORDS as u64
+    }
+
     /// Replaces the word at that place, if the run has it.
+    #[inline(always)]
     pub fn set(&mut self, at: u64, value: u64) -> bool
         ensures had { IsTrue result ↔ IsSome (word_of self.old at) }
         ensures replaced { OnTrue result (word_of self.new at ≡ Some value) }
@@ -78,19 +95,40 @@ impl Run {
 
     /// Whether the word at that place may be added. A run ends where a page of the file does, so
     /// that whole pages are handed over as such.
+    #[inline(always)]
     pub fn is_next(&self, at: u64) -> bool
         ensures { IsTrue result ↔ Follows self.now at }
     {
-        if self.count == 0 {
-            return true;
-        }
-        if self.count == RUN_WORDS {
-            return false;
-        }
-        if at % RUN_WORDS as u64 == 0 {
-            return false;
-        }
-        self.first <= at && at - self.first == self.count as u64
+        self.count == 0 || self.goes_on(at)
+    }
+
+    /// Whether that place comes right behind the words that the run has, on the same page. It is
+    /// the quick part of `is_next`, which also takes the first word of a run.
+    #[inline(always)]
+    pub fn goes_on(&self, at: u64) -> bool
+        ensures follows { OnTrue result (Follows self.now at) }
+        ensures other { OnFalse result (Follows self.now at → self.now.count ≡ 0) }
+        ensures room { OnTrue result (self.now.count < 512) }
+        ensures place { OnTrue result (self.now.first + self.now.count ≡ at) }
+    {
+        self.count < RUN_WORDS
+            && at % RUN_WORDS as u64 != 0
+            && at.wrapping_sub(self.first) == self.count as u64
+    }
+
+    /// Adds the word right behind those that it has.
+    #[inline(always)]
+    pub fn push(&mut self, at: u64, value: u64)
+        requires room { self.old.count < 512 }
+        requires place { self.old.first + self.old.count ≡ at }
+        ensures added { held_of self.new ≡ held_of self.old ++ value ∷ [] }
+        ensures word { word_of self.new at ≡ Some value }
+        ensures others { (b : ℕ) → b ≢ at → word_of self.new b ≡ word_of self.old b }
+        ensures first { self.new.first ≡ self.old.first }
+        ensures count { self.new.count ≡ self.old.count + 1 }
+    {
+        self.cells[self.count] = value;
+        self.count += 1;
     }
 
     /// Adds the next word.
@@ -105,14 +143,14 @@ impl Run {
         if self.count == 0 {
             self.first = at;
         }
-        self.cells[self.count] = value;
-        self.count += 1;
+        self.push(at, value);
     }
 
     /// Forgets the words.
     pub fn clear(&mut self)
         ensures first { self.new.first ≡ 0 }
         ensures none { held_of self.new ≡ [] }
+        ensures words { (b : ℕ) → word_of self.new b ≡ None }
         ensures count { self.new.count ≡ 0 }
     {
         self.first = 0;
@@ -123,10 +161,13 @@ impl Run {
     pub fn load(&mut self, first: u64, bytes: &[u8])
         requires whole { length bytes.now ≡ 8 * (length bytes.now / 8) }
         requires room { length bytes.now ≤ 4096 }
+        requires low { first + length bytes.now / 8 ≤ 2 ^ 64 }
         ensures first { self.new.first ≡ first }
         ensures count { self.new.count ≡ length bytes.now / 8 }
         ensures words { IsRead little_number 8 bytes.now (held_of self.new) }
         ensures word { 8 ≤ length bytes.now → word_of self.new first ≡ Some (little_number 8 bytes.now) }
+        ensures before { (b : ℕ) → b < first → word_of self.new b ≡ None }
+        ensures behind { (b : ℕ) → first + 512 ≤ b → word_of self.new b ≡ None }
     {
         let count = bytes.len() / 8;
         for index in 0..count {

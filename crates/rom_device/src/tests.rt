@@ -265,6 +265,46 @@ fn words_that_wait_are_read_and_handed_over(rt: HostRuntime) -> Result<(), Fail>
     Ok(())
 }
 
+/// Writes its place and one to each word from one place up to another.
+fn number_from<D: Device>(device: &mut D, from: u64, to: u64) -> bool {
+    for at in from..to {
+        if !put(device, at, at.wrapping_add(1)) {
+            return false;
+        }
+    }
+    true
+}
+
+#[test]
+fn words_that_wait_beside_words_read_ahead_are_read(rt: HostRuntime) -> Result<(), Fail> {
+    let path = zeroed_file(&rt, "beside", 16000)?;
+    {
+        let mut device = FileDevice::new(opened(&rt, &path)?, 16000);
+        assert_eq!(rt; get(&mut device, 0), Some(0));
+        assert!(rt; number_from(&mut device, 1024, 1030));
+        // The words read ahead begin behind those that wait, on the page that is being written.
+        assert_eq!(rt; get(&mut device, 1100), Some(0));
+        assert!(rt; number_from(&mut device, 1030, 1536));
+        for at in [1024, 1029, 1030, 1099, 1100, 1535] {
+            assert_eq!(rt; get(&mut device, at), Some(at + 1), "on the same page");
+        }
+        assert!(rt; number_from(&mut device, 1700, 1702));
+        // The last of the words read ahead is the first that waits.
+        assert_eq!(rt; get(&mut device, 1189), Some(1190));
+        assert_eq!(rt; get(&mut device, 1700), Some(1701), "the last one");
+        assert_eq!(rt; get(&mut device, 1701), Some(1702), "behind the last one");
+        assert_eq!(rt; get(&mut device, 1702), Some(0));
+        assert_eq!(rt; device.fault_count(), 0);
+    }
+    let bytes = fs::read(&rt, path.as_path())?;
+    assert_eq!(rt; bytes.len(), 16000);
+    assert_eq!(rt; &bytes[8192..8194], [1, 4].as_slice());
+    assert_eq!(rt; &bytes[12280..12282], [0, 6].as_slice());
+    assert_eq!(rt; &bytes[13600..13602], [165, 6].as_slice());
+    fs::remove_file(&rt, path.as_path())?;
+    Ok(())
+}
+
 #[test]
 fn words_that_cannot_be_handed_over_are_not_lost(rt: HostRuntime) -> Result<(), Fail> {
     let path = zeroed_file(&rt, "read_only", 80)?;
@@ -289,4 +329,20 @@ fn a_missing_file_fails_each_call(rt: HostRuntime) {
     assert!(rt; !put(&mut device, 0, 1));
     assert!(rt; device.sync().is_err());
     assert_eq!(rt; device.fault_count(), 3);
+}
+
+/// A file that takes each write and whose sync fails.
+#[test]
+fn a_sync_that_fails_is_a_fault(rt: HostRuntime) -> Result<(), Fail> {
+    let file = OpenOptions::new()
+        .read(true)
+        .write(true)
+        .open(&rt, "/dev/null")?;
+    let mut device = FileDevice::new(file, 80);
+    assert!(rt; put(&mut device, 0, 5));
+    assert!(rt; device.sync().is_err());
+    // A later sync fails too.
+    assert!(rt; device.sync().is_err());
+    assert_eq!(rt; device.fault_count(), 2);
+    Ok(())
 }

@@ -21,5 +21,5 @@ returns-clause-word c eight =
     let counted : 0 < length c.args.bytes.now / 8 = omega (arith, eight) in
     let long : length c.loop-index.self.cells ≡ 512 = c.loop-index.invariant.whole in
     let there : 0 < length c.loop-index.self.cells = omega (arith, long) in
-    word_first record { first = c.args.first; count = length c.args.bytes.now / 8; cells = c.loop-index.self.cells; within = omega arith } counted there
+    word_first record { first = c.args.first; count = length c.args.bytes.now / 8; cells = c.loop-index.self.cells; within = omega arith; low = c.requires.low } counted there
     ∙ ap (λ w. Some w) (c.loop-index.invariant.each 0 some)
