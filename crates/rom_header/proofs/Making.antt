@@ -3,7 +3,7 @@ use Rattle.std.proofs.Common.{◌≡◌, ◌≢◌, inl, inr, ℕ, ◌+◌, ◌<
 use Rattle.std.proofs.lemmas.List.{get_or-take, get_or-drop, length-take}
 use Rattle.std.proofs.lemmas.Grind.{same_number_lists}
 use Rattle.rom_device.specs.Device.{Writes}
-use Rattle.rom_header.specs.Fresh.{IsNew, NoneOrNew, IsLaid}
+use Rattle.rom_header.specs.Fresh.{IsNew, NoneOrNew, UnreadAreZero, IsLaid}
 use Rattle.rom_header.specs.Writing.{Within}
 use Rattle.rom_header.specs.Layout.{part, region_len, back_at, words_needed, MAGIC}
 
@@ -11,11 +11,12 @@ use Rattle.rom_header.specs.Layout.{part, region_len, back_at, words_needed, MAG
 pub laid : (order : ℕ) (image x y z : List ℕ) → length image ≡ region_len order →
     ((k : ℕ) → k < length image → get_or x (8 + k) 0 ≡ get_or image k 0) →
     Within (back_at order) (length image) x y → ((k : ℕ) → k < length image → get_or y (back_at order + k) 0 ≡ get_or image k 0) →
-    Within 1 7 y z → get_or z 1 0 ≡ 1 → get_or z 2 0 ≡ order → get_or z 3 0 ≡ 0 → IsLaid order image z
-laid order image x y z size first at_back second at_head version order_is idle = record {
+    Within 1 7 y z → get_or z 1 0 ≡ 1 → get_or z 2 0 ≡ order → get_or z 3 0 ≡ 0 → UnreadAreZero z → IsLaid order image z
+laid order image x y z size first at_back second at_head version order_is idle unread = record {
   version = version;
   order_is = order_is;
   idle = idle;
+  unread = unread;
   main = λ k h. at_head.behind (8 + k) (omega arith) ∙ at_back.before (8 + k) (omega arith) ∙ first k (omega arith);
   back = λ k h. at_head.behind (back_at order + k) (omega arith) ∙ second k (omega arith);
 }
@@ -45,6 +46,7 @@ made order m y laid long room least most =
         state = omega (arith, other 3 (omega arith), laid.idle);
       };
       idle = other 3 (omega arith) ∙ laid.idle;
+      unread = (other 4 (omega arith) ∙ laid.unread.0, other 5 (omega arith) ∙ laid.unread.1, other 6 (omega arith) ∙ laid.unread.2, other 7 (omega arith) ∙ laid.unread.3);
       main_is = part_is 8 (region_len order) m w long (omega (arith, size)) (λ k lt. other (8 + k) (omega arith) ∙ laid.main k lt);
       back_is = part_is (back_at order) (region_len order) m w long (omega (arith, size)) (λ k lt. other (back_at order + k) (omega arith) ∙ laid.back k lt);
     }

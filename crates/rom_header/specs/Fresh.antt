@@ -5,10 +5,15 @@ use Rattle.rom_header.specs.Regions.{IsHeap}
 use Rattle.rom_header.specs.declared.fresh.FormatRefused.{FormatRefused}
 use Rattle.rom_header.specs.declared.fresh.FormatRefused.TheVariants.{AlreadyAHeap, TooSmall, Device}
 
--- The words are a heap of this order whose state is IDLE, with this image in both regions.
+-- the words of the header that nobody reads are zero
+abbrev pub UnreadAreZero : List ℕ → Type 0
+UnreadAreZero words = (slice_index words 4 ≡ 0) × (slice_index words 5 ≡ 0) × (slice_index words 6 ≡ 0) × (slice_index words 7 ≡ 0)
+
+-- The words are a heap of this order whose state is IDLE, with zeros in the words that nobody reads and this image in both regions.
 pub record IsNew (order : ℕ) (image words : List ℕ) : Type 0 where
   pub heap : IsHeap order words
   pub idle : slice_index words 3 ≡ 0
+  pub unread : UnreadAreZero words
   pub main_is : main_of order words ≡ image
   pub back_is : back_of order words ≡ image
 
@@ -36,5 +41,6 @@ pub record IsLaid (order : ℕ) (image words : List ℕ) : Type 0 where
   pub version : slice_index words 1 ≡ 1
   pub order_is : slice_index words 2 ≡ order
   pub idle : slice_index words 3 ≡ 0
+  pub unread : UnreadAreZero words
   pub main : (k : ℕ) → k < region_len order → slice_index words (8 + k) ≡ slice_index image k
   pub back : (k : ℕ) → k < region_len order → slice_index words (back_at order + k) ≡ slice_index image k

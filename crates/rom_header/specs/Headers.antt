@@ -14,6 +14,10 @@ state_word Idle = 0
 state_word Mutating = 1
 state_word Copying = 2
 
+-- the state that the words name is IDLE
+abbrev pub IsIdle : List ℕ → Type 0
+IsIdle words = slice_index words 3 ≡ state_word Idle
+
 -- the first words of a heap, up to its order, which is one that there is
 pub record HasOrder (words : List ℕ) (order : ℕ) : Type 0 where
   pub magic : slice_index words 0 ≡ MAGIC

@@ -1,9 +1,6 @@
 -- Where the words of a heap stand on a device.
-use Rattle.std.specs.Prelude.{ℕ, ◌+◌, ◌*◌, ◌^◌, List, take, drop}
-
--- how many words a region of a heap of order n has
-abbrev pub region_len : ℕ → ℕ
-region_len n = 16 + 6 * 2 ^ n
+use Rattle.std.specs.Prelude.{ℕ, ◌+◌, ◌*◌, List, take, drop}
+pub use Rattle.rom_model.specs.Region.{region_len}
 
 -- where main begins, and where back does
 abbrev pub MAIN : ℕ

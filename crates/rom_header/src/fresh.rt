@@ -7,7 +7,7 @@ ghost use Rattle.rom_header.specs.Writing.{Within};
 ghost use Rattle.rom_header.specs.Layout.{region_len, words_needed, MAGIC};
 
 use crate::geometry::Geometry;
-use crate::header::{MAGIC, VERSION};
+use crate::header::{MAGIC, State, VERSION};
 use rom_device::{Device, Failed};
 
 /// Why no heap was made.
@@ -17,7 +17,7 @@ pub enum FormatRefused {
     AlreadyAHeap,
     /// The device has fewer words than a heap of this order needs.
     TooSmall { need: u64, have: u64 },
-    /// The device failed. It may hold no heap, or the whole new one.
+    /// The device failed. It holds what it held, or no heap, or the whole new one.
     Device,
 }
 
@@ -58,7 +58,8 @@ fn lay_out<D: Device>(device: &mut D, geometry: Geometry, image: &[u64]) -> Resu
 {
     write_words(device, geometry.main(), image)?;
     write_words(device, geometry.back(), image)?;
-    let header = [VERSION, u64::from(geometry.order()), 0, 0, 0, 0, 0];
+    let idle = State::Idle.word();
+    let header = [VERSION, u64::from(geometry.order()), idle, 0, 0, 0, 0];
     write_words(device, 1, &header)?;
     Ok(())
 }
@@ -67,10 +68,10 @@ fn lay_out<D: Device>(device: &mut D, geometry: Geometry, image: &[u64]) -> Resu
 fn seal<D: Device>(device: &mut D) -> Result<(), Failed>
     requires { 0 < D.size device.old }
     ensures size { D.size device.new ≡ D.size device.old }
-    ensures words { IsTrue D.tells_words → OnOk result (D.words device.new ≡ slice_set (D.words device.old) 0 0x524F4D554C555331) }
+    ensures words { IsTrue D.tells_words → OnOk result (D.words device.new ≡ slice_set (D.words device.old) 0 MAGIC) }
     ensures outside { IsTrue D.tells_words → Within 0 1 (D.words device.old) (D.words device.new) }
     ensures certain { IsTrue D.tells_images → OnOk result ((i : List ℕ) → D.leaves device.new i → i ≡ D.words device.new) }
-    ensures images { IsTrue D.tells_images → Leaves D.clock D.left_since (Writes 0 0x524F4D554C555331 (D.words device.old)) device.old device.new }
+    ensures images { IsTrue D.tells_images → Leaves D.clock D.left_since (Writes 0 MAGIC (D.words device.old)) device.old device.new }
     ensures cause { HasCause (D.faults device.old) (D.faults device.new) result }
 {
     device.sync()?;
@@ -83,7 +84,7 @@ fn build<D: Device>(device: &mut D, geometry: Geometry, image: &[u64]) -> Result
     requires fits { words_needed geometry ≤ D.size device.old }
     requires order { (4 ≤ geometry) × (geometry ≤ 16) }
     requires image { length image.now ≡ region_len geometry }
-    requires none { IsTrue D.tells_words → slice_index (D.words device.old) 0 ≢ 0x524F4D554C555331 }
+    requires none { IsTrue D.tells_words → slice_index (D.words device.old) 0 ≢ MAGIC }
     requires certain { IsTrue D.tells_images → (i : List ℕ) → D.leaves device.old i → i ≡ D.words device.old }
     ensures size { D.size device.new ≡ D.size device.old }
     ensures made { IsTrue D.tells_words → OnOk result (IsNew geometry image.now (D.words device.new)) }
@@ -112,33 +113,44 @@ fn is_heap<D: Device>(device: &mut D) -> Result<bool, Failed>
     Ok(magic == MAGIC)
 }
 
+/// The geometry of an order that there is.
+fn geometry_of(order: u32) -> Geometry
+    requires least { 4 ≤ order }
+    requires most { order ≤ 16 }
+    ensures { result ≡ order }
+{
+    let Some(geometry) = Geometry::of(u64::from(order)) else {
+        unreachable!()
+    };
+    geometry
+}
+
 /// Makes a new heap of this order with this image as its region, unless a heap stands there. The
 /// region is read by nobody here; it is to be that of a new heap.
 ///
-/// Stopped at any moment, it leaves the device as it was, or without a heap, or with the whole new
-/// one; so it can be run again. Words behind the heap's stay.
-pub fn write_new<D: Device>(
-    device: &mut D,
-    geometry: Geometry,
-    image: &[u64],
-) -> Result<(), FormatRefused>
-    requires { length image.now ≡ region_len geometry }
+/// Stopped at any moment, it leaves the device as a stop might have left it before, or without a
+/// heap, or with the whole new one; so it can be run again. Words behind the heap's stay.
+pub fn write_new<D: Device>(device: &mut D, order: u32, image: &[u64]) -> Result<(), FormatRefused>
+    requires least { 4 ≤ order }
+    requires most { order ≤ 16 }
+    requires image { length image.now ≡ region_len order }
 
-    ensures answer { IsTrue D.tells_words → IsFormatAnswer geometry (D.words device.old) result }
+    ensures answer { IsTrue D.tells_words → IsFormatAnswer order (D.words device.old) result }
     ensures cause { result ≡ Err FormatRefused.Device → Rose (D.faults device.old) (D.faults device.new) }
     ensures later { D.faults device.old ≤ D.faults device.new }
 
-    ensures made { IsTrue D.tells_words → OnOk result (IsNew geometry image.now (D.words device.new)) }
+    ensures made { IsTrue D.tells_words → OnOk result (IsNew order image.now (D.words device.new)) }
     ensures certain { IsTrue D.tells_images → OnOk result ((i : List ℕ) → D.leaves device.new i → i ≡ D.words device.new) }
-    ensures others { IsTrue D.tells_words → Within 0 (words_needed geometry) (D.words device.old) (D.words device.new) }
+    ensures others { IsTrue D.tells_words → Within 0 (words_needed order) (D.words device.old) (D.words device.new) }
     ensures size { D.size device.new ≡ D.size device.old }
 
     // What a stop may leave since the call began.
-    ensures images { IsTrue D.tells_images → Leaves D.clock D.left_since (NoneOrNew geometry image.now) device.old device.new }
-    ensures refused { IsTrue D.tells_images → IsRefused geometry (D.words device.old) → Leaves D.clock D.left_since Nothing device.old device.new }
-    ensures refused_words { IsTrue D.tells_words → IsRefused geometry (D.words device.old) → D.words device.new ≡ D.words device.old }
+    ensures images { IsTrue D.tells_images → Leaves D.clock D.left_since (NoneOrNew order image.now) device.old device.new }
+    ensures refused { IsTrue D.tells_images → IsRefused order (D.words device.old) → Leaves D.clock D.left_since Nothing device.old device.new }
+    ensures refused_words { IsTrue D.tells_words → IsRefused order (D.words device.old) → D.words device.new ≡ D.words device.old }
 {
     let have = device.len();
+    let geometry = geometry_of(order);
     let need = geometry.need();
     if have == 0 {
         return Err(FormatRefused::TooSmall { need, have });

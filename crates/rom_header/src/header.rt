@@ -43,6 +43,17 @@ impl State {
             _ => None,
         }
     }
+
+    /// The word that stands for it.
+    pub fn word(self) -> u64
+        ensures word { result ≡ state_word self }
+    {
+        match self {
+            State::Idle => 0,
+            State::Mutating => 1,
+            State::Copying => 2,
+        }
+    }
 }
 
 /// An accepted header.
@@ -100,10 +111,7 @@ fn read_order<D: Device>(device: &mut D) -> Result<Geometry, HeaderRefused>
         return Err(HeaderRefused::BadVersion(version));
     }
     let order = device.read(2)?;
-    match Geometry::of(order) {
-        Some(geometry) => Ok(geometry),
-        None => Err(HeaderRefused::BadOrder(order)),
-    }
+    Geometry::of(order).ok_or(HeaderRefused::BadOrder(order))
 }
 
 /// Reads the header, and refuses what is no heap by the first test that fails. It changes no word.
@@ -130,8 +138,6 @@ pub fn read_header<D: Device>(device: &mut D) -> Result<Header, HeaderRefused>
         return Err(HeaderRefused::TooSmall { need, have });
     }
     let word = device.read(3)?;
-    match State::of(word) {
-        Some(state) => Ok(Header { geometry, state }),
-        None => Err(HeaderRefused::BadState(word)),
-    }
+    let state = State::of(word).ok_or(HeaderRefused::BadState(word))?;
+    Ok(Header { geometry, state })
 }

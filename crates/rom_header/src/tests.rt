@@ -55,10 +55,9 @@ fn format<R: Abort + AllocGlobal, D: Device>(
     rt: &R,
     device: &mut D,
 ) -> Result<Option<FormatRefused>, Fail> {
-    let geometry = Geometry::of(4).ok_or("order 4")?;
     let image = fresh_region(rt.alloc())?;
-    assert_eq!(rt; image.len() as u64, geometry.region());
-    Ok(write_new(device, geometry, image.as_slice()).err())
+    assert_eq!(rt; image.len(), 112);
+    Ok(write_new(device, 4, image.as_slice()).err())
 }
 
 #[test]
@@ -96,6 +95,19 @@ fn a_new_heap_is_made_once(rt: HostRuntime) -> Result<(), Fail> {
         );
         assert_eq!(rt; memory.words(), want.as_slice());
     }
+    Ok(())
+}
+
+#[test]
+fn a_new_heap_stands_whatever_the_words_were(rt: HostRuntime) -> Result<(), Fail> {
+    let sevens = vec![in rt.alloc(); 7u64; 235]?;
+    let mut memory = Memory::new(rt.alloc(), sevens, AMPLE, Vec::new(rt.alloc()))?;
+    assert_eq!(rt; format(&rt, &mut memory)?, None);
+    let mut want = fresh_heap(rt.alloc(), 0)?;
+    for _ in 0..3 {
+        want.push(7)?;
+    }
+    assert_eq!(rt; memory.words(), want.as_slice());
     Ok(())
 }
 

@@ -1,3 +1,4 @@
 -- What recovery does.
 pub mod Copied
 pub mod Recovered
+pub mod Calls

@@ -1,5 +1,6 @@
 -- What recovery leaves and refuses.
 use Rattle.std.specs.Prelude.{◌≡◌, ◌≢◌, ℕ, ◌+◌, ◌<◌, List, slice_index}
+use Rattle.rom_header.specs.Headers.{IsIdle}
 use Rattle.rom_header.specs.Layout.{MAIN, back_at, region_len, main_of, back_of}
 use Rattle.rom_header.specs.Regions.{IsHeap, Counts}
 use Rattle.rom_recover.specs.declared.recovery.RecoverRefused.{RecoverRefused}
@@ -7,7 +8,7 @@ use Rattle.rom_recover.specs.declared.recovery.RecoverRefused.TheVariants.{Twins
 
 -- The state is IDLE, and the regions differ at this offset for the first time, with these words in main and in back.
 pub record DifferAt (order : ℕ) (words : List ℕ) (offset main back : ℕ) : Type 0 where
-  pub idle : slice_index words 3 ≡ 0
+  pub idle : IsIdle words
   pub within : offset < region_len order
   pub main_is : slice_index words (MAIN + offset) ≡ main
   pub back_is : slice_index words (back_at order + offset) ≡ back
@@ -22,7 +23,7 @@ IsFirst order words Device = Unit {0}
 -- The state is IDLE, and both regions are the one that counted.
 pub record IsDone (order : ℕ) (old new : List ℕ) : Type 0 where
   pub heap : IsHeap order new
-  pub idle : slice_index new 3 ≡ 0
+  pub idle : IsIdle new
   pub region : List ℕ
   pub counted : Counts order old region
   pub main_is : main_of order new ≡ region

@@ -1,6 +1,6 @@
 //! Copies of words on a device.
-ghost use Rattle.std.specs.Prelude.{◌≡◌, ◌⊎◌, ◌+◌, ◌<◌, ◌≤◌, OnOk, IsTrue, slice_index};
-ghost use Rattle.rom_model.specs.Faults.{HasCause};
+ghost use Rattle.std.specs.Prelude.{◌≡◌, ◌⊎◌, ◌+◌, ◌<◌, ◌≤◌, OnOk, IsTrue, min, slice_index};
+ghost use Rattle.rom_model.specs.Faults.{HasCause, LAST, counted};
 ghost use Rattle.rom_device.specs.Device.{Runs};
 ghost use Rattle.rom_header.specs.Writing.{Within};
 ghost use Rattle.rom_recover.specs.Copied.{Copied};
@@ -15,6 +15,9 @@ fn copy_word<D: Device>(device: &mut D, from: u64, to: u64) -> Result<(), Failed
     ensures others { IsTrue D.tells_words → Within to 1 (D.words device.old) (D.words device.new) }
     ensures copied { IsTrue D.tells_words → OnOk result (slice_index (D.words device.new) to ≡ slice_index (D.words device.old) from) }
     ensures images { IsTrue D.tells_images → Runs D.clock D.leaves D.left_since (Within to 1) device.old device.new }
+    ensures writes { OnOk result (D.writes device.new ≡ counted (D.writes device.old)) }
+    ensures most_writes { D.writes device.new ≤ D.writes device.old + 1 }
+    ensures syncs { D.syncs device.new ≡ D.syncs device.old }
     ensures cause { HasCause (D.faults device.old) (D.faults device.new) result }
 {
     let word = device.read(from)?;
@@ -30,6 +33,9 @@ pub fn copy_words<D: Device>(device: &mut D, from: u64, to: u64, len: u64) -> Re
     ensures others { IsTrue D.tells_words → Within to len (D.words device.old) (D.words device.new) }
     ensures copied { IsTrue D.tells_words → OnOk result (Copied from to len (D.words device.old) (D.words device.new)) }
     ensures images { IsTrue D.tells_images → Runs D.clock D.leaves D.left_since (Within to len) device.old device.new }
+    ensures writes { OnOk result (min (D.writes device.new) LAST ≡ min (D.writes device.old + len) LAST) }
+    ensures most_writes { D.writes device.new ≤ D.writes device.old + len }
+    ensures syncs { D.syncs device.new ≡ D.syncs device.old }
     ensures cause { HasCause (D.faults device.old) (D.faults device.new) result }
 {
     for i in 0..len {

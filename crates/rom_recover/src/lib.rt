@@ -2,12 +2,13 @@
 //!
 //! Under MUTATING back counts and is copied to main; under COPYING main counts and is copied to
 //! back; under IDLE both count, and a difference is refused. The contract of `recover` promises
-//! that it may be stopped at any moment and run again: every image that a stop leaves has the same
-//! region that counts.
+//! that it may be stopped at any moment and run again: every image that a stop leaves could be left
+//! before, or has the same region that counts.
 #![tactic(auto)]
 
 mod copy;
 mod recovery;
+mod restore;
 
 pub use recovery::{RecoverRefused, Recovered, recover};
 

@@ -9,7 +9,10 @@ use std::test::Fail;
 /// Room for all calls of a test.
 const AMPLE: u64 = 1000;
 
-/// How many calls it takes to read the header and to copy a region.
+/// How many calls it takes to read the header.
+const HEADER_CALLS: u64 = 4;
+
+/// How many calls it takes to read the header and to recover where a region is copied.
 const CALLS: u64 = 233;
 
 /// A new region up to its blocks, whose words are 0: the root, and then the tree.
@@ -90,17 +93,30 @@ fn choice(alloc: Global, kind: u64) -> Result<Vec<u64>, AllocError> {
     Ok(numbers)
 }
 
+/// The answer where recovery is stopped after so many calls.
+fn answer_after(calls: u64, found: State) -> Option<Result<Recovered, RecoverRefused>> {
+    if calls < HEADER_CALLS {
+        None
+    } else if calls < CALLS {
+        Some(Err(RecoverRefused::Device))
+    } else {
+        Some(Ok(Recovered { found }))
+    }
+}
+
 /// What is left where recovery of these words is stopped after so many calls. Each word that may be
 /// one of several is that of the choice.
-fn stopped(
-    alloc: Global,
+fn stopped<R: Abort + AllocGlobal>(
+    rt: &R,
     words: Vec<u64>,
+    found: State,
     calls: u64,
     choice: &[u64],
-) -> Result<Vec<u64>, AllocError> {
-    let memory = Memory::new(alloc, words, AMPLE, Vec::new(alloc))?;
+) -> Result<Vec<u64>, Fail> {
+    let memory = Memory::new(rt.alloc(), words, AMPLE, Vec::new(rt.alloc()))?;
     let mut fuse = Fuse::new(memory, calls);
-    let _ = opened(&mut fuse);
+    let want = answer_after(calls, found);
+    assert_eq!(rt; opened(&mut fuse), want, "after {calls} calls");
     Ok(fuse.inner().crash(choice))
 }
 
@@ -108,13 +124,14 @@ fn stopped(
 fn recovers_once_stopped<R: Abort + AllocGlobal>(
     rt: &R,
     words: &[u64],
+    found: State,
     want: &[u64],
 ) -> Result<(), Fail> {
     for kind in 0..4 {
         let choice = choice(rt.alloc(), kind)?;
         for calls in 0..CALLS + 1 {
             let words = words.to_vec(rt.alloc())?;
-            let left = stopped(rt.alloc(), words, calls, choice.as_slice())?;
+            let left = stopped(rt, words, found, calls, choice.as_slice())?;
             let mut memory = Memory::new(rt.alloc(), left, AMPLE, Vec::new(rt.alloc()))?;
             let again = opened(&mut memory);
             assert!(rt; matches!(again, Some(Ok(_))), "after {calls} calls, {kind}");
@@ -130,8 +147,9 @@ fn back_counts_while_main_is_changed(rt: HostRuntime) -> Result<(), Fail> {
     let torn = vec![in rt.alloc(); 77u64; 112]?;
     let words = heap(rt.alloc(), 1, torn.as_slice(), fresh.as_slice())?;
     let want = heap(rt.alloc(), 0, fresh.as_slice(), fresh.as_slice())?;
-    recovers(&rt, words.clone()?, State::Mutating, want.as_slice())?;
-    recovers_once_stopped(&rt, words.as_slice(), want.as_slice())
+    let found = State::Mutating;
+    recovers(&rt, words.clone()?, found, want.as_slice())?;
+    recovers_once_stopped(&rt, words.as_slice(), found, want.as_slice())
 }
 
 #[test]
@@ -140,17 +158,24 @@ fn main_counts_while_it_is_copied(rt: HostRuntime) -> Result<(), Fail> {
     let torn = vec![in rt.alloc(); 77u64; 112]?;
     let words = heap(rt.alloc(), 2, region.as_slice(), torn.as_slice())?;
     let want = heap(rt.alloc(), 0, region.as_slice(), region.as_slice())?;
-    recovers(&rt, words.clone()?, State::Copying, want.as_slice())?;
-    recovers_once_stopped(&rt, words.as_slice(), want.as_slice())
+    let found = State::Copying;
+    recovers(&rt, words.clone()?, found, want.as_slice())?;
+    recovers_once_stopped(&rt, words.as_slice(), found, want.as_slice())
 }
 
 #[test]
 fn a_recovery_takes_its_calls(rt: HostRuntime) -> Result<(), Fail> {
     let fresh = fresh_region(rt.alloc())?;
-    let words = heap(rt.alloc(), 1, fresh.as_slice(), fresh.as_slice())?;
-    let mut memory = Memory::new(rt.alloc(), words, AMPLE, Vec::new(rt.alloc()))?;
-    assert!(rt; opened(&mut memory).is_some());
-    assert_eq!(rt; memory.calls_made(), CALLS);
+    // Under IDLE nothing is written, so the last two syncs and the write of the state are missing.
+    for (state, calls) in [(0, 230), (1, CALLS), (2, CALLS)] {
+        let words = heap(rt.alloc(), state, fresh.as_slice(), fresh.as_slice())?;
+        let mut memory = Memory::new(rt.alloc(), words, AMPLE, Vec::new(rt.alloc()))?;
+        assert!(rt;
+            matches!(opened(&mut memory), Some(Ok(_))),
+            "in state {state}"
+        );
+        assert_eq!(rt; memory.calls_made(), calls, "in state {state}");
+    }
     Ok(())
 }
 

@@ -1,4 +1,5 @@
-use Rattle.std.proofs.Common.{◌≡◌, ◌≤◌, IsTrue}
+use Rattle.std.proofs.Common.{◌≡◌, ◌+◌, ◌≤◌, min, IsTrue}
+use Rattle.rom_model.specs.Faults.{LAST}
 use Rattle.rom_device.specs.Device.{Runs}
 use Rattle.rom_header.specs.Writing.{Within}
 use Rattle.rom_recover.specs.Copied.{Copied}
@@ -11,5 +12,8 @@ invariant-loop-i g l = record {
   others : IsTrue g.D.Device.tells_words → Within l.to l.len (g.D.Device.words l.fn.device) (g.D.Device.words l.device);
   copied : IsTrue g.D.Device.tells_words → Copied l.from l.to l.i (g.D.Device.words l.fn.device) (g.D.Device.words l.device);
   images : IsTrue g.D.Device.tells_images → Runs g.D.Device.clock g.D.Device.leaves g.D.Device.left_since (Within l.to l.len) l.fn.device l.device;
+  writes : min (g.D.Device.writes l.device) LAST ≡ min (g.D.Device.writes l.fn.device + l.i) LAST;
+  most_writes : g.D.Device.writes l.device ≤ g.D.Device.writes l.fn.device + l.i;
+  syncs : g.D.Device.syncs l.device ≡ g.D.Device.syncs l.fn.device;
   later : g.D.Device.faults l.fn.device ≤ g.D.Device.faults l.device;
 }

@@ -11,5 +11,7 @@ invariant-loop-offset g l = record {
   same : IsTrue g.D.Device.tells_words → (k : ℕ) → k < l.offset → get_or (g.D.Device.words l.fn.device) (8 + k) 0 ≡ get_or (g.D.Device.words l.fn.device) (back_at l.fn.geometry + k) 0;
   images : IsTrue g.D.Device.tells_images → Runs g.D.Device.clock g.D.Device.leaves g.D.Device.left_since Stays l.fn.device l.device;
   still : IsTrue g.D.Device.tells_images → (i : List ℕ) → g.D.Device.leaves l.fn.device i → g.D.Device.leaves l.device i;
+  writes : g.D.Device.writes l.device ≡ g.D.Device.writes l.fn.device;
+  syncs : g.D.Device.syncs l.device ≡ g.D.Device.syncs l.fn.device;
   later : g.D.Device.faults l.fn.device ≤ g.D.Device.faults l.device;
 }

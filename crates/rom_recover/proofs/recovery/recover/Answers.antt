@@ -1,26 +1,34 @@
-use Rattle.std.proofs.Common.{◌≡◌, ◌∙◌, sym, ap, subst, List, ℕ, get_or}
-use Rattle.rom_device.specs.Device.{Leaves}
-use Rattle.rom_device.proofs.Going.{leaves_none, leaves_still, leaves_then}
-use Rattle.rom_header.specs.Headers.{state_word}
+use Rattle.std.proofs.Common.{◌≡◌, inr, sym, subst, rules, get_or}
+use Rattle.rom_device.specs.Device.{Runs, Stays}
+use Rattle.rom_device.proofs.Going.{leaves_none, leaves_still}
 use Rattle.rom_header.specs.Regions.{SameRegion}
 use Rattle.rom_recover.specs.Recovered.{IsDone}
-use Rattle.rom_recover.proofs.CopyBack.{equal_done}
+use Rattle.rom_recover.proofs.CopyBack.{equal_done, leaves_from}
 use Rattle.rom_recover.proofs.recovery.recover.Goals as goal
 
-pub returns-in_ok-compare-in-Idle-clause-done : goal.returns-in_ok-compare-in-Idle-clause-done
-returns-in_ok-compare-in-Idle-clause-done g c told =
-    let x = g.D.Device.words c.args.device.now in
-    let before : g.D.Device.words c.read_state.new.device ≡ x = c.read_state.ensures.words told in
-    let after : g.D.Device.words c.compare.new.device ≡ x = c.compare.ensures.words told ∙ before in
-    let heap = c.requires.heap told in
-    let idle : get_or x 3 0 ≡ 0 = c.in_ok-found.ensures.state told heap.state ∙ ap state_word c.in-Idle.is in
-    subst (λ l. IsDone c.args.geometry x l) (sym after) (equal_done c.args.geometry x heap idle (rw before at (c.in_ok-compare-in-Idle.ensures.same told)))
+pub returns-in_ok-compare-in-Idle-clause-images : goal.returns-in_ok-compare-in-Idle-clause-images
+returns-in_ok-compare-in-Idle-clause-images g c told =
+    let still : Runs g.D.Device.clock g.D.Device.leaves g.D.Device.left_since Stays c.args.device.now c.compare.new.device = search rules in
+    leaves_still g.D.Device.clock g.D.Device.leaves g.D.Device.left_since _ _ _ _ (λ t i le left. g.met.D.Device.counts_now c.args.device.now t i told le left)
+    (leaves_none g.D.Device.clock g.D.Device.leaves g.D.Device.left_since _ _) still
 
-pub returns-in_err-restore-in_default-clause-images : goal.returns-in_err-restore-in_default-clause-images
-returns-in_err-restore-in_default-clause-images g c told =
+pub returns-in_ok-compare-in-Idle-clause-done : goal.returns-in_ok-compare-in-Idle-clause-done
+returns-in_ok-compare-in-Idle-clause-done g c words =
+    let x = g.D.Device.words c.args.device.now in
+    let heap = c.requires.heap words in
+    let before : g.D.Device.words c.read_state.new.device ≡ x = search rules in
+    let after : g.D.Device.words c.compare.new.device ≡ x = search rules in
+    let idle : get_or x 3 0 ≡ 0 = search rules in
+    subst (λ l. IsDone c.args.geometry x l) (sym after) (equal_done c.args.geometry x heap idle (rw before at (c.in_ok-compare-in-Idle.ensures.same words)))
+
+pub returns-in_ok-restore-in_default-clause-images : goal.returns-in_ok-restore-in_default-clause-images
+returns-in_ok-restore-in_default-clause-images g c told =
     let words = g.met.D.Device.tells_both told in
-    let P : List ℕ → Type 0 = SameRegion (g.D.Device.words c.args.device.now) in
-    let still = leaves_still g.D.Device.clock g.D.Device.leaves g.D.Device.left_since P c.args.device.now c.args.device.now c.read_state.new.device (λ t i le left. g.met.D.Device.counts_now c.args.device.now t i told le left)
-    (leaves_none g.D.Device.clock g.D.Device.leaves g.D.Device.left_since P c.args.device.now) (c.read_state.ensures.images told) in
-    leaves_then g.D.Device.clock g.D.Device.leaves g.D.Device.left_since P P c.args.device.now c.read_state.new.device c.restore.new.device (λ i is. is) still
-    (subst (λ w. Leaves g.D.Device.clock g.D.Device.left_since (SameRegion w) c.read_state.new.device c.restore.new.device) (c.read_state.ensures.words words) (c.restore.ensures.images told))
+    let still : Runs g.D.Device.clock g.D.Device.leaves g.D.Device.left_since Stays c.args.device.now c.read_state.new.device = search rules in
+    let same : g.D.Device.words c.read_state.new.device ≡ g.D.Device.words c.args.device.now = search rules in
+    leaves_from g.D.Device.clock g.D.Device.leaves g.D.Device.left_since SameRegion _ _ _ _ _ (λ t i le left. g.met.D.Device.counts_now c.args.device.now t i told le left) same still (c.restore.ensures.images told)
+
+pub returns-in_err-restore-in_default-clause-left : goal.returns-in_err-restore-in_default-clause-left
+returns-in_err-restore-in_default-clause-left g c words =
+    let same : g.D.Device.words c.read_state.new.device ≡ g.D.Device.words c.args.device.now = search rules in
+    inr (subst (λ x. SameRegion x (g.D.Device.words c.restore.new.device)) same (c.restore.ensures.left words))
