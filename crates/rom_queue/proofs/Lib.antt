@@ -1,0 +1,8 @@
+-- Lemmas on the queue's blocks.
+pub mod Links
+pub mod Appended
+pub mod Unlinked
+pub mod Regions
+pub mod Emptied
+pub mod Taking
+pub mod Heads

@@ -1,0 +1,79 @@
+-- The links of a chain, and where the queue begins and ends.
+use Rattle.std.proofs.Common.{◌≡◌, ◌≢◌, ◌⊎◌, inl, inr, ⊎_elim, ℕ, ◌+◌, ◌*◌, ◌^◌, ◌<◌, ◌≤◌, List, [], ◌∷◌, ◌++◌, refl, ◌∙◌, ap, arith}
+use Rattle.std.specs.Prelude.{slice_index}
+use Rattle.rom_model.specs.Blocks.{block_of}
+use Rattle.rom_model.specs.Chains.{times, Chain, last_of}
+use Rattle.rom_model.specs.Region.{IsQueue}
+use Rattle.rom_model.proofs.Times.{times_here, times_more}
+use Rattle.rom_queue.specs.Ends.{link_after}
+
+link_tail : (n b : ℕ) (bs : List ℕ) → link_after n (block_of n b + 1) 1 bs ≡ last_of n (b ∷ bs) + 1
+link_tail n b [] = refl
+link_tail n b (c ∷ bs) = link_tail n c bs
+
+-- where the last link stands
+pub link_in : (n l j : ℕ) (bs : List ℕ) → (link_after n l j bs ≡ l) ⊎ ((c : ℕ) × (0 < times c bs) × (link_after n l j bs ≡ block_of n c + j))
+link_in n l j [] = inl refl
+link_in n l j (b ∷ bs) = ⊎_elim
+    (λ at. inr (b, omega (arith, times_here b bs), at))
+    (λ w. inr (w.0, omega (arith, w.1, times_more w.0 b bs), w.2))
+    (link_in n (block_of n b + j) j bs)
+
+-- a link word of the chain
+abbrev pub IsLink : ℕ → ℕ → ℕ → List ℕ → ℕ → Type 0
+IsLink n l j bs k = (k ≡ l) ⊎ ((c : ℕ) × (0 < times c bs) × (k ≡ block_of n c + j))
+
+-- one more block at the end
+pub chain_push : (n l j : ℕ) (w w' bs : List ℕ) (b : ℕ) → ((c : ℕ) → 0 < times c bs → l ≢ block_of n c + j) → ((c : ℕ) → times c bs ≤ 1)
+    → ((k : ℕ) → k ≢ link_after n l j bs → IsLink n l j bs k → slice_index w' k ≡ slice_index w k)
+    → slice_index w' (link_after n l j bs) ≡ block_of n b → slice_index w' (block_of n b + j) ≡ 0 → Chain n w l j bs → Chain n w' l j (bs ++ b ∷ [])
+chain_push n l j w w' [] b apart single same put ends chain = (put, ends)
+chain_push n l j w w' (a ∷ bs) b apart single same put ends chain =
+    let fresh : times a bs ≤ 0 = omega (arith, times_here a bs, single a) in
+    let not_end : l ≢ link_after n (block_of n a + j) j bs = λ e. ⊎_elim
+    (λ at. apart a (omega (arith, times_here a bs)) (e ∙ at))
+    (λ x. apart x.0 (omega (arith, x.1, times_more x.0 a bs)) (e ∙ x.2))
+    (link_in n (block_of n a + j) j bs) in (
+      same l not_end (inl refl) ∙ chain.0,
+      chain_push n (block_of n a + j) j w w' bs b
+          (λ c some e. let is : a ≡ c = omega arith in absurd (omega (arith, some, ap (λ x. times x bs) is, fresh)))
+          (λ c. omega (arith, times_more c a bs, single c))
+          (λ k ne is. same k ne (⊎_elim (λ at. inr (a, omega (arith, times_here a bs), at)) (λ x. inr (x.0, omega (arith, x.1, times_more x.0 a bs), x.2)) is))
+          put ends chain.1,
+    )
+
+last_high : (n b : ℕ) (bs : List ℕ) → 16 ≤ last_of n (b ∷ bs)
+last_high n b [] = omega arith
+last_high n b (c ∷ bs) = last_high n c bs
+
+pub tail_empty : (n : ℕ) (w bs values : List ℕ) → IsQueue n w bs values → slice_index w 4 ≡ 0 → link_after n 3 1 bs ≡ 3
+tail_empty n w [] values is none = refl
+tail_empty n w (b ∷ bs) values is none = absurd (omega (arith, is.tail, none, last_high n b bs))
+
+pub tail_link : (n : ℕ) (w bs values : List ℕ) → IsQueue n w bs values → 0 < slice_index w 4 → link_after n 3 1 bs ≡ slice_index w 4 + 1
+tail_link n w [] values is some = absurd (omega (arith, is.tail, some))
+tail_link n w (b ∷ bs) values is some = omega (arith, link_tail n b bs, is.tail)
+
+last_in : (n b : ℕ) (bs : List ℕ) → (c : ℕ) × (0 < times c (b ∷ bs)) × (last_of n (b ∷ bs) ≡ block_of n c)
+last_in n b [] = (b, omega (arith, times_here b []), refl)
+last_in n b (c ∷ bs) = let x = last_in n c bs in (x.0, omega (arith, x.1, times_more x.0 b (c ∷ bs)), x.2)
+
+pub tail_small : (n : ℕ) (w bs values : List ℕ) → IsQueue n w bs values → ((c : ℕ) → 0 < times c bs → c < 2 ^ n) → slice_index w 4 < 16 + 6 * 2 ^ n
+tail_small n w [] values is within = omega (arith, is.tail)
+tail_small n w (b ∷ bs) values is within = let x = last_in n b bs in omega (arith, is.tail, x.2, within x.0 x.1)
+
+-- without a head there is no block
+pub head_none : (n : ℕ) (w bs values : List ℕ) → IsQueue n w bs values → slice_index w 3 ≡ 0 → bs ≡ []
+head_none n w [] values is none = refl
+head_none n w (b ∷ bs) values is none = absurd (omega (arith, is.chain.0, none))
+
+-- the first block, and those behind it
+pub record First (n at : ℕ) (bs : List ℕ) : Type 0 where
+  pub block : ℕ
+  pub behind : List ℕ
+  pub here : at ≡ block_of n block
+  pub are : bs ≡ block ∷ behind
+
+pub head_first : (n : ℕ) (w bs values : List ℕ) → IsQueue n w bs values → 0 < slice_index w 3 → First n (slice_index w 3) bs
+head_first n w [] values is some = absurd (omega (arith, is.chain, some))
+head_first n w (b ∷ bs) values is some = record { block = b; behind = bs; here = is.chain.0; are = refl }

@@ -1,0 +1,40 @@
+-- Both ends of a queue in the words of a region.
+use Rattle.std.specs.Prelude.{◌≡◌, ℕ, ◌+◌, ◌^◌, ◌<◌, ◌≤◌, List, [], ◌∷◌, length, slice_index}
+use Rattle.rom_model.specs.Blocks.{block_of}
+use Rattle.rom_model.specs.Chains.{times}
+use Rattle.rom_model.specs.Region.{IsQueue}
+
+-- where the last link of a chain stands that begins at that link word
+abbrev pub link_after : ℕ → ℕ → ℕ → List ℕ → ℕ
+link_after n link j [] = link
+link_after n link j (b ∷ blocks) = link_after n (block_of n b + j) j blocks
+
+-- different blocks of a region, and so no more than it has
+pub record AreNodes (n : ℕ) (blocks : List ℕ) : Type 0 where
+  pub different : (b : ℕ) → times b blocks ≤ 1
+  pub within : (b : ℕ) → 0 < times b blocks → b < 2 ^ n
+  pub few : length blocks ≤ 2 ^ n
+
+-- a queue in the words, and where a block begins that is not in it
+pub record MayTake (n at : ℕ) (words : List ℕ) : Type 0 where
+  pub block : ℕ
+  pub here : at ≡ block_of n block
+  pub inside : block < 2 ^ n
+  pub blocks : List ℕ
+  pub values : List ℕ
+  pub queue : IsQueue n words blocks values
+  pub are : AreNodes n blocks
+  pub absent : times block blocks ≡ 0
+
+-- a queue in the words whose first block begins there
+pub record Begins (n at : ℕ) (words : List ℕ) : Type 0 where
+  pub block : ℕ
+  pub here : at ≡ block_of n block
+  pub inside : block < 2 ^ n
+  pub blocks : List ℕ
+  pub values : List ℕ
+  pub queue : IsQueue n words (block ∷ blocks) values
+
+-- the words of the tree stay
+abbrev pub KeepsTree : ℕ → List ℕ → List ℕ → Type 0
+KeepsTree n old new = (k : ℕ) → 17 ≤ k → k < block_of n 0 → slice_index new k ≡ slice_index old k
