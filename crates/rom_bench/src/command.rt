@@ -16,11 +16,13 @@ pub enum Action {
     Time(u64),
 }
 
-/// An action and the name of its file.
+/// What the words ask for.
 #[derive(Drop)]
-pub struct Command {
-    pub action: Action,
-    pub file: String,
+pub enum Command {
+    /// An action on the file of that name.
+    OnFile(Action, String),
+    /// So many pushes, and then so many pops, on the queue of a new heap in memory.
+    Queue(u64, u64),
 }
 
 /// The action of that name with that number.
@@ -35,20 +37,28 @@ fn action_of(name: &str, number: Option<u64>) -> Option<Action> {
     }
 }
 
+/// The number that is written so.
+fn number_of(word: &String) -> Option<u64> {
+    word.as_str().parse::<u64>().ok()
+}
+
 impl Command {
     /// The command that the words are, if any.
     pub fn read(words: Vec<String>) -> Option<Command> {
         let mut words = words.into_iter();
         let name = words.next()?;
-        let file = words.next()?;
+        let second = words.next()?;
         let number = match words.next() {
-            Some(word) => Some(word.as_str().parse::<u64>().ok()?),
+            Some(word) => Some(number_of(&word)?),
             None => None,
         };
         if words.next().is_some() {
             return None;
         }
+        if name.as_str() == "queue" {
+            return Some(Command::Queue(number_of(&second)?, number?));
+        }
         let action = action_of(name.as_str(), number)?;
-        Some(Command { action, file })
+        Some(Command::OnFile(action, second))
     }
 }

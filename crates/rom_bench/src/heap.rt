@@ -23,17 +23,12 @@ pub fn device_at(rt: &HostRuntime, path: &str) -> io::Result<FileDevice> {
 /// Makes a heap of this order whose regions have some words, since nobody reads them.
 pub fn make<D: Device>(alloc: Global, device: &mut D, geometry: Geometry) -> io::Result<bool> {
     let image = vec![in alloc; 7u64; geometry.region() as usize]?;
-    Ok(write_new(device, geometry, image.as_slice()).is_ok())
+    Ok(write_new(device, geometry.order(), image.as_slice()).is_ok())
 }
 
 /// Writes a state into the header, and makes it certain.
 pub fn mark<D: Device>(device: &mut D, state: State) -> bool {
-    let word = match state {
-        State::Idle => 0,
-        State::Mutating => 1,
-        State::Copying => 2,
-    };
-    device.len() > 3 && device.write(3, word).is_ok() && device.sync().is_ok()
+    device.len() > 3 && device.write(3, state.word()).is_ok() && device.sync().is_ok()
 }
 
 /// Reads the header and recovers. It tells the state that was found, if all went well.

@@ -1,4 +1,5 @@
-//! Times the opening and recovery of a heap in a file, beside a plain loop that makes such calls.
+//! Times the opening and recovery of a heap in a file, beside a plain loop that makes such calls, and
+//! pushes and pops on the queue of a heap in memory.
 //!
 //! It stands apart from the program. Nothing is promised of its answers; it is proved that it
 //! does not panic and that it meets the conditions of what it calls.
@@ -7,6 +8,7 @@
 mod command;
 mod heap;
 mod plain;
+mod queue;
 mod rounds;
 
 use command::{Action, Command};
@@ -15,7 +17,7 @@ use std::process::ExitCode;
 use std::{env, io};
 
 const USAGE: &str =
-    "rom_bench make FILE ORDER | mark FILE STATE | open FILE | plain FILE | time FILE ROUNDS";
+    "rom_bench make FILE ORDER | mark FILE STATE | open FILE | plain FILE | time FILE ROUNDS | queue PUSHES POPS";
 
 /// What the words after the program's name ask for.
 fn wanted(rt: &HostRuntime) -> io::Result<Option<Command>> {
@@ -35,10 +37,9 @@ fn tell(rt: &HostRuntime, found: Option<State>) -> io::Result<bool> {
     Ok(found.is_some())
 }
 
-/// Does what is asked for. `false` says that there was no heap, or none could be made.
-fn done(rt: &HostRuntime, command: &Command) -> io::Result<bool> {
-    let path = command.file.as_str();
-    match command.action {
+/// Does what is asked for with a file. `false` says that there was no heap, or none could be made.
+fn done_on(rt: &HostRuntime, action: Action, path: &str) -> io::Result<bool> {
+    match action {
         Action::Make(geometry) => {
             let mut device = heap::device_at(rt, path)?;
             heap::make(rt.alloc(), &mut device, geometry)
@@ -56,6 +57,18 @@ fn done(rt: &HostRuntime, command: &Command) -> io::Result<bool> {
             tell(rt, plain::open(&file)?)
         }
         Action::Time(rounds) => rounds::time(rt, path, rounds),
+    }
+}
+
+/// Does what is asked for.
+fn done(rt: &HostRuntime, command: &Command) -> io::Result<bool> {
+    match command {
+        Command::OnFile(action, path) => done_on(rt, *action, path.as_str()),
+        Command::Queue(pushes, pops) => {
+            let (pushed, sum) = queue::push_and_pop(rt.alloc(), *pushes, *pops)?;
+            println!(rt; "{pushed} pushed, sum {sum}")?;
+            Ok(true)
+        }
     }
 }
 
