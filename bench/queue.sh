@@ -1,7 +1,7 @@
 #!/bin/sh
 # Counts the instructions of a push and of a pop on the queue of a heap of order 16 in memory, by
 # callgrind: what so many of them make more, over how many they are.
-# Usage, from any folder: bench/queue.sh [CALLS]
+# Usage, from any folder: bench/queue.sh [CALLS], at most 61440, which fill the heap
 here=$(cd "$(dirname "$0")/.." && pwd)
 calls=${1:-10000}
 program=$here/crates/rom_bench/out/rom_bench

@@ -1,11 +1,10 @@
 //! The queue of a heap, in the words of a region, and the region of a new heap.
 //!
 //! Each value stands in a block of its own, which links to the next. A push takes the first free
-//! block and a pop gives the first node's block back, so both change the queue's root words, the
-//! allocator's tree and one or two nodes, and nothing else. The contracts promise this of every
-//! well-formed region: what the queue holds then, that the other elements stay in their blocks, that
-//! a push is refused exactly where the heap is full, and how many loads and stores a call makes at
-//! most. They hold over any space of words.
+//! block and a pop gives the first node's block back. The contracts promise of every well-formed
+//! region what the queue holds then, that each element that stays keeps its block, that no words
+//! change but the queue's and the allocator's, that a push is refused exactly where the heap is full,
+//! and how many loads and stores a call makes at most. They hold over any space of words.
 #![tactic(auto)]
 
 #[cfg(test)]
