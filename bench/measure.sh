@@ -1,11 +1,9 @@
 #!/bin/sh
 # Measures a script of 1,048,576 bytes: the time of a run, its memory, and its system calls by kind.
 # Usage, from any folder, once the program is built: bench/measure.sh
-here=$(cd "$(dirname "$0")/.." && pwd)
-program=$here/crates/romulus/out/romulus
-[ -x "$program" ] || { echo "build the program first: ./romulus try examples/queue.txt" >&2; exit 1; }
-folder=$(mktemp -d) || exit 1
-trap 'rm -rf "$folder"' EXIT
+built=crates/romulus/out/romulus
+build="./romulus try examples/queue.txt"
+. "$(dirname "$0")/begin.sh"
 script=$folder/script
 text=$folder/text
 times=$folder/times

@@ -2,13 +2,11 @@
 # Counts the instructions of a push and of a pop on the queue of a heap of order 16 in memory, by
 # callgrind: what so many of them make more, over how many they are.
 # Usage, from any folder: bench/queue.sh [CALLS], at most 61440, which fill the heap
-here=$(cd "$(dirname "$0")/.." && pwd)
 calls=${1:-10000}
-program=$here/crates/rom_bench/out/rom_bench
-[ -x "$program" ] || { echo "build the program first: rt run, in crates/rom_bench" >&2; exit 1; }
 command -v valgrind >/dev/null || { echo "valgrind is not here" >&2; exit 1; }
-folder=$(mktemp -d) || exit 1
-trap 'rm -rf "$folder"' EXIT
+built=crates/rom_bench/out/rom_bench
+build="rt run, in crates/rom_bench"
+. "$(dirname "$0")/begin.sh"
 
 # The instructions of a run with so many pushes and so many pops.
 instructions() {

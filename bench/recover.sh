@@ -2,12 +2,10 @@
 # Measures the opening and recovery of a heap of order 16 in a file, beside a plain loop: system
 # calls by kind, times of one run, and the time of one fdatasync by itself.
 # Usage, from any folder: bench/recover.sh [ROUNDS]
-here=$(cd "$(dirname "$0")/.." && pwd)
 rounds=${1:-21}
-program=$here/crates/rom_bench/out/rom_bench
-[ -x "$program" ] || { echo "build the program first: rt run, in crates/rom_bench" >&2; exit 1; }
-folder=$(mktemp -d) || exit 1
-trap 'rm -rf "$folder"' EXIT
+built=crates/rom_bench/out/rom_bench
+build="rt run, in crates/rom_bench"
+. "$(dirname "$0")/begin.sh"
 heap=$folder/heap
 times=$folder/times
 
