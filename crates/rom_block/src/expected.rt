@@ -5,7 +5,8 @@ ghost use Rattle.rom_block.specs.Levels.{IsMarked, AreBelow, AreExpected};
 ghost use Rattle.rom_block.specs.Taken.{among, AreBlocks, DiffersFirst};
 
 use crate::blocks::Taken;
-use crate::node::{join, node_at, power};
+use crate::node::{join, node_at};
+use rom_model::power_of_two;
 use std::alloc::{AllocError, Global};
 
 /// Marks the nodes of taken blocks.
@@ -53,7 +54,7 @@ fn fill_level(order: u32, level: u32, marks: &[bool], words: &mut [u64])
     ensures filled { (taken : ℕ → Bool) → IsMarked taken marks.now → AreBelow order taken level words.old → AreBelow order taken (level + 1) words.new }
     ensures len { length words.new ≡ length words.old }
 {
-    let first = power(order - level);
+    let first = power_of_two(order - level);
     for node in first..2 * first {
         let word = node_word(order, level, marks, words, node);
         words[node as usize] = word;
@@ -80,7 +81,7 @@ pub fn expected_words(alloc: Global, order: u32, taken: &[Taken]) -> Result<Vec<
     ensures words { IfOk result (λ words. AreExpected order (among order taken.now) words.items) }
     ensures len { IfOk result (λ words. length words.items ≡ 2 * 2 ^ order) }
 {
-    let nodes = 2 * power(order) as usize;
+    let nodes = 2 * power_of_two(order) as usize;
     let mut marks = vec![in alloc; false; nodes]?;
     mark_nodes(order, taken, &mut marks);
     let mut words = vec![in alloc; 0; nodes]?;
@@ -95,7 +96,7 @@ pub fn first_difference(region: &[u64], order: u32, words: &[u64]) -> Option<u64
     requires words { length words.now ≡ 2 * 2 ^ order }
     ensures { (taken : ℕ → Bool) → AreExpected order taken words.now → MatchOption result (AreWords order taken region.now) (DiffersFirst order taken region.now) }
 {
-    for node in 1..2 * power(order) {
+    for node in 1..2 * power_of_two(order) {
         if region[16 + node as usize] != words[node as usize] {
             return Some(16 + node);
         }

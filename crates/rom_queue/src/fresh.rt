@@ -7,18 +7,8 @@ ghost use Rattle.rom_model.specs.Blocks.{block_of};
 ghost use Rattle.rom_model.specs.Region.{region_len, buckets, IsRoot, Contents};
 
 use rom_block::Blocks;
-use rom_model::{Space, VecSpace};
+use rom_model::{Space, VecSpace, blocks_at, power_of_two, region_len};
 use std::alloc::{AllocError, Global};
-
-/// 2 to that power.
-fn power(exponent: u32) -> u64
-    requires small { exponent ≤ 16 }
-    ensures is { result ≡ 2 ^ exponent }
-    ensures least { 1 ≤ result }
-    ensures most { result ≤ 65536 }
-{
-    1 << exponent
-}
 
 /// Stores 0 at each offset from one on, so many.
 fn store_zeros<M: Space>(space: &mut M, from: u64, len: u64)
@@ -55,7 +45,7 @@ fn format_root<M: Space>(space: &mut M, order: u32)
     store_zeros(space, 0, 16);
     space.store(0, 1);
     space.store(1, 1);
-    space.store(8, 16 + 2 * power(order));
+    space.store(8, blocks_at(order));
 }
 
 /// Makes the words those of a new heap: nothing in it, no update counted, and the bucket table as
@@ -76,7 +66,7 @@ pub fn format_region<M: Space>(space: &mut M, order: u32)
     Blocks::format(space, order);
     // The first free block of that order begins where the blocks do, as the root word says.
     Blocks::take(space, order, order - 4);
-    store_zeros(space, 16 + 2 * power(order), power(order - 2));
+    store_zeros(space, blocks_at(order), power_of_two(order - 2));
 }
 
 /// The words of a new heap of that order. There is no other error than want of memory.
@@ -85,7 +75,7 @@ pub fn fresh_region(alloc: Global, order: u32) -> Result<VecSpace, AllocError>
     requires most { order ≤ 16 }
     ensures made { IfOk result (λ space. Contents order (words_of space) empty 0) }
 {
-    let mut space = VecSpace::zeroed(alloc, 16 + 6 * power(order))?;
+    let mut space = VecSpace::zeroed(alloc, region_len(order))?;
     format_region(&mut space, order);
     Ok(space)
 }
