@@ -1,5 +1,5 @@
-//! Times the opening and recovery of a heap in a file, beside a plain loop that makes such calls, and
-//! pushes and pops on the queue of a heap in memory.
+//! Times the opening and recovery of a heap in a file, beside a plain loop over the same file; and
+//! pushes and pops on the queue of a heap in memory, for their instructions to be counted.
 //!
 //! It stands apart from the program. Nothing is promised of its answers; it is proved that it
 //! does not panic and that it meets the conditions of what it calls.

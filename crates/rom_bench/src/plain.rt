@@ -2,8 +2,7 @@
 ghost use Rattle.std.specs.Prelude.{◌≡◌, ◌*◌, ◌+◌, ◌<◌, ◌≤◌, ◌^◌};
 
 use byteorder::{ByteOrder, LittleEndian};
-use rom_header::header::{MAGIC, VERSION};
-use rom_header::{Geometry, State};
+use rom_header::{Geometry, MAGIC, State, VERSION};
 use std::fs::{File, OpenFile};
 use std::io;
 use std::os::unix::fs::FileExt;

@@ -22,7 +22,8 @@ pub struct Taken {
 }
 
 /// The allocator of a region of order 4 to 16, which has 2^order units of four words each. Its calls
-/// store to the words 16 to 16 + 2 * 2^order - 1 alone, which are the tree. A block of the order
+/// store to the words 17 to 16 + 2 * 2^order - 1 alone, which are the tree; `format` stores 0 to
+/// word 16 too. A block of the order
 /// `want` is 2^want neighbouring units, the first of which has a number that 2^want divides.
 pub struct Blocks;
 

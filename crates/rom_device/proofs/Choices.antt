@@ -7,8 +7,8 @@ use Rattle.std.proofs.lemmas.Grind.{same_number_lists}
 use Rattle.rom_device.specs.Device.{Writes}
 use Rattle.rom_device.specs.Log.{words_after, MayLeave}
 use Rattle.rom_device.specs.Choice.{possible, picked}
-use Rattle.rom_device.specs.declared.call.Made.{Made}
-use Rattle.rom_device.specs.declared.call.Made.TheVariants.{Read, Write, Sync}
+use Rattle.rom_device.specs.declared.call.LoggedCall.{LoggedCall}
+use Rattle.rom_device.specs.declared.call.LoggedCall.TheVariants.{Read, Write, Sync}
 use Rattle.rom_device.specs.Images.{length-words_after, length-MayLeave}
 
 abbrev pub Among : ℕ → List ℕ → Type 0
@@ -27,7 +27,7 @@ among_push x v [] (inr none) = absurd none
 among_push x v (y ∷ ys) (inl is) = inl (inl is)
 among_push x v (y ∷ ys) (inr more) = ⊎_elim (λ old. inl (inr old)) (λ new. inr new) (among_push x v ys more)
 
-some : (base : List ℕ) (log : List Made) (k : ℕ) → (x : ℕ) × Among x (possible base log k)
+some : (base : List ℕ) (log : List LoggedCall) (k : ℕ) → (x : ℕ) × Among x (possible base log k)
 some base [] k = (slice_index base k, inl refl)
 some base (Read at ∷ log) k = some base log k
 some base (Write at value lands ∷ log) k = go (at == k) (some base log k)
@@ -46,7 +46,7 @@ one : (i base : List ℕ) → length i ≡ length base → ((k : ℕ) → k < le
 one i base long each = same_number_lists i base long (λ k lt. ⊎_elim (λ is. is) (λ none. absurd none) (each k (omega (arith, lt, long))))
 
 -- an image whose words are each among the possible values may be left
-pub chosen_may : (base : List ℕ) (log : List Made) (i : List ℕ) → length i ≡ length base → ((k : ℕ) → k < length base → Among (slice_index i k) (possible base log k)) → MayLeave base log i
+pub chosen_may : (base : List ℕ) (log : List LoggedCall) (i : List ℕ) → length i ≡ length base → ((k : ℕ) → k < length base → Among (slice_index i k) (possible base log k)) → MayLeave base log i
 chosen_may base [] i long each = one i base long each
 chosen_may base (Read at ∷ log) i long each = chosen_may base log i long each
 chosen_may base (Sync false ∷ log) i long each = chosen_may base log i long each
@@ -94,7 +94,7 @@ among_more x v (y ∷ ys) (inl is) = inl is
 among_more x v (y ∷ ys) (inr more) = inr (among_more x v ys more)
 
 -- a word of an image that a stop may leave is one of its possible values
-pub may_among : (base : List ℕ) (log : List Made) (i : List ℕ) → MayLeave base log i → (k : ℕ) → k < length base → Among (slice_index i k) (possible base log k)
+pub may_among : (base : List ℕ) (log : List LoggedCall) (i : List ℕ) → MayLeave base log i → (k : ℕ) → k < length base → Among (slice_index i k) (possible base log k)
 may_among base [] i is k lt = inl (ap (λ w. slice_index w k) is)
 may_among base (Read at ∷ log) i may k lt = may_among base log i may k lt
 may_among base (Sync true ∷ log) i is k lt = inl (ap (λ w. slice_index w k) is)
@@ -128,7 +128,7 @@ value_among zero (y ∷ ys) lt = inl refl
 value_among (suc n) (y ∷ ys) lt = inr (value_among n ys (omega (arith, lt)))
 
 -- there is a possible value, and one more at most with each call
-pub possible_many : (base : List ℕ) (log : List Made) (k : ℕ) → (0 < length (possible base log k)) × (length (possible base log k) ≤ length log + 1)
+pub possible_many : (base : List ℕ) (log : List LoggedCall) (k : ℕ) → (0 < length (possible base log k)) × (length (possible base log k) ≤ length log + 1)
 possible_many base [] k = (omega arith, omega arith)
 possible_many base (Read at ∷ log) k = let many = possible_many base log k in (many.0, omega (arith, many.1))
 possible_many base (Sync true ∷ log) k = (omega arith, omega arith)
@@ -139,7 +139,7 @@ possible_many base (Write at value lands ∷ log) k = go (at == k) (possible_man
     go true many = (omega (arith, many.0, length-append (possible base log k) (value ∷ [])), omega (arith, many.1, length-append (possible base log k) (value ∷ [])))
     go false many = (many.0, omega (arith, many.1))
 
-pub picked_may : (base : List ℕ) (log : List Made) (i choice : List ℕ) → length i ≡ length base → ((k : ℕ) → k < length base → slice_index i k ≡ picked base log k (slice_index choice k)) → MayLeave base log i
+pub picked_may : (base : List ℕ) (log : List LoggedCall) (i choice : List ℕ) → length i ≡ length base → ((k : ℕ) → k < length base → slice_index i k ≡ picked base log k (slice_index choice k)) → MayLeave base log i
 picked_may base log i choice long each = chosen_may base log i long (λ k lt.
     let some : 0 < length (possible base log k) = (possible_many base log k).0 in
     let below : slice_index choice k % length (possible base log k) < length (possible base log k) = omega (arith, some) in
@@ -158,7 +158,7 @@ numbers (suc m) P each =
     at (suc j) lt n ns first rest = rest j (omega (arith, lt))
 
 -- each image that a stop may leave is picked by some choice
-pub may_picked : (base : List ℕ) (log : List Made) (i : List ℕ) → MayLeave base log i → (choice : List ℕ) × ((k : ℕ) → k < length base → (slice_index choice k ≤ length log) × (slice_index i k ≡ picked base log k (slice_index choice k)))
+pub may_picked : (base : List ℕ) (log : List LoggedCall) (i : List ℕ) → MayLeave base log i → (choice : List ℕ) × ((k : ℕ) → k < length base → (slice_index choice k ≤ length log) × (slice_index i k ≡ picked base log k (slice_index choice k)))
 may_picked base log i may = numbers (length base) (λ k n. (n ≤ length log) × (slice_index i k ≡ picked base log k n)) (λ k lt.
     let w = number_among (slice_index i k) (possible base log k) (may_among base log i may k lt) in
     let whole : w.0 % length (possible base log k) ≡ w.0 = mod-eq_of_lt w.1 in

@@ -3,3 +3,5 @@ mod Choices
 mod Synced
 mod Writing
 mod Agreeing
+mod Paged
+pub mod Many

@@ -8,11 +8,11 @@ use Rattle.rom_device.specs.Log.{words_after}
 use Rattle.rom_device.specs.Images.{length-words_after}
 use Rattle.rom_device.specs.Choice.{possible}
 use Rattle.rom_device.specs.Followed.{IsFollowed}
-use Rattle.rom_device.specs.declared.call.Made.{Made}
-use Rattle.rom_device.specs.declared.call.Made.TheVariants.{Write}
+use Rattle.rom_device.specs.declared.call.LoggedCall.{LoggedCall}
+use Rattle.rom_device.specs.declared.call.LoggedCall.TheVariants.{Write}
 use Rattle.rom_device.specs.declared.followed.Followed.{Followed}
 
-module _ (base : List ℕ) (log : List Made) (w : Followed) (is : IsFollowed base log w) (value : ℕ) (lands : Bool) (inside : w.at < length base) where
+module _ (base : List ℕ) (log : List LoggedCall) (w : Followed) (is : IsFollowed base log w) (value : ℕ) (lands : Bool) (inside : w.at < length base) where
   reads_written : (reads : ℕ) → reads ≡ (if lands then value else w.reads) → reads ≡ slice_index (words_after base (Write w.at value lands ∷ log)) w.at
   reads_written reads e = e ∙ go lands
     where

@@ -1,5 +1,6 @@
 -- What the calls of a device do to its words, and what a stop may leave of them.
-use Rattle.std.specs.Prelude.{◌≡◌, ◌⊎◌, ℕ, ◌≤◌, List, slice_set}
+use Rattle.std.specs.Prelude.{◌≡◌, ◌⊎◌, ℕ, ◌+◌, ◌<◌, ◌≤◌, List, length, slice_index, slice_set}
+use Rattle.rom_model.specs.Space.{ChangesOnly}
 
 -- A step takes the words before it and those after it. Here nothing changes.
 abbrev pub Stays : List ℕ → List ℕ → Type 0
@@ -8,6 +9,11 @@ Stays old new = new ≡ old
 -- that word is as it was, or this value, and the others stay
 abbrev pub Writes : ℕ → ℕ → List ℕ → List ℕ → Type 0
 Writes at value old new = (new ≡ old) ⊎ (new ≡ slice_set old at value)
+
+-- only the words from that place on differ, as many as these are, and each is as it was or the one of these
+pub record WritesMany (at : ℕ) (values old new : List ℕ) : Type 0 where
+  pub only : ChangesOnly at (length values) old new
+  pub either : (k : ℕ) → k < length values → (slice_index new (at + k) ≡ slice_index old (at + k)) ⊎ (slice_index new (at + k) ≡ slice_index values k)
 
 -- what a step may make of one of these images
 pub record After (step : List ℕ → List ℕ → Type 0) (old : List ℕ → Type 0) (image : List ℕ) : Type 0 where

@@ -1,10 +1,11 @@
--- What a contract sees of the words of a file.
-use Rattle.std.specs.Prelude.{◌≡◌, ℕ, Bool, is_none}
+-- What a contract sees of a device over a file.
+use Rattle.std.specs.Prelude.{ℕ, Bool, nat_lt}
+use Rattle.rom_device.specs.Cached as cached
 use Rattle.rom_device.specs.declared.file.FileDevice.{FileDevice}
 
 -- how many words there are
 abbrev pub length_of : FileDevice → ℕ
-length_of device = device.len
+length_of device = device.words.len
 
 -- how often the file has failed
 abbrev pub fault_count_of : FileDevice → ℕ
@@ -12,12 +13,12 @@ fault_count_of device = device.failed
 
 -- whether there is no file
 abbrev pub is_missing : FileDevice → Bool
-is_missing device = is_none device.file
+is_missing device = cached.is_missing device.words
 
--- a part of a call changes none of these
-pub record KeepsCounts (old new : FileDevice) : Type 0 where
-  pub length : length_of new ≡ length_of old
-  pub faults : fault_count_of new ≡ fault_count_of old
-  pub writes : new.writes ≡ old.writes
-  pub syncs : new.syncs ≡ old.syncs
-  pub missing : is_missing new ≡ is_missing old
+-- whether a word waits that could not be handed over yet
+abbrev pub has_waiting : FileDevice → Bool
+has_waiting device = nat_lt 0 device.words.pending.count
+
+-- whether a sync of the file has failed
+abbrev pub has_failed_sync : FileDevice → Bool
+has_failed_sync device = cached.has_failed_sync device.words

@@ -2,11 +2,11 @@
 use Rattle.std.specs.Prelude.{◌≡◌, ℕ, ◌+◌, ◌<◌, ◌≤◌, List, length, slice_index}
 use Rattle.rom_device.specs.Log.{words_after}
 use Rattle.rom_device.specs.Choice.{possible}
-use Rattle.rom_device.specs.declared.call.Made.{Made}
+use Rattle.rom_device.specs.declared.call.LoggedCall.{LoggedCall}
 use Rattle.rom_device.specs.declared.followed.Followed.{Followed}
 
 -- a log has the newest call first
-pub record IsFollowed (base : List ℕ) (log : List Made) (word : Followed) : Type 0 where
+pub record IsFollowed (base : List ℕ) (log : List LoggedCall) (word : Followed) : Type 0 where
   pub reads : word.reads ≡ slice_index (words_after base log) word.at
   pub count : word.count ≡ length (possible base log word.at)
   pub some : 0 < word.count

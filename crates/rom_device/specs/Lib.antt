@@ -8,6 +8,8 @@ pub mod Followed
 pub mod Trips
 pub mod Memory
 pub mod Fuse
+pub mod Cached
 pub mod File
+pub mod Page
 pub mod Run
 pub mod Windows

@@ -2,8 +2,8 @@
 use Rattle.std.specs.Prelude.{◌≡◌, ℕ, Bool, true, ◌||◌, if◌then◌else◌, List, [], ◌∷◌, ◌++◌, length, reverse, nat_le, is_some, is_none, Option, Some, None, ◌<◌, ◌≤◌, slice_index}
 use Rattle.rom_device.specs.declared.call.CallKind.{CallKind}
 use Rattle.rom_device.specs.declared.call.CallKind as kind
-use Rattle.rom_device.specs.declared.call.Made.{Made}
-use Rattle.rom_device.specs.declared.call.Made.TheVariants.{Read, Write, Sync}
+use Rattle.rom_device.specs.declared.call.LoggedCall.{LoggedCall}
+use Rattle.rom_device.specs.declared.call.LoggedCall.TheVariants.{Read, Write, Sync}
 use Rattle.rom_device.specs.declared.trip.Trip.{Trip}
 use Rattle.rom_device.specs.declared.memory.Memory.{Memory}
 use Rattle.rom_device.specs.Log.{words_after}
@@ -15,7 +15,7 @@ abbrev pub start_of : Memory → List ℕ
 start_of m = m.start.items
 
 -- the calls made since, in order
-abbrev pub calls_of : Memory → List Made
+abbrev pub calls_of : Memory → List LoggedCall
 calls_of m = m.made.items
 
 -- how many calls there is room for
@@ -58,17 +58,17 @@ lands None = true
 lands (Some trip) = trip.keeps_new
 
 -- the call, as it is listed
-abbrev pub read_made : ℕ → Made
+abbrev pub read_made : ℕ → LoggedCall
 read_made at = Read at
 
-abbrev pub write_made : Memory → ℕ → ℕ → Made
+abbrev pub write_made : Memory → ℕ → ℕ → LoggedCall
 write_made m at value = Write at value (lands (trip_of m kind.TheVariants.Write at))
 
-abbrev pub sync_made : Memory → Made
+abbrev pub sync_made : Memory → LoggedCall
 sync_made m = Sync (is_none (trip_of m kind.TheVariants.Sync 0))
 
 -- the calls after one more, which is listed where there is room
-abbrev pub calls_with : Memory → Made → List Made
+abbrev pub calls_with : Memory → LoggedCall → List LoggedCall
 calls_with m made = if is_full m then calls_of m else calls_of m ++ made ∷ []
 
 -- a call changes none of these

@@ -1,18 +1,15 @@
 -- What a contract sees of some adjacent words of a file.
-use Rattle.std.specs.Prelude.{◌≡◌, ◌⊎◌, ℕ, ◌+◌, ◌-◌, ◌%◌, ◌<◌, ◌≢◌, List, take, slice_get, nat_le, nat_lt, ◌&&◌, Option, None, Some, if◌then◌else◌}
+use Rattle.std.specs.Prelude.{◌≡◌, ◌⊎◌, ℕ, ◌+◌, ◌-◌, ◌%◌, ◌<◌, ◌≢◌, nat_le, nat_lt, ◌&&◌, Option, None, Some, if◌then◌else◌}
+use Rattle.rom_device.specs.Page.{word_at}
 use Rattle.rom_device.specs.declared.run.Run.{Run}
 
--- the words, from the first place on
-abbrev pub held_of : Run → List ℕ
-held_of run = take run.count run.cells
-
--- where that place is among them
+-- where that place is among the words
 abbrev pub index_in : Run → ℕ → Option ℕ
 index_in run at = if nat_le run.first at && nat_lt (at - run.first) run.count then Some (at - run.first) else None
 
 -- the word at that place, where the run has it
 abbrev pub word_of : Run → ℕ → Option ℕ
-word_of run at = if nat_le run.first at then slice_get (held_of run) (at - run.first) else None
+word_of run at = if nat_le run.first at && nat_lt (at - run.first) run.count then Some (word_at run.page (at - run.first)) else None
 
 -- That place is the next, there is room for its word, and no page of the file begins there. Each
 -- place is next to no words.

@@ -16,6 +16,10 @@ word_in windows at = first_some (word_of windows.left at) (word_of windows.right
 abbrev pub IsMissed : Windows → ℕ → Type 0
 IsMissed windows at = (word_of windows.left at ≡ None) × (word_of windows.right at ≡ None)
 
+-- one of the windows has this word at that place
+abbrev pub IsRead : Windows → ℕ → ℕ → Type 0
+IsRead windows at word = (word_of windows.left at ≡ Some word) ⊎ (word_of windows.right at ≡ Some word)
+
 -- whatever word a window has is the word that waits, where one waits
 abbrev pub HasSame : Run → Run → Type 0
 HasSame waiting window = (b word seen : ℕ) → word_of waiting b ≡ Some word → word_of window b ≡ Some seen → seen ≡ word

@@ -11,7 +11,7 @@ pub enum CallKind {
 
 /// A call that was made.
 #[derive(Clone, Copy, Debug, PartialEq, Eq)]
-pub enum Made {
+pub enum LoggedCall {
     /// Of the word at that place.
     Read { at: u64 },
     /// Of a value to the word at that place. `lands` says whether the word is that value from then on.
@@ -20,7 +20,7 @@ pub enum Made {
     Sync { done: bool },
 }
 
-impl Made {
+impl LoggedCall {
     ghost use Rattle.rom_device.specs.Log.{kind_of, place_of};
 
     /// What the call did.
@@ -28,13 +28,13 @@ impl Made {
         ensures { result ≡ kind_of self.now }
     {
         match self {
-            Made::Read { at: _ } => CallKind::Read,
-            Made::Write {
+            LoggedCall::Read { at: _ } => CallKind::Read,
+            LoggedCall::Write {
                 at: _,
                 value: _,
                 lands: _,
             } => CallKind::Write,
-            Made::Sync { done: _ } => CallKind::Sync,
+            LoggedCall::Sync { done: _ } => CallKind::Sync,
         }
     }
 
@@ -43,13 +43,13 @@ impl Made {
         ensures { result ≡ place_of self.now }
     {
         match self {
-            Made::Read { at } => *at,
-            Made::Write {
+            LoggedCall::Read { at } => *at,
+            LoggedCall::Write {
                 at,
                 value: _,
                 lands: _,
             } => *at,
-            Made::Sync { done: _ } => 0,
+            LoggedCall::Sync { done: _ } => 0,
         }
     }
 }

@@ -1,63 +1,27 @@
-//! The words of a file.
-ghost use Rattle.std.specs.Prelude.{◌≡◌, ◌≢◌, ◌+◌, ◌*◌, ◌/◌, ◌<◌, ◌≤◌, ◌^◌, ℕ, Some, None, IfSome, IsTrue, IsFalse, is_none};
-ghost use Rattle.std.specs.Bool.{OnTrue, OnFalse};
-ghost use Rattle.rom_device.specs.Run.{word_of, Follows};
-ghost use Rattle.rom_device.specs.Windows.{word_in, Agrees, IsApart, IsMissed};
+//! A device over a file.
+ghost use Rattle.std.specs.Prelude.{◌≡◌, ◌*◌, ◌/◌, ◌<◌, ◌^◌, IsTrue, IsFalse, is_none};
 
+use crate::cached::CachedFile;
 use crate::device::{Device, Failed};
-use crate::run::{RUN_BYTES, RUN_WORDS, Run};
-use crate::windows::Windows;
 use std::fs::File;
-use std::os::unix::fs::FileExt;
 
-/// The words of a file, the lowest byte first. It tells nothing of what the file holds.
+/// The words of a file, 8 bytes each, the lowest first. It tells nothing of what the file holds.
 ///
-/// It reads ahead, 512 words at two places, and gathers up to 512 adjacent words that are written
-/// one after another, to hand them over in one call. So a write promises no more than that the
-/// word reads so from now on, and a sync alone makes it certain. What could not be handed over
-/// still reads as written, and is tried again.
-///
-/// Whatever word waits and was also read ahead is the same at both places, so a read looks in the
-/// windows first. `apart` says that no window meets the page that is being written: then the next
-/// word of it is only put behind the others.
+/// Words are read ahead, and written words are gathered before they are handed over. So a write
+/// promises no more than that the word reads so from now on, and a sync alone makes it certain.
+/// Once a sync of the file has failed, each later sync of the device fails. Where the device is let
+/// go, what waits is handed over, and no sync has promised it.
+#[derive(Drop)]
 pub struct FileDevice {
-    file: Option<File>,
-    len: u64,
-    windows: Windows,
-    pending: Run,
-    apart: bool,
-    scratch: [u8; RUN_BYTES],
-    unsure: bool,
+    words: CachedFile,
     failed: u64,
     writes: u64,
     syncs: u64,
-    ghost small: { len * 8 < 2 ^ 64 },
     ghost fits: { failed < 2 ^ 64 },
-    ghost inside: { pending.first + pending.count ≤ len },
-    ghost agree: { Agrees pending windows },
-    ghost by_itself: { IsTrue apart → IsFalse (is_none file) × (0 < pending.count) × IsApart pending windows },
-    ghost none_read: { IsTrue (is_none file) → (b : ℕ) → word_in windows b ≡ None },
-}
-
-// Hands these words over in one call.
-fn write_run(file: &File, run: &Run, scratch: &mut [u8; RUN_BYTES]) -> bool
-    requires { run.now.first * 8 < 2 ^ 64 }
-{
-    let bytes = run.bytes(scratch);
-    file.write_all_at(bytes, run.first() * 8).is_ok()
-}
-
-// Reads so many words, from that place on, to the head of these bytes.
-fn read_words(file: &File, at: u64, count: usize, scratch: &mut [u8; RUN_BYTES]) -> bool
-    requires place { at * 8 < 2 ^ 64 }
-    requires room { count ≤ 512 }
-{
-    let bytes = &mut scratch[..count * 8];
-    file.read_exact_at(bytes, at * 8).is_ok()
 }
 
 impl FileDevice {
-    ghost use Rattle.rom_device.specs.File.{length_of, fault_count_of, is_missing, KeepsCounts};
+    ghost use Rattle.rom_device.specs.File.{length_of, fault_count_of, is_missing, has_failed_sync};
 
     /// The words of an open file of so many bytes. A rest of less than a word is no part of them.
     /// The device keeps that length, whatever becomes of the file's.
@@ -65,6 +29,7 @@ impl FileDevice {
         ensures length { length_of result ≡ bytes / 8 }
         ensures faults { fault_count_of result ≡ 0 }
         ensures there { IsFalse (is_missing result) }
+        ensures synced { IsFalse (has_failed_sync result) }
     {
         FileDevice::of(Some(file), bytes / 8)
     }
@@ -80,206 +45,27 @@ impl FileDevice {
 
     fn of(file: Option<File>, len: u64) -> FileDevice
         requires { len * 8 < 2 ^ 64 }
-        ensures len { result.len ≡ len }
-        ensures failed { result.failed ≡ 0 }
+        ensures len { length_of result ≡ len }
+        ensures failed { fault_count_of result ≡ 0 }
         ensures file { is_missing result ≡ is_none file }
+        ensures synced { IsFalse (has_failed_sync result) }
     {
         FileDevice {
-            file,
-            len,
-            windows: Windows::empty(),
-            pending: Run::empty(),
-            apart: false,
-            scratch: [0; RUN_BYTES],
-            unsure: false,
+            words: CachedFile::new(file, len),
             failed: 0,
             writes: 0,
             syncs: 0,
         }
     }
-
-    // Hands over what waits. `false` says that it still waits.
-    #[inline(never)]
-    fn hand_over(&mut self) -> bool
-        ensures handed { OnTrue result (self.new.pending.count ≡ 0) }
-        ensures none { OnTrue result ((b : ℕ) → word_of self.new.pending b ≡ None) }
-        ensures kept { OnFalse result (self.new.pending ≡ self.old.pending) }
-        ensures windows { self.new.windows ≡ self.old.windows }
-        ensures rest { KeepsCounts self.old self.new }
-    {
-        if self.pending.is_empty() {
-            return true;
-        }
-        let Some(file) = &self.file else {
-            return false;
-        };
-        if !write_run(file, &self.pending, &mut self.scratch) {
-            return false;
-        }
-        self.pending.clear();
-        self.apart = false;
-        true
-    }
-
-    // Reads ahead from a place that no window has.
-    fn read_ahead(&mut self, at: u64) -> Option<u64>
-        requires inside { at < self.old.len }
-        requires missed { IsMissed self.old.windows at }
-        requires clear { (b : ℕ) → at ≤ b → b < at + 512 → word_of self.old.pending b ≡ None }
-        ensures read { IfSome result (λ word. word_in self.new.windows at ≡ Some word) }
-        ensures rest { KeepsCounts self.old self.new }
-        ensures pending { self.new.pending ≡ self.old.pending }
-    {
-        let count = (self.len - at).min(RUN_WORDS as u64) as usize;
-        let file = self.file.as_ref()?;
-        if !read_words(file, at, count, &mut self.scratch) {
-            return None;
-        }
-        self.windows.load(at, &self.scratch[..count * 8]);
-        self.apart = self.apart && !self.windows.meet(self.pending.first());
-        self.windows.get(at)
-    }
-
-    // The word at a place that no window has: as it waits, or else as the file has it.
-    #[cold]
-    #[inline(never)]
-    fn find_afresh(&mut self, at: u64) -> Option<u64>
-        requires inside { at < self.old.len }
-        requires missed { IsMissed self.old.windows at }
-        ensures rest { KeepsCounts self.old self.new }
-        ensures waits { IsFalse (is_missing self.old) → IfSome (word_of self.old.pending at) (λ word. result ≡ Some word) }
-        ensures missing { IsTrue (is_missing self.old) → result ≡ None }
-    {
-        if self.file.is_none() {
-            return None;
-        }
-        let waits = self.pending.get(at);
-        if waits.is_some() {
-            return waits;
-        }
-        // Words that wait elsewhere may go on waiting, and so fill their page.
-        if self.pending.meets(at) && !self.hand_over() {
-            return None;
-        }
-        self.read_ahead(at)
-    }
-
-    // The word at that place: as it was read ahead, as it waits, or else as the file has it.
-    #[inline(always)]
-    fn find(&mut self, at: u64) -> Option<u64>
-        requires { at < self.old.len }
-        ensures rest { KeepsCounts self.old self.new }
-        ensures waits { IsFalse (is_missing self.old) → IfSome (word_of self.old.pending at) (λ word. result ≡ Some word) }
-        ensures window { IfSome (word_in self.old.windows at) (λ word. result ≡ Some word) }
-        ensures missing { IsTrue (is_missing self.old) → result ≡ None }
-    {
-        if let Some(word) = self.windows.get(at) {
-            return Some(word);
-        }
-        self.find_afresh(at)
-    }
-
-    // Hands over what waits, unless the word at that place is the next. `false` says that it still
-    // waits.
-    fn make_room(&mut self, at: u64) -> bool
-        ensures follows { OnTrue result (Follows self.new.pending at) }
-        ensures others { (b : ℕ) → word_of self.old.pending b ≡ None → word_of self.new.pending b ≡ None }
-        ensures kept { OnFalse result (self.new.pending ≡ self.old.pending) }
-        ensures windows { self.new.windows ≡ self.old.windows }
-        ensures rest { KeepsCounts self.old self.new }
-    {
-        if self.pending.is_next(at) {
-            return true;
-        }
-        self.hand_over()
-    }
-
-    // Notes whether the words that wait are on a page that no window meets.
-    fn note_apart(&mut self)
-        ensures pending { self.new.pending ≡ self.old.pending }
-        ensures windows { self.new.windows ≡ self.old.windows }
-        ensures rest { KeepsCounts self.old self.new }
-    {
-        self.apart = self.file.is_some()
-            && !self.pending.is_empty()
-            && !self.windows.meet(self.pending.first());
-    }
-
-    // Keeps a word wherever it stands: in its place among those that wait, as the next of them, or
-    // once these were handed over.
-    #[cold]
-    #[inline(never)]
-    fn keep_anywhere(&mut self, at: u64, value: u64) -> bool
-        requires { at < self.old.len }
-        ensures waits { OnTrue result (word_of self.new.pending at ≡ Some value) }
-        ensures window { OnTrue result (IfSome (word_in self.new.windows at) (λ word. word ≡ value)) }
-        ensures others { (b : ℕ) → b ≢ at → word_in self.new.windows b ≡ word_in self.old.windows b }
-        ensures kept { OnFalse result (self.new.pending ≡ self.old.pending) }
-        ensures stays { OnFalse result (self.new.windows ≡ self.old.windows) }
-        ensures rest { KeepsCounts self.old self.new }
-        ensures missing { IsTrue (is_missing self.old) → IsFalse result }
-    {
-        if self.file.is_none() {
-            return false;
-        }
-        if self.pending.set(at, value) {
-            self.windows.set(at, value);
-            return true;
-        }
-        if !self.make_room(at) {
-            return false;
-        }
-        self.pending.append(at, value);
-        self.windows.set(at, value);
-        self.note_apart();
-        true
-    }
-
-    // Keeps a written word until it is handed over. `false` says that there was no place for it,
-    // and then the word stays as it was.
-    #[inline(always)]
-    fn keep(&mut self, at: u64, value: u64) -> bool
-        requires { at < self.old.len }
-        ensures waits { OnTrue result (word_of self.new.pending at ≡ Some value) }
-        ensures window { OnTrue result (IfSome (word_in self.new.windows at) (λ word. word ≡ value)) }
-        ensures others { (b : ℕ) → b ≢ at → word_in self.new.windows b ≡ word_in self.old.windows b }
-        ensures kept { OnFalse result (self.new.pending ≡ self.old.pending) }
-        ensures stays { OnFalse result (self.new.windows ≡ self.old.windows) }
-        ensures rest { KeepsCounts self.old self.new }
-        ensures missing { IsTrue (is_missing self.old) → IsFalse result }
-    {
-        if self.apart && self.pending.goes_on(at) {
-            self.pending.push(at, value);
-            return true;
-        }
-        self.keep_anywhere(at, value)
-    }
-
-    // Makes all words certain. After a sync of the file that failed the system may have dropped
-    // what it could not write, and answer the next one with success. So none is believed then.
-    fn make_certain(&mut self) -> bool
-        ensures rest { KeepsCounts self.old self.new }
-        ensures handed { OnTrue result (self.new.pending.count ≡ 0) }
-        ensures missing { IsTrue (is_missing self.old) → IsFalse result }
-    {
-        if self.unsure || !self.hand_over() {
-            return false;
-        }
-        let Some(file) = &self.file else {
-            return false;
-        };
-        self.unsure = file.sync_data().is_err();
-        !self.unsure
-    }
 }
 
 impl Device for FileDevice {
-    ghost use Rattle.std.specs.Prelude.{◌≡◌, ◌*◌, ◌<◌, ◌^◌, IsTrue, IsErr, false, [], is_err, if◌then◌else◌};
-    ghost use Rattle.rom_model.specs.Faults.{HasCause, counted};
-    ghost use Rattle.rom_device.specs.File.{length_of, fault_count_of, is_missing};
+    ghost use Rattle.std.specs.Prelude.{◌≡◌, ◌⊎◌, ◌+◌, ◌*◌, ◌<◌, ◌≤◌, ◌^◌, length, min, nat_lt, IsTrue, IsFalse, IsErr, OnOk, OnErr, false, [], is_err, if◌then◌else◌};
+    ghost use Rattle.rom_model.specs.Faults.{HasCause, LAST, Rose, counted};
+    ghost use Rattle.rom_device.specs.File.{length_of, fault_count_of, is_missing, has_failed_sync, has_waiting};
     ghost use Rattle.std.proofs.Common.{arith};
 
-    ghost size = { λ f. f.len };
+    ghost size = { λ f. f.words.len };
 
     ghost tells_words = { false };
 
@@ -300,7 +86,7 @@ impl Device for FileDevice {
     ghost syncs = { λ f. f.syncs };
 
     fn len(&self) -> u64 {
-        self.len
+        self.words.len()
     }
 
     fn fault_count(&self) -> u64 {
@@ -316,12 +102,39 @@ impl Device for FileDevice {
         ensures cause { HasCause (⟦<FileDevice as Device>⟧.faults self.old) (⟦<FileDevice as Device>⟧.faults self.new) result }
         ensures faults { fault_count_of self.new ≡ (if is_err result then counted (fault_count_of self.old) else fault_count_of self.old) }
         ensures missing { IsTrue (is_missing self.old) → IsErr result × IsTrue (is_missing self.new) }
+        ensures failed_sync { has_failed_sync self.new ≡ has_failed_sync self.old }
     {
-        let Some(word) = self.find(at) else {
+        let Some(word) = self.words.find(at) else {
             self.failed = self.failed.saturating_add(1);
             return Err(Failed);
         };
         Ok(word)
+    }
+
+    fn read_words(&mut self, at: u64, into: &mut [u64]) -> usize
+        requires { at + length into.old ≤ length_of self.old }
+        ensures most { result ≤ length into.old }
+        ensures len { length into.new ≡ length into.old }
+        ensures size { ⟦<FileDevice as Device>⟧.size self.new ≡ ⟦<FileDevice as Device>⟧.size self.old }
+        ensures writes { ⟦<FileDevice as Device>⟧.writes self.new ≡ ⟦<FileDevice as Device>⟧.writes self.old }
+        ensures syncs { ⟦<FileDevice as Device>⟧.syncs self.new ≡ ⟦<FileDevice as Device>⟧.syncs self.old }
+        ensures later { ⟦<FileDevice as Device>⟧.faults self.old ≤ ⟦<FileDevice as Device>⟧.faults self.new }
+        ensures cause { result < length into.old → Rose (⟦<FileDevice as Device>⟧.faults self.old) (⟦<FileDevice as Device>⟧.faults self.new) }
+        ensures faults { fault_count_of self.new ≡ (if nat_lt result (length into.old) then counted (fault_count_of self.old) else fault_count_of self.old) }
+        ensures missing { IsTrue (is_missing self.old) → (result ≡ 0) × IsTrue (is_missing self.new) }
+        ensures failed_sync { has_failed_sync self.new ≡ has_failed_sync self.old }
+    {
+        let mut done = 0;
+        while done < into.len() {
+            let Ok(word) = self.read(at + done as u64) else {
+                return done;
+            };
+            into[done] = word;
+            done += 1;
+            // What was read ahead with it needs no look of its own.
+            done += self.words.copy(at + done as u64, &mut into[done..]);
+        }
+        done
     }
 
     #[inline(always)]
@@ -333,11 +146,29 @@ impl Device for FileDevice {
         ensures cause { HasCause (⟦<FileDevice as Device>⟧.faults self.old) (⟦<FileDevice as Device>⟧.faults self.new) result }
         ensures faults { fault_count_of self.new ≡ (if is_err result then counted (fault_count_of self.old) else fault_count_of self.old) }
         ensures missing { IsTrue (is_missing self.old) → IsErr result × IsTrue (is_missing self.new) }
+        ensures failed_sync { has_failed_sync self.new ≡ has_failed_sync self.old }
     {
         self.writes = self.writes.saturating_add(1);
-        if !self.keep(at, value) {
+        if !self.words.keep(at, value) {
             self.failed = self.failed.saturating_add(1);
             return Err(Failed);
+        }
+        Ok(())
+    }
+
+    fn write_words(&mut self, at: u64, values: &[u64]) -> Result<(), Failed>
+        requires { at + length values.now ≤ length_of self.old }
+        ensures size { ⟦<FileDevice as Device>⟧.size self.new ≡ ⟦<FileDevice as Device>⟧.size self.old }
+        ensures writes { OnOk result (min (⟦<FileDevice as Device>⟧.writes self.new) LAST ≡ min (⟦<FileDevice as Device>⟧.writes self.old + length values.now) LAST) }
+        ensures most_writes { ⟦<FileDevice as Device>⟧.writes self.new ≤ ⟦<FileDevice as Device>⟧.writes self.old + length values.now }
+        ensures syncs { ⟦<FileDevice as Device>⟧.syncs self.new ≡ ⟦<FileDevice as Device>⟧.syncs self.old }
+        ensures cause { HasCause (⟦<FileDevice as Device>⟧.faults self.old) (⟦<FileDevice as Device>⟧.faults self.new) result }
+        ensures faults { fault_count_of self.new ≡ (if is_err result then counted (fault_count_of self.old) else fault_count_of self.old) }
+        ensures missing { IsTrue (is_missing self.old) → 0 < length values.now → IsErr result × IsTrue (is_missing self.new) }
+        ensures failed_sync { has_failed_sync self.new ≡ has_failed_sync self.old }
+    {
+        for index in 0..values.len() {
+            self.write(at + index as u64, values[index])?;
         }
         Ok(())
     }
@@ -349,9 +180,12 @@ impl Device for FileDevice {
         ensures cause { HasCause (⟦<FileDevice as Device>⟧.faults self.old) (⟦<FileDevice as Device>⟧.faults self.new) result }
         ensures faults { fault_count_of self.new ≡ (if is_err result then counted (fault_count_of self.old) else fault_count_of self.old) }
         ensures missing { IsTrue (is_missing self.old) → IsErr result × IsTrue (is_missing self.new) }
+        ensures failed_sync { IsTrue (has_failed_sync self.old) → IsErr result × IsTrue (has_failed_sync self.new) }
+        ensures synced { OnOk result (IsFalse (has_failed_sync self.new)) }
+        ensures noted { OnErr result (IsTrue (is_missing self.old) ⊎ IsTrue (has_waiting self.new) ⊎ IsTrue (has_failed_sync self.new)) }
     {
         self.syncs = self.syncs.saturating_add(1);
-        if !self.make_certain() {
+        if !self.words.sync() {
             self.failed = self.failed.saturating_add(1);
             return Err(Failed);
         }
@@ -370,30 +204,7 @@ impl Device for FileDevice {
 
     ghost only_now = { λ _ _ _ _. tt };
 
-    ghost size_fits = { λ f. Prim.omega (arith, f.small) };
+    ghost size_fits = { λ f. Prim.omega (arith, f.words.small) };
 
     ghost faults_fit = { λ f. f.fits };
-}
-
-/// Hands over what waits, as far as the file takes it. No sync has promised it.
-impl Drop for FileDevice {
-    fn drop(self) {
-        let FileDevice {
-            file,
-            len: _,
-            windows: _,
-            pending,
-            apart: _,
-            mut scratch,
-            unsure: _,
-            failed: _,
-            writes: _,
-            syncs: _,
-        } = self;
-        if let Some(file) = &file {
-            if !pending.is_empty() {
-                let _ = write_run(file, &pending, &mut scratch);
-            }
-        }
-    }
 }

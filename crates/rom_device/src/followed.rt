@@ -1,9 +1,9 @@
 //! The values that a stop may leave in one word of a memory device.
 ghost use Rattle.std.specs.Prelude.{◌≡◌, ◌+◌, ◌<◌, ◌^◌, [], ◌∷◌, ℕ, List, length, reverse};
 ghost use Rattle.rom_device.specs.Choice.{picked};
-ghost use Rattle.rom_device.specs.declared.call.Made.{Made};
+ghost use Rattle.rom_device.specs.declared.call.LoggedCall.{LoggedCall};
 
-use crate::call::Made;
+use crate::call::LoggedCall;
 
 /// A word as the calls made go by: what it reads, how many values a stop may leave in it, and the
 /// one of these of a given number, once there are so many. They are the last synced value and then
@@ -38,14 +38,14 @@ impl Followed {
     }
 
     // The word after a call.
-    fn after(self, call: Made) -> Followed
+    fn after(self, call: LoggedCall) -> Followed
         requires { self.count + 1 < 2 ^ 64 }
         ensures at { result.at ≡ self.at }
         ensures number { result.number ≡ self.number }
-        ensures followed { (base : List ℕ) (log : List Made) → self.at < length base → IsFollowed base log self → IsFollowed base (call ∷ log) result }
+        ensures followed { (base : List ℕ) (log : List LoggedCall) → self.at < length base → IsFollowed base log self → IsFollowed base (call ∷ log) result }
     {
         match call {
-            Made::Write { at, value, lands } if at == self.at => Followed {
+            LoggedCall::Write { at, value, lands } if at == self.at => Followed {
                 reads: if lands { value } else { self.reads },
                 count: self.count + 1,
                 value: if self.count == self.number {
@@ -55,7 +55,7 @@ impl Followed {
                 },
                 ..self
             },
-            Made::Sync { done: true } => Followed {
+            LoggedCall::Sync { done: true } => Followed {
                 count: 1,
                 value: self.reads,
                 ..self
@@ -65,7 +65,7 @@ impl Followed {
     }
 
     // The word after all these calls.
-    fn through(start: &[u64], made: &[Made], at: u64, number: u64) -> Followed
+    fn through(start: &[u64], made: &[LoggedCall], at: u64, number: u64) -> Followed
         requires { at < length start.now }
         ensures at { result.at ≡ at }
         ensures number { result.number ≡ number }
@@ -80,7 +80,7 @@ impl Followed {
 }
 
 /// The possible value of that number of the word at that place, modulo how many there are.
-pub fn picked_value(start: &[u64], made: &[Made], at: u64, number: u64) -> u64
+pub fn picked_value(start: &[u64], made: &[LoggedCall], at: u64, number: u64) -> u64
     requires { at < length start.now }
     ensures { result ≡ picked start.now (reverse made.now) at number }
 {

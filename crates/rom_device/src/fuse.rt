@@ -5,7 +5,8 @@ ghost use Rattle.rom_model.specs.Faults.{HasCause, counted};
 use crate::device::{Device, Failed};
 
 /// A device that passes so many reads, writes and syncs on, and then fails each without passing
-/// it on. Every other answer is that of the device within, whose faults count too.
+/// it on. Each word of `read_words` and `write_words` is a call. Every other answer is that of the
+/// device within, whose faults count too.
 #[derive(Drop)]
 pub struct Fuse<D> {
     inner: D,

@@ -1,29 +1,31 @@
 //! Devices of 64-bit words, and what a stop may leave of them.
 //!
-//! A device is read and written one word at a time and made certain by a sync. The contract of
-//! `Device` says what each call does to the words, which images a stop during or after it may
-//! leave, and that a call fails only where the device's own count of faults rose. `specs/Device`
-//! has those rules for one call, a loop and a whole function alike, and `proofs/Going` the lemmas
-//! by which runs of calls are joined.
+//! A device is read and written word by word, one or many at a call, and made certain by a sync.
+//! The contract of `Device` says what each call does to the words, which images a stop during or
+//! after it may leave, and that a call fails only where the device's own count of faults rose.
+//! `specs/Device` has those rules for one call, a loop and a whole function alike, and
+//! `proofs/Going` the lemmas by which runs of calls are joined.
 //!
-//! `Ram` never fails. `Memory` fails exactly where it is told to, and a crash of it gives each
-//! image that a stop may leave, and no other. `Fuse` fails from some call on. `FileDevice` has the
-//! words of a file, and of these no contract speaks: that the file keeps what it was given, and
-//! that its sync makes it certain, is taken on trust.
+//! `Ram` never fails. `Memory` fails exactly where it is told to or its room is used up, and a crash
+//! of it gives each image that a stop may leave, and no other. `Fuse` fails from some call on.
+//! `FileDevice` has the words of a file, and of these no contract speaks: that the file keeps what
+//! it was given, and that its sync makes it certain, is taken on trust.
 #![tactic(auto)]
 
+mod cached;
 mod call;
 mod device;
 mod file;
 mod followed;
 mod fuse;
 mod memory;
+mod page;
 mod ram;
 mod run;
 mod trip;
 mod windows;
 
-pub use call::{CallKind, Made};
+pub use call::{CallKind, LoggedCall};
 pub use device::{Device, Failed};
 pub use file::FileDevice;
 pub use fuse::Fuse;
@@ -31,5 +33,7 @@ pub use memory::Memory;
 pub use ram::Ram;
 pub use trip::Trip;
 
+#[cfg(test)]
+mod file_tests;
 #[cfg(test)]
 mod tests;

@@ -6,7 +6,7 @@ ghost use Rattle.rom_device.specs.Device.{Runs, Stays, Writes};
 ghost use Rattle.rom_device.specs.Log.{words_after};
 ghost use Rattle.rom_device.specs.Trips.{trip_at};
 
-use crate::call::{CallKind, Made};
+use crate::call::{CallKind, LoggedCall};
 use crate::device::{Device, Failed};
 use crate::followed::picked_value;
 use crate::trip::Trip;
@@ -21,7 +21,7 @@ use std::alloc::{AllocError, Global};
 pub struct Memory {
     start: Vec<u64>,
     words: Vec<u64>,
-    made: Vec<Made>,
+    made: Vec<LoggedCall>,
     room: u64,
     trips: Vec<Trip>,
     faults: u64,
@@ -36,7 +36,7 @@ pub struct Memory {
 }
 
 // Lists a call. `false` says that there was no room for it.
-fn list(made: &mut Vec<Made>, room: u64, call: Made) -> bool
+fn list(made: &mut Vec<LoggedCall>, room: u64, call: LoggedCall) -> bool
     requires within { vec_len made.old ≤ room }
     requires reserved { room ≤ vec_capacity made.old }
     ensures listed { IsTrue result ↔ (vec_len made.old < room) }
@@ -49,7 +49,7 @@ fn list(made: &mut Vec<Made>, room: u64, call: Made) -> bool
 }
 
 // The trip by which such a call fails.
-fn trip_among(trips: &[Trip], made: &[Made], call: CallKind, at: u64) -> Option<Trip>
+fn trip_among(trips: &[Trip], made: &[LoggedCall], call: CallKind, at: u64) -> Option<Trip>
     ensures { result ≡ trip_at trips.now made.now call at }
 {
     for trip in trips {
@@ -183,7 +183,7 @@ impl Device for Memory {
         ensures rest { KeepsRest self.old self.new }
     {
         let tripped = trip_among(&self.trips, &self.made, CallKind::Read, at).is_some();
-        if !list(&mut self.made, self.room, Made::Read { at }) || tripped {
+        if !list(&mut self.made, self.room, LoggedCall::Read { at }) || tripped {
             self.faults = self.faults.saturating_add(1);
             return Err(Failed);
         }
@@ -208,7 +208,11 @@ impl Device for Memory {
         self.writes = self.writes.saturating_add(1);
         let trip = trip_among(&self.trips, &self.made, CallKind::Write, at);
         let lands = trip.is_none_or(|trip| trip.keeps_new);
-        if !list(&mut self.made, self.room, Made::Write { at, value, lands }) {
+        if !list(
+            &mut self.made,
+            self.room,
+            LoggedCall::Write { at, value, lands },
+        ) {
             self.faults = self.faults.saturating_add(1);
             return Err(Failed);
         }
@@ -238,7 +242,7 @@ impl Device for Memory {
     {
         self.syncs = self.syncs.saturating_add(1);
         let done = trip_among(&self.trips, &self.made, CallKind::Sync, 0).is_none();
-        if !list(&mut self.made, self.room, Made::Sync { done }) || !done {
+        if !list(&mut self.made, self.room, LoggedCall::Sync { done }) || !done {
             self.faults = self.faults.saturating_add(1);
             return Err(Failed);
         }

@@ -1,42 +1,39 @@
 //! Some adjacent words of a file.
-ghost use Rattle.std.specs.Prelude.{◌≡◌, ◌+◌, ◌-◌, ◌*◌, ◌/◌, ◌<◌, ◌≤◌, ◌^◌, [], ◌∷◌, ◌++◌, length, IsTrue, ◌↔◌, IsSome, Some, None, ℕ, ◌≢◌, flat_map};
+ghost use Rattle.std.specs.Prelude.{◌≡◌, ◌+◌, ◌-◌, ◌*◌, ◌<◌, ◌≤◌, ◌^◌, IsTrue, ◌↔◌, IsSome, Some, None, ℕ, ◌≢◌, length, slice_index};
 ghost use Rattle.std.specs.Bool.{OnTrue, OnFalse};
-ghost use Rattle.byteorder.specs.Endian.{IsRead, little_bytes, little_number};
 
-use byteorder::{ByteOrder, LittleEndian};
+use crate::page::{PAGE_WORDS, Page};
+use std::fs::File;
+use std::os::unix::fs::FileExt;
 
-/// How many words a run has at most.
-pub const RUN_WORDS: usize = 512;
-
-/// How many bytes these are.
-pub const RUN_BYTES: usize = 4096;
-
-/// At most 512 adjacent words of a file, from the place `first` on. These are as many as a page of
-/// the file has.
+/// At most 512 adjacent words of a file, from the place `first` on: as many as a page of the file
+/// has. They are the first words of `page`.
 #[derive(Drop)]
 pub struct Run {
     first: u64,
     count: usize,
-    cells: [u64; RUN_WORDS],
+    page: Page,
     ghost within: { count ≤ 512 },
     ghost low: { first + count ≤ 2 ^ 64 },
 }
 
 impl Run {
-    ghost use Rattle.rom_device.specs.Run.{held_of, index_in, word_of, Follows};
+    ghost use Rattle.rom_device.specs.Run.{index_in, word_of, Follows};
 
+    /// No words.
     pub fn empty() -> Run
         ensures first { result.first ≡ 0 }
-        ensures none { held_of result ≡ [] }
+        ensures count { result.count ≡ 0 }
         ensures words { (b : ℕ) → word_of result b ≡ None }
     {
         Run {
             first: 0,
             count: 0,
-            cells: [0; RUN_WORDS],
+            page: Page::zeroed(),
         }
     }
 
+    /// Whether it has no words.
     pub fn is_empty(&self) -> bool
         ensures empty { IsTrue result ↔ (self.now.count ≡ 0) }
         ensures words { OnTrue result ((b : ℕ) → word_of self.now b ≡ None) }
@@ -64,7 +61,22 @@ impl Run {
         ensures { result ≡ word_of self.now at }
     {
         let index = self.index_of(at)?;
-        Some(self.cells[index])
+        Some(self.page.get(index))
+    }
+
+    /// Puts the words from that place on into these places, as many as it has of them, and says how
+    /// many these are.
+    pub fn copy(&self, at: u64, into: &mut [u64]) -> usize
+        ensures most { result ≤ length into.old }
+        ensures len { length into.new ≡ length into.old }
+        ensures words { (k : ℕ) → k < result → word_of self.now (at + k) ≡ Some (slice_index into.new k) }
+    {
+        let Some(index) = self.index_of(at) else {
+            return 0;
+        };
+        let count = (self.count - index).min(into.len());
+        self.page.copy(index, &mut into[..count]);
+        count
     }
 
     /// Whether it has any of the 512 words from that place on.
@@ -73,10 +85,10 @@ impl Run {
     {
         !self.is_empty()
             && at.saturating_sub(self.first) < self.count as u64
-            && self.first.saturating_sub(at) < RUN_WORDS as u64
+            && self.first.saturating_sub(at) < PAGE_WORDS as u64
     }
 
-    /// Replaces the word at that place, if the run has it.
+    /// Replaces the word at that place. `false` says that the run does not have it.
     #[inline(always)]
     pub fn set(&mut self, at: u64, value: u64) -> bool
         ensures had { IsTrue result ↔ IsSome (word_of self.old at) }
@@ -89,7 +101,7 @@ impl Run {
         let Some(index) = self.index_of(at) else {
             return false;
         };
-        self.cells[index] = value;
+        self.page.set(index, value);
         true
     }
 
@@ -111,8 +123,8 @@ impl Run {
         ensures room { OnTrue result (self.now.count < 512) }
         ensures place { OnTrue result (self.now.first + self.now.count ≡ at) }
     {
-        self.count < RUN_WORDS
-            && at % RUN_WORDS as u64 != 0
+        self.count < PAGE_WORDS
+            && at % PAGE_WORDS as u64 != 0
             && at.wrapping_sub(self.first) == self.count as u64
     }
 
@@ -121,20 +133,18 @@ impl Run {
     pub fn push(&mut self, at: u64, value: u64)
         requires room { self.old.count < 512 }
         requires place { self.old.first + self.old.count ≡ at }
-        ensures added { held_of self.new ≡ held_of self.old ++ value ∷ [] }
         ensures word { word_of self.new at ≡ Some value }
         ensures others { (b : ℕ) → b ≢ at → word_of self.new b ≡ word_of self.old b }
         ensures first { self.new.first ≡ self.old.first }
         ensures count { self.new.count ≡ self.old.count + 1 }
     {
-        self.cells[self.count] = value;
+        self.page.set(self.count, value);
         self.count += 1;
     }
 
     /// Adds the next word.
     pub fn append(&mut self, at: u64, value: u64)
         requires { Follows self.old at }
-        ensures added { held_of self.new ≡ held_of self.old ++ value ∷ [] }
         ensures word { word_of self.new at ≡ Some value }
         ensures others { (b : ℕ) → b ≢ at → word_of self.new b ≡ word_of self.old b }
         ensures first { self.new.first + self.old.count ≡ at }
@@ -149,7 +159,6 @@ impl Run {
     /// Forgets the words.
     pub fn clear(&mut self)
         ensures first { self.new.first ≡ 0 }
-        ensures none { held_of self.new ≡ [] }
         ensures words { (b : ℕ) → word_of self.new b ≡ None }
         ensures count { self.new.count ≡ 0 }
     {
@@ -157,33 +166,32 @@ impl Run {
         self.count = 0;
     }
 
-    /// Has the words in these bytes, the lowest byte first, from that place on instead.
-    pub fn load(&mut self, first: u64, bytes: &[u8])
-        requires whole { length bytes.now ≡ 8 * (length bytes.now / 8) }
-        requires room { length bytes.now ≤ 4096 }
-        requires low { first + length bytes.now / 8 ≤ 2 ^ 64 }
-        ensures first { self.new.first ≡ first }
-        ensures count { self.new.count ≡ length bytes.now / 8 }
-        ensures words { IsRead little_number 8 bytes.now (held_of self.new) }
-        ensures word { 8 ≤ length bytes.now → word_of self.new first ≡ Some (little_number 8 bytes.now) }
+    /// Reads so many words of a file, from that place on, in place of those that it had. `false` says
+    /// that the file failed, and then it has none.
+    pub fn read(&mut self, file: &File, first: u64, count: usize) -> bool
+        requires place { first * 8 < 2 ^ 64 }
+        requires room { count ≤ 512 }
+        requires low { first + count ≤ 2 ^ 64 }
+        ensures there { OnTrue result ((self.new.first ≡ first) × (self.new.count ≡ count)) }
+        ensures none { OnFalse result (self.new.count ≡ 0) }
         ensures before { (b : ℕ) → b < first → word_of self.new b ≡ None }
         ensures behind { (b : ℕ) → first + 512 ≤ b → word_of self.new b ≡ None }
     {
-        let count = bytes.len() / 8;
-        for index in 0..count {
-            self.cells[index] = LittleEndian::read_u64(&bytes[8 * index..]);
+        self.clear();
+        if !self.page.read(file, first, count) {
+            return false;
         }
         self.first = first;
         self.count = count;
+        true
     }
 
-    /// Writes the words to these bytes, the lowest byte first, and gives those that it wrote.
-    pub fn bytes<'a>(&self, bytes: &'a mut [u8; RUN_BYTES]) -> &'a [u8]
-        ensures { result.now ≡ flat_map (little_bytes 8) (held_of self.now) }
+    /// Hands the words over to a file in one call. `false` says that the file failed.
+    pub fn write(&self, file: &File) -> bool
+        requires { self.now.first * 8 < 2 ^ 64 }
     {
-        let used = &mut bytes[..self.count * 8];
-        LittleEndian::write_u64_into(&self.cells[..self.count], used);
-        used
+        file.write_all_at(self.page.head(self.count), self.first * 8)
+            .is_ok()
     }
 
     /// The place of the first word, or 0 where there is none.

@@ -2,7 +2,7 @@
 ghost use Rattle.std.specs.Prelude.{◌≡◌};
 ghost use Rattle.rom_device.specs.Trips.{covers, fires};
 
-use crate::call::{CallKind, Made};
+use crate::call::{CallKind, LoggedCall};
 
 /// The `nth` call of that kind, counted from 1, fails. Of reads and writes only those of the words
 /// `from` to `to - 1` count. A write that fails leaves the new value where `keeps_new`, else the
@@ -31,7 +31,7 @@ impl Trip {
     }
 
     /// Whether such a call fails, where these were made before it.
-    pub fn fires(&self, made: &[Made], call: CallKind, at: u64) -> bool
+    pub fn fires(&self, made: &[LoggedCall], call: CallKind, at: u64) -> bool
         ensures { result ≡ fires self.now made.now call at }
     {
         let before = made

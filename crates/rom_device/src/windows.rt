@@ -1,9 +1,9 @@
 //! Words read ahead of a file.
-ghost use Rattle.std.specs.Prelude.{◌≡◌, ◌≢◌, ◌+◌, ◌*◌, ◌/◌, ◌<◌, ◌≤◌, ◌^◌, ℕ, length, IfSome, IfNone, Some, None};
+ghost use Rattle.std.specs.Prelude.{◌≡◌, ◌≢◌, ◌+◌, ◌*◌, ◌<◌, ◌≤◌, ◌^◌, ℕ, length, slice_index, IfSome, IfNone, None};
 ghost use Rattle.std.specs.Bool.{OnFalse};
-ghost use Rattle.byteorder.specs.Endian.{little_number};
 
 use crate::run::Run;
+use std::fs::File;
 
 /// Two runs of words as a file has them, so that two parts of it may be walked side by side. Of the
 /// two the one that was read ahead last stays, whichever was looked in since: each part then
@@ -16,7 +16,7 @@ pub struct Windows {
 }
 
 impl Windows {
-    ghost use Rattle.rom_device.specs.Windows.{word_in, IsMissed, Puts, Reads};
+    ghost use Rattle.rom_device.specs.Windows.{word_in, IsMissed, IsRead, Puts, Reads};
 
     /// No words.
     pub fn empty() -> Windows
@@ -41,6 +41,20 @@ impl Windows {
         self.right.get(at)
     }
 
+    /// Puts the words from that place on into these places, as many as one window has of them, and
+    /// says how many these are.
+    pub fn copy(&self, at: u64, into: &mut [u64]) -> usize
+        ensures most { result ≤ length into.old }
+        ensures len { length into.new ≡ length into.old }
+        ensures words { (k : ℕ) → k < result → IsRead self.now (at + k) (slice_index into.new k) }
+    {
+        let copied = self.left.copy(at, into);
+        if copied > 0 {
+            return copied;
+        }
+        self.right.copy(at, into)
+    }
+
     /// Whether a window has any of the 512 words from that place on.
     pub fn meet(&self, at: u64) -> bool
         ensures { OnFalse result ((b : ℕ) → at ≤ b → b < at + 512 → IsMissed self.now b) }
@@ -60,24 +74,21 @@ impl Windows {
         self.right.set(at, value);
     }
 
-    /// Has the words in these bytes, from a place on that no window has, instead of those that were
-    /// read ahead before the others.
-    pub fn load(&mut self, first: u64, bytes: &[u8])
-        requires whole { length bytes.now ≡ 8 * (length bytes.now / 8) }
-        requires some { 8 ≤ length bytes.now }
-        requires room { length bytes.now ≤ 4096 }
-        requires low { first + length bytes.now / 8 ≤ 2 ^ 64 }
-        requires missed { IsMissed self.old first }
-        ensures word { word_in self.new first ≡ Some (little_number 8 bytes.now) }
+    /// Reads so many words of a file ahead, from that place on, in place of those that were read
+    /// ahead before the others. Where the file fails, these are gone all the same.
+    pub fn read(&mut self, file: &File, first: u64, count: usize)
+        requires place { first * 8 < 2 ^ 64 }
+        requires room { count ≤ 512 }
+        requires low { first + count ≤ 2 ^ 64 }
         ensures left { Reads first self.old.left self.new.left }
         ensures right { Reads first self.old.right self.new.right }
     {
-        if self.left_is_newer {
-            self.left_is_newer = false;
-            self.right.load(first, bytes);
-            return;
-        }
-        self.left_is_newer = true;
-        self.left.load(first, bytes);
+        let read = if self.left_is_newer {
+            self.right.read(file, first, count)
+        } else {
+            self.left.read(file, first, count)
+        };
+        // A window without words is never the newer one.
+        self.left_is_newer = self.left_is_newer != read;
     }
 }

@@ -36,6 +36,11 @@ IsFormatAnswer order words (Err AlreadyAHeap) = slice_index words 0 ≡ MAGIC
 IsFormatAnswer order words (Err (TooSmall need have)) = (slice_index words 0 ≢ MAGIC) × (need ≡ words_needed order) × (have ≡ length words) × (have < need)
 IsFormatAnswer order words (Err Device) = Unit {0}
 
+-- A refusal for too few words names how many words a heap of this order needs, and how many the device has, which are fewer.
+abbrev pub HasTooFewFor : ℕ → ℕ → FormatRefused → Type 0
+HasTooFewFor order size (TooSmall need have) = (need ≡ words_needed order) × (have ≡ size) × (have < need)
+HasTooFewFor order size other = Unit {0}
+
 -- All but the magic of a new heap stands.
 pub record IsLaid (order : ℕ) (image words : List ℕ) : Type 0 where
   pub version : slice_index words 1 ≡ 1

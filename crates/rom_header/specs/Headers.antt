@@ -39,6 +39,15 @@ IsAnswer words (Err (BadState state)) =
     HasOrder words (slice_index words 2) × (words_needed (slice_index words 2) ≤ length words) × (state ≡ slice_index words 3) × (2 < state)
 IsAnswer words (Err Device) = Unit {0}
 
+-- so many words are those of a header, or of a heap of some order that there is
+abbrev pub IsNeed : ℕ → Type 0
+IsNeed need = (need ≡ 8) ⊎ ((order : ℕ) × (4 ≤ order) × (order ≤ 16) × (need ≡ words_needed order))
+
+-- A refusal for too few words names how many words are needed, and how many the device has, which are fewer.
+abbrev pub HasTooFew : ℕ → HeaderRefused → Type 0
+HasTooFew size (TooSmall need have) = IsNeed need × (have ≡ size) × (have < need)
+HasTooFew size other = Unit {0}
+
 -- So of the first three words alone.
 abbrev pub IsOrderAnswer : List ℕ → Result ℕ HeaderRefused → Type 0
 IsOrderAnswer words (Ok order) = HasOrder words order

@@ -4,3 +4,4 @@ pub mod Writing
 pub mod Regions
 pub mod Headers
 pub mod Fresh
+pub mod Calls

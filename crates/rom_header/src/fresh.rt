@@ -1,16 +1,17 @@
 //! The making of a new heap.
-ghost use Rattle.std.specs.Prelude.{List, ℕ, ◌*◌, ◌≡◌, ◌≢◌, ◌+◌, ◌<◌, ◌≤◌, ◌↔◌, IfOk, OnOk, IsTrue, length, slice_index, slice_set};
-ghost use Rattle.rom_model.specs.Faults.{HasCause, Rose};
+ghost use Rattle.std.specs.Prelude.{List, ℕ, ◌*◌, ◌≡◌, ◌≢◌, ◌+◌, ◌<◌, ◌≤◌, ◌↔◌, IfOk, IfErr, OnOk, IsTrue, length, min, slice_index, slice_set};
+ghost use Rattle.rom_model.specs.Faults.{HasCause, Rose, LAST, counted};
+ghost use Rattle.rom_model.specs.Space.{ChangesOnly};
 ghost use Rattle.rom_device.specs.Device.{Runs, Leaves, Stays, Writes};
-ghost use Rattle.rom_header.specs.Fresh.{IsNew, NoneOrNew, Nothing, IsRefused, IsFormatAnswer, IsLaid};
-ghost use Rattle.rom_header.specs.Writing.{Within};
+ghost use Rattle.rom_header.specs.Calls.{AreWrites, AreSyncs};
+ghost use Rattle.rom_header.specs.Fresh.{IsNew, NoneOrNew, Nothing, IsRefused, IsFormatAnswer, HasTooFewFor, IsLaid};
 ghost use Rattle.rom_header.specs.Layout.{region_len, words_needed, MAGIC};
 
 use crate::geometry::Geometry;
 use crate::header::{MAGIC, State, VERSION};
 use rom_device::{Device, Failed};
 
-/// Why no heap was made.
+/// Why no heap was made. The first two leave every word as it was.
 #[derive(Clone, Copy, Debug, PartialEq, Eq)]
 pub enum FormatRefused {
     /// Word 0 is the magic.
@@ -31,36 +32,24 @@ impl From<Failed> for FormatRefused {
     }
 }
 
-/// Writes words one after another.
-fn write_words<D: Device>(device: &mut D, at: u64, words: &[u64]) -> Result<(), Failed>
-    requires { at + length words.now ≤ D.size device.old }
-    ensures size { D.size device.new ≡ D.size device.old }
-    ensures outside { IsTrue D.tells_words → Within at (length words.now) (D.words device.old) (D.words device.new) }
-    ensures written { IsTrue D.tells_words → OnOk result ((k : ℕ) → k < length words.now → slice_index (D.words device.new) (at + k) ≡ slice_index words.now k) }
-    ensures images { IsTrue D.tells_images → Runs D.clock D.leaves D.left_since (Within at (length words.now)) device.old device.new }
-    ensures cause { HasCause (D.faults device.old) (D.faults device.new) result }
-{
-    for i in 0..words.len() {
-        device.write(at + i as u64, words[i])?;
-    }
-    Ok(())
-}
-
 /// Writes all of a new heap but its magic.
 fn lay_out<D: Device>(device: &mut D, geometry: Geometry, image: &[u64]) -> Result<(), Failed>
     requires fits { words_needed geometry ≤ D.size device.old }
     requires image { length image.now ≡ region_len geometry }
     ensures size { D.size device.new ≡ D.size device.old }
-    ensures outside { IsTrue D.tells_words → Within 1 (7 + 2 * region_len geometry) (D.words device.old) (D.words device.new) }
+    ensures outside { IsTrue D.tells_words → ChangesOnly 1 (7 + 2 * region_len geometry) (D.words device.old) (D.words device.new) }
     ensures laid { IsTrue D.tells_words → OnOk result (IsLaid geometry image.now (D.words device.new)) }
-    ensures images { IsTrue D.tells_images → Runs D.clock D.leaves D.left_since (Within 1 (7 + 2 * region_len geometry)) device.old device.new }
+    ensures images { IsTrue D.tells_images → Runs D.clock D.leaves D.left_since (ChangesOnly 1 (7 + 2 * region_len geometry)) device.old device.new }
+    ensures writes { OnOk result (min (D.writes device.new) LAST ≡ min (D.writes device.old + (7 + 2 * region_len geometry)) LAST) }
+    ensures most_writes { D.writes device.new ≤ D.writes device.old + (7 + 2 * region_len geometry) }
+    ensures syncs { D.syncs device.new ≡ D.syncs device.old }
     ensures cause { HasCause (D.faults device.old) (D.faults device.new) result }
 {
-    write_words(device, geometry.main(), image)?;
-    write_words(device, geometry.back(), image)?;
+    device.write_words(geometry.main(), image)?;
+    device.write_words(geometry.back(), image)?;
     let idle = State::Idle.word();
     let header = [VERSION, u64::from(geometry.order()), idle, 0, 0, 0, 0];
-    write_words(device, 1, &header)?;
+    device.write_words(1, &header)?;
     Ok(())
 }
 
@@ -69,9 +58,13 @@ fn seal<D: Device>(device: &mut D) -> Result<(), Failed>
     requires { 0 < D.size device.old }
     ensures size { D.size device.new ≡ D.size device.old }
     ensures words { IsTrue D.tells_words → OnOk result (D.words device.new ≡ slice_set (D.words device.old) 0 MAGIC) }
-    ensures outside { IsTrue D.tells_words → Within 0 1 (D.words device.old) (D.words device.new) }
+    ensures outside { IsTrue D.tells_words → ChangesOnly 0 1 (D.words device.old) (D.words device.new) }
     ensures certain { IsTrue D.tells_images → OnOk result ((i : List ℕ) → D.leaves device.new i → i ≡ D.words device.new) }
     ensures images { IsTrue D.tells_images → Leaves D.clock D.left_since (Writes 0 MAGIC (D.words device.old)) device.old device.new }
+    ensures writes { OnOk result (D.writes device.new ≡ min (D.writes device.old + 1) LAST) }
+    ensures most_writes { D.writes device.new ≤ D.writes device.old + 1 }
+    ensures syncs { OnOk result (D.syncs device.new ≡ min (D.syncs device.old + 2) LAST) }
+    ensures most_syncs { D.syncs device.new ≤ D.syncs device.old + 2 }
     ensures cause { HasCause (D.faults device.old) (D.faults device.new) result }
 {
     device.sync()?;
@@ -88,9 +81,13 @@ fn build<D: Device>(device: &mut D, geometry: Geometry, image: &[u64]) -> Result
     requires certain { IsTrue D.tells_images → (i : List ℕ) → D.leaves device.old i → i ≡ D.words device.old }
     ensures size { D.size device.new ≡ D.size device.old }
     ensures made { IsTrue D.tells_words → OnOk result (IsNew geometry image.now (D.words device.new)) }
-    ensures others { IsTrue D.tells_words → Within 0 (words_needed geometry) (D.words device.old) (D.words device.new) }
+    ensures others { IsTrue D.tells_words → ChangesOnly 0 (words_needed geometry) (D.words device.old) (D.words device.new) }
     ensures certain { IsTrue D.tells_images → OnOk result ((i : List ℕ) → D.leaves device.new i → i ≡ D.words device.new) }
     ensures images { IsTrue D.tells_images → Leaves D.clock D.left_since (NoneOrNew geometry image.now) device.old device.new }
+    ensures writes { OnOk result (D.writes device.new ≡ min (D.writes device.old + words_needed geometry) LAST) }
+    ensures most_writes { D.writes device.new ≤ D.writes device.old + words_needed geometry }
+    ensures syncs { OnOk result (D.syncs device.new ≡ min (D.syncs device.old + 2) LAST) }
+    ensures most_syncs { D.syncs device.new ≤ D.syncs device.old + 2 }
     ensures cause { HasCause (D.faults device.old) (D.faults device.new) result }
 {
     lay_out(device, geometry, image)?;
@@ -106,6 +103,8 @@ fn is_heap<D: Device>(device: &mut D) -> Result<bool, Failed>
     ensures certain { IsTrue D.tells_images → OnOk result ((i : List ℕ) → D.leaves device.new i → i ≡ D.words device.new) }
     ensures images { IsTrue D.tells_images → Runs D.clock D.leaves D.left_since Stays device.old device.new }
     ensures size { D.size device.new ≡ D.size device.old }
+    ensures writes { D.writes device.new ≡ D.writes device.old }
+    ensures syncs { D.syncs device.new ≡ counted (D.syncs device.old) }
     ensures cause { HasCause (D.faults device.old) (D.faults device.new) result }
 {
     device.sync()?;
@@ -136,18 +135,24 @@ pub fn write_new<D: Device>(device: &mut D, order: u32, image: &[u64]) -> Result
     requires image { length image.now ≡ region_len order }
 
     ensures answer { IsTrue D.tells_words → IsFormatAnswer order (D.words device.old) result }
+    ensures fits { OnOk result (words_needed order ≤ D.size device.old) }
+    ensures sizes { IfErr result (HasTooFewFor order (D.size device.old)) }
     ensures cause { result ≡ Err FormatRefused.Device → Rose (D.faults device.old) (D.faults device.new) }
     ensures later { D.faults device.old ≤ D.faults device.new }
 
     ensures made { IsTrue D.tells_words → OnOk result (IsNew order image.now (D.words device.new)) }
     ensures certain { IsTrue D.tells_images → OnOk result ((i : List ℕ) → D.leaves device.new i → i ≡ D.words device.new) }
-    ensures others { IsTrue D.tells_words → Within 0 (words_needed order) (D.words device.old) (D.words device.new) }
+    ensures others { IsTrue D.tells_words → ChangesOnly 0 (words_needed order) (D.words device.old) (D.words device.new) }
     ensures size { D.size device.new ≡ D.size device.old }
 
     // What a stop may leave since the call began.
     ensures images { IsTrue D.tells_images → Leaves D.clock D.left_since (NoneOrNew order image.now) device.old device.new }
     ensures refused { IsTrue D.tells_images → IsRefused order (D.words device.old) → Leaves D.clock D.left_since Nothing device.old device.new }
     ensures refused_words { IsTrue D.tells_words → IsRefused order (D.words device.old) → D.words device.new ≡ D.words device.old }
+
+    // How many writes and syncs were called.
+    ensures writes { AreWrites order result (D.writes device.old) (D.writes device.new) }
+    ensures syncs { AreSyncs result (D.syncs device.old) (D.syncs device.new) }
 {
     let have = device.len();
     let geometry = geometry_of(order);

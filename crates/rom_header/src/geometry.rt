@@ -2,6 +2,7 @@
 ghost use Rattle.std.specs.Prelude.{◌≡◌, ◌^◌, ◌⊎◌, ◌<◌, ◌≤◌, IfSome, IfNone};
 ghost use Rattle.rom_header.specs.Layout.{region_len, words_needed, MAIN, back_at};
 
+use rom_model::power_of_two;
 use std::marker::Model;
 
 /// The least and the greatest order of a heap.
@@ -9,8 +10,8 @@ const LEAST: u64 = 4;
 
 const MOST: u64 = 16;
 
-/// The sizes and places of a heap of some order from 4 to 16. A contract sees the order. All are
-/// in words.
+/// The sizes and places of a heap of some order from 4 to 16. A contract sees the order. Lengths
+/// and places are in words.
 #[derive(Clone, Copy, Debug, PartialEq, Eq)]
 pub struct Geometry {
     order: u32,
@@ -58,7 +59,7 @@ impl Geometry {
         ensures blocks { result ≡ 2 ^ self.now }
         ensures most { result ≤ 65536 }
     {
-        1 << self.order
+        power_of_two(self.order)
     }
 
     /// How many words a region has.
@@ -66,7 +67,7 @@ impl Geometry {
         ensures region { result ≡ region_len self.now }
         ensures most { result ≤ 393232 }
     {
-        16 + 6 * self.blocks()
+        rom_model::region_len(self.order)
     }
 
     /// Where main begins.

@@ -1,8 +1,8 @@
 //! The header of a heap.
-ghost use Rattle.std.specs.Prelude.{◌≡◌, ◌<◌, ◌≤◌, ℕ, List, IsTrue, IfOk, IfSome, IfNone};
+ghost use Rattle.std.specs.Prelude.{◌≡◌, ◌<◌, ◌≤◌, ℕ, List, IsTrue, IfOk, IfErr, IfSome, IfNone};
 ghost use Rattle.rom_model.specs.Faults.{Rose};
 ghost use Rattle.rom_device.specs.Device.{Runs, Stays};
-ghost use Rattle.rom_header.specs.Headers.{IsAnswer, IsOrderAnswer};
+ghost use Rattle.rom_header.specs.Headers.{IsAnswer, IsOrderAnswer, HasTooFew};
 ghost use Rattle.rom_header.specs.Layout.{words_needed};
 
 use crate::geometry::Geometry;
@@ -15,7 +15,7 @@ pub const MAGIC: u64 = 0x524F_4D55_4C55_5331;
 pub const VERSION: u64 = 1;
 
 /// How many words the header has.
-pub const HEADER: u64 = 8;
+const HEADER: u64 = 8;
 
 /// Which region counts.
 #[derive(Clone, Copy, Debug, PartialEq, Eq)]
@@ -67,7 +67,7 @@ pub struct Header {
 /// before all others for the 8 words of a header, and after the order for the words of the heap.
 #[derive(Clone, Copy, Debug, PartialEq, Eq)]
 pub enum HeaderRefused {
-    /// The device has fewer words than it needs.
+    /// The device has fewer words, `have`, than a header or the heap of its order needs, `need`.
     TooSmall { need: u64, have: u64 },
     /// Word 0 is not the magic.
     NotAHeap,
@@ -95,10 +95,13 @@ impl From<Failed> for HeaderRefused {
 fn read_order<D: Device>(device: &mut D) -> Result<Geometry, HeaderRefused>
     requires { 8 ≤ D.size device.old }
     ensures answer { IsTrue D.tells_words → IsOrderAnswer (D.words device.old) result }
+    ensures sizes { IfErr result (HasTooFew (D.size device.old)) }
     ensures words { IsTrue D.tells_words → D.words device.new ≡ D.words device.old }
     ensures images { IsTrue D.tells_images → Runs D.clock D.leaves D.left_since Stays device.old device.new }
     ensures still { IsTrue D.tells_images → (i : List ℕ) → D.leaves device.old i → D.leaves device.new i }
     ensures size { D.size device.new ≡ D.size device.old }
+    ensures writes { D.writes device.new ≡ D.writes device.old }
+    ensures syncs { D.syncs device.new ≡ D.syncs device.old }
     ensures later { D.faults device.old ≤ D.faults device.new }
     ensures cause { result ≡ Err HeaderRefused.Device → Rose (D.faults device.old) (D.faults device.new) }
 {
@@ -114,17 +117,21 @@ fn read_order<D: Device>(device: &mut D) -> Result<Geometry, HeaderRefused>
     Geometry::of(order).ok_or(HeaderRefused::BadOrder(order))
 }
 
-/// Reads the header, and refuses what is no heap by the first test that fails. It changes no word.
+/// Reads the header, and refuses what is no heap by the first test that fails. It calls no write
+/// and no sync, and changes no word.
 pub fn read_header<D: Device>(device: &mut D) -> Result<Header, HeaderRefused>
     // Where the device tells its words, the answer is exactly theirs.
     ensures answer { IsTrue D.tells_words → IsAnswer (D.words device.old) result }
     ensures fits { IfOk result (λ header. words_needed header.geometry ≤ D.size device.old) }
     ensures too_small { D.size device.old < 8 → result ≡ Err (HeaderRefused.TooSmall 8 (D.size device.old)) }
+    ensures sizes { IfErr result (HasTooFew (D.size device.old)) }
 
     ensures words { IsTrue D.tells_words → D.words device.new ≡ D.words device.old }
     ensures images { IsTrue D.tells_images → Runs D.clock D.leaves D.left_since Stays device.old device.new }
     ensures still { IsTrue D.tells_images → (i : List ℕ) → D.leaves device.old i → D.leaves device.new i }
     ensures size { D.size device.new ≡ D.size device.old }
+    ensures writes { D.writes device.new ≡ D.writes device.old }
+    ensures syncs { D.syncs device.new ≡ D.syncs device.old }
     ensures later { D.faults device.old ≤ D.faults device.new }
     ensures cause { result ≡ Err HeaderRefused.Device → Rose (D.faults device.old) (D.faults device.new) }
 {

@@ -8,12 +8,12 @@
 #![tactic(auto)]
 
 mod fresh;
-pub mod geometry;
-pub mod header;
+mod geometry;
+mod header;
 
 pub use fresh::{FormatRefused, write_new};
 pub use geometry::Geometry;
-pub use header::{Header, HeaderRefused, State, read_header};
+pub use header::{Header, HeaderRefused, MAGIC, State, VERSION, read_header};
 
 #[cfg(test)]
 mod tests;

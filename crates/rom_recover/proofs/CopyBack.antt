@@ -1,14 +1,13 @@
 -- What a copy of the region that counts leaves.
-use Rattle.std.proofs.Common.{◌≡◌, inl, inr, ⊎_elim, ℕ, ◌+◌, ◌<◌, ◌≤◌, List, length, get_or, set, refl, sym, ◌∙◌, subst, arith, get_or-set_same, Result, Ok, Err, OnOk}
+use Rattle.std.proofs.Common.{◌≡◌, inl, inr, ⊎_elim, ℕ, ◌+◌, ◌<◌, ◌≤◌, List, length, get_or, set, refl, sym, ◌∙◌, subst, arith, get_or-set_same}
+use Rattle.rom_model.specs.Space.{ChangesOnly}
 use Rattle.rom_device.specs.Device.{Runs, Leaves, Stays}
-use Rattle.rom_device.specs.declared.device.Failed.{Failed}
 use Rattle.rom_device.proofs.Going.{leaves_none, leaves_still, leaves_then}
-use Rattle.rom_header.specs.Writing.{Within}
-use Rattle.rom_recover.specs.Copied.{Copied, Goes, Redone}
+use Rattle.rom_recover.specs.Copied.{Copied, Finished, Redone}
 use Rattle.rom_header.specs.Layout.{main_of, back_of, back_at, region_len}
 use Rattle.rom_header.specs.Regions.{IsHeap, SameRegion, Counts}
 use Rattle.rom_recover.specs.Recovered.{IsDone}
-use Rattle.rom_recover.proofs.Steps.{Within_set}
+use Rattle.rom_recover.proofs.Steps.{changes_set}
 use Rattle.rom_recover.proofs.Parts.{part_moved, part_before, part_behind, heap_within, main_changes, back_changes}
 
 pub record Both (n : ℕ) (x y : List ℕ) : Type 0 where
@@ -18,31 +17,31 @@ pub record Both (n : ℕ) (x y : List ℕ) : Type 0 where
   pub main_is : main_of n y ≡ region
   pub back_is : back_of n y ≡ region
 
-both : (n : ℕ) (x y : List ℕ) (from to : ℕ) → IsHeap n x → Goes n (get_or x 3 0) from to → Within to (region_len n) x y → Copied from to (region_len n) x y → Both n x y
-both n x y from to is (inl way) within copied =
-    let at_main : Within 8 (region_len n) x y = subst (λ t. Within t (region_len n) x y) way.2 within in
-    record {
-      heap = heap_within n 8 (region_len n) x y (omega arith) at_main is;
-      region = back_of n x;
-      counts = inr (inl (way.0, refl));
-      main_is = part_moved (back_at n) 8 (region_len n) x y within.as_long (omega (arith, is.long)) (omega (arith, is.long)) (λ k h. subst (λ t. get_or y (t + k) 0 ≡ get_or x (back_at n + k) 0) way.2 (subst (λ f. get_or y (to + k) 0 ≡ get_or x (f + k) 0) way.1 (copied k h)));
-      back_is = part_behind (back_at n) (region_len n) 8 (region_len n) x y at_main (omega (arith, is.long)) (omega arith);
-    }
-both n x y from to is (inr way) within copied =
-    let at_back : Within (back_at n) (region_len n) x y = subst (λ t. Within t (region_len n) x y) way.2 within in
-    record {
-      heap = heap_within n (back_at n) (region_len n) x y (omega arith) at_back is;
-      region = main_of n x;
-      counts = inr (inr (way.0, refl));
-      main_is = part_before 8 (region_len n) (back_at n) (region_len n) x y at_back (omega (arith, is.long)) (omega arith);
-      back_is = part_moved 8 (back_at n) (region_len n) x y within.as_long (omega (arith, is.long)) (omega (arith, is.long)) (λ k h. subst (λ t. get_or y (t + k) 0 ≡ get_or x (8 + k) 0) way.2 (subst (λ f. get_or y (to + k) 0 ≡ get_or x (f + k) 0) way.1 (copied k h)));
-    }
+-- under MUTATING once back is copied to main
+main_both : (n : ℕ) (x y : List ℕ) → IsHeap n x → get_or x 3 0 ≡ 1 → ChangesOnly 8 (region_len n) x y → Copied (back_at n) 8 (region_len n) x y → Both n x y
+main_both n x y is state only copied = record {
+  heap = heap_within n 8 (region_len n) x y (omega arith) only is;
+  region = back_of n x;
+  counts = inr (inl (state, refl));
+  main_is = part_moved (back_at n) 8 (region_len n) x y only.as_long (omega (arith, is.long)) (omega (arith, is.long)) copied;
+  back_is = part_behind (back_at n) (region_len n) 8 (region_len n) x y only (omega (arith, is.long)) (omega arith);
+}
+
+-- under COPYING once main is copied to back
+back_both : (n : ℕ) (x y : List ℕ) → IsHeap n x → get_or x 3 0 ≡ 2 → ChangesOnly (back_at n) (region_len n) x y → Copied 8 (back_at n) (region_len n) x y → Both n x y
+back_both n x y is state only copied = record {
+  heap = heap_within n (back_at n) (region_len n) x y (omega arith) only is;
+  region = main_of n x;
+  counts = inr (inr (state, refl));
+  main_is = part_before 8 (region_len n) (back_at n) (region_len n) x y only (omega (arith, is.long)) (omega arith);
+  back_is = part_moved 8 (back_at n) (region_len n) x y only.as_long (omega (arith, is.long)) (omega (arith, is.long)) copied;
+}
 
 -- and the state is written
 idle : (n : ℕ) (x y : List ℕ) → Both n x y → IsDone n x (set y 3 0)
 idle n x y done =
     let long : 3 < length y = omega (arith, done.heap.long) in
-    let within : Within 3 1 y (set y 3 0) = Within_set 3 1 y 3 0 (omega arith) (omega arith) in
+    let within : ChangesOnly 3 1 y (set y 3 0) = changes_set 3 1 y 3 0 (omega arith) (omega arith) in
     let state : get_or (set y 3 0) 3 0 ≡ 0 = rw get_or-set_same refl in
     record {
       heap = record {
@@ -61,13 +60,6 @@ idle n x y done =
       back_is = part_behind (back_at n) (region_len n) 3 1 y (set y 3 0) within (omega (arith, done.heap.long)) (omega arith) ∙ done.back_is;
     }
 
-pub redo_done : (n : ℕ) (x y : List ℕ) (from to : ℕ) → IsHeap n x → Goes n (get_or x 3 0) from to → Within to (region_len n) x y → Copied from to (region_len n) x y → IsDone n x (set y 3 0)
-redo_done n x y from to is way within copied = idle n x y (both n x y from to is way within copied)
-
-during : (n : ℕ) (x y : List ℕ) (from to : ℕ) → IsHeap n x → Goes n (get_or x 3 0) from to → Within to (region_len n) x y → SameRegion x y
-during n x y from to is (inl way) within = main_changes n x y is way.0 (subst (λ t. Within t (region_len n) x y) way.2 within)
-during n x y from to is (inr way) within = back_changes n x y is way.0 (subst (λ t. Within t (region_len n) x y) way.2 within)
-
 done_same : (n : ℕ) (x y : List ℕ) → IsHeap n x → IsDone n x y → SameRegion x y
 done_same n x y is done = record {
   order = n;
@@ -76,35 +68,48 @@ done_same n x y is done = record {
   image_is = record { heap = done.heap; counts = inl (done.idle, done.main_is, done.back_is) };
 }
 
-pub redo_same : (n : ℕ) (x i : List ℕ) (from to : ℕ) → IsHeap n x → Goes n (get_or x 3 0) from to → Redone from to (region_len n) x i → SameRegion x i
-redo_same n x i from to is way (inl within) = during n x i from to is way within
-redo_same n x i from to is way (inr whole) = ⊎_elim
-    (λ same. during n x i from to is way (subst (λ (l : List ℕ). Within to (region_len n) x l) (sym same) whole.1))
-    (λ put. done_same n x i is (subst (λ (l : List ℕ). IsDone n x l) (sym put) (redo_done n x whole.0 from to is way whole.1 whole.2)))
+-- in the midst of a copy and after it, where either is known to keep the region that counts
+redone_same : (n from to : ℕ) (x i : List ℕ) → IsHeap n x → ((y : List ℕ) → ChangesOnly to (region_len n) x y → SameRegion x y)
+    → ((y : List ℕ) → ChangesOnly to (region_len n) x y → Copied from to (region_len n) x y → Both n x y) → Redone from to (region_len n) x i → SameRegion x i
+redone_same n from to x i is during after (inl only) = during i only
+redone_same n from to x i is during after (inr whole) = ⊎_elim
+    (λ same. during i (subst (λ (l : List ℕ). ChangesOnly to (region_len n) x l) (sym same) whole.1))
+    (λ put. done_same n x i is (subst (λ (l : List ℕ). IsDone n x l) (sym put) (idle n x whole.0 (after whole.0 whole.1 whole.2))))
     whole.3
+
+-- the same under other names of its places, its length and its words
+moved : (P : ℕ → ℕ → ℕ → List ℕ → Type 0) (from f to t len l : ℕ) (w x : List ℕ) → from ≡ f → to ≡ t → len ≡ l → w ≡ x → P from to len w → P f t l x
+moved P from f to t len l w x ef et el ew is =
+    subst (λ v. P f t l v) ew (subst (λ k. P f t k w) el (subst (λ k. P f k len w) et (subst (λ k. P k to len w) ef is)))
+
+-- what a copy of back leaves under MUTATING, and one of main under COPYING
+module _ (n from to len : ℕ) (x w i : List ℕ) (is : IsHeap n x) (size : len ≡ region_len n) (still : w ≡ x) where
+  pub main_redone : get_or x 3 0 ≡ 1 → from ≡ back_at n → to ≡ 8 → Redone from to len w i → SameRegion x i
+  main_redone state from_back to_main redone = redone_same n (back_at n) 8 x i is (λ y. main_changes n x y is state) (λ y. main_both n x y is state)
+      (moved (λ f t l v. Redone f t l v i) from (back_at n) to 8 len (region_len n) w x from_back to_main size still redone)
+
+  pub back_redone : get_or x 3 0 ≡ 2 → from ≡ 8 → to ≡ back_at n → Redone from to len w i → SameRegion x i
+  back_redone state from_main to_back redone = redone_same n 8 (back_at n) x i is (λ y. back_changes n x y is state) (λ y. back_both n x y is state)
+      (moved (λ f t l v. Redone f t l v i) from 8 to (back_at n) len (region_len n) w x from_main to_back size still redone)
+
+  pub main_finished : get_or x 3 0 ≡ 1 → from ≡ back_at n → to ≡ 8 → Finished from to len w i → IsDone n x i
+  main_finished state from_back to_main finished =
+      let whole = moved (λ f t l v. Finished f t l v i) from (back_at n) to 8 len (region_len n) w x from_back to_main size still finished in
+      subst (λ (l : List ℕ). IsDone n x l) (sym whole.3) (idle n x whole.0 (main_both n x whole.0 is state whole.1 whole.2))
+
+  pub back_finished : get_or x 3 0 ≡ 2 → from ≡ 8 → to ≡ back_at n → Finished from to len w i → IsDone n x i
+  back_finished state from_main to_back finished =
+      let whole = moved (λ f t l v. Finished f t l v i) from 8 to (back_at n) len (region_len n) w x from_main to_back size still finished in
+      subst (λ (l : List ℕ). IsDone n x l) (sym whole.3) (idle n x whole.0 (back_both n x whole.0 is state whole.1 whole.2))
 
 pub equal_done : (n : ℕ) (x : List ℕ) → IsHeap n x → get_or x 3 0 ≡ 0 → ((k : ℕ) → k < region_len n → get_or x (8 + k) 0 ≡ get_or x (back_at n + k) 0) → IsDone n x x
 equal_done n x is state same =
     let equal : main_of n x ≡ back_of n x = part_moved (back_at n) 8 (region_len n) x x refl (omega (arith, is.long)) (omega (arith, is.long)) same in
     record { heap = is; idle = state; region = main_of n x; counted = inl (state, refl, sym equal); main_is = refl; back_is = sym equal }
 
--- so with the length as a copy has it
-pub redone_same : (n len : ℕ) (x i : List ℕ) (from to : ℕ) → len ≡ region_len n → IsHeap n x → Goes n (get_or x 3 0) from to → Redone from to len x i → SameRegion x i
-redone_same n len x i from to is heap way redone = redo_same n x i from to heap way (subst (λ (l : ℕ). Redone from to l x i) is redone)
-
-pub redone_done : (n len : ℕ) (x y z : List ℕ) (from to : ℕ) → len ≡ region_len n → IsHeap n x → Goes n (get_or x 3 0) from to → Within to len x y → Copied from to len x y → z ≡ set y 3 0 → IsDone n x z
-redone_done n len x y z from to is heap way within copied put =
-    subst (λ (l : List ℕ). IsDone n x l) (sym put) (redo_done n x y from to heap way (subst (λ (l : ℕ). Within to l x y) is within) (subst (λ (l : ℕ). Copied from to l x y) is copied))
-
--- what follows of what holds at `Ok`
-pub on_ok : {A B : Type 0} (result : Result (Unit {0}) Failed) → (A → B) → OnOk result A → OnOk result B
-on_ok (Ok done) follows is = follows is
-on_ok (Err failed) follows is = is
-
 -- what a stop may leave since a moment before, where nothing was written since
-pub leaves_from : {D : Type 0} (clock : D → ℕ) (leaves : D → List ℕ → Type 0) (left_since : D → ℕ → List ℕ → Type 0) (P : List ℕ → List ℕ → Type 0) (x y : List ℕ) (a b c : D)
-    → ((t : ℕ) (i : List ℕ) → t ≤ clock a → leaves a i → left_since a t i) → y ≡ x
-    → Runs clock leaves left_since Stays a b → Leaves clock left_since (P y) b c → Leaves clock left_since (P x) a c
-leaves_from clock leaves left_since P x y a b c counts same still since =
-    leaves_then clock leaves left_since (P x) (P y) a b c (λ i is. subst (λ (l : List ℕ). P l i) same is)
-    (leaves_still clock leaves left_since (P x) a a b counts (leaves_none clock leaves left_since (P x) a) still) since
+pub leaves_from : {D : Type 0} (clock : D → ℕ) (leaves : D → List ℕ → Type 0) (left_since : D → ℕ → List ℕ → Type 0) (P Q : List ℕ → Type 0) (a b c : D)
+    → ((t : ℕ) (i : List ℕ) → t ≤ clock a → leaves a i → left_since a t i)
+    → Runs clock leaves left_since Stays a b → ((i : List ℕ) → Q i → P i) → Leaves clock left_since Q b c → Leaves clock left_since P a c
+leaves_from clock leaves left_since P Q a b c counts still is since =
+    leaves_then clock leaves left_since P Q a b c is (leaves_still clock leaves left_since P a a b counts (leaves_none clock leaves left_since P a) still) since

@@ -1,5 +1,6 @@
--- Lemmas on copies and on the region that counts.
+-- Lemmas on copies, on comparisons and on the region that counts.
 pub mod Steps
 pub mod Parts
 pub mod CopyBack
-pub mod Counted
+mod Pieces
+mod Copying

@@ -2,7 +2,7 @@
 use Rattle.std.proofs.Common.{◌≡◌, inl, inr, ℕ, ◌+◌, ◌<◌, ◌≤◌, List, length, get_or, drop, refl, sym, ◌∙◌, arith, length-drop}
 use Rattle.std.proofs.lemmas.List.{get_or-take, get_or-drop, length-take}
 use Rattle.std.proofs.lemmas.Grind.{same_number_lists}
-use Rattle.rom_header.specs.Writing.{Within}
+use Rattle.rom_model.specs.Space.{ChangesOnly}
 use Rattle.rom_header.specs.Layout.{part, main_of, back_of, back_at, region_len}
 use Rattle.rom_header.specs.Regions.{IsHeap, SameRegion}
 
@@ -23,14 +23,14 @@ part_moved from to len x y e ff tf same =
     (λ k h. let lt : k < len = omega (arith, part_len to len y) in get_or-part to len y k lt ∙ same k lt ∙ sym (get_or-part from len x k lt))
 
 -- writes elsewhere leave a part as it is
-pub part_before : (at len lo n : ℕ) (x y : List ℕ) → Within lo n x y → at + len ≤ length x → at + len ≤ lo → part at len y ≡ part at len x
+pub part_before : (at len lo n : ℕ) (x y : List ℕ) → ChangesOnly lo n x y → at + len ≤ length x → at + len ≤ lo → part at len y ≡ part at len x
 part_before at len lo n x y within fits apart = part_moved at at len x y within.as_long fits fits (λ k h. within.before (at + k) (omega arith))
 
-pub part_behind : (at len lo n : ℕ) (x y : List ℕ) → Within lo n x y → at + len ≤ length x → lo + n ≤ at → part at len y ≡ part at len x
+pub part_behind : (at len lo n : ℕ) (x y : List ℕ) → ChangesOnly lo n x y → at + len ≤ length x → lo + n ≤ at → part at len y ≡ part at len x
 part_behind at len lo n x y within fits apart = part_moved at at len x y within.as_long fits fits (λ k h. within.behind (at + k) (omega arith))
 
 -- the header stands where only later words are written
-pub heap_within : (n lo many : ℕ) (x y : List ℕ) → 4 ≤ lo → Within lo many x y → IsHeap n x → IsHeap n y
+pub heap_within : (n lo many : ℕ) (x y : List ℕ) → 4 ≤ lo → ChangesOnly lo many x y → IsHeap n x → IsHeap n y
 heap_within n lo many x y late within is = record {
   magic = within.before 0 (omega arith) ∙ is.magic;
   version = within.before 1 (omega arith) ∙ is.version;
@@ -42,7 +42,7 @@ heap_within n lo many x y late within is = record {
 }
 
 -- under MUTATING main may change, and under COPYING back may
-pub main_changes : (n : ℕ) (x y : List ℕ) → IsHeap n x → get_or x 3 0 ≡ 1 → Within 8 (region_len n) x y → SameRegion x y
+pub main_changes : (n : ℕ) (x y : List ℕ) → IsHeap n x → get_or x 3 0 ≡ 1 → ChangesOnly 8 (region_len n) x y → SameRegion x y
 main_changes n x y is state within = record {
   order = n;
   region = back_of n x;
@@ -53,7 +53,7 @@ main_changes n x y is state within = record {
   };
 }
 
-pub back_changes : (n : ℕ) (x y : List ℕ) → IsHeap n x → get_or x 3 0 ≡ 2 → Within (back_at n) (region_len n) x y → SameRegion x y
+pub back_changes : (n : ℕ) (x y : List ℕ) → IsHeap n x → get_or x 3 0 ≡ 2 → ChangesOnly (back_at n) (region_len n) x y → SameRegion x y
 back_changes n x y is state within = record {
   order = n;
   region = main_of n x;

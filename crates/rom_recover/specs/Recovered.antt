@@ -6,6 +6,10 @@ use Rattle.rom_header.specs.Regions.{IsHeap, Counts}
 use Rattle.rom_recover.specs.declared.recovery.RecoverRefused.{RecoverRefused}
 use Rattle.rom_recover.specs.declared.recovery.RecoverRefused.TheVariants.{Twins, Device}
 
+-- so many words from the start of each region are the same
+abbrev pub AreTwins : ℕ → ℕ → List ℕ → Type 0
+AreTwins order count words = (k : ℕ) → k < count → slice_index words (MAIN + k) ≡ slice_index words (back_at order + k)
+
 -- The state is IDLE, and the regions differ at this offset for the first time, with these words in main and in back.
 pub record DifferAt (order : ℕ) (words : List ℕ) (offset main back : ℕ) : Type 0 where
   pub idle : IsIdle words
@@ -13,7 +17,7 @@ pub record DifferAt (order : ℕ) (words : List ℕ) (offset main back : ℕ) : 
   pub main_is : slice_index words (MAIN + offset) ≡ main
   pub back_is : slice_index words (back_at order + offset) ≡ back
   pub differ : main ≢ back
-  pub first : (k : ℕ) → k < offset → slice_index words (MAIN + k) ≡ slice_index words (back_at order + k)
+  pub first : AreTwins order offset words
 
 -- a refusal by the regions names their first difference
 abbrev pub IsFirst : ℕ → List ℕ → RecoverRefused → Type 0

@@ -6,7 +6,9 @@
 //! before, or has the same region that counts.
 #![tactic(auto)]
 
+mod compare;
 mod copy;
+mod piece;
 mod recovery;
 mod restore;
 

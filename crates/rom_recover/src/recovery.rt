@@ -1,16 +1,17 @@
 //! Recovery of a heap on a device.
-ghost use Rattle.std.specs.Prelude.{◌≡◌, ◌⊎◌, ◌+◌, ◌*◌, ◌<◌, ◌≤◌, ℕ, List, IfOk, IfErr, OnOk, IsTrue, slice_index};
+ghost use Rattle.std.specs.Prelude.{◌≡◌, ◌⊎◌, ◌*◌, ◌<◌, ◌≤◌, ℕ, List, IfOk, IfErr, OnOk, IsTrue, slice_index};
 ghost use Rattle.rom_model.specs.Faults.{HasCause, Rose, counted};
 ghost use Rattle.rom_device.specs.Device.{Runs, Leaves, Stays};
 ghost use Rattle.rom_header.specs.Fresh.{Nothing};
 ghost use Rattle.rom_header.specs.Headers.{IsIdle, state_word};
-ghost use Rattle.rom_header.specs.Layout.{MAIN, back_at, region_len, words_needed};
+ghost use Rattle.rom_header.specs.Layout.{MAIN, region_len, words_needed};
 ghost use Rattle.rom_header.specs.Regions.{IsHeap, SameRegion};
 ghost use Rattle.rom_header.specs.Writing.{StateOrWithin};
 ghost use Rattle.rom_recover.specs.Calls.{AreWrites, AreSyncs};
 ghost use Rattle.rom_recover.specs.Recovered.{IsDone, IsFirst};
 
-use crate::restore::restore;
+use crate::compare::compare;
+use crate::restore::redo;
 use rom_device::{Device, Failed};
 use rom_header::{Geometry, State};
 
@@ -24,8 +25,9 @@ pub struct Recovered {
 /// Why a heap was not recovered.
 #[derive(Clone, Copy, Debug, PartialEq, Eq)]
 pub enum RecoverRefused {
-    /// The state is IDLE and the regions differ: the least offset in a region at which they do,
-    /// and the words there. Nothing is changed.
+    /// The state is IDLE and the regions differ: the least offset at which they do, in words from a
+    /// region's start, and the words there. Nothing is changed. Words behind these may have been
+    /// read too, and a fault of theirs been counted.
     Twins { offset: u64, main: u64, back: u64 },
     /// The device failed. Recovery may be run again.
     Device,
@@ -39,32 +41,6 @@ impl From<Failed> for RecoverRefused {
     fn from(_: Failed) -> Self {
         RecoverRefused::Device
     }
-}
-
-/// Compares the regions word by word, up to the first difference.
-fn compare<D: Device>(device: &mut D, geometry: Geometry) -> Result<(), RecoverRefused>
-    requires fits { words_needed geometry ≤ D.size device.old }
-    requires idle { IsTrue D.tells_words → IsIdle (D.words device.old) }
-    ensures size { D.size device.new ≡ D.size device.old }
-    ensures words { IsTrue D.tells_words → D.words device.new ≡ D.words device.old }
-    ensures same { IsTrue D.tells_words → OnOk result ((k : ℕ) → k < region_len geometry → slice_index (D.words device.old) (8 + k) ≡ slice_index (D.words device.old) (back_at geometry + k)) }
-    ensures images { IsTrue D.tells_images → Runs D.clock D.leaves D.left_since Stays device.old device.new }
-    ensures still { IsTrue D.tells_images → (i : List ℕ) → D.leaves device.old i → D.leaves device.new i }
-    ensures writes { D.writes device.new ≡ D.writes device.old }
-    ensures syncs { D.syncs device.new ≡ D.syncs device.old }
-    ensures later { D.faults device.old ≤ D.faults device.new }
-    ensures cause { result ≡ Err RecoverRefused.Device → Rose (D.faults device.old) (D.faults device.new) }
-    ensures twins { IsTrue D.tells_words → IfErr result (IsFirst geometry (D.words device.old)) }
-{
-    let (at_main, at_back, len) = (geometry.main(), geometry.back(), geometry.region());
-    for offset in 0..len {
-        let main = device.read(at_main + offset)?;
-        let back = device.read(at_back + offset)?;
-        if main != back {
-            return Err(RecoverRefused::Twins { offset, main, back });
-        }
-    }
-    Ok(())
 }
 
 /// Reads the state. A device that does not tell its words may read any word there; one that is no
@@ -89,7 +65,6 @@ fn read_state<D: Device>(device: &mut D) -> Result<State, Failed>
 /// It may be stopped at any moment and run again: every image that a stop leaves could be left
 /// before, or has the same region that counts; and whatever the answer, the words are as they were
 /// or have the same region that counts. Under IDLE it writes nothing. It takes no memory.
-#[tactic(auto, using(crate::proofs::Counted::busy_writes, crate::proofs::Counted::busy_syncs))]
 pub fn recover<D: Device>(device: &mut D, geometry: Geometry) -> Result<Recovered, RecoverRefused>
     requires fits { words_needed geometry ≤ D.size device.old }
     requires heap { IsTrue D.tells_words → IsHeap geometry (D.words device.old) }
@@ -118,15 +93,24 @@ pub fn recover<D: Device>(device: &mut D, geometry: Geometry) -> Result<Recovere
     ensures idle_writes { IsTrue D.tells_words → IsIdle (D.words device.old) → D.writes device.new ≡ D.writes device.old }
     ensures idle_syncs { IsTrue D.tells_words → IsIdle (D.words device.old) → D.syncs device.new ≡ counted (D.syncs device.old) }
 {
+    let (main, back, len) = (geometry.main(), geometry.back(), geometry.region());
     device.sync()?;
     match read_state(device)? {
         State::Idle => {
             compare(device, geometry)?;
             Ok(Recovered { found: State::Idle })
         }
-        found => {
-            restore(device, found, geometry)?;
-            Ok(Recovered { found })
+        State::Mutating => {
+            redo(device, back, main, len)?;
+            Ok(Recovered {
+                found: State::Mutating,
+            })
+        }
+        State::Copying => {
+            redo(device, main, back, len)?;
+            Ok(Recovered {
+                found: State::Copying,
+            })
         }
     }
 }

@@ -1,10 +1,12 @@
 //! Recovery of heaps of order 4, by their words.
 use crate::{RecoverRefused, Recovered, recover};
-use rom_device::{CallKind, Device, Fuse, Memory, Trip};
+use rom_device::{CallKind, Device, FileDevice, Fuse, Memory, Trip};
 use rom_header::{State, read_header};
 use std::alloc::{AllocError, Global};
+use std::fs::OpenOptions;
 use std::process::Abort;
 use std::test::Fail;
+use std::{env, fs, process};
 
 /// Room for all calls of a test.
 const AMPLE: u64 = 1000;
@@ -205,5 +207,114 @@ fn twins_that_differ_are_refused(rt: HostRuntime) -> Result<(), Fail> {
     assert_eq!(rt; opened(&mut memory), Some(Err(twins)));
     assert_eq!(rt; memory.fault_count(), 0);
     assert_eq!(rt; memory.words(), words.as_slice());
+    Ok(())
+}
+
+#[test]
+fn what_comes_first_is_answered(rt: HostRuntime) -> Result<(), Fail> {
+    let main = changed_region(rt.alloc(), &[(66, 5)])?;
+    let back = fresh_region(rt.alloc())?;
+    let words = heap(rt.alloc(), 0, main.as_slice(), back.as_slice())?;
+    let twins = RecoverRefused::Twins {
+        offset: 66,
+        main: 5,
+        back: 0,
+    };
+    // The words at offsets 65 to 67 of main, and of back, cannot be read.
+    let rows = [
+        (73, RecoverRefused::Device),
+        (74, RecoverRefused::Device),
+        (75, twins),
+        (185, RecoverRefused::Device),
+        (186, RecoverRefused::Device),
+        (187, twins),
+    ];
+    for (at, want) in rows {
+        let its_read = Trip {
+            call: CallKind::Read,
+            from: at,
+            to: at + 1,
+            nth: 1,
+            keeps_new: false,
+        };
+        let trips = [its_read].to_vec(rt.alloc())?;
+        let mut memory = Memory::new(rt.alloc(), words.clone()?, AMPLE, trips)?;
+        assert_eq!(rt; opened(&mut memory), Some(Err(want)), "at {at}");
+        // Words behind a difference may be read, and fail, before it is told.
+        assert_eq!(rt; memory.fault_count(), 1, "at {at}");
+    }
+    Ok(())
+}
+
+#[test]
+fn words_before_one_that_cannot_be_read_are_copied(rt: HostRuntime) -> Result<(), Fail> {
+    let sevens = vec![in rt.alloc(); 7u64; 112]?;
+    let fresh = fresh_region(rt.alloc())?;
+    let words = heap(rt.alloc(), 1, sevens.as_slice(), fresh.as_slice())?;
+    // Back's word at offset 65.
+    let its_read = Trip {
+        call: CallKind::Read,
+        from: 185,
+        to: 186,
+        nth: 1,
+        keeps_new: false,
+    };
+    let trips = [its_read].to_vec(rt.alloc())?;
+    let mut memory = Memory::new(rt.alloc(), words, AMPLE, trips)?;
+    assert_eq!(rt; opened(&mut memory), Some(Err(RecoverRefused::Device)));
+    let left = memory.words();
+    assert_eq!(rt; left.get(8..73), fresh.as_slice().get(..65));
+    assert_eq!(rt; left.get(73..120), sevens.as_slice().get(65..));
+    assert_eq!(rt; left.get(3), Some(&1));
+    Ok(())
+}
+
+/// The bytes of these words, the lowest first.
+fn bytes_of(alloc: Global, words: &[u64]) -> Result<Vec<u8>, AllocError> {
+    let mut bytes = Vec::new(alloc);
+    for word in words {
+        for byte in word.to_le_bytes() {
+            bytes.push(byte)?;
+        }
+    }
+    Ok(bytes)
+}
+
+#[test]
+fn a_heap_in_a_file_is_recovered(rt: HostRuntime) -> Result<(), Fail> {
+    let name = format!(in rt.alloc(); "rom_recover_{}", process::id(rt.process()))?;
+    let path = env::temp_dir(&rt)?.join(rt.alloc(), name.as_str())?;
+    let sevens = vec![in rt.alloc(); 7u64; 112]?;
+    let region = changed_region(rt.alloc(), &ENQUEUED)?;
+    let want = heap(rt.alloc(), 0, region.as_slice(), region.as_slice())?;
+    let rows = [
+        (0, State::Idle, region.as_slice(), region.as_slice()),
+        (1, State::Mutating, sevens.as_slice(), region.as_slice()),
+        (2, State::Copying, region.as_slice(), sevens.as_slice()),
+    ];
+    for (state, found, main, back) in rows {
+        let words = heap(rt.alloc(), state, main, back)?;
+        fs::write(
+            &rt,
+            path.as_path(),
+            bytes_of(rt.alloc(), words.as_slice())?.as_slice(),
+        )?;
+        {
+            let file = OpenOptions::new()
+                .read(true)
+                .write(true)
+                .open(&rt, path.as_path())?;
+            let mut device = FileDevice::new(file, 1880);
+            assert_eq!(rt;
+                opened(&mut device),
+                Some(Ok(Recovered { found })),
+                "in state {state}"
+            );
+        }
+        let left = fs::read(&rt, path.as_path())?;
+        let bytes = bytes_of(rt.alloc(), want.as_slice())?;
+        assert_eq!(rt; left.as_slice(), bytes.as_slice(), "in state {state}");
+    }
+    fs::remove_file(&rt, path.as_path())?;
     Ok(())
 }

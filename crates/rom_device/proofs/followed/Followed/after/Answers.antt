@@ -1,14 +1,14 @@
 use Rattle.std.proofs.Common.{◌≡◌, ℕ, ◌∷◌, Bool, if◌then◌else◌, List, sym, subst, ap, ◌∙◌, refl}
-use Rattle.rom_device.specs.declared.call.Made.{Made}
-use Rattle.rom_device.specs.declared.call.Made.TheVariants.{Write}
+use Rattle.rom_device.specs.declared.call.LoggedCall.{LoggedCall}
+use Rattle.rom_device.specs.declared.call.LoggedCall.TheVariants.{Write}
 use Rattle.rom_device.specs.declared.followed.Followed.{Followed}
 use Rattle.rom_device.specs.Followed.{IsFollowed}
 use Rattle.rom_device.proofs.Writing.{word_written}
 use Rattle.rom_device.proofs.followed.Followed.after.Goals.{then-lands, else-lands}
 use Rattle.rom_device.proofs.followed.Followed.after.Goals as goal
 
-to_call : (base : List ℕ) (log : List Made) (word : Followed) (made call : Made) → call ≡ made → IsFollowed base (made ∷ log) word → IsFollowed base (call ∷ log) word
-to_call base log word made call e is = subst (λ (m : Made). IsFollowed base (m ∷ log) word) (sym e) is
+to_call : (base : List ℕ) (log : List LoggedCall) (word : Followed) (made call : LoggedCall) → call ≡ made → IsFollowed base (made ∷ log) word → IsFollowed base (call ∷ log) word
+to_call base log word made call e is = subst (λ (m : LoggedCall). IsFollowed base (m ∷ log) word) (sym e) is
 
 pub returns-then-self-clause-followed : goal.returns-then-self-clause-followed
 returns-then-self-clause-followed c base log lt is =

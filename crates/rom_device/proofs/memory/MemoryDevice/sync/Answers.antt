@@ -1,5 +1,5 @@
 use Rattle.std.proofs.Common.{◌≡◌, ◌∷◌, ◌++◌, [], true, arith, length, ap, rules}
-use Rattle.rom_device.specs.declared.call.Made.TheVariants.{Sync}
+use Rattle.rom_device.specs.declared.call.LoggedCall.TheVariants.{Sync}
 use Rattle.rom_device.proofs.Synced.{newest, sync_now, sync_since, sync_keeps}
 use Rattle.rom_device.proofs.memory.MemoryDevice.sync.Goals as goal
 

@@ -1,0 +1,52 @@
+-- Many writes, one after another.
+use Rattle.std.proofs.Common.{◌≡◌, ◌≢◌, inl, inr, ℕ, ◌+◌, ◌<◌, List, length, slice_index, set, refl, sym, ◌∙◌, subst, arith, length-set, get_or-set_other, get_or-set_same}
+use Rattle.std.proofs.lemmas.Bool.{cases_eq, cases_lt}
+use Rattle.std.proofs.lemmas.List.{set_past}
+use Rattle.rom_model.specs.Space.{ChangesOnly}
+use Rattle.rom_device.specs.Device.{Runs, Writes, WritesMany}
+use Rattle.rom_device.proofs.Going.{runs_by}
+
+pub many_none : (at : ℕ) (values x : List ℕ) → WritesMany at values x x
+many_none at values x = record { only = record { as_long = refl; before = λ k h. refl; behind = λ k h. refl }; either = λ k h. inl refl }
+
+pub many_joins : (at : ℕ) (values x y z : List ℕ) → WritesMany at values x y → WritesMany at values y z → WritesMany at values x z
+many_joins at values x y z first second = record {
+  only = record {
+    as_long = second.only.as_long ∙ first.only.as_long;
+    before = λ k h. second.only.before k h ∙ first.only.before k h;
+    behind = λ k h. second.only.behind k h ∙ first.only.behind k h;
+  };
+  either = λ k h. elim (second.either k h) [
+    | inl stays ↦ elim (first.either k h) [
+      | inl stayed ↦ inl (stays ∙ stayed)
+      | inr put ↦ inr (stays ∙ put)
+    ]
+    | inr put ↦ inr put
+  ];
+}
+
+-- one of them; behind the last word it changes nothing
+many_set : (at : ℕ) (values x : List ℕ) (index : ℕ) → index < length values → at + index < length x → WritesMany at values x (set x (at + index) (slice_index values index))
+many_set at values x index lt inside = record {
+  only = record {
+    as_long = length-set x (at + index) (slice_index values index);
+    before = λ j h. let ne : j ≢ at + index = omega arith in rw get_or-set_other refl;
+    behind = λ j h. let ne : j ≢ at + index = omega (arith, lt) in rw get_or-set_other refl;
+  };
+  either = λ k h. elim (cases_eq k index) [
+    | inl same ↦ inr (subst (λ (n : ℕ). slice_index (set x (at + index) (slice_index values index)) (at + n) ≡ slice_index values n) (sym same) (rw get_or-set_same refl))
+    | inr other ↦ inl (let ne : at + k ≢ at + index = omega (arith, other) in rw get_or-set_other refl)
+  ];
+}
+
+pub many_writes : (at : ℕ) (values : List ℕ) (index : ℕ) → index < length values → (x y : List ℕ) → Writes (at + index) (slice_index values index) x y → WritesMany at values x y
+many_writes at values index lt x y (inl same) = subst (λ (l : List ℕ). WritesMany at values x l) (sym same) (many_none at values x)
+many_writes at values index lt x y (inr put) = subst (λ (l : List ℕ). WritesMany at values x l) (sym put) (elim (cases_lt (at + index) (length x)) [
+  | inl inside ↦ many_set at values x index lt inside
+  | inr past ↦ subst (λ (l : List ℕ). WritesMany at values x l) (sym (set_past x (at + index) (slice_index values index) past)) (many_none at values x)
+])
+
+-- a run of calls that writes many changes only these
+pub runs_changes : {D : Type 0} (clock : D → ℕ) (leaves : D → List ℕ → Type 0) (left_since : D → ℕ → List ℕ → Type 0) (at : ℕ) (values : List ℕ) (a b : D)
+    → Runs clock leaves left_since (WritesMany at values) a b → Runs clock leaves left_since (ChangesOnly at (length values)) a b
+runs_changes clock leaves left_since at values = runs_by clock leaves left_since (WritesMany at values) (ChangesOnly at (length values)) (λ x y many. many.only)

@@ -1,7 +1,0 @@
-use Rattle.rom_device.proofs.Agreeing.{read_agrees}
-use Rattle.rom_device.proofs.file.FileDevice.read_ahead.Goals as goal
-
-pub invariant_of-self-2-clause-agree : goal.invariant_of-self-2-clause-agree
-invariant_of-self-2-clause-agree c =
-    let device = c.args.self.now in
-    read_agrees device.pending device.windows c.load.new.self c.args.at c.requires.clear c.load.ensures.left c.load.ensures.right device.agree

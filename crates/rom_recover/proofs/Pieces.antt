@@ -1,0 +1,49 @@
+-- Words of both regions that were read by pieces.
+use Rattle.std.proofs.Common.{◌≡◌, ◌≢◌, inl, inr, ℕ, ◌+◌, ◌-◌, ◌<◌, ◌≤◌, List, slice_index, arith, sym, ap, ◌∙◌}
+use Rattle.std.proofs.lemmas.Bool.{cases_lt}
+use Rattle.rom_header.specs.Headers.{IsIdle}
+use Rattle.rom_header.specs.Layout.{MAIN, back_at, region_len}
+use Rattle.rom_recover.specs.Recovered.{AreTwins, DifferAt}
+
+-- the words of a piece that was read from there on
+abbrev pub IsPiece : ℕ → ℕ → List ℕ → List ℕ → Type 0
+IsPiece at count words piece = (k : ℕ) → k < count → slice_index piece k ≡ slice_index words (at + k)
+
+-- Both regions were read from there on, back for as many words as main at most. Between the two
+-- reads the words stayed.
+module _ (order from at_main at_back first second : ℕ) (words later main back : List ℕ) (main_at : at_main ≡ MAIN + from) (back_at_is : at_back ≡ back_at order + from)
+    (stays : later ≡ words) (most : second ≤ first) (main_read : IsPiece at_main first words main) (back_read : IsPiece at_back second later back) where
+  pub main_word : (k : ℕ) → k < second → slice_index words (MAIN + (from + k)) ≡ slice_index main k
+  main_word k lt =
+      let place : MAIN + (from + k) ≡ at_main + k = omega (arith, main_at) in
+      ap (slice_index words) place ∙ sym (main_read k (omega (arith, lt, most)))
+
+  pub back_word : (k : ℕ) → k < second → slice_index words (back_at order + (from + k)) ≡ slice_index back k
+  back_word k lt =
+      let place : back_at order + (from + k) ≡ at_back + k = omega (arith, back_at_is) in
+      ap (slice_index words) place ∙ ap (λ (ws : List ℕ). slice_index ws (at_back + k)) (sym stays) ∙ sym (back_read k lt)
+
+  -- regions that are the same so far, and then in what was read
+  pub twins_on : (count : ℕ) → count ≤ second → AreTwins order from words → ((k : ℕ) → k < count → slice_index main k ≡ slice_index back k) → AreTwins order (from + count) words
+  twins_on count fits so_far same k lt = elim (cases_lt k from) [
+    | inl before ↦ so_far k before
+    | inr behind ↦
+        let there : from + (k - from) ≡ k = omega (arith, behind) in
+        let within : k - from < count = omega (arith, lt, behind) in
+        let read : k - from < second = omega (arith, within, fits) in
+        ap (λ (j : ℕ). slice_index words (MAIN + j)) (sym there) ∙ main_word (k - from) read ∙ same (k - from) within
+        ∙ sym (back_word (k - from) read) ∙ ap (λ (j : ℕ). slice_index words (back_at order + j)) there
+  ]
+
+  -- the first difference of what was read is that of the regions
+  pub differ_at : (index : ℕ) → IsIdle words → from + first ≤ region_len order → AreTwins order from words → index < second
+      → slice_index main index ≢ slice_index back index → ((k : ℕ) → k < index → slice_index main k ≡ slice_index back k)
+      → DifferAt order words (from + index) (slice_index main index) (slice_index back index)
+  differ_at index idle fits so_far within differ same = record {
+    idle = idle;
+    within = omega (arith, fits, most, within);
+    main_is = main_word index within;
+    back_is = back_word index within;
+    differ = differ;
+    first = twins_on index (omega (arith, within)) so_far same;
+  }

@@ -1,0 +1,104 @@
+//! The comparison of both regions.
+ghost use Rattle.std.specs.Prelude.{◌≡◌, ◌≢◌, ◌+◌, ◌<◌, ◌≤◌, ℕ, List, IfErr, IfSome, IfNone, OnOk, IsTrue, slice_index};
+ghost use Rattle.rom_model.specs.Faults.{Rose};
+ghost use Rattle.rom_device.specs.Device.{Runs, Stays};
+ghost use Rattle.rom_header.specs.Headers.{IsIdle};
+ghost use Rattle.rom_header.specs.Layout.{region_len, words_needed};
+ghost use Rattle.rom_recover.specs.Recovered.{AreTwins, IsFirst};
+
+use crate::piece::{PIECE, read_piece};
+use crate::recovery::RecoverRefused;
+use rom_device::Device;
+use rom_header::Geometry;
+
+/// A piece of each region.
+#[derive(Drop)]
+struct Pieces {
+    main: [u64; PIECE],
+    back: [u64; PIECE],
+}
+
+/// Where so many words differ first, if they do.
+fn first_difference(main: &[u64; PIECE], back: &[u64; PIECE], count: usize) -> Option<usize>
+    requires { count ≤ 64 }
+    ensures within { IfSome result (λ index. index < count) }
+    ensures differ { IfSome result (λ index. slice_index main.now index ≢ slice_index back.now index) }
+    ensures first { IfSome result (λ index. (k : ℕ) → k < index → slice_index main.now k ≡ slice_index back.now k) }
+    ensures none { IfNone result ((k : ℕ) → k < count → slice_index main.now k ≡ slice_index back.now k) }
+{
+    for index in 0..count {
+        if main[index] != back[index] {
+            return Some(index);
+        }
+    }
+    None
+}
+
+/// Compares so many words of both regions behind those that are the same, up to the first
+/// difference. Words that were read before one that could not be read are compared all the same.
+fn compare_piece<D: Device>(
+    device: &mut D,
+    geometry: Geometry,
+    from: u64,
+    count: usize,
+    pieces: &mut Pieces,
+) -> Result<(), RecoverRefused>
+    requires fits { words_needed geometry ≤ D.size device.old }
+    requires within { from + count ≤ region_len geometry }
+    requires room { count ≤ 64 }
+    requires idle { IsTrue D.tells_words → IsIdle (D.words device.old) }
+    requires so_far { IsTrue D.tells_words → AreTwins geometry from (D.words device.old) }
+    ensures size { D.size device.new ≡ D.size device.old }
+    ensures words { IsTrue D.tells_words → D.words device.new ≡ D.words device.old }
+    ensures same { IsTrue D.tells_words → OnOk result (AreTwins geometry (from + count) (D.words device.old)) }
+    ensures images { IsTrue D.tells_images → Runs D.clock D.leaves D.left_since Stays device.old device.new }
+    ensures still { IsTrue D.tells_images → (i : List ℕ) → D.leaves device.old i → D.leaves device.new i }
+    ensures writes { D.writes device.new ≡ D.writes device.old }
+    ensures syncs { D.syncs device.new ≡ D.syncs device.old }
+    ensures later { D.faults device.old ≤ D.faults device.new }
+    ensures cause { result ≡ Err RecoverRefused.Device → Rose (D.faults device.old) (D.faults device.new) }
+    ensures twins { IsTrue D.tells_words → IfErr result (IsFirst geometry (D.words device.old)) }
+{
+    let read = read_piece(device, geometry.main() + from, &mut pieces.main, count);
+    let read = read_piece(device, geometry.back() + from, &mut pieces.back, read);
+    if let Some(index) = first_difference(&pieces.main, &pieces.back, read) {
+        return Err(RecoverRefused::Twins {
+            offset: from + index as u64,
+            main: pieces.main[index],
+            back: pieces.back[index],
+        });
+    }
+    if read < count {
+        return Err(RecoverRefused::Device);
+    }
+    Ok(())
+}
+
+/// Compares the regions up to the first difference.
+pub fn compare<D: Device>(device: &mut D, geometry: Geometry) -> Result<(), RecoverRefused>
+    requires fits { words_needed geometry ≤ D.size device.old }
+    requires idle { IsTrue D.tells_words → IsIdle (D.words device.old) }
+    ensures size { D.size device.new ≡ D.size device.old }
+    ensures words { IsTrue D.tells_words → D.words device.new ≡ D.words device.old }
+    ensures same { IsTrue D.tells_words → OnOk result (AreTwins geometry (region_len geometry) (D.words device.old)) }
+    ensures images { IsTrue D.tells_images → Runs D.clock D.leaves D.left_since Stays device.old device.new }
+    ensures still { IsTrue D.tells_images → (i : List ℕ) → D.leaves device.old i → D.leaves device.new i }
+    ensures writes { D.writes device.new ≡ D.writes device.old }
+    ensures syncs { D.syncs device.new ≡ D.syncs device.old }
+    ensures later { D.faults device.old ≤ D.faults device.new }
+    ensures cause { result ≡ Err RecoverRefused.Device → Rose (D.faults device.old) (D.faults device.new) }
+    ensures twins { IsTrue D.tells_words → IfErr result (IsFirst geometry (D.words device.old)) }
+{
+    let len = geometry.region();
+    let mut pieces = Pieces {
+        main: [0; PIECE],
+        back: [0; PIECE],
+    };
+    let mut from = 0;
+    while from < len {
+        let count = (len - from).min(PIECE as u64);
+        compare_piece(device, geometry, from, count as usize, &mut pieces)?;
+        from += count;
+    }
+    Ok(())
+}
