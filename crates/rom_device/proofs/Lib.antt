@@ -1,7 +1,2 @@
 pub mod Going
-mod Choices
-mod Synced
-mod Writing
-mod Agreeing
-mod Paged
 pub mod Many

@@ -3,8 +3,9 @@ use Rattle.std.proofs.Common.{◌≡◌, ◌≢◌, inl, inr, ℕ, ◌+◌, ◌<
 use Rattle.std.proofs.lemmas.Bool.{cases_eq, cases_lt}
 use Rattle.std.proofs.lemmas.List.{set_past}
 use Rattle.rom_model.specs.Space.{ChangesOnly}
-use Rattle.rom_device.specs.Device.{Runs, Writes, WritesMany}
-use Rattle.rom_device.proofs.Going.{runs_by}
+use Rattle.rom_device.specs.Device.{ShownDevice, Runs, Does, Writes, WritesMany}
+use Rattle.rom_model.proofs.Changes.{changes_joins, changes_set, changes_wider}
+use Rattle.rom_device.proofs.Going.{runs_by, does_on, does_by}
 
 pub many_none : (at : ℕ) (values x : List ℕ) → WritesMany at values x x
 many_none at values x = record { only = record { as_long = refl; before = λ k h. refl; behind = λ k h. refl }; either = λ k h. inl refl }
@@ -47,6 +48,22 @@ many_writes at values index lt x y (inr put) = subst (λ (l : List ℕ). WritesM
 ])
 
 -- a run of calls that writes many changes only these
-pub runs_changes : {D : Type 0} (clock : D → ℕ) (leaves : D → List ℕ → Type 0) (left_since : D → ℕ → List ℕ → Type 0) (at : ℕ) (values : List ℕ) (a b : D)
-    → Runs clock leaves left_since (WritesMany at values) a b → Runs clock leaves left_since (ChangesOnly at (length values)) a b
-runs_changes clock leaves left_since at values = runs_by clock leaves left_since (WritesMany at values) (ChangesOnly at (length values)) (λ x y many. many.only)
+pub runs_changes : {D : Type 0} (shown : ShownDevice D) (at : ℕ) (values : List ℕ) (a b : D)
+    → Runs shown (WritesMany at values) a b → Runs shown (ChangesOnly at (length values)) a b
+runs_changes shown at values = runs_by shown (WritesMany at values) (ChangesOnly at (length values)) (λ x y many. many.only)
+
+-- one write more, of the next of these words
+pub many_on : {D : Type 0} (shown : ShownDevice D) (at : ℕ) (values : List ℕ) (index : ℕ) → index < length values → (a b c : D)
+    → Does shown (WritesMany at values) a b → Does shown (Writes (at + index) (slice_index values index)) b c → Does shown (WritesMany at values) a c
+many_on shown at values index lt a b c so_far write =
+    does_on shown (WritesMany at values) (many_joins at values) a b c so_far
+    (does_by shown (Writes (at + index) (slice_index values index)) (WritesMany at values) (many_writes at values index lt) b c write)
+
+-- the words that were written so far, and one more
+only_one_more : (at k v : ℕ) (x y z : List ℕ) → ChangesOnly at k x y → z ≡ set y (at + k) v → ChangesOnly at (k + 1) x z
+only_one_more at k v x y z so_far put = subst (λ (l : List ℕ). ChangesOnly at (k + 1) x l) (sym put)
+    (changes_joins at (k + 1) x y (set y (at + k) v) (changes_wider at (k + 1) at k (omega arith) (omega arith) x y so_far) (changes_set at (k + 1) y (at + k) v (omega arith) (omega arith)))
+
+pub many_only : (at : ℕ) (k v : ℕ) (x y z : List ℕ) → ChangesOnly at k x y → Writes (at + k) v y z → ChangesOnly at (k + 1) x z
+many_only at k v x y z so_far (inl same) = subst (λ (l : List ℕ). ChangesOnly at (k + 1) x l) (sym same) (changes_wider at (k + 1) at k (omega arith) (omega arith) x y so_far)
+many_only at k v x y z so_far (inr put) = only_one_more at k v x y z so_far put

@@ -1,6 +1,27 @@
--- What the calls of a device do to its words, and what a stop may leave of them.
-use Rattle.std.specs.Prelude.{◌≡◌, ◌⊎◌, ℕ, ◌+◌, ◌<◌, ◌≤◌, List, length, slice_index, slice_set}
+-- What a device shows of itself, what its calls do to its words, and what a stop may leave of them.
+use Rattle.std.specs.Prelude.{◌≡◌, ◌⊎◌, ℕ, ◌+◌, ◌<◌, ◌≤◌, Bool, true, false, IsTrue, if◌then◌else◌, is_err, nat_lt, List, length, slice_index, slice_set, Option, Some, None, Result, OnOk, OnErr}
+use Rattle.rom_model.specs.Faults.{Adds, FailedLast, HasCause, counted}
 use Rattle.rom_model.specs.Space.{ChangesOnly}
+
+-- A fixed number of 64-bit words that are read, written and made certain.
+pub record ShownDevice (D : Type 0) : Type 1 where
+  -- how many words it has
+  pub size : D → ℕ
+  -- the words as they read, where it tells them
+  pub tells_words : Bool
+  pub words : D → List ℕ
+  -- where it tells them, the images: what a stop now may leave, and what a stop at some moment since that one might have left, within a call or between two; and the moment, as a number that never falls
+  pub tells_images : Bool
+  pub leaves : D → List ℕ → Type 0
+  pub clock : D → ℕ
+  pub left_since : D → ℕ → List ℕ → Type 0
+  -- how many reads, writes and syncs were called, each up to 2 ^ 64 - 1; each word of a call for many is one
+  pub reads : D → ℕ
+  pub writes : D → ℕ
+  pub syncs : D → ℕ
+  -- how many calls of it failed, up to 2 ^ 64 - 1, and whether the last one did
+  pub faults : D → ℕ
+  pub failing : D → Bool
 
 -- A step takes the words before it and those after it. Here nothing changes.
 abbrev pub Stays : List ℕ → List ℕ → Type 0
@@ -15,6 +36,20 @@ pub record WritesMany (at : ℕ) (values old new : List ℕ) : Type 0 where
   pub only : ChangesOnly at (length values) old new
   pub either : (k : ℕ) → k < length values → (slice_index new (at + k) ≡ slice_index old (at + k)) ⊎ (slice_index new (at + k) ≡ slice_index values k)
 
+-- The first k of these words are written from that place on; the next one is as it was or written, and no other differs.
+pub record WritesUpTo (at k : ℕ) (values old new : List ℕ) : Type 0 where
+  pub only : ChangesOnly at (k + 1) old new
+  pub written : (j : ℕ) → j < k → slice_index new (at + j) ≡ slice_index values j
+  pub next : (slice_index new (at + k) ≡ slice_index old (at + k)) ⊎ (slice_index new (at + k) ≡ slice_index values k)
+
+-- it is as it was, or has P
+abbrev pub Becomes : (List ℕ → Type 0) → List ℕ → List ℕ → Type 0
+Becomes P old new = (new ≡ old) ⊎ P new
+
+-- no image has this
+abbrev pub NoImage : List ℕ → Type 0
+NoImage image = ⊥
+
 -- what a step may make of one of these images
 pub record After (step : List ℕ → List ℕ → Type 0) (old : List ℕ → Type 0) (image : List ℕ) : Type 0 where
   pub from : List ℕ
@@ -23,15 +58,71 @@ pub record After (step : List ℕ → List ℕ → Type 0) (old : List ℕ → T
 
 -- A run of calls: each image that a stop during or after it may leave is one from before it after
 -- a step, and none that might have been left is forgotten.
-pub record Runs {D : Type 0} (clock : D → ℕ) (leaves : D → List ℕ → Type 0) (left_since : D → ℕ → List ℕ → Type 0) (step : List ℕ → List ℕ → Type 0) (old new : D) : Type 0 where
-  pub later : clock old ≤ clock new
-  pub now : (i : List ℕ) → leaves new i → After step (leaves old) i
-  pub nothing_else : (t : ℕ) (i : List ℕ) → left_since new t i → left_since old t i ⊎ After step (leaves old) i
-  pub keeps : (t : ℕ) (i : List ℕ) → t ≤ clock old → left_since old t i → left_since new t i
+pub record Runs {D : Type 0} (shown : ShownDevice D) (step : List ℕ → List ℕ → Type 0) (old new : D) : Type 0 where
+  pub later : shown.clock old ≤ shown.clock new
+  pub now : (i : List ℕ) → shown.leaves new i → After step (shown.leaves old) i
+  pub nothing_else : (t : ℕ) (i : List ℕ) → shown.left_since new t i → shown.left_since old t i ⊎ After step (shown.leaves old) i
+  pub keeps : (t : ℕ) (i : List ℕ) → t ≤ shown.clock old → shown.left_since old t i → shown.left_since new t i
 
 -- Each image that might have been left since some moment before the run might have been left by
 -- its start, or has P.
-pub record Leaves {D : Type 0} (clock : D → ℕ) (left_since : D → ℕ → List ℕ → Type 0) (P : List ℕ → Type 0) (old new : D) : Type 0 where
-  pub later : clock old ≤ clock new
-  pub nothing_else : (t : ℕ) (i : List ℕ) → t ≤ clock old → left_since new t i → left_since old t i ⊎ P i
-  pub keeps : (t : ℕ) (i : List ℕ) → t ≤ clock old → left_since old t i → left_since new t i
+pub record Leaves {D : Type 0} (shown : ShownDevice D) (P : List ℕ → Type 0) (old new : D) : Type 0 where
+  pub later : shown.clock old ≤ shown.clock new
+  pub nothing_else : (t : ℕ) (i : List ℕ) → t ≤ shown.clock old → shown.left_since new t i → shown.left_since old t i ⊎ P i
+  pub keeps : (t : ℕ) (i : List ℕ) → t ≤ shown.clock old → shown.left_since old t i → shown.left_since new t i
+
+module _ {D : Type 0} (shown : ShownDevice D) where
+  -- the words, where the device tells them
+  abbrev pub told_words : D → Option (List ℕ)
+  told_words device = if shown.tells_words then Some (shown.words device) else None
+
+  -- no write is unsynced: a stop leaves the words as they read
+  abbrev pub IsSynced : D → Type 0
+  IsSynced device = IsTrue shown.tells_images → (i : List ℕ) → shown.leaves device i → i ≡ shown.words device
+
+  -- Calls that change the words, and each image, by this step alone.
+  pub record Does (step : List ℕ → List ℕ → Type 0) (old new : D) : Type 0 where
+    pub size : shown.size new ≡ shown.size old
+    pub words : IsTrue shown.tells_words → step (shown.words old) (shown.words new)
+    pub images : IsTrue shown.tells_images → Runs shown step old new
+
+  -- Calls of `read` alone: words and images stay.
+  pub record OnlyReads (old new : D) : Type 0 where
+    pub size : shown.size new ≡ shown.size old
+    pub words : IsTrue shown.tells_words → shown.words new ≡ shown.words old
+    pub images : IsTrue shown.tells_images → Runs shown Stays old new
+    pub still : IsTrue shown.tells_images → (i : List ℕ) → shown.leaves old i → shown.leaves new i
+    pub writes : shown.writes new ≡ shown.writes old
+    pub syncs : shown.syncs new ≡ shown.syncs old
+
+  -- One call: exactly so many reads, writes and syncs are counted, and a fault exactly where it fails.
+  pub record Counts {T E : Type 0} (reads writes syncs : ℕ) (old new : D) (result : Result T E) : Type 0 where
+    pub reads_made : Adds reads (shown.reads old) (shown.reads new)
+    pub writes_made : Adds writes (shown.writes old) (shown.writes new)
+    pub syncs_made : Adds syncs (shown.syncs old) (shown.syncs new)
+    pub faults : shown.faults new ≡ (if is_err result then counted (shown.faults old) else shown.faults old)
+    pub failing : shown.failing new ≡ is_err result
+
+  -- Several calls, of which none follows one that failed: exactly so many of each after `Ok`, and at most so many after an error.
+  pub record Makes {T E : Type 0} (reads writes syncs : ℕ) (old new : D) (result : Result T E) : Type 0 where
+    pub reads_made : OnOk result (Adds reads (shown.reads old) (shown.reads new))
+    pub writes_made : OnOk result (Adds writes (shown.writes old) (shown.writes new))
+    pub syncs_made : OnOk result (Adds syncs (shown.syncs old) (shown.syncs new))
+    pub most_reads : shown.reads new ≤ shown.reads old + reads
+    pub most_writes : shown.writes new ≤ shown.writes old + writes
+    pub most_syncs : shown.syncs new ≤ shown.syncs old + syncs
+    pub cause : HasCause (shown.faults old) (shown.faults new) (shown.failing new) result
+
+  -- So many of so many words were read one after another, and where they are fewer the next read failed.
+  pub record ReadsUpTo (k len : ℕ) (old new : D) : Type 0 where
+    pub within : k ≤ len
+    pub reads_made : Adds (if nat_lt k len then k + 1 else k) (shown.reads old) (shown.reads new)
+    pub all : k ≡ len → shown.faults new ≡ shown.faults old
+    pub fewer : k < len → FailedLast (shown.faults old) (shown.faults new) (shown.failing new)
+
+  -- Writing these words one after another ended at one of them, of number k, whose write failed.
+  pub record WritingFailed (at : ℕ) (values : List ℕ) (old new : D) : Type 0 where
+    pub k : ℕ
+    pub within : k < length values
+    pub writes_made : Adds (k + 1) (shown.writes old) (shown.writes new)
+    pub words : IsTrue shown.tells_words → WritesUpTo at k values (shown.words old) (shown.words new)

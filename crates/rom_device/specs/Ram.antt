@@ -5,7 +5,10 @@ use Rattle.rom_device.specs.declared.ram.Ram.{Ram}
 abbrev pub words_of : Ram → List ℕ
 words_of ram = ram.words.items
 
--- how many writes and syncs were called
+-- how many reads, writes and syncs were called
+abbrev pub read_count : Ram → ℕ
+read_count ram = ram.reads
+
 abbrev pub write_count : Ram → ℕ
 write_count ram = ram.writes
 

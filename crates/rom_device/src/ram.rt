@@ -9,22 +9,26 @@ use std::alloc::{AllocError, Global};
 #[derive(Drop)]
 pub struct Ram {
     words: Vec<u64>,
+    reads: u64,
     writes: u64,
     syncs: u64,
     ghost small: { length words.items < 2 ^ 64 },
+    ghost reads_fit: { reads < 2 ^ 64 },
+    ghost writes_fit: { writes < 2 ^ 64 },
+    ghost syncs_fit: { syncs < 2 ^ 64 },
 }
 
 impl Ram {
-    ghost use Rattle.rom_device.specs.Ram.{words_of, write_count, sync_count};
+    ghost use Rattle.rom_device.specs.Ram.{words_of, read_count, write_count, sync_count};
 
     /// So many words, each 0. Words that do not fit into memory are want of memory.
     pub fn zeroed(alloc: Global, len: u64) -> Result<Ram, AllocError>
         ensures words { IfOk result (λ ram. words_of ram ≡ replicate len 0) }
-        ensures writes { IfOk result (λ ram. write_count ram ≡ 0) }
-        ensures syncs { IfOk result (λ ram. sync_count ram ≡ 0) }
+        ensures counts { IfOk result (λ ram. (read_count ram ≡ 0) × (write_count ram ≡ 0) × (sync_count ram ≡ 0)) }
     {
         Ok(Ram {
             words: vec![in alloc; 0; len as usize]?,
+            reads: 0,
             writes: 0,
             syncs: 0,
         })
@@ -35,25 +39,20 @@ impl Device for Ram {
     ghost use Rattle.std.specs.Prelude.{refl, true, false};
     ghost use Rattle.std.proofs.Common.{arith};
 
-    ghost size = { λ r. length r.words.items };
-
-    ghost tells_words = { true };
-
-    ghost words = { λ r. r.words.items };
-
-    ghost tells_images = { false };
-
-    ghost leaves = { λ _ _. Unit {0} };
-
-    ghost clock = { λ _. 0 };
-
-    ghost left_since = { λ _ _ _. Unit {0} };
-
-    ghost faults = { λ _. 0 };
-
-    ghost writes = { λ r. r.writes };
-
-    ghost syncs = { λ r. r.syncs };
+    ghost shown = { record {
+      size = λ r. length r.words.items;
+      tells_words = true;
+      words = λ r. r.words.items;
+      tells_images = false;
+      leaves = λ _ _. Unit {0};
+      clock = λ _. 0;
+      left_since = λ _ _ _. Unit {0};
+      reads = λ r. r.reads;
+      writes = λ r. r.writes;
+      syncs = λ r. r.syncs;
+      faults = λ _. 0;
+      failing = λ _. false;
+    } };
 
     fn len(&self) -> u64 {
         self.words.len() as u64
@@ -64,6 +63,7 @@ impl Device for Ram {
     }
 
     fn read(&mut self, at: u64) -> Result<u64, Failed> {
+        self.reads = self.reads.saturating_add(1);
         Ok(self.words[at as usize])
     }
 
@@ -92,5 +92,5 @@ impl Device for Ram {
 
     ghost size_fits = { λ r. r.small };
 
-    ghost faults_fit = { λ _. Prim.omega arith };
+    ghost counts_fit = { λ r. (r.reads_fit, r.writes_fit, r.syncs_fit, Prim.omega arith) };
 }
