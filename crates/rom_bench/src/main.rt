@@ -13,11 +13,28 @@ mod rounds;
 
 use command::{Action, Command};
 use rom_header::State;
+use std::fs::File;
+use std::os::fd::{AsRawFd, IntoRawFd};
 use std::process::ExitCode;
 use std::{env, io};
 
 const USAGE: &str =
     "rom_bench make FILE ORDER | mark FILE STATE | open FILE | plain FILE | time FILE ROUNDS | queue PUSHES POPS";
+
+/// Sees to it that the descriptors 0 to 2 are taken. One that was closed when the program began
+/// would be given to the heap's file, and what is printed would go into that heap. So `/dev/null`
+/// gets it, to the program's end, and for reading alone: a write there still fails.
+fn hold_streams(rt: &HostRuntime) -> io::Result<()> {
+    for _ in 0..3 {
+        let null = File::open(rt, "/dev/null")?;
+        if null.as_raw_fd() > 2 {
+            // The lowest free number is given, so the three are taken.
+            return Ok(());
+        }
+        let _held = null.into_raw_fd();
+    }
+    Ok(())
+}
 
 /// What the words after the program's name ask for.
 fn wanted(rt: &HostRuntime) -> io::Result<Option<Command>> {
@@ -73,6 +90,7 @@ fn done(rt: &HostRuntime, command: &Command) -> io::Result<bool> {
 }
 
 fn main(rt: HostRuntime) -> io::Result<ExitCode> {
+    hold_streams(&rt)?;
     let Some(command) = wanted(&rt)? else {
         println!(&rt; "{}", USAGE)?;
         return Ok(ExitCode::from(2));

@@ -9,8 +9,24 @@ use rom_shell::{DeviceWant, Status, files_of, run};
 use std::alloc::AllocError;
 use std::fs::File;
 use std::io::ErrorKind;
+use std::os::fd::{AsRawFd, IntoRawFd};
 use std::process::ExitCode;
 use std::{env, io};
+
+/// Sees to it that the descriptors 0 to 2 are taken. One that was closed when the program began
+/// would be given to the next file that is opened, and what is printed would go into that file. So
+/// `/dev/null` gets it, to the program's end, and for reading alone: a write there still fails.
+fn hold_streams(rt: &HostRuntime) -> io::Result<()> {
+    for _ in 0..3 {
+        let null = File::open(rt, "/dev/null")?;
+        if null.as_raw_fd() > 2 {
+            // The lowest free number is given, so the three are taken.
+            return Ok(());
+        }
+        let _held = null.into_raw_fd();
+    }
+    Ok(())
+}
 
 /// The words after the program's name. Words that are not text are no words, and so no command.
 fn words_of(rt: &HostRuntime) -> Result<Names, AllocError> {
@@ -65,12 +81,19 @@ fn start(rt: &HostRuntime) -> Result<u8, AllocError> {
     Ok(ended.status)
 }
 
+/// Nothing has been done, and nothing can be.
+fn no_memory(rt: &HostRuntime) -> ExitCode {
+    let _ = println!(rt; "no memory");
+    ExitCode::from(Status::NoMemory.number())
+}
+
 fn main(rt: HostRuntime) -> ExitCode {
+    if hold_streams(&rt).is_err() {
+        let _ = eprintln!(&rt; "romulus: /dev/null cannot be opened");
+        return no_memory(&rt);
+    }
     match start(&rt) {
         Ok(status) => ExitCode::from(status),
-        Err(_) => {
-            let _ = println!(rt; "no memory");
-            ExitCode::from(Status::NoMemory.number())
-        }
+        Err(_) => no_memory(&rt),
     }
 }
