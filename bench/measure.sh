@@ -35,6 +35,9 @@ awk '{ t[NR] = $1 / 100 } END { printf "time: %.2f ms, the middle of %d runs fro
 
 if [ -x /usr/bin/time ]; then
     /usr/bin/time -f 'one run: %U s in the program, %S s in the system; memory at most: %M KiB' "$program" try "$script" >"$text"
+    # The shortest update, over and over, makes the most entries.
+    yes deq | head -c 1048576 >"$folder/updates"
+    /usr/bin/time -f 'lines "deq" alone: memory at most: %M KiB' "$program" try "$folder/updates" >"$text"
 else
     echo "processor time and memory: /usr/bin/time is not here"
 fi
