@@ -1,8 +1,8 @@
 -- Both ends of a queue in the words of a region.
-use Rattle.std.specs.Prelude.{◌≡◌, ℕ, ◌+◌, ◌^◌, ◌<◌, ◌≤◌, List, [], ◌∷◌, length, slice_index}
+use Rattle.std.specs.Prelude.{◌≡◌, ℕ, ◌+◌, ◌^◌, ◌<◌, ◌≤◌, List, [], ◌∷◌, ◌++◌, length, slice_index}
 use Rattle.rom_model.specs.Blocks.{block_of}
 use Rattle.rom_model.specs.Chains.{times}
-use Rattle.rom_model.specs.Region.{IsQueue}
+use Rattle.rom_model.specs.Region.{IsQueue, ChangesPart}
 
 -- where the last link of a chain stands that begins at that link word
 abbrev pub link_after : ℕ → ℕ → ℕ → List ℕ → ℕ
@@ -26,15 +26,21 @@ pub record MayTake (n at : ℕ) (words : List ℕ) : Type 0 where
   pub are : AreNodes n blocks
   pub absent : times block blocks ≡ 0
 
+-- the words of the tree stay
+abbrev pub KeepsTree : ℕ → List ℕ → List ℕ → Type 0
+KeepsTree n old new = (k : ℕ) → 17 ≤ k → k < block_of n 0 → slice_index new k ≡ slice_index old k
+
+-- The block stands at the end of the queue with the value, and no word differs but the queue's and the block's.
+pub record IsAppended {n at : ℕ} {old : List ℕ} (q : MayTake n at old) (value : ℕ) (new : List ℕ) : Type 0 where
+  pub queue : IsQueue n new (q.blocks ++ q.block ∷ []) (q.values ++ value ∷ [])
+  pub others : ChangesPart n 3 6 (q.blocks ++ q.block ∷ []) old new
+  pub tree : KeepsTree n old new
+
 -- a queue in the words whose first block begins there
 pub record Begins (n at : ℕ) (words : List ℕ) : Type 0 where
   pub block : ℕ
   pub here : at ≡ block_of n block
   pub inside : block < 2 ^ n
-  pub blocks : List ℕ
+  pub behind : List ℕ
   pub values : List ℕ
-  pub queue : IsQueue n words (block ∷ blocks) values
-
--- the words of the tree stay
-abbrev pub KeepsTree : ℕ → List ℕ → List ℕ → Type 0
-KeepsTree n old new = (k : ℕ) → 17 ≤ k → k < block_of n 0 → slice_index new k ≡ slice_index old k
+  pub queue : IsQueue n words (block ∷ behind) values
