@@ -9,7 +9,7 @@ use Rattle.rom_model.specs.Region.{IsQueue}
 use Rattle.rom_model.proofs.Times.{times_here, times-append, times_one}
 use Rattle.rom_model.proofs.Nodes.{pow_positive}
 use Rattle.rom_model.proofs.Frames.{each_same}
-use Rattle.rom_queue.specs.Ends.{link_after, MayTake, IsAppended}
+use Rattle.rom_queue.specs.Ends.{link_after, IsLinked, MayTake, IsAppended}
 use Rattle.rom_queue.proofs.Links.{link_in, chain_push}
 
 -- what the stores of an append leave
@@ -116,18 +116,17 @@ link_fits {n} q = ⊎_elim
 -- the block is filled, and then it is linked
 pub stored_two : {n at value last : ℕ} {w f w' : List ℕ} (q : MayTake n at w) → last ≡ link_after n 3 1 q.blocks
     → slice_index f at ≡ value → slice_index f (at + 1) ≡ 0 → slice_index f (at + 2) ≡ 0 → slice_index f (at + 3) ≡ 0 → ChangesOnly at 4 w f
-    → slice_index w' last ≡ at → slice_index w' 4 ≡ at → slice_index w' 5 ≡ slice_index f 5 + 1 → length w' ≡ length f
-    → ((k : ℕ) → k ≢ last → k ≢ 4 → k ≢ 5 → slice_index w' k ≡ slice_index f k) → Stored n q.block value (link_after n 3 1 q.blocks) w w'
-stored_two {n} {at} {value} {last} {w} {f} {w'} q end_is first second third fourth filled linked tail len as_long others = record {
-  as_long = as_long ∙ filled.as_long;
+    → IsLinked last at f w' → Stored n q.block value (link_after n 3 1 q.blocks) w w'
+stored_two {n} {at} {value} {last} {w} {f} {w'} q end_is first second third fourth filled l = record {
+  as_long = l.as_long ∙ filled.as_long;
   first = ap (λ k. slice_index w' k) plain ∙ kept 0 (omega arith) ∙ ap (λ k. slice_index f k) (sym plain) ∙ ap (λ k. slice_index f k) (sym q.here) ∙ first;
   second = kept 1 (omega arith) ∙ ap (λ k. slice_index f (k + 1)) (sym q.here) ∙ second;
   third = kept 2 (omega arith) ∙ ap (λ k. slice_index f (k + 2)) (sym q.here) ∙ third;
   fourth = kept 3 (omega arith) ∙ ap (λ k. slice_index f (k + 3)) (sym q.here) ∙ fourth;
-  linked = ap (λ k. slice_index w' k) (sym end_is) ∙ linked ∙ q.here;
-  tail = tail ∙ q.here;
-  len = len ∙ ap (λ k. k + 1) (filled.before 5 (omega (arith, q.here)));
-  others = λ k outside ne n4 n5. others k (λ e. ne (e ∙ end_is)) n4 n5 ∙ elim (cases_lt k at) [
+  linked = ap (λ k. slice_index w' k) (sym end_is) ∙ l.linked ∙ q.here;
+  tail = l.tail ∙ q.here;
+  len = l.len ∙ ap (λ k. k + 1) (filled.before 5 (omega (arith, q.here)));
+  others = λ k outside ne n4 n5. l.others k (λ e. ne (e ∙ end_is)) n4 n5 ∙ elim (cases_lt k at) [
     | inl lt ↦ filled.before k lt
     | inr ge ↦ elim (cases_lt k (at + 4)) [ inl lt ↦ absurd (outside (omega (arith, q.here, ge), omega (arith, q.here, lt))) | inr le ↦ filled.behind k le ]
   ];
@@ -137,4 +136,4 @@ stored_two {n} {at} {value} {last} {w} {f} {w'} q end_is first second third four
     plain = omega arith
 
     kept : (j : ℕ) → j < 4 → slice_index w' (block_of n q.block + j) ≡ slice_index f (block_of n q.block + j)
-    kept j lt = others (block_of n q.block + j) (λ e. (link_fits q).outside (omega (arith, e, end_is), omega (arith, e, end_is, lt))) (λ e. absurd (omega (arith, e))) (λ e. absurd (omega (arith, e)))
+    kept j lt = l.others (block_of n q.block + j) (λ e. (link_fits q).outside (omega (arith, e, end_is), omega (arith, e, end_is, lt))) (λ e. absurd (omega (arith, e))) (λ e. absurd (omega (arith, e)))

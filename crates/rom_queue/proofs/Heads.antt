@@ -12,7 +12,7 @@ use Rattle.rom_model.proofs.Members.{member_taken, quarter_pow}
 use Rattle.rom_model.proofs.Room.{times_members, tree_stays, region_disjoint}
 use Rattle.rom_block.specs.Taken.{IsTakenAt}
 use Rattle.rom_queue.specs.Queue.{IsPopped}
-use Rattle.rom_queue.specs.Ends.{Begins}
+use Rattle.rom_queue.specs.Ends.{Begins, IsUnlinked}
 use Rattle.rom_queue.proofs.Links.{head_none, head_first}
 use Rattle.rom_queue.proofs.Regions.{popped}
 use Rattle.rom_queue.proofs.Taking.{unit_begins}
@@ -73,9 +73,9 @@ module _ {n : ℕ} {w : List ℕ} {p : Chains} {s : State} {k : ℕ} (le : 4 ≤
     may_give = (taken, 2 ^ n + block, region_disjoint le is, words, node, at, held)
 
     -- after it was given back
-    pub given_back : (w2 : List ℕ) (value : ℕ) → value ≡ slice_index w head → ((q : Begins n head w) → IsQueue n w1 q.behind (each_word n w 0 q.behind))
+    pub given_back : (w2 : List ℕ) (value : ℕ) → value ≡ slice_index w head → ((q : Begins n head w) → IsUnlinked q w1)
         → ((taken : ℕ → Bool) (x : ℕ) → IsDisjoint n taken → AreWords n taken w1 → IsNode (n - 0) x → head ≡ block_at n 0 x → taken x ≡ true → IsDisjoint n (giving x taken) × AreWords n (giving x taken) w2)
-        → ChangesOnly 17 (2 * 2 ^ n - 1) w1 w2 → IsPopped n w p s k value w2
+        → ChangesOnly 17 (2 * 2 ^ n - 1) w1 w2 → IsPopped (p, is) value w2
     given_back w2 value loaded unlinked given tree =
         let rest = each_word n w 0 head_of.begins.behind in
         record {

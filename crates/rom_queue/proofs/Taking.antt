@@ -39,7 +39,7 @@ module _ {n : ℕ} {w : List ℕ} {p : Chains} {s : State} {k : ℕ} (le : 4 ≤
     absent = omega (arith, new.absent, times_members n p new.block);
   }
 
-  pub became : (w2 : List ℕ) (value : ℕ) → IsAppended may_take value w2 → IsPushed n w p s k value w2
+  pub became : (w2 : List ℕ) (value : ℕ) → IsAppended may_take value w2 → IsPushed (p, is) value w2
   unfolding may_take
   became w2 value done = record {
     block = new.block;

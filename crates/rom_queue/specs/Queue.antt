@@ -2,7 +2,7 @@
 use Rattle.std.specs.Prelude.{◌≡◌, ℕ, ◌+◌, ◌^◌, List, [], ◌∷◌, ◌++◌}
 use Rattle.rom_model.specs.State.{State}
 use Rattle.rom_model.specs.Blocks.{IsLowest}
-use Rattle.rom_model.specs.Region.{Chains, element_blocks, taken_by, PartBecomes}
+use Rattle.rom_model.specs.Region.{Chains, element_blocks, taken_by, PartBecomes, Contents}
 
 -- the state with these values in its queue
 abbrev pub with_queue : State → List ℕ → State
@@ -18,17 +18,17 @@ with_blocks p blocks = record p { queue = blocks }
 
 -- The value stands at the end of the queue, in the first block that was free, and each other element
 -- keeps its block. No word differs but the queue's root words, the tree's, and those of the queue's blocks.
-pub record IsPushed (n : ℕ) (old : List ℕ) (p : Chains) (s : State) (count value : ℕ) (new : List ℕ) : Type 0 where
+pub record IsPushed {n : ℕ} {old : List ℕ} {s : State} {count : ℕ} (held : Contents n old s count) (value : ℕ) (new : List ℕ) : Type 0 where
   pub block : ℕ
-  pub lowest : IsLowest n (taken_by n (element_blocks n p)) 0 (2 ^ n + block)
-  pub becomes : PartBecomes n 3 6 (p.queue ++ block ∷ []) old new (with_blocks p (p.queue ++ block ∷ [])) (with_last s value) count
+  pub lowest : IsLowest n (taken_by n (element_blocks n held.0)) 0 (2 ^ n + block)
+  pub becomes : PartBecomes n 3 6 (held.0.queue ++ block ∷ []) old new (with_blocks held.0 (held.0.queue ++ block ∷ [])) (with_last s value) count
 
 -- The value was the queue's first, its block is no longer the queue's, and each other element keeps its
 -- block. No word differs but the queue's root words, the tree's, and those of the queue's blocks before.
-pub record IsPopped (n : ℕ) (old : List ℕ) (p : Chains) (s : State) (count value : ℕ) (new : List ℕ) : Type 0 where
+pub record IsPopped {n : ℕ} {old : List ℕ} {s : State} {count : ℕ} (held : Contents n old s count) (value : ℕ) (new : List ℕ) : Type 0 where
   pub block : ℕ
   pub behind : List ℕ
-  pub blocks : p.queue ≡ block ∷ behind
+  pub blocks : held.0.queue ≡ block ∷ behind
   pub rest : List ℕ
   pub values : s.queue ≡ value ∷ rest
-  pub becomes : PartBecomes n 3 6 p.queue old new (with_blocks p behind) (with_queue s rest) count
+  pub becomes : PartBecomes n 3 6 held.0.queue old new (with_blocks held.0 behind) (with_queue s rest) count

@@ -1,11 +1,10 @@
 //! The two ends of the queue: its head, its tail and its length among the root words, and its nodes.
 //! A node is a block of four words, which are a value, where the next node begins, 0 and 0.
-ghost use Rattle.std.specs.Prelude.{◌≡◌, ◌≢◌, ℕ, ◌+◌, ◌-◌, ◌^◌, ◌<◌, ◌≤◌, List, length, slice_index};
+ghost use Rattle.std.specs.Prelude.{◌≡◌, ◌≢◌, ℕ, ◌+◌, ◌^◌, ◌<◌, ◌≤◌, List, length, slice_index};
 ghost use Rattle.rom_model.specs.Space.{Costs, Looks, HasRoom, ChangesOnly};
 ghost use Rattle.rom_model.specs.Blocks.{region_len};
-ghost use Rattle.rom_model.specs.Chains.{each_word};
 ghost use Rattle.rom_model.specs.Region.{IsQueue};
-ghost use Rattle.rom_queue.specs.Ends.{link_after, MayTake, IsAppended, Begins};
+ghost use Rattle.rom_queue.specs.Ends.{link_after, IsLinked, MayTake, IsAppended, HasHead, Begins, IsUnlinked};
 
 use rom_block::fill_node;
 use rom_model::{Look, QUEUE_HEAD, QUEUE_LEN, QUEUE_TAIL, Space};
@@ -13,10 +12,10 @@ use rom_model::{Look, QUEUE_HEAD, QUEUE_LEN, QUEUE_TAIL, Space};
 /// The offset of the word that links to the end of the queue: the tail's next one, or the head
 /// where the queue is empty.
 fn last_link<M: Look>(space: &mut M, order: u32) -> u64
-    requires long { 6 < length (M.shown.image space.old) }
-    requires small { slice_index (M.shown.image space.old) 4 < 2 ^ 63 }
+    requires long { QUEUE_LEN < length (M.shown.image space.old) }
+    requires small { slice_index (M.shown.image space.old) QUEUE_TAIL < 2 ^ 63 }
     ensures is { (blocks values : List ℕ) → IsQueue order (M.shown.image space.old) blocks values
-        → result ≡ link_after order 3 1 blocks }
+        → result ≡ link_after order QUEUE_HEAD 1 blocks }
     ensures looks { Looks M.shown 1 space.old space.new }
 {
     let tail = space.load(QUEUE_TAIL);
@@ -29,17 +28,12 @@ fn last_link<M: Look>(space: &mut M, order: u32) -> u64
 /// Links the node that begins there to the end of the queue.
 fn link_last<M: Space>(space: &mut M, link: u64, at: u64)
     requires within { link < length (M.shown.image space.old) }
-    requires long { 6 < length (M.shown.image space.old) }
-    requires apart { link ≢ 4 }
-    requires apart_too { link ≢ 5 }
-    requires len { slice_index (M.shown.image space.old) 5 < 2 ^ 63 }
+    requires long { QUEUE_LEN < length (M.shown.image space.old) }
+    requires apart { link ≢ QUEUE_TAIL }
+    requires apart_too { link ≢ QUEUE_LEN }
+    requires len { slice_index (M.shown.image space.old) QUEUE_LEN < 2 ^ 63 }
     requires room { HasRoom M.shown 3 space.old }
-    ensures linked { slice_index (M.shown.image space.new) link ≡ at }
-    ensures tail { slice_index (M.shown.image space.new) 4 ≡ at }
-    ensures len { slice_index (M.shown.image space.new) 5 ≡ slice_index (M.shown.image space.old) 5 + 1 }
-    ensures as_long { length (M.shown.image space.new) ≡ length (M.shown.image space.old) }
-    ensures others { (k : ℕ) → k ≢ link → k ≢ 4 → k ≢ 5
-        → slice_index (M.shown.image space.new) k ≡ slice_index (M.shown.image space.old) k }
+    ensures linked { IsLinked link at (M.shown.image space.old) (M.shown.image space.new) }
     ensures costs { Costs M.shown 1 3 space.old space.new }
 {
     space.store(link, at);
@@ -54,7 +48,8 @@ pub fn append<M: Space>(space: &mut M, order: u32, at: u64, value: u64)
     requires sized { length (M.shown.image space.old) ≡ region_len order }
     requires queue { MayTake order at (M.shown.image space.old) }
     requires room { HasRoom M.shown 7 space.old }
-    ensures appended { (q : MayTake order at (M.shown.image space.old)) → IsAppended q value (M.shown.image space.new) }
+    ensures appended { (q : MayTake order at (M.shown.image space.old))
+        → IsAppended q value (M.shown.image space.new) }
     ensures costs { Costs M.shown 6 7 space.old space.new }
 {
     let last = last_link(space, order);
@@ -64,12 +59,9 @@ pub fn append<M: Space>(space: &mut M, order: u32, at: u64, value: u64)
 
 /// Makes the node that begins there the queue's head; 0 is none, and then there is no tail.
 fn set_head<M: Space>(space: &mut M, at: u64)
-    requires long { 6 < length (M.shown.image space.old) }
+    requires long { QUEUE_LEN < length (M.shown.image space.old) }
     requires room { HasRoom M.shown 2 space.old }
-    ensures head { slice_index (M.shown.image space.new) 3 ≡ at }
-    ensures none { at ≡ 0 → slice_index (M.shown.image space.new) 4 ≡ 0 }
-    ensures tail { at ≢ 0 → slice_index (M.shown.image space.new) 4 ≡ slice_index (M.shown.image space.old) 4 }
-    ensures others { ChangesOnly 3 2 (M.shown.image space.old) (M.shown.image space.new) }
+    ensures head { HasHead at (M.shown.image space.old) (M.shown.image space.new) }
     ensures costs { Costs M.shown 0 2 space.old space.new }
 {
     space.store(QUEUE_HEAD, at);
@@ -84,9 +76,9 @@ pub fn unlink_first<M: Space>(space: &mut M, order: u32, at: u64)
     requires sized { length (M.shown.image space.old) ≡ region_len order }
     requires queue { Begins order at (M.shown.image space.old) }
     requires room { HasRoom M.shown 3 space.old }
-    ensures queue { (q : Begins order at (M.shown.image space.old))
-        → IsQueue order (M.shown.image space.new) q.behind (each_word order (M.shown.image space.old) 0 q.behind) }
-    ensures others { ChangesOnly 3 3 (M.shown.image space.old) (M.shown.image space.new) }
+    ensures unlinked { (q : Begins order at (M.shown.image space.old))
+        → IsUnlinked q (M.shown.image space.new) }
+    ensures others { ChangesOnly QUEUE_HEAD 3 (M.shown.image space.old) (M.shown.image space.new) }
     ensures costs { Costs M.shown 2 3 space.old space.new }
 {
     let next = space.load(at + 1);

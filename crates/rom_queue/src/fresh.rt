@@ -49,7 +49,8 @@ pub fn format_region<M: Space>(space: &mut M, order: u32)
     ensures made { Contents order (M.shown.image space.new) empty 0 }
     ensures free { (k : ℕ) → block_of order (2 ^ (order - 4)) ≤ k
         → slice_index (M.shown.image space.new) k ≡ slice_index (M.shown.image space.old) k }
-    ensures costs { Costs M.shown (3 * order + 1) (20 + order + 2 * 2 ^ order + buckets order) space.old space.new }
+    ensures costs { Costs M.shown (3 * order + 1) (20 + order + 2 * 2 ^ order + buckets order)
+        space.old space.new }
 {
     format_root(space, order);
     Blocks::format(space, order);

@@ -1,10 +1,10 @@
 //! The calls on the queue.
-ghost use Rattle.std.specs.Prelude.{◌≡◌, ℕ, ◌+◌, ◌*◌, ◌<◌, [], ◌∷◌, List, length, MatchOption, IfSome, IfNone, slice_get};
+ghost use Rattle.std.specs.Prelude.{◌≡◌, ℕ, ◌+◌, ◌*◌, ◌<◌, drop, length, IfSome, IfNone, slice_get};
 ghost use Rattle.std.specs.Bool.{MatchBool, OnTrue, OnFalse};
 ghost use Rattle.rom_model.specs.Space.{Costs, Looks, HasRoom};
 ghost use Rattle.rom_model.specs.State.{State, live, cap};
 ghost use Rattle.rom_model.specs.Blocks.{IsOrder};
-ghost use Rattle.rom_model.specs.Region.{Chains, IsRegion, IsWellFormed, Contents};
+ghost use Rattle.rom_model.specs.Region.{IsWellFormed, Contents};
 ghost use Rattle.rom_queue.specs.Queue.{with_last, with_queue, IsPushed, IsPopped};
 
 use crate::ends::{append, unlink_first};
@@ -17,11 +17,12 @@ pub fn queue_push<M: Space>(space: &mut M, order: u32, value: u64) -> bool
     requires order { IsOrder order }
     requires region { IsWellFormed order (M.shown.image space.old) }
     requires room { HasRoom M.shown 31 space.old }
-    ensures contents { (s : State) (k : ℕ) → Contents order (M.shown.image space.old) s k → MatchBool result
-        ((live s < cap order) × Contents order (M.shown.image space.new) (with_last s value) k)
-        (live s ≡ cap order) }
-    ensures others { (p : Chains) (s : State) (k : ℕ) → IsRegion order (M.shown.image space.old) p s k
-        → OnTrue result (IsPushed order (M.shown.image space.old) p s k value (M.shown.image space.new)) }
+    ensures had_room { (s : State) (k : ℕ) → Contents order (M.shown.image space.old) s k
+        → MatchBool result (live s < cap order) (live s ≡ cap order) }
+    ensures contents { (s : State) (k : ℕ) → Contents order (M.shown.image space.old) s k
+        → OnTrue result (Contents order (M.shown.image space.new) (with_last s value) k) }
+    ensures others { (s : State) (k : ℕ) (held : Contents order (M.shown.image space.old) s k)
+        → OnTrue result (IsPushed held value (M.shown.image space.new)) }
     ensures region { IsWellFormed order (M.shown.image space.new) }
     ensures full { OnFalse result (Looks M.shown (order + 1) space.old space.new) }
     ensures costs { Costs M.shown (3 * order + 7) 31 space.old space.new }
@@ -39,11 +40,12 @@ pub fn queue_pop<M: Space>(space: &mut M, order: u32) -> Option<u64>
     requires order { IsOrder order }
     requires region { IsWellFormed order (M.shown.image space.old) }
     requires room { HasRoom M.shown 31 space.old }
-    ensures contents { (s : State) (k : ℕ) → Contents order (M.shown.image space.old) s k → MatchOption result
-        (s.queue ≡ [])
-        (λ value. (rest : List ℕ) × (s.queue ≡ value ∷ rest) × Contents order (M.shown.image space.new) (with_queue s rest) k) }
-    ensures others { (p : Chains) (s : State) (k : ℕ) → IsRegion order (M.shown.image space.old) p s k
-        → IfSome result (λ value. IsPopped order (M.shown.image space.old) p s k value (M.shown.image space.new)) }
+    ensures first { (s : State) (k : ℕ) → Contents order (M.shown.image space.old) s k
+        → result ≡ slice_get s.queue 0 }
+    ensures contents { (s : State) (k : ℕ) → Contents order (M.shown.image space.old) s k
+        → Contents order (M.shown.image space.new) (with_queue s (drop 1 s.queue)) k }
+    ensures others { (s : State) (k : ℕ) (held : Contents order (M.shown.image space.old) s k)
+        → IfSome result (λ value. IsPopped held value (M.shown.image space.new)) }
     ensures region { IsWellFormed order (M.shown.image space.new) }
     ensures empty { IfNone result (Looks M.shown 1 space.old space.new) }
     ensures costs { Costs M.shown (2 * order + 4) 31 space.old space.new }
@@ -62,7 +64,8 @@ pub fn queue_pop<M: Space>(space: &mut M, order: u32) -> Option<u64>
 pub fn queue_front<M: Look>(space: &mut M, order: u32) -> Option<u64>
     requires order { IsOrder order }
     requires region { IsWellFormed order (M.shown.image space.old) }
-    ensures front { (s : State) (k : ℕ) → Contents order (M.shown.image space.old) s k → result ≡ slice_get s.queue 0 }
+    ensures front { (s : State) (k : ℕ) → Contents order (M.shown.image space.old) s k
+        → result ≡ slice_get s.queue 0 }
     ensures looks { Looks M.shown 2 space.old space.new }
 {
     let first = space.load(QUEUE_HEAD);
@@ -76,7 +79,8 @@ pub fn queue_front<M: Look>(space: &mut M, order: u32) -> Option<u64>
 pub fn queue_len<M: Look>(space: &mut M, order: u32) -> u64
     requires order { IsOrder order }
     requires region { IsWellFormed order (M.shown.image space.old) }
-    ensures len { (s : State) (k : ℕ) → Contents order (M.shown.image space.old) s k → result ≡ length s.queue }
+    ensures len { (s : State) (k : ℕ) → Contents order (M.shown.image space.old) s k
+        → result ≡ length s.queue }
     ensures looks { Looks M.shown 1 space.old space.new }
 {
     space.load(QUEUE_LEN)

@@ -31,6 +31,5 @@ returns-clause-appended g c q =
     let w = g.M.Look.shown.image c.args.space.now in
     let f = g.M.Look.shown.image c.fill_node.new.space in
     let a = c.fill_node.ensures in
-    let b = c.link_last.ensures in
     let filled : ChangesOnly c.args.at 4 w f = subst (λ (v : List ℕ). ChangesOnly c.args.at 4 v f) c.last_link-last.ensures.looks.image a.others in
-    appended q (stored_two q (c.last_link-last.ensures.is q.blocks q.values q.queue) a.first a.second a.third a.fourth filled b.linked b.tail b.len b.as_long b.others)
+    appended q (stored_two q (c.last_link-last.ensures.is q.blocks q.values q.queue) a.first a.second a.third a.fourth filled c.link_last.ensures.linked)

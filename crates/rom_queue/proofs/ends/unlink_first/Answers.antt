@@ -3,8 +3,8 @@ use Rattle.rom_model.specs.Blocks.{block_of}
 use Rattle.rom_queue.proofs.Unlinked.{HeadMoved, unlinked}
 use Rattle.rom_queue.proofs.ends.unlink_first.Goals as goal
 
-pub returns-clause-queue : goal.returns-clause-queue
-returns-clause-queue g c q =
+pub returns-clause-unlinked : goal.returns-clause-unlinked
+returns-clause-unlinked g c q =
     let w = g.M.Look.shown.image c.args.space.now in
     let w' = g.M.Look.shown.image c.store.new.self in
     let next : c.load-next.result ≡ slice_index w (block_of c.args.order q.block + 1) = c.load-next.ensures.word ∙ ap (λ k. slice_index w (k + 1)) q.here in

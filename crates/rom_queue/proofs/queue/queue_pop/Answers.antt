@@ -1,14 +1,20 @@
-use Rattle.std.proofs.Common.{◌≡◌, ◌<◌, ℕ, length, slice_index, arith, sym, ◌∙◌, ap, subst}
+use Rattle.std.proofs.Common.{◌≡◌, ◌<◌, length, drop, slice_index, slice_get, arith, sym, ◌∙◌, ap, subst}
 use Rattle.rom_model.specs.Space.{ChangesOnly}
-use Rattle.rom_model.specs.Chains.{each_word}
-use Rattle.rom_model.specs.Region.{IsQueue, Contents}
+use Rattle.rom_model.specs.Region.{Contents}
 use Rattle.rom_queue.specs.Queue.{with_blocks, with_queue}
-use Rattle.rom_queue.specs.Ends.{Begins}
+use Rattle.rom_queue.specs.Ends.{Begins, IsUnlinked}
 use Rattle.rom_queue.proofs.Heads.{no_values, head_of, may_give, given_back}
 use Rattle.rom_queue.proofs.queue.queue_pop.Goals as goal
 
+pub returns-then-head-eq0-clause-first : goal.returns-then-head-eq0-clause-first
+returns-then-head-eq0-clause-first g c s k held = ap (λ vs. slice_get vs 0) (sym (no_values held.1 (omega (arith, c.load-head.ensures.word))))
+
 pub returns-then-head-eq0-clause-contents : goal.returns-then-head-eq0-clause-contents
-returns-then-head-eq0-clause-contents g c s k held = no_values held.1 (omega (arith, c.load-head.ensures.word))
+returns-then-head-eq0-clause-contents g c s k held =
+    let none = no_values held.1 (omega (arith, c.load-head.ensures.word)) in
+    let same : s.queue ≡ drop 1 s.queue = none ∙ ap (drop 1) (sym none) in
+    subst (λ vs. Contents c.args.order (g.M.Look.shown.image c.load-head.new.self) (with_queue s vs) k) same
+    (subst (λ w. Contents c.args.order w s k) (sym c.load-head.ensures.image) held)
 
 pub load-value-requires : goal.load-value-requires
 load-value-requires g c =
@@ -34,25 +40,26 @@ give-requires-clause-taken g c =
     may_give c.requires.order.least held.1 c.load-head.result c.load-head.ensures.word (omega arith) w1 only
 
 pub returns-clause-others : goal.returns-clause-others
-returns-clause-others g c p s k is =
-    let n = c.args.order in
+returns-clause-others g c s k held =
     let w = g.M.Look.shown.image c.args.space.now in
     let w1 = g.M.Look.shown.image c.unlink_first.new.space in
     let head = c.load-head.result in
     let same : g.M.Look.shown.image c.load-value.new.self ≡ w = c.load-value.ensures.image ∙ c.load-head.ensures.image in
     let only : ChangesOnly 3 3 w w1 = subst (λ v. ChangesOnly 3 3 v w1) same c.unlink_first.ensures.others in
-    let unlinked = subst (λ v. (q : Begins n head v) → IsQueue n w1 q.behind (each_word n v 0 q.behind)) same c.unlink_first.ensures.queue in
+    let unlinked = subst (λ v. (q : Begins c.args.order head v) → IsUnlinked q w1) same c.unlink_first.ensures.unlinked in
     let value : c.load-value.result ≡ slice_index w head = c.load-value.ensures.word ∙ ap (λ v. slice_index v head) c.load-head.ensures.image in
     let some : 0 < head = omega arith in
-    given_back c.requires.order.least is head c.load-head.ensures.word some w1 only (g.M.Look.shown.image c.give.new.space) c.load-value.result value unlinked c.give.ensures.given c.give.ensures.others
+    given_back c.requires.order.least held.1 head c.load-head.ensures.word some w1 only (g.M.Look.shown.image c.give.new.space) c.load-value.result value unlinked c.give.ensures.given c.give.ensures.others
+
+pub returns-clause-first : goal.returns-clause-first
+returns-clause-first g c s k held = let x = returns-clause-others g c s k held in ap (λ vs. slice_get vs 0) (sym x.values)
 
 pub returns-clause-contents : goal.returns-clause-contents
 returns-clause-contents g c s k held =
-    let x = returns-clause-others g c held.0 s k held.1 in
-    (x.rest, x.values, (with_blocks held.0 x.behind, x.becomes.region))
+    let x = returns-clause-others g c s k held in
+    subst (λ vs. Contents c.args.order (g.M.Look.shown.image c.give.new.space) (with_queue s vs) k) (sym (ap (drop 1) x.values)) (with_blocks held.0 x.behind, x.becomes.region)
 
 pub returns-clause-region : goal.returns-clause-region
 returns-clause-region g c =
     let r = c.requires.region in
-    let x = returns-clause-contents g c r.state r.count r.contents in
-    record { state = with_queue r.state x.0; count = r.count; contents = x.2 }
+    record { state = with_queue r.state (drop 1 r.state.queue); count = r.count; contents = returns-clause-contents g c r.state r.count r.contents }

@@ -11,8 +11,8 @@ take-requires-clause-blocks g c =
     let held : Contents c.args.order (g.M.Look.shown.image c.args.space.now) r.state r.count = r.contents in
     (taken_by c.args.order (element_blocks c.args.order held.0), region_disjoint c.requires.order.least held.1, held.1.shape.tree)
 
-pub returns-in_default-clause-contents : goal.returns-in_default-clause-contents
-returns-in_default-clause-contents g c s k held =
+pub returns-in_default-clause-had_room : goal.returns-in_default-clause-had_room
+returns-in_default-clause-had_room g c s k held =
     full c.requires.order.least held.1 (c.in_default.ensures.taken (taken_by c.args.order (element_blocks c.args.order held.0)) (region_disjoint c.requires.order.least held.1) held.1.shape.tree)
 
 pub append-requires-clause-queue : goal.append-requires-clause-queue
@@ -21,19 +21,19 @@ append-requires-clause-queue g c =
     let held : Contents c.args.order (g.M.Look.shown.image c.args.space.now) r.state r.count = r.contents in
     may_take c.requires.order.least held.1 c.in-Some.ensures.others c.in-Some.ensures.taken
 
+pub returns-clause-had_room : goal.returns-clause-had_room
+returns-clause-had_room g c s k held = had_room c.requires.order.least held.1 c.in-Some.ensures.others c.in-Some.ensures.taken
+
 pub returns-clause-others : goal.returns-clause-others
-returns-clause-others g c p s k is =
+returns-clause-others g c s k held =
     let le = c.requires.order.least in
     let take = c.in-Some.ensures in
-    became le is take.others take.taken (g.M.Look.shown.image c.append.new.space) c.args.value (c.append.ensures.appended (may_take le is take.others take.taken))
+    became le held.1 take.others take.taken (g.M.Look.shown.image c.append.new.space) c.args.value (c.append.ensures.appended (may_take le held.1 take.others take.taken))
 
 pub returns-clause-contents : goal.returns-clause-contents
-returns-clause-contents g c s k held =
-    let take = c.in-Some.ensures in
-    let b = returns-clause-others g c held.0 s k held.1 in
-    (had_room c.requires.order.least held.1 take.others take.taken, (with_blocks held.0 (held.0.queue ++ b.block ∷ []), b.becomes.region))
+returns-clause-contents g c s k held = let b = returns-clause-others g c s k held in (with_blocks held.0 (held.0.queue ++ b.block ∷ []), b.becomes.region)
 
 pub returns-clause-region : goal.returns-clause-region
 returns-clause-region g c =
     let r = c.requires.region in
-    record { state = with_last r.state c.args.value; count = r.count; contents = (returns-clause-contents g c r.state r.count r.contents).1 }
+    record { state = with_last r.state c.args.value; count = r.count; contents = returns-clause-contents g c r.state r.count r.contents }
