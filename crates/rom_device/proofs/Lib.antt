@@ -4,4 +4,6 @@ mod Synced
 mod Writing
 mod Agreeing
 mod Paged
+mod Listing
+mod Passing
 pub mod Many
