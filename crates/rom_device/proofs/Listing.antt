@@ -22,9 +22,6 @@ pub record SoFar (asked : List LoggedCall) (index : ℕ) (old new : Memory) : Ty
   pub goes_well : made_well (room_of old) (trips_of old) (calls_of old) asked ≡ made_well (room_of old) (trips_of old) (calls_of new) (drop index asked) + index
   pub rest : KeepsRest old new
 
-pub so_far_none : (asked : List LoggedCall) (m : Memory) → SoFar asked 0 m m
-so_far_none asked m = record { calls = refl; goes_well = omega arith; rest = record { start = refl; room = refl; trips = refl } }
-
 keeps_on : (a b c : Memory) → KeepsRest a b → KeepsRest b c → KeepsRest a c
 keeps_on a b c first second = record { start = second.start ∙ first.start; room = second.room ∙ first.room; trips = second.trips ∙ first.trips }
 

@@ -1,16 +1,16 @@
 -- How a fuse passes calls on, one after another.
-use Rattle.std.proofs.Common.{◌≡◌, ◌≢◌, inl, inr, ℕ, ◌+◌, ◌<◌, min, Bool, true, false, List, [], length, take, slice_index, nat_lt, if◌then◌else◌, Result, is_err, refl, sym, ap, subst, ◌∙◌, arith, set, get_or-set_other, get_or-set_same}
+use Rattle.std.proofs.Common.{◌≡◌, ◌≢◌, inl, inr, ℕ, ◌+◌, ◌<◌, min, Bool, true, false, List, length, take, slice_index, nat_lt, if◌then◌else◌, Result, is_err, refl, sym, ap, subst, ◌∙◌, arith, set, get_or-set_other, get_or-set_same}
 use Rattle.std.proofs.lemmas.Bool.{cases_lt, cases_eq}
 use Rattle.std.proofs.lemmas.Bool.Decides.{nat_tests}
 use Rattle.std.proofs.lemmas.List.{get_or-take, length-take-le}
 use Rattle.rom_model.specs.Faults.{counted}
 use Rattle.rom_model.specs.Space.{ChangesOnly}
 use Rattle.rom_model.proofs.Changes.{changes_wider}
-use Rattle.rom_device.specs.Device.{ShownDevice, Runs, Stays, Counts, Does, OnlyReads, Writes, WritesMany, WritesUpTo}
-use Rattle.rom_device.specs.Fuse.{inner_of, calls_left, own_faults_of, shown_by_fuse, Passes, PassesUpTo, FailsLast, MadeReads, MadeWrites}
+use Rattle.rom_device.specs.Device.{ShownDevice, Runs, Counts, Does, Writes, WritesMany, WritesUpTo}
+use Rattle.rom_device.specs.Fuse.{inner_of, calls_left, own_faults_of, shown_by_fuse, Passes, PassesUpTo, FailsLast, MadeWrites}
 use Rattle.rom_device.specs.declared.fuse.Fuse.{Fuse}
-use Rattle.rom_device.proofs.Going.{runs_on, runs_none, does_by}
-use Rattle.rom_device.proofs.Many.{many_none, many_on, many_only}
+use Rattle.rom_device.proofs.Going.{does_by}
+use Rattle.rom_device.proofs.Many.{many_on, many_only}
 
 -- the first of these words, and one more
 many_wider : (at : ℕ) (values : List ℕ) (k : ℕ) → k < length values → (x y : List ℕ) → WritesMany at (take k values) x y → WritesMany at (take (k + 1) values) x y
@@ -61,9 +61,6 @@ writes_up_to at index values x y z inside only so_far writes = record {
 }
 
 module _ {D : Type 0} (shown : ShownDevice D) where
-  fails_none : (a : D) → FailsLast shown false a a
-  fails_none a = record { none = λ is. refl; last = λ is. absurd (cc) }
-
   fails_on : {T E : Type 0} (a b c : D) (r w s : ℕ) (result : Result T E) → FailsLast shown false a b → Counts shown r w s b c result → FailsLast shown (is_err result) a c
   fails_on a b c r w s result so_far counts =
       let by = λ (t : Bool) (is : is_err result ≡ t). counts.faults ∙ ap (λ (u : Bool). if u then counted (shown.faults b) else shown.faults b) is in
@@ -72,45 +69,11 @@ module _ {D : Type 0} (shown : ShownDevice D) where
         last = λ is. record { once = by true is ∙ ap counted (so_far.none refl); last = counts.failing ∙ is };
       }
 
-  pub made_reads_none : (a : D) → MadeReads shown 0 false a a
-  made_reads_none a = record {
-    only = record { size = refl; words = λ told. refl; images = λ told. runs_none shown Stays (λ x. refl) a; still = λ told i left. left; writes = refl; syncs = refl };
-    reads_made = omega arith;
-    fails = fails_none a;
-  }
-
-  pub made_writes_none : (at : ℕ) (values : List ℕ) (a : D) → MadeWrites shown at values 0 false a a
-  made_writes_none at values a = record {
-    does = record { size = refl; words = λ told. many_none at [] (shown.words a); images = λ told. runs_none shown (WritesMany at []) (many_none at []) a };
-    reads_made = refl;
-    writes_made = omega arith;
-    syncs_made = refl;
-    fails = fails_none a;
-  }
-
   -- what the fuse's own images say of those within
   inner_runs : (step : List ℕ → List ℕ → Type 0) (b c : Fuse D) → Runs (shown_by_fuse shown) step b c → Runs shown step (inner_of b) (inner_of c)
   inner_runs step b c runs = record { later = runs.later; now = runs.now; nothing_else = runs.nothing_else; keeps = runs.keeps }
 
-  stays_on : (x y z : List ℕ) → Stays x y → Stays y z → Stays x z
-  stays_on x y z first second = second ∙ first
-
   -- one call more that is passed on
-  pub made_reads_on : {T E : Type 0} (k : ℕ) (a b c : Fuse D) (result : Result T E) → MadeReads shown k false (inner_of a) (inner_of b)
-      → OnlyReads (shown_by_fuse shown) b c → Counts shown 1 0 0 (inner_of b) (inner_of c) result → MadeReads shown (k + 1) (is_err result) (inner_of a) (inner_of c)
-  made_reads_on k a b c result so_far only counts = record {
-    only = record {
-      size = only.size ∙ so_far.only.size;
-      words = λ told. only.words told ∙ so_far.only.words told;
-      images = λ told. runs_on shown Stays stays_on (inner_of a) (inner_of b) (inner_of c) (so_far.only.images told) (inner_runs Stays b c (only.images told));
-      still = λ told i left. only.still told i (so_far.only.still told i left);
-      writes = omega (arith, counts.writes_made, so_far.only.writes);
-      syncs = omega (arith, counts.syncs_made, so_far.only.syncs);
-    };
-    reads_made = omega (arith, so_far.reads_made, counts.reads_made);
-    fails = fails_on (inner_of a) (inner_of b) (inner_of c) 1 0 0 result so_far.fails counts;
-  }
-
   pub made_writes_on : {T E : Type 0} (at : ℕ) (values : List ℕ) (k : ℕ) → k < length values → (a b c : Fuse D) (result : Result T E) → MadeWrites shown at values k false (inner_of a) (inner_of b)
       → Does (shown_by_fuse shown) (Writes (at + k) (slice_index values k)) b c → Counts shown 0 1 0 (inner_of b) (inner_of c) result
       → MadeWrites shown at values (k + 1) (is_err result) (inner_of a) (inner_of c)
@@ -154,15 +117,3 @@ module _ {D : Type 0} (shown : ShownDevice D) where
             let past = passes.spent over in
             (omega (arith, over, left), subst (λ (d : D). Made well false (inner_of a) d) (sym past.1) so_far, past.2 ∙ ap counted own);
       }
-
-pub up_to_all : {D : Type 0} (Made : ℕ → Bool → D → D → Type 0) (len : ℕ) (a b : Fuse D)
-    → calls_left b + len ≡ calls_left a → own_faults_of b ≡ own_faults_of a → Made len false (inner_of a) (inner_of b) → PassesUpTo Made len len a b
-up_to_all Made len a b left own all =
-    let tried : len ≡ min (len + 1) len = omega arith in
-    let fails : false ≡ nat_lt len len = sym (grind (arith, nat_tests)) in
-    record {
-      within = omega arith;
-      left = omega (arith, left);
-      passed = λ le. (subst (λ (n : ℕ). Made n (nat_lt len len) (inner_of a) (inner_of b)) tried (subst (λ (t : Bool). Made len t (inner_of a) (inner_of b)) fails all), own);
-      spent = λ none. absurd (omega (arith, none, left));
-    }

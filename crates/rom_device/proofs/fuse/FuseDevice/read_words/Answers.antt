@@ -1,6 +1,6 @@
-use Rattle.std.proofs.Common.{◌≡◌, ◌<◌, ◌+◌, Bool, false, is_err, subst, rules}
-use Rattle.rom_device.specs.Fuse.{inner_of, calls_left, MadeReads}
-use Rattle.rom_device.proofs.Passing.{made_reads_on, was_passed}
+use Rattle.std.proofs.Common.{◌≡◌, ◌<◌, false, is_err, rules}
+use Rattle.rom_device.specs.Fuse.{calls_left}
+use Rattle.rom_device.proofs.Passing.{was_passed}
 use Rattle.rom_device.proofs.fuse.FuseDevice.read_words.Goals as goal
 
 pub loop-index-preserved : goal.loop-index-preserved
@@ -16,6 +16,7 @@ loop-index-preserved g c =
       left = search rules;
       own = search rules;
       faults = search rules;
-      made = subst (λ (t : Bool). MadeReads g.D.Device.shown (c.loop-index.index + 1) t (inner_of c.args.self.now) (inner_of c.read.new.self)) well
-          (made_reads_on g.D.Device.shown c.loop-index.index c.args.self.now c.loop-index.self c.read.new.self c.read.result c.loop-index.invariant.made c.read.ensures.only passed.0);
+      inner_reads = search rules;
+      inner_writes = search rules;
+      inner_syncs = search rules;
     }

@@ -1,7 +1,7 @@
-use Rattle.std.proofs.Common.{◌≡◌, ◌+◌, ◌<◌, ℕ, length, false, IsTrue, slice_index}
+use Rattle.std.proofs.Common.{◌≡◌, ◌+◌, ◌<◌, ℕ, length, IsTrue, slice_index}
 use Rattle.rom_model.specs.Faults.{Adds}
 use Rattle.rom_device.specs.Device.{OnlyReads}
-use Rattle.rom_device.specs.Fuse.{inner_of, calls_left, own_faults_of, shown_by_fuse, MadeReads}
+use Rattle.rom_device.specs.Fuse.{inner_of, calls_left, own_faults_of, shown_by_fuse}
 use Rattle.rom_device.proofs.fuse.FuseDevice.read_words.Given as goal
 
 -- the words so far were read, each by a call that was passed on
@@ -14,5 +14,7 @@ invariant-loop-index g l = record {
   left : calls_left l.self + l.index ≡ calls_left l.fn.self;
   own : own_faults_of l.self ≡ own_faults_of l.fn.self;
   faults : g.D.Device.shown.faults (inner_of l.self) ≡ g.D.Device.shown.faults (inner_of l.fn.self);
-  made : MadeReads g.D.Device.shown l.index false (inner_of l.fn.self) (inner_of l.self);
+  inner_reads : Adds l.index (g.D.Device.shown.reads (inner_of l.fn.self)) (g.D.Device.shown.reads (inner_of l.self));
+  inner_writes : g.D.Device.shown.writes (inner_of l.self) ≡ g.D.Device.shown.writes (inner_of l.fn.self);
+  inner_syncs : g.D.Device.shown.syncs (inner_of l.self) ≡ g.D.Device.shown.syncs (inner_of l.fn.self);
 }
