@@ -3,5 +3,6 @@ mod Choices
 mod Synced
 mod Writing
 mod Agreeing
+mod Copied
 mod Paged
 pub mod Many
