@@ -5,4 +5,6 @@ mod Writing
 mod Agreeing
 mod Copied
 mod Paged
+mod Listing
+mod Passing
 pub mod Many
