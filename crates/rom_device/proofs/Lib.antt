@@ -3,6 +3,7 @@ mod Choices
 mod Synced
 mod Writing
 mod Agreeing
+mod Copied
 mod Paged
 mod Listing
 mod Passing
