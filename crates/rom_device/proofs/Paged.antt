@@ -1,12 +1,25 @@
--- The words of a page once the bytes of one of them were replaced.
-use Rattle.std.proofs.Common.{◌≡◌, ◌≢◌, inl, inr, ℕ, ◌+◌, ◌-◌, ◌*◌, ◌<◌, ◌≤◌, ◌^◌, List, [], ◌++◌, length, take, drop, arith, sym, ap, ◌∙◌}
+-- The words of a page of zeros, and of one in which the bytes of a word were replaced.
+use Rattle.std.proofs.Common.{◌≡◌, ◌≢◌, inl, inr, ℕ, zero, suc, ◌+◌, ◌-◌, ◌*◌, ◌<◌, ◌≤◌, ◌^◌, List, [], ◌++◌, length, take, drop, replicate, slice_index, arith, refl, sym, ap, ◌∙◌}
 use Rattle.std.proofs.lemmas.Bool.{cases_lt}
-use Rattle.std.proofs.lemmas.List.{append-nil, drop-append-le, drop-drop, length-drop, length-take-le, take-append-drop, take_all}
+use Rattle.std.proofs.lemmas.List.{append-nil, drop-append-le, drop-drop, drop-replicate, length-drop, length-take-le, take-append-drop, take_all}
 use Rattle.std.proofs.Math.ListN.{drop_of_length-le}
 use Rattle.std.proofs.Math.Seq.{drop-append-add, drop-append_seam}
 use borrow.Rule.Slice.PartMut.{mid_of, post_of, put_mid}
-use Rattle.byteorder.specs.Endian.{little_bytes, little_number}
+use Rattle.byteorder.specs.Endian.{little_bytes, little_from, little_number}
 use Rattle.byteorder.specs.Numbers.{length-bytes_low_first, little_from-append, little_number-reads_back}
+
+zero_byte : (n i : ℕ) → slice_index (replicate n 0) i ≡ 0
+zero_byte zero i = refl
+zero_byte (suc n) zero = refl
+zero_byte (suc n) (suc i) = zero_byte n i
+
+zero_bytes : (m i n : ℕ) → little_from i m (replicate n 0) ≡ 0
+zero_bytes zero i n = refl
+zero_bytes (suc m) i n = omega (arith, zero_byte n i, zero_bytes m (suc i) n)
+
+-- each word among zeros is 0
+pub zero_word : (b n : ℕ) → little_number 8 (drop b (replicate n 0)) ≡ 0
+zero_word b n = ap (little_number 8) (drop-replicate b n 0) ∙ zero_bytes 8 0 (n - b)
 
 -- a word is that of the eight bytes at its place, whatever comes behind them
 number_front : (b : ℕ) (xs ys : List ℕ) → b + 8 ≤ length xs → little_number 8 (drop b (xs ++ ys)) ≡ little_number 8 (drop b xs)

@@ -1,5 +1,5 @@
 -- What a contract sees of words read ahead.
-use Rattle.std.specs.Prelude.{◌≡◌, ◌≢◌, ◌⊎◌, ℕ, ◌+◌, ◌<◌, ◌≤◌, Option, Some, None, IfSome}
+use Rattle.std.specs.Prelude.{◌≡◌, ◌≢◌, ◌⊎◌, ℕ, ◌+◌, ◌<◌, ◌≤◌, List, slice_index, Option, Some, None, IfSome}
 use Rattle.rom_device.specs.Run.{word_of}
 use Rattle.rom_device.specs.declared.run.Run.{Run}
 use Rattle.rom_device.specs.declared.windows.Windows.{Windows}
@@ -30,6 +30,12 @@ Agrees waiting windows = HasSame waiting windows.left × HasSame waiting windows
 -- a window has this value at that place, where it has that place, and the others as before
 abbrev pub Puts : ℕ → ℕ → Run → Run → Type 0
 Puts at value old new = IfSome (word_of new at) (λ word. word ≡ value) × ((b : ℕ) → b ≢ at → word_of new b ≡ word_of old b)
+
+-- the windows have the first of these values, so many from that place on, where they have those places, and elsewhere the words as before
+pub record PutsMany (at count : ℕ) (values : List ℕ) (old new : Windows) : Type 0 where
+  pub here : (k : ℕ) → k < count → IfSome (word_in new (at + k)) (λ word. word ≡ slice_index values k)
+  pub before : (b : ℕ) → b < at → word_in new b ≡ word_in old b
+  pub behind : (b : ℕ) → at + count ≤ b → word_in new b ≡ word_in old b
 
 -- a window is as before, or has none but the 512 words from that place on
 abbrev pub Reads : ℕ → Run → Run → Type 0

@@ -2,7 +2,7 @@
 ghost use Rattle.std.specs.Prelude.{◌≡◌, ◌≢◌, ◌⊎◌, ◌+◌, ◌*◌, ◌<◌, ◌≤◌, ◌^◌, ℕ, length, slice_index, Some, None, IfSome, IsTrue, IsFalse, is_none};
 ghost use Rattle.std.specs.Bool.{OnTrue, OnFalse};
 ghost use Rattle.rom_device.specs.Run.{word_of, Follows};
-ghost use Rattle.rom_device.specs.Windows.{word_in, Agrees, IsApart, IsMissed, IsRead};
+ghost use Rattle.rom_device.specs.Windows.{word_in, Agrees, IsApart, IsMissed, IsRead, PutsMany};
 
 use crate::page::PAGE_WORDS;
 use crate::run::Run;
@@ -26,12 +26,12 @@ pub struct CachedFile {
     ghost small: { len * 8 < 2 ^ 64 },
     ghost inside: { pending.first + pending.count ≤ len },
     ghost agree: { Agrees pending windows },
-    ghost by_itself: { IsTrue apart → IsFalse (is_none file) × (0 < pending.count) × IsApart pending windows },
+    ghost alone: { IsTrue apart → IsFalse (is_none file) × (0 < pending.count) × IsApart pending windows },
     ghost none_read: { IsTrue (is_none file) → (b : ℕ) → word_in windows b ≡ None },
 }
 
 impl CachedFile {
-    ghost use Rattle.rom_device.specs.Cached.{is_missing, has_failed_sync, Keeps};
+    ghost use Rattle.rom_device.specs.Cached.{is_missing, has_failed_sync, AsWaiting, Gives, HandsOver, IsUncertain, Keeps};
 
     /// So many words of a file, none of them read ahead.
     pub fn new(file: Option<File>, len: u64) -> CachedFile
@@ -104,7 +104,8 @@ impl CachedFile {
         requires inside { at < self.old.len }
         requires missed { IsMissed self.old.windows at }
         ensures rest { Keeps self.old self.new }
-        ensures waits { IsFalse (is_missing self.old) → IfSome (word_of self.old.pending at) (λ word. result ≡ Some word) }
+        ensures waits { IsFalse (is_missing self.old) → Gives (word_of self.old.pending at) result }
+        ensures pending { HandsOver self.old.pending self.new.pending }
         ensures missing { IsTrue (is_missing self.old) → result ≡ None }
     {
         if self.file.is_none() {
@@ -127,14 +128,53 @@ impl CachedFile {
     pub fn find(&mut self, at: u64) -> Option<u64>
         requires { at < self.old.len }
         ensures rest { Keeps self.old self.new }
-        ensures waits { IsFalse (is_missing self.old) → IfSome (word_of self.old.pending at) (λ word. result ≡ Some word) }
-        ensures window { IfSome (word_in self.old.windows at) (λ word. result ≡ Some word) }
+        ensures waits { IsFalse (is_missing self.old) → Gives (word_of self.old.pending at) result }
+        ensures window { Gives (word_in self.old.windows at) result }
+        ensures pending { HandsOver self.old.pending self.new.pending }
         ensures missing { IsTrue (is_missing self.old) → result ≡ None }
     {
         if let Some(word) = self.windows.get(at) {
             return Some(word);
         }
         self.fetch(at)
+    }
+
+    // Puts the words from that place on into these places, as many as one window has of them, and
+    // says how many these are.
+    fn copy(&self, at: u64, into: &mut [u64]) -> usize
+        ensures most { result ≤ length into.old }
+        ensures len { length into.new ≡ length into.old }
+        ensures words { (k : ℕ) → k < result → IsRead self.now.windows (at + k) (slice_index into.new k) }
+        ensures waits { AsWaiting self.now.pending at result into.new }
+    {
+        self.windows.copy(at, into)
+    }
+
+    /// Puts the words from that place on into these places, up to the first that is not found, and says
+    /// how many these are. Those that still wait are as they wait.
+    pub fn find_words(&mut self, at: u64, into: &mut [u64]) -> usize
+        requires { at + length into.old ≤ self.old.len }
+        ensures most { result ≤ length into.old }
+        ensures len { length into.new ≡ length into.old }
+        ensures waits { AsWaiting self.new.pending at result into.new }
+        ensures pending { HandsOver self.old.pending self.new.pending }
+        ensures missing { IsTrue (is_missing self.old) → result ≡ 0 }
+        ensures rest { Keeps self.old self.new }
+    {
+        let mut done = 0;
+        while done < into.len() {
+            // What was read ahead needs no look of its own.
+            let ahead = self.copy(at + done as u64, &mut into[done..]);
+            done += ahead;
+            if ahead == 0 {
+                let Some(word) = self.find(at + done as u64) else {
+                    return done;
+                };
+                into[done] = word;
+                done += 1;
+            }
+        }
+        done
     }
 
     // Hands over what waits, unless the word at that place is the next. `false` says that it still
@@ -193,17 +233,6 @@ impl CachedFile {
         true
     }
 
-    /// Puts the words from that place on into these places, as many as one window has of them, and
-    /// says how many these are.
-    pub fn copy(&self, at: u64, into: &mut [u64]) -> usize
-        ensures most { result ≤ length into.old }
-        ensures len { length into.new ≡ length into.old }
-        ensures words { (k : ℕ) → k < result → IsRead self.now.windows (at + k) (slice_index into.new k) }
-        ensures waits { (k : ℕ) → k < result → IfSome (word_of self.now.pending (at + k)) (λ word. slice_index into.new k ≡ word) }
-    {
-        self.windows.copy(at, into)
-    }
-
     /// Keeps a written word until it is handed over. `false` says that there is no file, or that what
     /// waits could not be handed over; then the word stays as it was.
     #[inline(always)]
@@ -224,6 +253,23 @@ impl CachedFile {
         self.keep_anywhere(at, value)
     }
 
+    /// Keeps written words, from that place on, up to the first that cannot be kept, and says how many
+    /// these are.
+    pub fn keep_words(&mut self, at: u64, values: &[u64]) -> usize
+        requires { at + length values.now ≤ self.old.len }
+        ensures most { result ≤ length values.now }
+        ensures windows { PutsMany at result values.now self.old.windows self.new.windows }
+        ensures missing { IsTrue (is_missing self.old) → result ≡ 0 }
+        ensures rest { Keeps self.old self.new }
+    {
+        for index in 0..values.len() {
+            if !self.keep(at + index as u64, values[index]) {
+                return index;
+            }
+        }
+        values.len()
+    }
+
     /// Makes all words certain. `false` says that they are not; what could not be handed over still
     /// waits. After a sync of the file that failed the system may have dropped what it could not
     /// write, and answer the next one with success. So none is believed then.
@@ -232,9 +278,10 @@ impl CachedFile {
         ensures file { is_missing self.new ≡ is_missing self.old }
         ensures handed { OnTrue result (self.new.pending.count ≡ 0) }
         ensures missing { IsTrue (is_missing self.old) → IsFalse result }
-        ensures failed { IsTrue (has_failed_sync self.old) → IsFalse result × IsTrue (has_failed_sync self.new) }
+        ensures failed { IsTrue (has_failed_sync self.old) → IsFalse result }
+        ensures stays_failed { IsTrue (has_failed_sync self.old) → IsTrue (has_failed_sync self.new) }
         ensures synced { OnTrue result (IsFalse (has_failed_sync self.new)) }
-        ensures noted { OnFalse result (IsTrue (is_missing self.old) ⊎ (0 < self.new.pending.count) ⊎ IsTrue (has_failed_sync self.new)) }
+        ensures noted { OnFalse result (IsUncertain self.new) }
     {
         if self.sync_failed || !self.flush() {
             return false;

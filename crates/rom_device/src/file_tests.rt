@@ -60,7 +60,7 @@ fn words_of_a_file_are_read_back(rt: HostRuntime) -> Result<(), Fail> {
 
 /// Writes each word of a device, in order: its place and one.
 fn number_words<D: Device>(device: &mut D) -> bool
-    ensures { D.size device.new ≡ D.size device.old }
+    ensures { D.shown.size device.new ≡ D.shown.size device.old }
 {
     for at in 0..device.len() {
         if device.write(at, at.wrapping_add(1)).is_err() {
@@ -68,6 +68,11 @@ fn number_words<D: Device>(device: &mut D) -> bool
         }
     }
     true
+}
+
+/// Whether there were places for these three values from that one on, and no write failed.
+fn put_three<D: Device>(device: &mut D, at: u64, values: [u64; 3]) -> bool {
+    at < device.len() && device.len() - at >= 3 && device.write_words(at, &values).is_ok()
 }
 
 #[test]
@@ -99,6 +104,11 @@ fn words_that_wait_are_read_and_handed_over(rt: HostRuntime) -> Result<(), Fail>
         assert!(rt; put(&mut device, 6, 78));
         assert!(rt; put(&mut device, 5, 79));
         assert_eq!(rt; get(&mut device, 5), Some(79));
+        assert!(rt; put_three(&mut device, 1022, [21, 22, 23]));
+        let mut five = [0; 5];
+        assert_eq!(rt; get_many(&mut device, 1021, &mut five), Some(5));
+        assert_eq!(rt; (five[0], five[1], five[2]), (1022, 21, 22));
+        assert_eq!(rt; (five[3], five[4]), (23, 1026));
         assert_eq!(rt; device.fault_count(), 0);
     }
     let bytes = fs::read(&rt, path.as_path())?;
@@ -107,6 +117,8 @@ fn words_that_wait_are_read_and_handed_over(rt: HostRuntime) -> Result<(), Fail>
         &bytes[40..56],
         [79, 0, 0, 0, 0, 0, 0, 0, 78, 0, 0, 0, 0, 0, 0, 0].as_slice()
     );
+    assert_eq!(rt; &bytes[8168..8170], [254, 3].as_slice());
+    assert_eq!(rt; (bytes[8176], bytes[8184], bytes[8192]), (21, 22, 23));
     assert_eq!(rt; &bytes[9592..], [176, 4, 0, 0, 0, 0, 0, 0].as_slice());
     fs::remove_file(&rt, path.as_path())?;
     Ok(())
@@ -191,6 +203,13 @@ fn a_missing_file_fails_each_call(rt: HostRuntime) {
     assert!(rt; !put(&mut device, 0, 1));
     assert!(rt; device.sync().is_err());
     assert_eq!(rt; device.fault_count(), 3);
+    let mut words = [0; 8];
+    assert_eq!(rt; get_many(&mut device, 0, &mut words), Some(0));
+    assert!(rt; !put_three(&mut device, 5, [1, 2, 3]));
+    assert_eq!(rt; device.fault_count(), 5);
+    // No words are no call.
+    assert_eq!(rt; get_many(&mut device, 8, &mut []), Some(0));
+    assert_eq!(rt; device.fault_count(), 5);
 }
 
 /// A file that takes each write and whose sync fails.

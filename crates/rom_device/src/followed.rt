@@ -42,7 +42,8 @@ impl Followed {
         requires { self.count + 1 < 2 ^ 64 }
         ensures at { result.at ≡ self.at }
         ensures number { result.number ≡ self.number }
-        ensures followed { (base : List ℕ) (log : List LoggedCall) → self.at < length base → IsFollowed base log self → IsFollowed base (call ∷ log) result }
+        ensures followed { (base : List ℕ) (log : List LoggedCall) → self.at < length base
+            → IsFollowed base log self → IsFollowed base (call ∷ log) result }
     {
         match call {
             LoggedCall::Write { at, value, lands } if at == self.at => Followed {

@@ -1,6 +1,7 @@
 //! A device that passes some calls on and then fails each, as one that was unplugged.
-ghost use Rattle.std.specs.Prelude.{◌≡◌, ◌+◌, ◌-◌, ◌<◌, IsTrue, IsErr, if◌then◌else◌, ◌↔◌};
-ghost use Rattle.rom_model.specs.Faults.{HasCause, counted};
+ghost use Rattle.std.specs.Prelude.{◌≡◌, ◌-◌, ◌<◌, ◌^◌, IsTrue, if◌then◌else◌, ◌↔◌};
+ghost use Rattle.std.specs.Bool.{OnFalse};
+ghost use Rattle.rom_model.specs.Faults.{counted};
 
 use crate::device::{Device, Failed};
 
@@ -12,28 +13,31 @@ pub struct Fuse<D> {
     inner: D,
     left: u64,
     failed: u64,
+    reads: u64,
     writes: u64,
     syncs: u64,
+    failing: bool,
+    ghost counts_fit: { (reads < 2 ^ 64) × (writes < 2 ^ 64) × (syncs < 2 ^ 64) },
 }
 
 impl<D: Device> Fuse<D> {
-    ghost use Rattle.rom_device.specs.Fuse.{inner_of, calls_left, own_faults_of};
+    ghost use Rattle.rom_device.specs.Fuse.{inner_of, calls_left, own_faults_of, shown_by_fuse, CountsNothing};
 
     /// A device that passes `calls` calls on to this one.
     pub fn new(inner: D, calls: u64) -> Fuse<D>
         ensures inner { inner_of result ≡ inner }
         ensures left { calls_left result ≡ calls }
-        ensures faults { ⟦<Fuse<D> as Device>⟧.faults result ≡ D.faults inner }
-        ensures own_faults { own_faults_of result ≡ 0 }
-        ensures writes { ⟦<Fuse<D> as Device>⟧.writes result ≡ 0 }
-        ensures syncs { ⟦<Fuse<D> as Device>⟧.syncs result ≡ 0 }
+        ensures faults { (shown_by_fuse D.shown).faults result ≡ D.shown.faults inner }
+        ensures counts { CountsNothing result }
     {
         Fuse {
             inner,
             left: calls,
             failed: 0,
+            reads: 0,
             writes: 0,
             syncs: 0,
+            failing: false,
         }
     }
 
@@ -45,8 +49,10 @@ impl<D: Device> Fuse<D> {
             inner,
             left: _,
             failed: _,
+            reads: _,
             writes: _,
             syncs: _,
+            failing: _,
         } = self;
         inner
     }
@@ -56,45 +62,29 @@ impl<D: Device> Fuse<D> {
         ensures passes { IsTrue result ↔ (0 < self.old.left) }
         ensures left { self.new.left ≡ self.old.left - 1 }
         ensures inner { self.new.inner ≡ self.old.inner }
+        ensures reads { self.new.reads ≡ self.old.reads }
         ensures writes { self.new.writes ≡ self.old.writes }
         ensures syncs { self.new.syncs ≡ self.old.syncs }
         ensures failed { self.new.failed ≡ (if result then self.old.failed else counted self.old.failed) }
+        ensures failing { OnFalse result (IsTrue self.new.failing) }
     {
         if self.left > 0 {
             self.left -= 1;
             return true;
         }
         self.failed = self.failed.saturating_add(1);
+        self.failing = true;
         false
     }
 }
 
 impl<D: Device> Device for Fuse<D> {
-    ghost use Rattle.std.specs.Prelude.{◌≡◌, ◌+◌, ◌-◌, ◌<◌, ℕ, List, IsErr, IsTrue, IfOk, OnOk, OnErr, slice_index, slice_set, min};
-    ghost use Rattle.rom_model.specs.Faults.{LAST, HasCause, counted};
-    ghost use Rattle.rom_device.specs.Device.{Runs, Stays, Writes};
+    ghost use Rattle.std.specs.Prelude.{◌+◌, ◌≤◌, ℕ, IfOk, OnOk, OnErr, length, slice_index, slice_set};
     ghost use Rattle.std.proofs.Common.{arith};
-    ghost use Rattle.rom_device.specs.Fuse.{inner_of, calls_left, own_faults_of};
+    ghost use Rattle.rom_device.specs.Device.{Counts, Does, IsSynced, Makes, OnlyReads, ReadsUpTo, Stays, Writes, WritesMany, WritingFailed};
+    ghost use Rattle.rom_device.specs.Fuse.{inner_of, shown_by_fuse, MadeReads, Passes, PassesUpTo, PassesWrites};
 
-    ghost size = { λ f. D.size f.inner };
-
-    ghost tells_words = { D.tells_words };
-
-    ghost words = { λ f. D.words f.inner };
-
-    ghost tells_images = { D.tells_images };
-
-    ghost leaves = { λ f. D.leaves f.inner };
-
-    ghost clock = { λ f. D.clock f.inner };
-
-    ghost left_since = { λ f. D.left_since f.inner };
-
-    ghost faults = { λ f. min (D.faults f.inner + f.failed) LAST };
-
-    ghost writes = { λ f. f.writes };
-
-    ghost syncs = { λ f. f.syncs };
+    ghost shown = { shown_by_fuse D.shown };
 
     fn len(&self) -> u64 {
         self.inner.len()
@@ -105,77 +95,86 @@ impl<D: Device> Device for Fuse<D> {
     }
 
     fn read(&mut self, at: u64) -> Result<u64, Failed>
-        requires { at < ⟦<Fuse<D> as Device>⟧.size self.old }
-        ensures word { IsTrue ⟦<Fuse<D> as Device>⟧.tells_words → IfOk result (λ word. word ≡ slice_index (⟦<Fuse<D> as Device>⟧.words self.old) at) }
-        ensures words { IsTrue ⟦<Fuse<D> as Device>⟧.tells_words → ⟦<Fuse<D> as Device>⟧.words self.new ≡ ⟦<Fuse<D> as Device>⟧.words self.old }
-        ensures images { IsTrue ⟦<Fuse<D> as Device>⟧.tells_images → Runs ⟦<Fuse<D> as Device>⟧.clock ⟦<Fuse<D> as Device>⟧.leaves ⟦<Fuse<D> as Device>⟧.left_since Stays self.old self.new }
-        ensures still { IsTrue ⟦<Fuse<D> as Device>⟧.tells_images → (i : List ℕ) → ⟦<Fuse<D> as Device>⟧.leaves self.old i → ⟦<Fuse<D> as Device>⟧.leaves self.new i }
-        ensures size { ⟦<Fuse<D> as Device>⟧.size self.new ≡ ⟦<Fuse<D> as Device>⟧.size self.old }
-        ensures writes { ⟦<Fuse<D> as Device>⟧.writes self.new ≡ ⟦<Fuse<D> as Device>⟧.writes self.old }
-        ensures syncs { ⟦<Fuse<D> as Device>⟧.syncs self.new ≡ ⟦<Fuse<D> as Device>⟧.syncs self.old }
-        ensures cause { HasCause (⟦<Fuse<D> as Device>⟧.faults self.old) (⟦<Fuse<D> as Device>⟧.faults self.new) result }
-
-        ensures left { calls_left self.new ≡ calls_left self.old - 1 }
-        ensures spent { calls_left self.old ≡ 0 → IsErr result × (inner_of self.new ≡ inner_of self.old) }
-        ensures passed { 0 < calls_left self.old → HasCause (D.faults (inner_of self.old)) (D.faults (inner_of self.new)) result }
-        ensures own_fault { calls_left self.old ≡ 0 → own_faults_of self.new ≡ counted (own_faults_of self.old) }
-        ensures no_own_fault { 0 < calls_left self.old → own_faults_of self.new ≡ own_faults_of self.old }
-        ensures inner_writes { D.writes (inner_of self.new) ≡ D.writes (inner_of self.old) }
-        ensures inner_syncs { D.syncs (inner_of self.new) ≡ D.syncs (inner_of self.old) }
+        requires { at < D.shown.size (inner_of self.old) }
+        ensures word { IsTrue D.shown.tells_words
+            → IfOk result (λ word. word ≡ slice_index (D.shown.words (inner_of self.old)) at) }
+        ensures only { OnlyReads (shown_by_fuse D.shown) self.old self.new }
+        ensures counts { Counts (shown_by_fuse D.shown) 1 0 0 self.old self.new result }
+        ensures passes { Passes D.shown 1 0 0 self.old self.new result }
     {
+        self.reads = self.reads.saturating_add(1);
         if !self.passes() {
             return Err(Failed);
         }
-        self.inner.read(at)
+        let result = self.inner.read(at);
+        self.failing = result.is_err();
+        result
+    }
+
+    fn read_words(&mut self, at: u64, into: &mut [u64]) -> usize
+        requires { at + length into.old ≤ D.shown.size (inner_of self.old) }
+        ensures len { length into.new ≡ length into.old }
+        ensures read { IsTrue D.shown.tells_words → (k : ℕ) → k < result
+            → slice_index into.new k ≡ slice_index (D.shown.words (inner_of self.old)) (at + k) }
+        ensures only { OnlyReads (shown_by_fuse D.shown) self.old self.new }
+        ensures counts { ReadsUpTo (shown_by_fuse D.shown) result (length into.old) self.old self.new }
+        ensures passes { PassesUpTo (MadeReads D.shown) result (length into.old) self.old self.new }
+    {
+        for index in 0..into.len() {
+            let Ok(word) = self.read(at + index as u64) else {
+                return index;
+            };
+            into[index] = word;
+        }
+        into.len()
     }
 
     fn write(&mut self, at: u64, value: u64) -> Result<(), Failed>
-        requires { at < ⟦<Fuse<D> as Device>⟧.size self.old }
-        ensures written { IsTrue ⟦<Fuse<D> as Device>⟧.tells_words → OnOk result (⟦<Fuse<D> as Device>⟧.words self.new ≡ slice_set (⟦<Fuse<D> as Device>⟧.words self.old) at value) }
-        ensures failed { IsTrue ⟦<Fuse<D> as Device>⟧.tells_words → OnErr result (Writes at value (⟦<Fuse<D> as Device>⟧.words self.old) (⟦<Fuse<D> as Device>⟧.words self.new)) }
-        ensures images { IsTrue ⟦<Fuse<D> as Device>⟧.tells_images → Runs ⟦<Fuse<D> as Device>⟧.clock ⟦<Fuse<D> as Device>⟧.leaves ⟦<Fuse<D> as Device>⟧.left_since (Writes at value) self.old self.new }
-        ensures size { ⟦<Fuse<D> as Device>⟧.size self.new ≡ ⟦<Fuse<D> as Device>⟧.size self.old }
-        ensures writes { ⟦<Fuse<D> as Device>⟧.writes self.new ≡ counted (⟦<Fuse<D> as Device>⟧.writes self.old) }
-        ensures syncs { ⟦<Fuse<D> as Device>⟧.syncs self.new ≡ ⟦<Fuse<D> as Device>⟧.syncs self.old }
-        ensures cause { HasCause (⟦<Fuse<D> as Device>⟧.faults self.old) (⟦<Fuse<D> as Device>⟧.faults self.new) result }
-
-        ensures left { calls_left self.new ≡ calls_left self.old - 1 }
-        ensures spent { calls_left self.old ≡ 0 → IsErr result × (inner_of self.new ≡ inner_of self.old) }
-        ensures passed { 0 < calls_left self.old → HasCause (D.faults (inner_of self.old)) (D.faults (inner_of self.new)) result }
-        ensures own_fault { calls_left self.old ≡ 0 → own_faults_of self.new ≡ counted (own_faults_of self.old) }
-        ensures no_own_fault { 0 < calls_left self.old → own_faults_of self.new ≡ own_faults_of self.old }
-        ensures reached { 0 < calls_left self.old → D.writes (inner_of self.new) ≡ counted (D.writes (inner_of self.old)) }
-        ensures inner_syncs { D.syncs (inner_of self.new) ≡ D.syncs (inner_of self.old) }
+        requires { at < D.shown.size (inner_of self.old) }
+        ensures written { IsTrue D.shown.tells_words
+            → OnOk result (D.shown.words (inner_of self.new) ≡ slice_set (D.shown.words (inner_of self.old)) at value) }
+        ensures does { Does (shown_by_fuse D.shown) (Writes at value) self.old self.new }
+        ensures counts { Counts (shown_by_fuse D.shown) 0 1 0 self.old self.new result }
+        ensures passes { Passes D.shown 0 1 0 self.old self.new result }
     {
         self.writes = self.writes.saturating_add(1);
         if !self.passes() {
             return Err(Failed);
         }
-        self.inner.write(at, value)
+        let result = self.inner.write(at, value);
+        self.failing = result.is_err();
+        result
+    }
+
+    fn write_words(&mut self, at: u64, values: &[u64]) -> Result<(), Failed>
+        requires { at + length values.now ≤ D.shown.size (inner_of self.old) }
+        ensures written { IsTrue D.shown.tells_words → OnOk result ((k : ℕ) → k < length values.now
+            → slice_index (D.shown.words (inner_of self.new)) (at + k) ≡ slice_index values.now k) }
+        ensures failed { OnErr result
+            (WritingFailed (shown_by_fuse D.shown) at values.now self.old self.new) }
+        ensures does { Does (shown_by_fuse D.shown) (WritesMany at values.now) self.old self.new }
+        ensures makes { Makes (shown_by_fuse D.shown) 0 (length values.now) 0 self.old self.new result }
+        ensures passes { PassesWrites D.shown at values.now self.old self.new result }
+    {
+        for index in 0..values.len() {
+            self.write(at + index as u64, values[index])?;
+        }
+        Ok(())
     }
 
     fn sync(&mut self) -> Result<(), Failed>
-        ensures certain { IsTrue ⟦<Fuse<D> as Device>⟧.tells_images → OnOk result ((i : List ℕ) → ⟦<Fuse<D> as Device>⟧.leaves self.new i → i ≡ ⟦<Fuse<D> as Device>⟧.words self.old) }
-        ensures words { IsTrue ⟦<Fuse<D> as Device>⟧.tells_words → ⟦<Fuse<D> as Device>⟧.words self.new ≡ ⟦<Fuse<D> as Device>⟧.words self.old }
-        ensures images { IsTrue ⟦<Fuse<D> as Device>⟧.tells_images → Runs ⟦<Fuse<D> as Device>⟧.clock ⟦<Fuse<D> as Device>⟧.leaves ⟦<Fuse<D> as Device>⟧.left_since Stays self.old self.new }
-        ensures size { ⟦<Fuse<D> as Device>⟧.size self.new ≡ ⟦<Fuse<D> as Device>⟧.size self.old }
-        ensures writes { ⟦<Fuse<D> as Device>⟧.writes self.new ≡ ⟦<Fuse<D> as Device>⟧.writes self.old }
-        ensures syncs { ⟦<Fuse<D> as Device>⟧.syncs self.new ≡ counted (⟦<Fuse<D> as Device>⟧.syncs self.old) }
-        ensures cause { HasCause (⟦<Fuse<D> as Device>⟧.faults self.old) (⟦<Fuse<D> as Device>⟧.faults self.new) result }
-
-        ensures left { calls_left self.new ≡ calls_left self.old - 1 }
-        ensures spent { calls_left self.old ≡ 0 → IsErr result × (inner_of self.new ≡ inner_of self.old) }
-        ensures passed { 0 < calls_left self.old → HasCause (D.faults (inner_of self.old)) (D.faults (inner_of self.new)) result }
-        ensures own_fault { calls_left self.old ≡ 0 → own_faults_of self.new ≡ counted (own_faults_of self.old) }
-        ensures no_own_fault { 0 < calls_left self.old → own_faults_of self.new ≡ own_faults_of self.old }
-        ensures reached { 0 < calls_left self.old → D.syncs (inner_of self.new) ≡ counted (D.syncs (inner_of self.old)) }
-        ensures inner_writes { D.writes (inner_of self.new) ≡ D.writes (inner_of self.old) }
+        ensures certain { OnOk result (IsSynced (shown_by_fuse D.shown) self.new) }
+        ensures does { Does (shown_by_fuse D.shown) Stays self.old self.new }
+        ensures counts { Counts (shown_by_fuse D.shown) 0 0 1 self.old self.new result }
+        ensures passes { Passes D.shown 0 0 1 self.old self.new result }
     {
         self.syncs = self.syncs.saturating_add(1);
         if !self.passes() {
             return Err(Failed);
         }
-        self.inner.sync()
+        let result = self.inner.sync();
+        self.failing = result.is_err();
+        result
     }
 
     ghost tells_both = { D.tells_both };
@@ -192,5 +191,5 @@ impl<D: Device> Device for Fuse<D> {
 
     ghost size_fits = { λ f. D.size_fits f.inner };
 
-    ghost faults_fit = { λ f. Prim.omega arith };
+    ghost counts_fit = { λ f. (f.counts_fit.0, f.counts_fit.1, f.counts_fit.2, Prim.omega arith) };
 }

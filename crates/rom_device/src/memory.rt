@@ -1,8 +1,6 @@
 //! Words in memory with listed faults, and a list of all calls made.
-ghost use Rattle.std.specs.Prelude.{◌≡◌, ◌+◌, ◌<◌, ◌≤◌, ◌^◌, ◌∷◌, ◌++◌, [], ℕ, List, true, false, IfOk, OnErr, OnOk, IsTrue, IsErr, ◌↔◌, length, reverse, vec_len, vec_capacity, slice_index, slice_set, if◌then◌else◌, is_err};
+ghost use Rattle.std.specs.Prelude.{◌≡◌, ◌<◌, ◌≤◌, ◌^◌, ◌∷◌, ◌++◌, [], List, ℕ, true, false, IfOk, IsTrue, ◌↔◌, length, reverse, vec_len, vec_capacity};
 ghost use Rattle.std.specs.Bool.{OnTrue, OnFalse};
-ghost use Rattle.rom_model.specs.Faults.{HasCause, counted};
-ghost use Rattle.rom_device.specs.Device.{Runs, Stays, Writes};
 ghost use Rattle.rom_device.specs.Log.{words_after};
 ghost use Rattle.rom_device.specs.Trips.{trip_at};
 
@@ -16,7 +14,7 @@ use std::alloc::{AllocError, Global};
 /// any moment may leave. The moment is the number of calls listed.
 ///
 /// A call past the room fails and is neither listed nor a moment: the word stays, and gains no
-/// value that a stop may leave. It counts as a write or a sync, and as a fault.
+/// value that a stop may leave. It counts as a read, a write or a sync, and as a fault.
 #[derive(Drop)]
 pub struct Memory {
     start: Vec<u64>,
@@ -24,11 +22,13 @@ pub struct Memory {
     made: Vec<LoggedCall>,
     room: u64,
     trips: Vec<Trip>,
-    faults: u64,
+    reads: u64,
     writes: u64,
     syncs: u64,
+    faults: u64,
+    failing: bool,
     ghost small: { length start.items < 2 ^ 64 },
-    ghost fits: { faults < 2 ^ 64 },
+    ghost counts_fit: { (reads < 2 ^ 64) × (writes < 2 ^ 64) × (syncs < 2 ^ 64) × (faults < 2 ^ 64) },
     ghost as_long: { vec_len words ≡ vec_len start },
     ghost replayed: { words.items ≡ words_after start.items (reverse made.items) },
     ghost within: { vec_len made ≤ room },
@@ -61,7 +61,7 @@ fn trip_among(trips: &[Trip], made: &[LoggedCall], call: CallKind, at: u64) -> O
 }
 
 impl Memory {
-    ghost use Rattle.rom_device.specs.Memory.{start_of, calls_of, room_of, trips_of, words_of, fault_count_of, write_count_of, sync_count_of, Picks, IsPicked};
+    ghost use Rattle.rom_device.specs.Memory.{shown_by_memory, start_of, calls_of, room_of, trips_of, words_of, CountsNothing, Picks, IsPicked};
 
     /// A device of these words, with room for so many calls. It takes no memory later.
     pub fn new(
@@ -74,9 +74,7 @@ impl Memory {
         ensures calls { IfOk result (λ m. calls_of m ≡ []) }
         ensures room { IfOk result (λ m. room_of m ≡ room) }
         ensures trips { IfOk result (λ m. trips_of m ≡ trips.items) }
-        ensures faults { IfOk result (λ m. fault_count_of m ≡ 0) }
-        ensures writes { IfOk result (λ m. write_count_of m ≡ 0) }
-        ensures syncs { IfOk result (λ m. sync_count_of m ≡ 0) }
+        ensures counts { IfOk result (λ m. CountsNothing m) }
     {
         Ok(Memory {
             start: words.clone()?,
@@ -84,9 +82,11 @@ impl Memory {
             made: Vec::with_capacity(alloc, room as usize)?,
             room,
             trips,
-            faults: 0,
+            reads: 0,
             writes: 0,
             syncs: 0,
+            faults: 0,
+            failing: false,
         })
     }
 
@@ -110,10 +110,10 @@ impl Memory {
     /// It takes no memory.
     pub fn crash(self, choice: &[u64]) -> Vec<u64>
         ensures picked { Picks self choice.now result.items }
-        ensures left { ⟦<Memory as Device>⟧.leaves self result.items }
+        ensures left { shown_by_memory.leaves self result.items }
 
         // No image is left out: each that a stop may leave is that of some choice.
-        ensures every { (image : List ℕ) → ⟦<Memory as Device>⟧.leaves self image → IsPicked self image }
+        ensures every { (image : List ℕ) → shown_by_memory.leaves self image → IsPicked self image }
     {
         let Memory {
             start,
@@ -121,9 +121,11 @@ impl Memory {
             made,
             room: _,
             trips: _,
-            faults: _,
+            reads: _,
             writes: _,
             syncs: _,
+            faults: _,
+            failing: _,
         } = self;
         for at in 0..words.len() {
             let number = choice.get(at).copied().unwrap_or(0);
@@ -134,29 +136,12 @@ impl Memory {
 }
 
 impl Device for Memory {
-    ghost use Rattle.std.specs.Prelude.{refl};
-    ghost use Rattle.rom_device.specs.Log.{MayLeave, MayLeaveSince};
-    ghost use Rattle.rom_device.specs.Memory.{start_of, calls_of, words_of, fault_count_of, fails, calls_with, read_made, write_made, sync_made, KeepsRest};
+    ghost use Rattle.std.specs.Prelude.{◌+◌, OnErr, OnOk, slice_index, slice_set, refl};
+    ghost use Rattle.rom_device.specs.Device.{Counts, Does, IsSynced, Makes, OnlyReads, ReadsUpTo, Stays, Writes, WritesMany, WritingFailed};
+    ghost use Rattle.rom_device.specs.Memory.{shown_by_memory, start_of, words_of, reads_from, Lists, ListsMany, ListsWrites};
+    ghost use Rattle.rom_device.specs.declared.call.LoggedCall.TheVariants.{Read, Write, Sync};
 
-    ghost size = { λ m. length m.start.items };
-
-    ghost tells_words = { true };
-
-    ghost words = { λ m. words_after m.start.items (reverse m.made.items) };
-
-    ghost tells_images = { true };
-
-    ghost leaves = { λ m. MayLeave m.start.items (reverse m.made.items) };
-
-    ghost clock = { λ m. length (reverse m.made.items) };
-
-    ghost left_since = { λ m t. MayLeaveSince m.start.items t (reverse m.made.items) };
-
-    ghost faults = { λ m. m.faults };
-
-    ghost writes = { λ m. m.writes };
-
-    ghost syncs = { λ m. m.syncs };
+    ghost shown = { shown_by_memory };
 
     fn len(&self) -> u64 {
         self.start.len() as u64
@@ -167,82 +152,88 @@ impl Device for Memory {
     }
 
     fn read(&mut self, at: u64) -> Result<u64, Failed>
-        requires { at < ⟦<Memory as Device>⟧.size self.old }
-        ensures word { IsTrue ⟦<Memory as Device>⟧.tells_words → IfOk result (λ word. word ≡ slice_index (⟦<Memory as Device>⟧.words self.old) at) }
-        ensures words { IsTrue ⟦<Memory as Device>⟧.tells_words → ⟦<Memory as Device>⟧.words self.new ≡ ⟦<Memory as Device>⟧.words self.old }
-        ensures images { IsTrue ⟦<Memory as Device>⟧.tells_images → Runs ⟦<Memory as Device>⟧.clock ⟦<Memory as Device>⟧.leaves ⟦<Memory as Device>⟧.left_since Stays self.old self.new }
-        ensures still { IsTrue ⟦<Memory as Device>⟧.tells_images → (i : List ℕ) → ⟦<Memory as Device>⟧.leaves self.old i → ⟦<Memory as Device>⟧.leaves self.new i }
-        ensures size { ⟦<Memory as Device>⟧.size self.new ≡ ⟦<Memory as Device>⟧.size self.old }
-        ensures writes { ⟦<Memory as Device>⟧.writes self.new ≡ ⟦<Memory as Device>⟧.writes self.old }
-        ensures syncs { ⟦<Memory as Device>⟧.syncs self.new ≡ ⟦<Memory as Device>⟧.syncs self.old }
-        ensures cause { HasCause (⟦<Memory as Device>⟧.faults self.old) (⟦<Memory as Device>⟧.faults self.new) result }
-
-        ensures fails { IsErr result ↔ IsTrue (fails self.old CallKind.Read at) }
-        ensures faults { fault_count_of self.new ≡ (if is_err result then counted (fault_count_of self.old) else fault_count_of self.old) }
-        ensures calls { calls_of self.new ≡ calls_with self.old (read_made at) }
-        ensures rest { KeepsRest self.old self.new }
+        requires { at < length (start_of self.old) }
+        ensures word { IfOk result (λ word. word ≡ slice_index (words_of self.old) at) }
+        ensures only { OnlyReads shown_by_memory self.old self.new }
+        ensures counts { Counts shown_by_memory 1 0 0 self.old self.new result }
+        ensures lists { Lists (Read at) self.old self.new result }
     {
+        self.reads = self.reads.saturating_add(1);
         let tripped = trip_among(&self.trips, &self.made, CallKind::Read, at).is_some();
-        if !list(&mut self.made, self.room, LoggedCall::Read { at }) || tripped {
+        self.failing = !list(&mut self.made, self.room, LoggedCall::Read { at }) || tripped;
+        if self.failing {
             self.faults = self.faults.saturating_add(1);
             return Err(Failed);
         }
         Ok(self.words[at as usize])
     }
 
-    fn write(&mut self, at: u64, value: u64) -> Result<(), Failed>
-        requires { at < ⟦<Memory as Device>⟧.size self.old }
-        ensures written { IsTrue ⟦<Memory as Device>⟧.tells_words → OnOk result (⟦<Memory as Device>⟧.words self.new ≡ slice_set (⟦<Memory as Device>⟧.words self.old) at value) }
-        ensures failed { IsTrue ⟦<Memory as Device>⟧.tells_words → OnErr result (Writes at value (⟦<Memory as Device>⟧.words self.old) (⟦<Memory as Device>⟧.words self.new)) }
-        ensures images { IsTrue ⟦<Memory as Device>⟧.tells_images → Runs ⟦<Memory as Device>⟧.clock ⟦<Memory as Device>⟧.leaves ⟦<Memory as Device>⟧.left_since (Writes at value) self.old self.new }
-        ensures size { ⟦<Memory as Device>⟧.size self.new ≡ ⟦<Memory as Device>⟧.size self.old }
-        ensures writes { ⟦<Memory as Device>⟧.writes self.new ≡ counted (⟦<Memory as Device>⟧.writes self.old) }
-        ensures syncs { ⟦<Memory as Device>⟧.syncs self.new ≡ ⟦<Memory as Device>⟧.syncs self.old }
-        ensures cause { HasCause (⟦<Memory as Device>⟧.faults self.old) (⟦<Memory as Device>⟧.faults self.new) result }
+    fn read_words(&mut self, at: u64, into: &mut [u64]) -> usize
+        requires { at + length into.old ≤ length (start_of self.old) }
+        ensures len { length into.new ≡ length into.old }
+        ensures read { (k : ℕ) → k < result
+            → slice_index into.new k ≡ slice_index (words_of self.old) (at + k) }
+        ensures only { OnlyReads shown_by_memory self.old self.new }
+        ensures counts { ReadsUpTo shown_by_memory result (length into.old) self.old self.new }
+        ensures lists { ListsMany (reads_from at (length into.old)) result self.old self.new }
+    {
+        for index in 0..into.len() {
+            let Ok(word) = self.read(at + index as u64) else {
+                return index;
+            };
+            into[index] = word;
+        }
+        into.len()
+    }
 
-        ensures fails { IsErr result ↔ IsTrue (fails self.old CallKind.Write at) }
-        ensures faults { fault_count_of self.new ≡ (if is_err result then counted (fault_count_of self.old) else fault_count_of self.old) }
-        ensures calls { calls_of self.new ≡ calls_with self.old (write_made self.old at value) }
-        ensures rest { KeepsRest self.old self.new }
+    fn write(&mut self, at: u64, value: u64) -> Result<(), Failed>
+        requires { at < length (start_of self.old) }
+        ensures written { OnOk result (words_of self.new ≡ slice_set (words_of self.old) at value) }
+        ensures does { Does shown_by_memory (Writes at value) self.old self.new }
+        ensures counts { Counts shown_by_memory 0 1 0 self.old self.new result }
+        ensures lists { Lists (Write at value true) self.old self.new result }
     {
         self.writes = self.writes.saturating_add(1);
         let trip = trip_among(&self.trips, &self.made, CallKind::Write, at);
         let lands = trip.is_none_or(|trip| trip.keeps_new);
-        if !list(
-            &mut self.made,
-            self.room,
-            LoggedCall::Write { at, value, lands },
-        ) {
-            self.faults = self.faults.saturating_add(1);
-            return Err(Failed);
-        }
-        if lands {
+        let call = LoggedCall::Write { at, value, lands };
+        let listed = list(&mut self.made, self.room, call);
+        if listed && lands {
             self.words[at as usize] = value;
         }
-        if trip.is_some() {
+        self.failing = !listed || trip.is_some();
+        if self.failing {
             self.faults = self.faults.saturating_add(1);
             return Err(Failed);
         }
         Ok(())
     }
 
-    fn sync(&mut self) -> Result<(), Failed>
-        ensures certain { IsTrue ⟦<Memory as Device>⟧.tells_images → OnOk result ((i : List ℕ) → ⟦<Memory as Device>⟧.leaves self.new i → i ≡ ⟦<Memory as Device>⟧.words self.old) }
-        ensures words { IsTrue ⟦<Memory as Device>⟧.tells_words → ⟦<Memory as Device>⟧.words self.new ≡ ⟦<Memory as Device>⟧.words self.old }
-        ensures images { IsTrue ⟦<Memory as Device>⟧.tells_images → Runs ⟦<Memory as Device>⟧.clock ⟦<Memory as Device>⟧.leaves ⟦<Memory as Device>⟧.left_since Stays self.old self.new }
-        ensures size { ⟦<Memory as Device>⟧.size self.new ≡ ⟦<Memory as Device>⟧.size self.old }
-        ensures writes { ⟦<Memory as Device>⟧.writes self.new ≡ ⟦<Memory as Device>⟧.writes self.old }
-        ensures syncs { ⟦<Memory as Device>⟧.syncs self.new ≡ counted (⟦<Memory as Device>⟧.syncs self.old) }
-        ensures cause { HasCause (⟦<Memory as Device>⟧.faults self.old) (⟦<Memory as Device>⟧.faults self.new) result }
+    fn write_words(&mut self, at: u64, values: &[u64]) -> Result<(), Failed>
+        requires { at + length values.now ≤ length (start_of self.old) }
+        ensures written { OnOk result ((k : ℕ) → k < length values.now
+            → slice_index (words_of self.new) (at + k) ≡ slice_index values.now k) }
+        ensures failed { OnErr result (WritingFailed shown_by_memory at values.now self.old self.new) }
+        ensures does { Does shown_by_memory (WritesMany at values.now) self.old self.new }
+        ensures makes { Makes shown_by_memory 0 (length values.now) 0 self.old self.new result }
+        ensures lists { ListsWrites at values.now self.old self.new result }
+    {
+        for index in 0..values.len() {
+            self.write(at + index as u64, values[index])?;
+        }
+        Ok(())
+    }
 
-        ensures fails { IsErr result ↔ IsTrue (fails self.old CallKind.Sync 0) }
-        ensures faults { fault_count_of self.new ≡ (if is_err result then counted (fault_count_of self.old) else fault_count_of self.old) }
-        ensures calls { calls_of self.new ≡ calls_with self.old (sync_made self.old) }
-        ensures rest { KeepsRest self.old self.new }
+    fn sync(&mut self) -> Result<(), Failed>
+        ensures certain { OnOk result (IsSynced shown_by_memory self.new) }
+        ensures does { Does shown_by_memory Stays self.old self.new }
+        ensures counts { Counts shown_by_memory 0 0 1 self.old self.new result }
+        ensures lists { Lists (Sync true) self.old self.new result }
     {
         self.syncs = self.syncs.saturating_add(1);
         let done = trip_among(&self.trips, &self.made, CallKind::Sync, 0).is_none();
-        if !list(&mut self.made, self.room, LoggedCall::Sync { done }) || !done {
+        self.failing = !list(&mut self.made, self.room, LoggedCall::Sync { done }) || !done;
+        if self.failing {
             self.faults = self.faults.saturating_add(1);
             return Err(Failed);
         }
@@ -265,5 +256,5 @@ impl Device for Memory {
 
     ghost size_fits = { λ m. m.small };
 
-    ghost faults_fit = { λ m. m.fits };
+    ghost counts_fit = { λ m. m.counts_fit };
 }

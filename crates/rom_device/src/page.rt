@@ -20,10 +20,12 @@ pub struct Page {
 }
 
 impl Page {
-    ghost use Rattle.rom_device.specs.Page.{word_at};
+    ghost use Rattle.rom_device.specs.Page.{word_at, AreAt};
 
     /// A page of words that are 0.
-    pub fn zeroed() -> Page {
+    pub fn zeroed() -> Page
+        ensures { (k : ℕ) → word_at result k ≡ 0 }
+    {
         Page {
             bytes: [0; PAGE_BYTES],
         }
@@ -44,7 +46,7 @@ impl Page {
     pub fn copy(&self, index: usize, into: &mut [u64])
         requires { index + length into.old ≤ 512 }
         ensures len { length into.new ≡ length into.old }
-        ensures words { (k : ℕ) → k < length into.new → slice_index into.new k ≡ word_at self.now (index + k) }
+        ensures words { AreAt self.now index into.new }
     {
         LittleEndian::read_u64_into(&self.bytes[8 * index..8 * (index + into.len())], into);
     }
@@ -69,11 +71,13 @@ impl Page {
         &self.bytes[..8 * count]
     }
 
-    /// Reads so many words of a file, from that place on, in place of its first. `false` says that the
-    /// file failed, and that these may be any.
+    /// Reads so many words of a file, from that place on, in place of its first, which may then be any:
+    /// of what the file has no contract speaks. `false` says that the file failed.
+    #[tactic(auto, unfolding(crate::specs::Page::word_at))]
     pub fn read(&mut self, file: &File, at: u64, count: usize) -> bool
         requires place { at * 8 < 2 ^ 64 }
         requires room { count ≤ 512 }
+        ensures behind { (k : ℕ) → count ≤ k → word_at self.new k ≡ word_at self.old k }
     {
         file.read_exact_at(&mut self.bytes[..8 * count], at * 8)
             .is_ok()

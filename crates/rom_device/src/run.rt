@@ -186,7 +186,8 @@ impl Run {
         true
     }
 
-    /// Hands the words over to a file in one call. `false` says that the file failed.
+    /// Hands the words over to a file in one call: the bytes that `Page::head` promises, at their place.
+    /// `false` says that the file failed. Of what the file then has no contract speaks.
     pub fn write(&self, file: &File) -> bool
         requires { self.now.first * 8 < 2 ^ 64 }
     {

@@ -7,7 +7,7 @@ use std::test::Fail;
 
 /// All words of a device, as its reads tell them.
 pub fn words_read<D: Device>(alloc: Global, device: &mut D) -> Result<Vec<u64>, Fail>
-    ensures { D.size device.new ≡ D.size device.old }
+    ensures { D.shown.size device.new ≡ D.shown.size device.old }
 {
     let mut words = Vec::new(alloc);
     for at in 0..device.len() {
@@ -131,14 +131,34 @@ fn many_words_go_up_to_the_first_that_fails(rt: HostRuntime) -> Result<(), Fail>
     assert!(rt; put_many(&mut memory, 1, &[8, 9]));
     assert_eq!(rt; memory.words(), [1, 8, 9].as_slice());
     assert_eq!(rt; memory.calls_made(), 7);
-    let mut fuse = Fuse::new(memory, 3);
-    assert_eq!(rt; get_many(&mut fuse, 0, &mut two), Some(2));
-    assert!(rt; !put_many(&mut fuse, 0, &[5, 6, 7]));
-    assert_eq!(rt; fuse.inner().words(), [5, 8, 9].as_slice());
     let mut missing = FileDevice::missing();
     assert_eq!(rt; get_many(&mut missing, 0, &mut two), Some(0));
     assert!(rt; !put_many(&mut missing, 0, &[5, 6]));
     assert_eq!(rt; missing.fault_count(), 2);
+    Ok(())
+}
+
+#[test]
+fn words_behind_one_that_fails_stay(rt: HostRuntime) -> Result<(), Fail> {
+    // The write that trips, whether it keeps the new value, the room, and the calls of the fuse.
+    let cases: [(u64, bool, u64, u64, [u64; 3], u64); 5] = [
+        (2, false, 9, 9, [7, 2, 3], 2),
+        (2, true, 9, 9, [7, 8, 3], 2),
+        (0, false, 2, 9, [7, 8, 3], 2),
+        (0, false, 9, 1, [7, 2, 3], 1),
+        (0, false, 9, 0, [1, 2, 3], 0),
+    ];
+    for (nth, keeps_new, room, calls, words, listed) in cases {
+        let trips = [trip(CallKind::Write, nth, keeps_new)].to_vec(rt.alloc())?;
+        let start = [1, 2, 3].to_vec(rt.alloc())?;
+        let memory = Memory::new(rt.alloc(), start, room, trips)?;
+        let mut fuse = Fuse::new(memory, calls);
+        assert!(rt; !put_many(&mut fuse, 0, &[7, 8, 9]));
+        assert_eq!(rt; fuse.fault_count(), 1);
+        let memory = fuse.inner();
+        assert_eq!(rt; memory.words(), words.as_slice());
+        assert_eq!(rt; memory.calls_made(), listed);
+    }
     Ok(())
 }
 
@@ -199,16 +219,18 @@ fn a_crash_leaves_what_is_chosen(rt: HostRuntime) -> Result<(), Fail> {
 fn a_fuse_fails_once_its_calls_are_used_up(rt: HostRuntime) -> Result<(), Fail> {
     let words = [1, 2].to_vec(rt.alloc())?;
     let memory = Memory::new(rt.alloc(), words, 10, Vec::new(rt.alloc()))?;
-    let mut fuse = Fuse::new(memory, 3);
+    let mut fuse = Fuse::new(memory, 4);
     assert!(rt; put(&mut fuse, 1, 7));
     assert!(rt; fuse.sync().is_ok());
     assert_eq!(rt; get(&mut fuse, 1), Some(7));
-    assert_eq!(rt; get(&mut fuse, 1), None);
+    let mut two = [0; 2];
+    assert_eq!(rt; get_many(&mut fuse, 0, &mut two), Some(1));
+    assert_eq!(rt; two[0], 1);
     assert!(rt; !put(&mut fuse, 0, 8));
     assert!(rt; fuse.sync().is_err());
     assert_eq!(rt; fuse.fault_count(), 3);
     let memory = fuse.inner();
-    assert_eq!(rt; memory.calls_made(), 3);
+    assert_eq!(rt; memory.calls_made(), 4);
     assert_eq!(rt; memory.words(), [1, 7].as_slice());
     Ok(())
 }
