@@ -12,10 +12,30 @@
 //! it was given, and that its sync makes it certain, is taken on trust.
 #![tactic(auto)]
 
+mod cached;
+mod call;
 mod certain;
 mod device;
+mod file;
+mod followed;
+mod fuse;
+mod memory;
+mod page;
 mod ram;
+mod run;
+mod trip;
+mod windows;
 
+pub use call::{CallKind, LoggedCall};
 pub use certain::write_certain;
 pub use device::{Device, Failed};
+pub use file::FileDevice;
+pub use fuse::Fuse;
+pub use memory::Memory;
 pub use ram::Ram;
+pub use trip::Trip;
+
+#[cfg(test)]
+mod file_tests;
+#[cfg(test)]
+mod tests;

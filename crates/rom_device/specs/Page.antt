@@ -1,0 +1,12 @@
+-- What a contract sees of a page of a file.
+use Rattle.std.specs.Prelude.{◌≡◌, ℕ, ◌+◌, ◌*◌, ◌<◌, List, drop, length, slice_index}
+use Rattle.byteorder.specs.Endian.{little_number}
+use Rattle.rom_device.specs.declared.page.Page.{Page}
+
+-- the word of that number, the lowest byte first
+unfoldable pub word_at : Page → ℕ → ℕ
+word_at page k = little_number 8 (drop (8 * k) page.bytes)
+
+-- these are its words from that number on
+abbrev pub AreAt : Page → ℕ → List ℕ → Type 0
+AreAt page index words = (k : ℕ) → k < length words → slice_index words k ≡ word_at page (index + k)

@@ -1,0 +1,17 @@
+-- What a contract sees of some adjacent words of a file.
+use Rattle.std.specs.Prelude.{◌≡◌, ◌⊎◌, ℕ, ◌+◌, ◌-◌, ◌%◌, ◌<◌, ◌≢◌, nat_le, nat_lt, ◌&&◌, Option, None, Some, if◌then◌else◌}
+use Rattle.rom_device.specs.Page.{word_at}
+use Rattle.rom_device.specs.declared.run.Run.{Run}
+
+-- where that place is among the words
+abbrev pub index_in : Run → ℕ → Option ℕ
+index_in run at = if nat_le run.first at && nat_lt (at - run.first) run.count then Some (at - run.first) else None
+
+-- the word at that place, where the run has it
+abbrev pub word_of : Run → ℕ → Option ℕ
+word_of run at = if nat_le run.first at && nat_lt (at - run.first) run.count then Some (word_at run.page (at - run.first)) else None
+
+-- That place is the next, there is room for its word, and no page of the file begins there. Each
+-- place is next to no words.
+abbrev pub Follows : Run → ℕ → Type 0
+Follows run at = (run.count ≡ 0) ⊎ ((run.count < 512) × (run.first + run.count ≡ at) × (at % 512 ≢ 0))
