@@ -1,2 +1,3 @@
--- Lemmas on parts and on a new heap.
+-- Lemmas on parts, on a new heap, and on what a stop leaves after calls that write nothing.
 pub mod Making
+pub mod Since

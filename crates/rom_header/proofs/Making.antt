@@ -3,10 +3,12 @@ use Rattle.std.proofs.Common.{◌≡◌, ◌≢◌, inl, inr, ℕ, ◌+◌, ◌*
 use Rattle.std.proofs.lemmas.List.{get_or-take, get_or-drop, length-take}
 use Rattle.std.proofs.lemmas.Grind.{same_number_lists}
 use Rattle.rom_model.specs.Space.{ChangesOnly}
-use Rattle.rom_device.specs.Device.{Runs, Writes}
-use Rattle.rom_device.proofs.Going.{runs_by, runs_on}
+use Rattle.rom_model.specs.Blocks.{IsOrder, region_len}
+use Rattle.rom_model.proofs.Changes.{changes_joins, changes_wider}
+use Rattle.rom_device.specs.Device.{ShownDevice, Does, Writes, WritesMany}
+use Rattle.rom_device.proofs.Going.{does_by, does_on}
 use Rattle.rom_header.specs.Fresh.{IsNew, NoneOrNew, UnreadAreZero, IsLaid}
-use Rattle.rom_header.specs.Layout.{part, region_len, back_at, words_needed, MAGIC}
+use Rattle.rom_header.specs.Layout.{part, back_at, words_needed, MAGIC, MAIN}
 
 -- the three runs of writes lay a heap out
 pub laid : (order : ℕ) (image x y z : List ℕ) → length image ≡ region_len order →
@@ -30,19 +32,20 @@ part_is at len m y long room same =
     (λ k h. let lt : k < len = omega (arith, size) in get_or-take len (drop at y) k 0 lt ∙ get_or-drop at y k 0 ∙ same k lt)
 
 -- the magic makes it a heap
-pub made : (order : ℕ) (m y : List ℕ) → IsLaid order m y → length m ≡ region_len order → words_needed order ≤ length y → 4 ≤ order → order ≤ 16 → IsNew order m (set y 0 MAGIC)
-made order m y laid long room least most =
+pub made : (order : ℕ) (m y : List ℕ) → IsLaid order m y → length m ≡ region_len order → words_needed order ≤ length y → IsOrder order → IsNew order m (set y 0 MAGIC)
+made order m y laid long room fits =
     let w = set y 0 MAGIC in
     let size : length w ≡ length y = length-set y 0 MAGIC in
     let has : 0 < length y = omega arith in
     let other : (k : ℕ) → 0 < k → get_or w k 0 ≡ get_or y k 0 = λ k h. let ne : k ≢ 0 = omega arith in rw get_or-set_other refl in
     record {
       heap = record {
-        magic = rw get_or-set_same refl;
-        version = other 1 (omega arith) ∙ laid.version;
-        order_is = other 2 (omega arith) ∙ laid.order_is;
-        least = least;
-        most = most;
+        header = record {
+          magic = rw get_or-set_same refl;
+          version = other 1 (omega arith) ∙ laid.version;
+          order_is = other 2 (omega arith) ∙ laid.order_is;
+          fits = fits;
+        };
         long = omega (arith, size);
         state = omega (arith, other 3 (omega arith), laid.idle);
       };
@@ -57,31 +60,22 @@ pub still_none : (order at n : ℕ) (m x y : List ℕ) → get_or x 0 0 ≢ MAGI
 still_none order at n m x y none late within = inl (λ e. none (sym (within.before 0 (omega arith)) ∙ e))
 
 -- and then there is the whole heap
-pub sealed : (order : ℕ) (m y i : List ℕ) → get_or y 0 0 ≢ MAGIC → IsLaid order m y → length m ≡ region_len order → words_needed order ≤ length y → 4 ≤ order → order ≤ 16 → Writes 0 MAGIC y i → NoneOrNew order m i
-sealed order m y i none laid long room least most (inl same) = inl (subst (λ (l : List ℕ). get_or l 0 0 ≢ MAGIC) (sym same) none)
-sealed order m y i none laid long room least most (inr put) = inr (subst (λ (l : List ℕ). IsNew order m l) (sym put) (made order m y laid long room least most))
+pub sealed : (order : ℕ) (m y i : List ℕ) → get_or y 0 0 ≢ MAGIC → IsLaid order m y → length m ≡ region_len order → words_needed order ≤ length y → IsOrder order → Writes 0 MAGIC y i → NoneOrNew order m i
+sealed order m y i none laid long room fits (inl same) = inl (subst (λ (l : List ℕ). get_or l 0 0 ≢ MAGIC) (sym same) none)
+sealed order m y i none laid long room fits (inr put) = inr (subst (λ (l : List ℕ). IsNew order m l) (sym put) (made order m y laid long room fits))
 
-pub changes_joins : (at len : ℕ) (x y z : List ℕ) → ChangesOnly at len x y → ChangesOnly at len y z → ChangesOnly at len x z
-changes_joins at len x y z first second = record {
-  as_long = second.as_long ∙ first.as_long;
-  before = λ k h. second.before k h ∙ first.before k h;
-  behind = λ k h. second.behind k h ∙ first.behind k h;
-}
+-- the runs of writes are one, in all words of a heap but its magic
+module _ {D : Type 0} (shown : ShownDevice D) (order main back : ℕ) (image : List ℕ) (at_main : main ≡ MAIN) (at_back : back ≡ back_at order) (long : length image ≡ region_len order)
+    (a b c : D) (first : Does shown (WritesMany main image) a b) (second : Does shown (WritesMany back image) b c) where
+  abbrev all_but : ℕ
+  all_but = 7 + 2 * region_len order
 
--- a wider range
-pub wider : (at len lo n : ℕ) (x y : List ℕ) → lo ≤ at → at + len ≤ lo + n → ChangesOnly at len x y → ChangesOnly lo n x y
-wider at len lo n x y first last is = record { as_long = is.as_long; before = λ k h. is.before k (omega arith); behind = λ k h. is.behind k (omega arith) }
+  run : (at : ℕ) (values : List ℕ) → 1 ≤ at → at + length values ≤ 1 + all_but → (x y : D) → Does shown (WritesMany at values) x y → Does shown (ChangesOnly 1 all_but) x y
+  run at values low high = does_by shown (WritesMany at values) (ChangesOnly 1 all_but) (λ x y many. changes_wider 1 all_but at (length values) low high x y many.only)
 
--- the three runs of writes are one, in all words of a heap but its magic
-pub laid_runs : {D : Type 0} (clock : D → ℕ) (leaves : D → List ℕ → Type 0) (left_since : D → ℕ → List ℕ → Type 0) (order len main back : ℕ) (a b c d : D)
-    → main ≡ 8 → back ≡ back_at order → len ≡ region_len order
-    → Runs clock leaves left_since (ChangesOnly main len) a b → Runs clock leaves left_since (ChangesOnly back len) b c → Runs clock leaves left_since (ChangesOnly 1 7) c d
-    → Runs clock leaves left_since (ChangesOnly 1 (7 + 2 * region_len order)) a d
-laid_runs {D} clock leaves left_since order len main back a b c d at_main at_back size first second third =
-    let many = 7 + 2 * region_len order in
-    let wide : (at n : ℕ) → 1 ≤ at → at + n ≤ 1 + many → (x y : D) → Runs clock leaves left_since (ChangesOnly at n) x y → Runs clock leaves left_since (ChangesOnly 1 many) x y =
-    λ at n low high x y. runs_by clock leaves left_since (ChangesOnly at n) (ChangesOnly 1 many) (λ v w. wider at n 1 many v w low high) x y in
-    let on = runs_on clock leaves left_since (ChangesOnly 1 many) (changes_joins 1 many) in
-    on a c d
-    (on a b c (wide main len (omega (arith, at_main)) (omega (arith, at_main, size)) a b first) (wide back len (omega (arith, at_back)) (omega (arith, at_back, size)) b c second))
-    (wide 1 7 (omega arith) (omega arith) c d third)
+  pub laid_two : Does shown (ChangesOnly 1 (7 + 2 * region_len order)) a c
+  laid_two = does_on shown (ChangesOnly 1 all_but) (changes_joins 1 all_but) a b c
+      (run main image (omega (arith, at_main)) (omega (arith, at_main, long)) a b first) (run back image (omega (arith, at_back)) (omega (arith, at_back, long)) b c second)
+
+  pub laid_three : (header : List ℕ) → length header ≡ 7 → (d : D) → Does shown (WritesMany 1 header) c d → Does shown (ChangesOnly 1 (7 + 2 * region_len order)) a d
+  laid_three header short d third = does_on shown (ChangesOnly 1 all_but) (changes_joins 1 all_but) a c d laid_two (run 1 header (omega arith) (omega (arith, short)) c d third)

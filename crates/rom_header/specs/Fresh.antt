@@ -1,6 +1,7 @@
 -- A new heap, and what a stop leaves while it is made.
 use Rattle.std.specs.Prelude.{◌≡◌, ◌≢◌, ◌⊎◌, ℕ, ◌+◌, ◌<◌, ◌≤◌, List, length, slice_index, Result, Ok, Err}
-use Rattle.rom_header.specs.Layout.{region_len, words_needed, main_of, back_of, back_at, MAGIC}
+use Rattle.rom_model.specs.Blocks.{region_len}
+use Rattle.rom_header.specs.Layout.{words_needed, main_of, back_of, back_at, MAGIC, MAIN, STATE}
 use Rattle.rom_header.specs.Regions.{IsHeap}
 use Rattle.rom_header.specs.declared.fresh.FormatRefused.{FormatRefused}
 use Rattle.rom_header.specs.declared.fresh.FormatRefused.TheVariants.{AlreadyAHeap, TooSmall, Device}
@@ -12,7 +13,7 @@ UnreadAreZero words = (slice_index words 4 ≡ 0) × (slice_index words 5 ≡ 0)
 -- The words are a heap of this order whose state is IDLE, with zeros in the words that nobody reads and this image in both regions.
 pub record IsNew (order : ℕ) (image words : List ℕ) : Type 0 where
   pub heap : IsHeap order words
-  pub idle : slice_index words 3 ≡ 0
+  pub idle : slice_index words STATE ≡ 0
   pub unread : UnreadAreZero words
   pub main_is : main_of order words ≡ image
   pub back_is : back_of order words ≡ image
@@ -20,10 +21,6 @@ pub record IsNew (order : ℕ) (image words : List ℕ) : Type 0 where
 -- no heap stands there, or the whole new one
 abbrev pub NoneOrNew : ℕ → List ℕ → List ℕ → Type 0
 NoneOrNew order image words = (slice_index words 0 ≢ MAGIC) ⊎ IsNew order image words
-
--- nothing
-abbrev pub Nothing : List ℕ → Type 0
-Nothing words = ⊥
 
 -- a heap stands there already, or there are too few words for one
 abbrev pub IsRefused : ℕ → List ℕ → Type 0
@@ -45,7 +42,7 @@ HasTooFewFor order size other = Unit {0}
 pub record IsLaid (order : ℕ) (image words : List ℕ) : Type 0 where
   pub version : slice_index words 1 ≡ 1
   pub order_is : slice_index words 2 ≡ order
-  pub idle : slice_index words 3 ≡ 0
+  pub idle : slice_index words STATE ≡ 0
   pub unread : UnreadAreZero words
-  pub main : (k : ℕ) → k < region_len order → slice_index words (8 + k) ≡ slice_index image k
+  pub main : (k : ℕ) → k < region_len order → slice_index words (MAIN + k) ≡ slice_index image k
   pub back : (k : ℕ) → k < region_len order → slice_index words (back_at order + k) ≡ slice_index image k

@@ -1,7 +1,8 @@
 -- What is read of a header.
 use Rattle.std.specs.Prelude.{◌≡◌, ◌≢◌, ◌⊎◌, ℕ, ◌<◌, ◌≤◌, List, length, slice_index, Result, Ok, Err}
-use Rattle.rom_header.specs.Layout.{words_needed, MAGIC}
-use Rattle.rom_header.specs.Regions.{IsHeap}
+use Rattle.rom_model.specs.Blocks.{IsOrder}
+use Rattle.rom_header.specs.Layout.{words_needed, MAGIC, STATE}
+use Rattle.rom_header.specs.Regions.{HasOrder, IsHeap}
 use Rattle.rom_header.specs.declared.header.State.{State}
 use Rattle.rom_header.specs.declared.header.State.TheVariants.{Idle, Mutating, Copying}
 use Rattle.rom_header.specs.declared.header.Header.{Header}
@@ -16,19 +17,11 @@ state_word Copying = 2
 
 -- the state that the words name is IDLE
 abbrev pub IsIdle : List ℕ → Type 0
-IsIdle words = slice_index words 3 ≡ state_word Idle
-
--- the first words of a heap, up to its order, which is one that there is
-pub record HasOrder (words : List ℕ) (order : ℕ) : Type 0 where
-  pub magic : slice_index words 0 ≡ MAGIC
-  pub version : slice_index words 1 ≡ 1
-  pub order_is : slice_index words 2 ≡ order
-  pub least : 4 ≤ order
-  pub most : order ≤ 16
+IsIdle words = slice_index words STATE ≡ state_word Idle
 
 -- The answer is the header, or the first refusal whose test fails. A device that fails may answer so in place of either.
 abbrev pub IsAnswer : List ℕ → Result Header HeaderRefused → Type 0
-IsAnswer words (Ok header) = IsHeap header.geometry words × (slice_index words 3 ≡ state_word header.state)
+IsAnswer words (Ok header) = IsHeap header.geometry words × (slice_index words STATE ≡ state_word header.state)
 IsAnswer words (Err (TooSmall need have)) =
     (have ≡ length words) × (((need ≡ 8) × (have < 8)) ⊎ ((8 ≤ have) × HasOrder words (slice_index words 2) × (need ≡ words_needed (slice_index words 2)) × (have < need)))
 IsAnswer words (Err NotAHeap) = (8 ≤ length words) × (slice_index words 0 ≢ MAGIC)
@@ -36,12 +29,12 @@ IsAnswer words (Err (BadVersion version)) = (8 ≤ length words) × (slice_index
 IsAnswer words (Err (BadOrder order)) =
     (8 ≤ length words) × (slice_index words 0 ≡ MAGIC) × (slice_index words 1 ≡ 1) × (order ≡ slice_index words 2) × ((order < 4) ⊎ (16 < order))
 IsAnswer words (Err (BadState state)) =
-    HasOrder words (slice_index words 2) × (words_needed (slice_index words 2) ≤ length words) × (state ≡ slice_index words 3) × (2 < state)
+    HasOrder words (slice_index words 2) × (words_needed (slice_index words 2) ≤ length words) × (state ≡ slice_index words STATE) × (2 < state)
 IsAnswer words (Err Device) = Unit {0}
 
 -- so many words are those of a header, or of a heap of some order that there is
 abbrev pub IsNeed : ℕ → Type 0
-IsNeed need = (need ≡ 8) ⊎ ((order : ℕ) × (4 ≤ order) × (order ≤ 16) × (need ≡ words_needed order))
+IsNeed need = (need ≡ 8) ⊎ ((order : ℕ) × IsOrder order × (need ≡ words_needed order))
 
 -- A refusal for too few words names how many words are needed, and how many the device has, which are fewer.
 abbrev pub HasTooFew : ℕ → HeaderRefused → Type 0

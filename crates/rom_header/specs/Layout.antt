@@ -1,6 +1,14 @@
 -- Where the words of a heap stand on a device.
 use Rattle.std.specs.Prelude.{ℕ, ◌+◌, ◌*◌, List, take, drop}
-pub use Rattle.rom_model.specs.Region.{region_len}
+use Rattle.rom_model.specs.Blocks.{region_len}
+
+-- the first word of a heap, the ASCII letters ROMULUS1
+abbrev pub MAGIC : ℕ
+MAGIC = 0x524F4D554C555331
+
+-- where the state stands
+abbrev pub STATE : ℕ
+STATE = 3
 
 -- where main begins, and where back does
 abbrev pub MAIN : ℕ
@@ -22,7 +30,3 @@ main_of n words = part MAIN (region_len n) words
 
 abbrev pub back_of : ℕ → List ℕ → List ℕ
 back_of n words = part (back_at n) (region_len n) words
-
--- the first word of a heap, the ASCII letters ROMULUS1
-abbrev pub MAGIC : ℕ
-MAGIC = 0x524F4D554C555331

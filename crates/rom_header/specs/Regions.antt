@@ -1,25 +1,29 @@
 -- The header of a heap, and the region that counts.
 use Rattle.std.specs.Prelude.{◌≡◌, ◌⊎◌, ℕ, ◌≤◌, List, length, slice_index}
-use Rattle.rom_header.specs.Layout.{words_needed, main_of, back_of, MAGIC}
+use Rattle.rom_model.specs.Blocks.{IsOrder}
+use Rattle.rom_header.specs.Layout.{words_needed, main_of, back_of, MAGIC, STATE}
 
--- The words are those of a device with a heap of this order: no test of the header refuses them.
-pub record IsHeap (order : ℕ) (words : List ℕ) : Type 0 where
+-- The first words of a heap, up to its order, which is one that there is.
+pub record HasOrder (words : List ℕ) (order : ℕ) : Type 0 where
   pub magic : slice_index words 0 ≡ MAGIC
   pub version : slice_index words 1 ≡ 1
   pub order_is : slice_index words 2 ≡ order
-  pub least : 4 ≤ order
-  pub most : order ≤ 16
+  pub fits : IsOrder order
+
+-- The words are those of a device with a heap of this order: no test of the header refuses them.
+pub record IsHeap (order : ℕ) (words : List ℕ) : Type 0 where
+  pub header : HasOrder words order
   pub long : words_needed order ≤ length words
-  pub state : slice_index words 3 ≤ 2
+  pub state : slice_index words STATE ≤ 2
 
 -- The state says which region counts: both where it is 0, IDLE, and they are the same; back where it is 1, MUTATING; main where it is 2, COPYING.
 abbrev pub Counts : ℕ → List ℕ → List ℕ → Type 0
 Counts order words region =
-    ((slice_index words 3 ≡ 0) × (main_of order words ≡ region) × (back_of order words ≡ region))
-    ⊎ (((slice_index words 3 ≡ 1) × (back_of order words ≡ region)) ⊎ ((slice_index words 3 ≡ 2) × (main_of order words ≡ region)))
+    ((slice_index words STATE ≡ 0) × (main_of order words ≡ region) × (back_of order words ≡ region))
+    ⊎ (((slice_index words STATE ≡ 1) × (back_of order words ≡ region)) ⊎ ((slice_index words STATE ≡ 2) × (main_of order words ≡ region)))
 
 -- In a heap of this order, this region counts.
-pub record Region (order : ℕ) (words region : List ℕ) : Type 0 where
+pub record IsCurrentRegion (order : ℕ) (words region : List ℕ) : Type 0 where
   pub heap : IsHeap order words
   pub counts : Counts order words region
 
@@ -27,5 +31,5 @@ pub record Region (order : ℕ) (words region : List ℕ) : Type 0 where
 pub record SameRegion (words image : List ℕ) : Type 0 where
   pub order : ℕ
   pub region : List ℕ
-  pub words_are : Region order words region
-  pub image_is : Region order image region
+  pub words_are : IsCurrentRegion order words region
+  pub image_is : IsCurrentRegion order image region

@@ -1,6 +1,7 @@
 //! How many words a heap has, and where they stand.
 ghost use Rattle.std.specs.Prelude.{◌≡◌, ◌^◌, ◌⊎◌, ◌<◌, ◌≤◌, IfSome, IfNone};
-ghost use Rattle.rom_header.specs.Layout.{region_len, words_needed, MAIN, back_at};
+ghost use Rattle.rom_model.specs.Blocks.{IsOrder, region_len};
+ghost use Rattle.rom_header.specs.Layout.{words_needed, MAIN, back_at};
 
 use rom_model::power_of_two;
 use std::marker::Model;
@@ -10,6 +11,9 @@ const LEAST: u64 = 4;
 
 const MOST: u64 = 16;
 
+/// Where main begins, behind the words of the header.
+const MAIN: u64 = 8;
+
 /// The sizes and places of a heap of some order from 4 to 16. A contract sees the order. Lengths
 /// and places are in words.
 #[derive(Clone, Copy, Debug, PartialEq, Eq)]
@@ -18,13 +22,14 @@ pub struct Geometry {
 }
 
 impl Model for Geometry {
-    ghost use Rattle.std.specs.Prelude.{◌≡◌, ℕ, ◌≤◌, refl};
+    ghost use Rattle.std.specs.Prelude.{◌≡◌, ℕ, refl};
+    ghost use Rattle.rom_model.specs.Blocks.{IsOrder};
 
     ghost Value = { ℕ };
 
     ghost view = { λ g. g.order };
 
-    ghost invariant = { λ g. (4 ≤ g.order) × (g.order ≤ 16) };
+    ghost invariant = { λ g. IsOrder g.order };
 
     ghost inverse = { λ n. record { order = n } };
 
@@ -34,7 +39,7 @@ impl Model for Geometry {
 impl Geometry {
     /// That of an order, or none where the order is not 4 to 16.
     pub fn of(order: u64) -> Option<Geometry>
-        ensures some { IfSome result (λ geometry. (geometry ≡ order) × (4 ≤ order) × (order ≤ 16)) }
+        ensures some { IfSome result (λ geometry. (geometry ≡ order) × IsOrder order) }
         ensures none { IfNone result ((order < 4) ⊎ (16 < order)) }
     {
         if order < LEAST || order > MOST {
@@ -48,8 +53,7 @@ impl Geometry {
     /// The order.
     pub fn order(&self) -> u32
         ensures order { result ≡ self.now }
-        ensures least { 4 ≤ result }
-        ensures most { result ≤ 16 }
+        ensures fits { IsOrder result }
     {
         self.order
     }
@@ -74,20 +78,20 @@ impl Geometry {
     pub fn main(&self) -> u64
         ensures { result ≡ MAIN }
     {
-        8
+        MAIN
     }
 
     /// Where back begins.
     pub fn back(&self) -> u64
         ensures { result ≡ back_at self.now }
     {
-        8 + self.region()
+        MAIN + self.region()
     }
 
     /// How many words a device needs for the heap.
     pub fn need(&self) -> u64
         ensures { result ≡ words_needed self.now }
     {
-        8 + 2 * self.region()
+        MAIN + 2 * self.region()
     }
 }

@@ -1,7 +1,7 @@
 //! The header of a heap.
-ghost use Rattle.std.specs.Prelude.{◌≡◌, ◌<◌, ◌≤◌, ℕ, List, IsTrue, IfOk, IfErr, IfSome, IfNone};
-ghost use Rattle.rom_model.specs.Faults.{Rose};
-ghost use Rattle.rom_device.specs.Device.{Runs, Stays};
+ghost use Rattle.std.specs.Prelude.{◌≡◌, ◌<◌, ◌≤◌, IsTrue, IfOk, IfErr, IfSome, IfNone};
+ghost use Rattle.rom_device.specs.Device.{Makes, OnlyReads};
+ghost use Rattle.rom_header.specs.Calls.{header_fault, header_reads};
 ghost use Rattle.rom_header.specs.Headers.{IsAnswer, IsOrderAnswer, HasTooFew};
 ghost use Rattle.rom_header.specs.Layout.{words_needed};
 
@@ -13,6 +13,9 @@ pub const MAGIC: u64 = 0x524F_4D55_4C55_5331;
 
 /// The format version that this heap has.
 pub const VERSION: u64 = 1;
+
+/// The place of the word that names the state.
+pub const STATE: u64 = 3;
 
 /// How many words the header has.
 const HEADER: u64 = 8;
@@ -93,17 +96,11 @@ impl From<Failed> for HeaderRefused {
 
 /// Reads the magic, the version and the order.
 fn read_order<D: Device>(device: &mut D) -> Result<Geometry, HeaderRefused>
-    requires { 8 ≤ D.size device.old }
-    ensures answer { IsTrue D.tells_words → IsOrderAnswer (D.words device.old) result }
-    ensures sizes { IfErr result (HasTooFew (D.size device.old)) }
-    ensures words { IsTrue D.tells_words → D.words device.new ≡ D.words device.old }
-    ensures images { IsTrue D.tells_images → Runs D.clock D.leaves D.left_since Stays device.old device.new }
-    ensures still { IsTrue D.tells_images → (i : List ℕ) → D.leaves device.old i → D.leaves device.new i }
-    ensures size { D.size device.new ≡ D.size device.old }
-    ensures writes { D.writes device.new ≡ D.writes device.old }
-    ensures syncs { D.syncs device.new ≡ D.syncs device.old }
-    ensures later { D.faults device.old ≤ D.faults device.new }
-    ensures cause { result ≡ Err HeaderRefused.Device → Rose (D.faults device.old) (D.faults device.new) }
+    requires { 8 ≤ D.shown.size device.old }
+    ensures answer { IsTrue D.shown.tells_words → IsOrderAnswer (D.shown.words device.old) result }
+    ensures sizes { IfErr result (HasTooFew (D.shown.size device.old)) }
+    ensures only { OnlyReads D.shown device.old device.new }
+    ensures makes { Makes D.shown (header_reads 3 result) 0 0 device.old device.new (header_fault result) }
 {
     let magic = device.read(0)?;
     if magic != MAGIC {
@@ -118,22 +115,16 @@ fn read_order<D: Device>(device: &mut D) -> Result<Geometry, HeaderRefused>
 }
 
 /// Reads the header, and refuses what is no heap by the first test that fails. It calls no write
-/// and no sync, and changes no word.
+/// and no sync, and reads no word behind one that it refuses.
 pub fn read_header<D: Device>(device: &mut D) -> Result<Header, HeaderRefused>
     // Where the device tells its words, the answer is exactly theirs.
-    ensures answer { IsTrue D.tells_words → IsAnswer (D.words device.old) result }
-    ensures fits { IfOk result (λ header. words_needed header.geometry ≤ D.size device.old) }
-    ensures too_small { D.size device.old < 8 → result ≡ Err (HeaderRefused.TooSmall 8 (D.size device.old)) }
-    ensures sizes { IfErr result (HasTooFew (D.size device.old)) }
-
-    ensures words { IsTrue D.tells_words → D.words device.new ≡ D.words device.old }
-    ensures images { IsTrue D.tells_images → Runs D.clock D.leaves D.left_since Stays device.old device.new }
-    ensures still { IsTrue D.tells_images → (i : List ℕ) → D.leaves device.old i → D.leaves device.new i }
-    ensures size { D.size device.new ≡ D.size device.old }
-    ensures writes { D.writes device.new ≡ D.writes device.old }
-    ensures syncs { D.syncs device.new ≡ D.syncs device.old }
-    ensures later { D.faults device.old ≤ D.faults device.new }
-    ensures cause { result ≡ Err HeaderRefused.Device → Rose (D.faults device.old) (D.faults device.new) }
+    ensures answer { IsTrue D.shown.tells_words → IsAnswer (D.shown.words device.old) result }
+    ensures fits { IfOk result (λ header. words_needed header.geometry ≤ D.shown.size device.old) }
+    ensures too_small { D.shown.size device.old < 8 →
+        result ≡ Err (HeaderRefused.TooSmall 8 (D.shown.size device.old)) }
+    ensures sizes { IfErr result (HasTooFew (D.shown.size device.old)) }
+    ensures only { OnlyReads D.shown device.old device.new }
+    ensures makes { Makes D.shown (header_reads 4 result) 0 0 device.old device.new (header_fault result) }
 {
     let have = device.len();
     if have < HEADER {
@@ -144,7 +135,7 @@ pub fn read_header<D: Device>(device: &mut D) -> Result<Header, HeaderRefused>
     if have < need {
         return Err(HeaderRefused::TooSmall { need, have });
     }
-    let word = device.read(3)?;
+    let word = device.read(STATE)?;
     let state = State::of(word).ok_or(HeaderRefused::BadState(word))?;
     Ok(Header { geometry, state })
 }

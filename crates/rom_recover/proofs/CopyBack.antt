@@ -1,55 +1,41 @@
 -- What a copy of the region that counts leaves.
-use Rattle.std.proofs.Common.{◌≡◌, inl, inr, ⊎_elim, ℕ, ◌+◌, ◌<◌, ◌≤◌, List, length, get_or, set, refl, sym, ◌∙◌, subst, arith, get_or-set_same}
+use Rattle.std.proofs.Common.{◌≡◌, ◌≢◌, ◌⊎◌, inl, inr, ℕ, ◌+◌, ◌*◌, ◌<◌, ◌≤◌, List, length, get_or, set, refl, sym, ◌∙◌, subst, arith, get_or-set_other, get_or-set_same}
+use Rattle.rom_model.specs.Blocks.{region_len}
 use Rattle.rom_model.specs.Space.{ChangesOnly}
-use Rattle.rom_device.specs.Device.{Runs, Leaves, Stays}
-use Rattle.rom_device.proofs.Going.{leaves_none, leaves_still, leaves_then}
-use Rattle.rom_recover.specs.Copied.{Copied, Finished, Redone}
-use Rattle.rom_header.specs.Layout.{main_of, back_of, back_at, region_len}
+use Rattle.rom_model.proofs.Changes.{changes_set}
+use Rattle.rom_device.specs.Device.{Writes}
+use Rattle.rom_header.specs.Headers.{state_word}
+use Rattle.rom_header.specs.Layout.{main_of, back_of, back_at}
 use Rattle.rom_header.specs.Regions.{IsHeap, SameRegion, Counts}
-use Rattle.rom_recover.specs.Recovered.{IsDone}
-use Rattle.rom_recover.proofs.Steps.{changes_set}
-use Rattle.rom_recover.proofs.Parts.{part_moved, part_before, part_behind, heap_within, main_changes, back_changes}
+use Rattle.rom_header.specs.Writing.{StateOrWithin}
+use Rattle.rom_header.specs.declared.header.State.{State}
+use Rattle.rom_header.specs.declared.header.State.TheVariants.{Idle, Mutating, Copying}
+use Rattle.rom_recover.specs.Copied.{Copied, CopiesSome}
+use Rattle.rom_recover.specs.Recovered.{IsDone, IsWay, TakesTwins, Mended}
+use Rattle.rom_recover.proofs.Parts.{part_moved, part_before, part_behind, heap_within}
 
-pub record Both (n : ℕ) (x y : List ℕ) : Type 0 where
-  pub heap : IsHeap n y
-  pub region : List ℕ
-  pub counts : Counts n x region
-  pub main_is : main_of n y ≡ region
-  pub back_is : back_of n y ≡ region
+-- both regions are the one that counted
+record Both (n : ℕ) (x y : List ℕ) : Type 0 where
+  heap : IsHeap n y
+  region : List ℕ
+  counts : Counts n x region
+  main_is : main_of n y ≡ region
+  back_is : back_of n y ≡ region
 
--- under MUTATING once back is copied to main
-main_both : (n : ℕ) (x y : List ℕ) → IsHeap n x → get_or x 3 0 ≡ 1 → ChangesOnly 8 (region_len n) x y → Copied (back_at n) 8 (region_len n) x y → Both n x y
-main_both n x y is state only copied = record {
-  heap = heap_within n 8 (region_len n) x y (omega arith) only is;
-  region = back_of n x;
-  counts = inr (inl (state, refl));
-  main_is = part_moved (back_at n) 8 (region_len n) x y only.as_long (omega (arith, is.long)) (omega (arith, is.long)) copied;
-  back_is = part_behind (back_at n) (region_len n) 8 (region_len n) x y only (omega (arith, is.long)) (omega arith);
-}
-
--- under COPYING once main is copied to back
-back_both : (n : ℕ) (x y : List ℕ) → IsHeap n x → get_or x 3 0 ≡ 2 → ChangesOnly (back_at n) (region_len n) x y → Copied 8 (back_at n) (region_len n) x y → Both n x y
-back_both n x y is state only copied = record {
-  heap = heap_within n (back_at n) (region_len n) x y (omega arith) only is;
-  region = main_of n x;
-  counts = inr (inr (state, refl));
-  main_is = part_before 8 (region_len n) (back_at n) (region_len n) x y only (omega (arith, is.long)) (omega arith);
-  back_is = part_moved 8 (back_at n) (region_len n) x y only.as_long (omega (arith, is.long)) (omega (arith, is.long)) copied;
-}
-
--- and the state is written
-idle : (n : ℕ) (x y : List ℕ) → Both n x y → IsDone n x (set y 3 0)
-idle n x y done =
+-- the state is written
+state_idle : (n : ℕ) (x y : List ℕ) → Both n x y → IsDone n x (set y 3 0)
+state_idle n x y done =
     let long : 3 < length y = omega (arith, done.heap.long) in
     let within : ChangesOnly 3 1 y (set y 3 0) = changes_set 3 1 y 3 0 (omega arith) (omega arith) in
     let state : get_or (set y 3 0) 3 0 ≡ 0 = rw get_or-set_same refl in
     record {
       heap = record {
-        magic = within.before 0 (omega arith) ∙ done.heap.magic;
-        version = within.before 1 (omega arith) ∙ done.heap.version;
-        order_is = within.before 2 (omega arith) ∙ done.heap.order_is;
-        least = done.heap.least;
-        most = done.heap.most;
+        header = record {
+          magic = within.before 0 (omega arith) ∙ done.heap.header.magic;
+          version = within.before 1 (omega arith) ∙ done.heap.header.version;
+          order_is = within.before 2 (omega arith) ∙ done.heap.header.order_is;
+          fits = done.heap.header.fits;
+        };
         long = omega (arith, within.as_long, done.heap.long);
         state = omega (arith, state);
       };
@@ -60,56 +46,117 @@ idle n x y done =
       back_is = part_behind (back_at n) (region_len n) 3 1 y (set y 3 0) within (omega (arith, done.heap.long)) (omega arith) ∙ done.back_is;
     }
 
-done_same : (n : ℕ) (x y : List ℕ) → IsHeap n x → IsDone n x y → SameRegion x y
-done_same n x y is done = record {
-  order = n;
-  region = done.region;
-  words_are = record { heap = is; counts = done.counted };
-  image_is = record { heap = done.heap; counts = inl (done.idle, done.main_is, done.back_is) };
-}
+-- what a copy in this state leaves, in its midst and at its end
+module _ (n : ℕ) (x : List ℕ) (is : IsHeap n x) where
+  same : (s : State) (from to : ℕ) → IsWay n s from to → get_or x 3 0 ≡ state_word s → (y : List ℕ) → ChangesOnly to (region_len n) x y → SameRegion x y
+  same Idle from to way state y only = elim way [ ]
+  same Mutating from to way state y only =
+      let within : ChangesOnly 8 (region_len n) x y = subst (λ (k : ℕ). ChangesOnly k (region_len n) x y) way.1 only in
+      record {
+        order = n;
+        region = back_of n x;
+        words_are = record { heap = is; counts = inr (inl (state, refl)) };
+        image_is = record {
+          heap = heap_within n 8 (region_len n) x y (omega arith) within is;
+          counts = inr (inl (within.before 3 (omega arith) ∙ state, part_behind (back_at n) (region_len n) 8 (region_len n) x y within (omega (arith, is.long)) (omega arith)));
+        };
+      }
+  same Copying from to way state y only =
+      let within : ChangesOnly (back_at n) (region_len n) x y = subst (λ (k : ℕ). ChangesOnly k (region_len n) x y) way.1 only in
+      record {
+        order = n;
+        region = main_of n x;
+        words_are = record { heap = is; counts = inr (inr (state, refl)) };
+        image_is = record {
+          heap = heap_within n (back_at n) (region_len n) x y (omega arith) within is;
+          counts = inr (inr (within.before 3 (omega arith) ∙ state, part_before 8 (region_len n) (back_at n) (region_len n) x y within (omega (arith, is.long)) (omega arith)));
+        };
+      }
 
--- in the midst of a copy and after it, where either is known to keep the region that counts
-redone_same : (n from to : ℕ) (x i : List ℕ) → IsHeap n x → ((y : List ℕ) → ChangesOnly to (region_len n) x y → SameRegion x y)
-    → ((y : List ℕ) → ChangesOnly to (region_len n) x y → Copied from to (region_len n) x y → Both n x y) → Redone from to (region_len n) x i → SameRegion x i
-redone_same n from to x i is during after (inl only) = during i only
-redone_same n from to x i is during after (inr whole) = ⊎_elim
-    (λ same. during i (subst (λ (l : List ℕ). ChangesOnly to (region_len n) x l) (sym same) whole.1))
-    (λ put. done_same n x i is (subst (λ (l : List ℕ). IsDone n x l) (sym put) (idle n x whole.0 (after whole.0 whole.1 whole.2))))
-    whole.3
+  both : (s : State) (from to : ℕ) → IsWay n s from to → get_or x 3 0 ≡ state_word s → (y : List ℕ) → ChangesOnly to (region_len n) x y → Copied from to (region_len n) x y → Both n x y
+  both Idle from to way state y only copied = elim way [ ]
+  both Mutating from to way state y only copied =
+      let within : ChangesOnly 8 (region_len n) x y = subst (λ (k : ℕ). ChangesOnly k (region_len n) x y) way.1 only in
+      record {
+        heap = heap_within n 8 (region_len n) x y (omega arith) within is;
+        region = back_of n x;
+        counts = inr (inl (state, refl));
+        main_is = part_moved (back_at n) 8 (region_len n) x y within.as_long (omega (arith, is.long)) (omega (arith, is.long))
+            (subst (λ (k : ℕ). Copied (back_at n) k (region_len n) x y) way.1 (subst (λ (k : ℕ). Copied k to (region_len n) x y) way.0 copied));
+        back_is = part_behind (back_at n) (region_len n) 8 (region_len n) x y within (omega (arith, is.long)) (omega arith);
+      }
+  both Copying from to way state y only copied =
+      let within : ChangesOnly (back_at n) (region_len n) x y = subst (λ (k : ℕ). ChangesOnly k (region_len n) x y) way.1 only in
+      record {
+        heap = heap_within n (back_at n) (region_len n) x y (omega arith) within is;
+        region = main_of n x;
+        counts = inr (inr (state, refl));
+        main_is = part_before 8 (region_len n) (back_at n) (region_len n) x y within (omega (arith, is.long)) (omega arith);
+        back_is = part_moved 8 (back_at n) (region_len n) x y within.as_long (omega (arith, is.long)) (omega (arith, is.long))
+            (subst (λ (k : ℕ). Copied 8 k (region_len n) x y) way.1 (subst (λ (k : ℕ). Copied k to (region_len n) x y) way.0 copied));
+      }
 
--- the same under other names of its places, its length and its words
-moved : (P : ℕ → ℕ → ℕ → List ℕ → Type 0) (from f to t len l : ℕ) (w x : List ℕ) → from ≡ f → to ≡ t → len ≡ l → w ≡ x → P from to len w → P f t l x
-moved P from f to t len l w x ef et el ew is =
-    subst (λ v. P f t l v) ew (subst (λ k. P f t k w) el (subst (λ k. P f k len w) et (subst (λ k. P k to len w) ef is)))
+  -- each word is the old one or its twin's
+  takes : (s : State) (from to : ℕ) → IsWay n s from to → (y : List ℕ) → CopiesSome x from to (region_len n) x y → TakesTwins n x y
+  takes Idle from to way y copies = elim way [ ]
+  takes Mutating from to way y copies =
+      let here : CopiesSome x (back_at n) 8 (region_len n) x y = subst (λ (k : ℕ). CopiesSome x (back_at n) k (region_len n) x y) way.1 (subst (λ (k : ℕ). CopiesSome x k to (region_len n) x y) way.0 copies) in
+      record {
+        others = record { as_long = here.only.as_long; before = λ k lt other. here.only.before k lt; behind = λ k past. here.only.behind k (omega (arith, past)) };
+        main = here.either;
+        back = λ k lt. inl (here.only.behind (back_at n + k) (omega arith));
+      }
+  takes Copying from to way y copies =
+      let here : CopiesSome x 8 (back_at n) (region_len n) x y = subst (λ (k : ℕ). CopiesSome x 8 k (region_len n) x y) way.1 (subst (λ (k : ℕ). CopiesSome x k to (region_len n) x y) way.0 copies) in
+      record {
+        others = record { as_long = here.only.as_long; before = λ k lt other. here.only.before k (omega (arith, lt)); behind = λ k past. here.only.behind k (omega (arith, past)) };
+        main = λ k lt. inl (here.only.before (8 + k) (omega (arith, lt)));
+        back = here.either;
+      }
 
--- what a copy of back leaves under MUTATING, and one of main under COPYING
-module _ (n from to len : ℕ) (x w i : List ℕ) (is : IsHeap n x) (size : len ≡ region_len n) (still : w ≡ x) where
-  pub main_redone : get_or x 3 0 ≡ 1 → from ≡ back_at n → to ≡ 8 → Redone from to len w i → SameRegion x i
-  main_redone state from_back to_main redone = redone_same n (back_at n) 8 x i is (λ y. main_changes n x y is state) (λ y. main_both n x y is state)
-      (moved (λ f t l v. Redone f t l v i) from (back_at n) to 8 len (region_len n) w x from_back to_main size still redone)
+  takes_idle : (y : List ℕ) → TakesTwins n x y → TakesTwins n x (set y 3 0)
+  takes_idle y so_far =
+      let within : ChangesOnly 3 1 y (set y 3 0) = changes_set 3 1 y 3 0 (omega arith) (omega arith) in
+      record {
+        others = record {
+          as_long = within.as_long ∙ so_far.others.as_long;
+          before = λ k lt other. beside k other y ∙ so_far.others.before k lt other;
+          behind = λ k past. within.behind k (omega (arith, past)) ∙ so_far.others.behind k past;
+        };
+        main = λ k lt. moved (8 + k) y (set y 3 0) (within.behind (8 + k) (omega arith)) (so_far.main k lt);
+        back = λ k lt. moved (back_at n + k) y (set y 3 0) (within.behind (back_at n + k) (omega arith)) (so_far.back k lt);
+      }
+    where
+      moved : (at : ℕ) (v w : List ℕ) {a b : ℕ} → get_or w at 0 ≡ get_or v at 0 → (get_or v at 0 ≡ a) ⊎ (get_or v at 0 ≡ b) → (get_or w at 0 ≡ a) ⊎ (get_or w at 0 ≡ b)
+      moved at v w still (inl stays) = inl (still ∙ stays)
+      moved at v w still (inr put) = inr (still ∙ put)
 
-  pub back_redone : get_or x 3 0 ≡ 2 → from ≡ 8 → to ≡ back_at n → Redone from to len w i → SameRegion x i
-  back_redone state from_main to_back redone = redone_same n 8 (back_at n) x i is (λ y. back_changes n x y is state) (λ y. back_both n x y is state)
-      (moved (λ f t l v. Redone f t l v i) from 8 to (back_at n) len (region_len n) w x from_main to_back size still redone)
+      beside : (k : ℕ) → k ≢ 3 → (v : List ℕ) → get_or (set v 3 0) k 0 ≡ get_or v k 0
+      beside k other v = get_or-set_other v 3 k 0 0 other
 
-  pub main_finished : get_or x 3 0 ≡ 1 → from ≡ back_at n → to ≡ 8 → Finished from to len w i → IsDone n x i
-  main_finished state from_back to_main finished =
-      let whole = moved (λ f t l v. Finished f t l v i) from (back_at n) to 8 len (region_len n) w x from_back to_main size still finished in
-      subst (λ (l : List ℕ). IsDone n x l) (sym whole.3) (idle n x whole.0 (main_both n x whole.0 is state whole.1 whole.2))
+  pub mended : (s : State) (from to : ℕ) → IsWay n s from to → get_or x 3 0 ≡ state_word s → (y : List ℕ) → CopiesSome x from to (region_len n) x y → Mended n x y
+  mended s from to way state y copies = record { same = same s from to way state y copies.only; takes = takes s from to way y copies }
 
-  pub back_finished : get_or x 3 0 ≡ 2 → from ≡ 8 → to ≡ back_at n → Finished from to len w i → IsDone n x i
-  back_finished state from_main to_back finished =
-      let whole = moved (λ f t l v. Finished f t l v i) from 8 to (back_at n) len (region_len n) w x from_main to_back size still finished in
-      subst (λ (l : List ℕ). IsDone n x l) (sym whole.3) (idle n x whole.0 (back_both n x whole.0 is state whole.1 whole.2))
+  pub finished : (s : State) (from to : ℕ) → IsWay n s from to → get_or x 3 0 ≡ state_word s → (y : List ℕ) → CopiesSome x from to (region_len n) x y → Copied from to (region_len n) x y → IsDone n x (set y 3 0)
+  finished s from to way state y copies copied = state_idle n x y (both s from to way state y copies.only copied)
+
+  -- and once the state may be written
+  pub mended_on : (s : State) (from to : ℕ) → IsWay n s from to → get_or x 3 0 ≡ state_word s → (y : List ℕ) → CopiesSome x from to (region_len n) x y → Copied from to (region_len n) x y
+      → (i : List ℕ) → Writes 3 0 y i → Mended n x i
+  mended_on s from to way state y copies copied i (inl stays) = subst (λ (l : List ℕ). Mended n x l) (sym stays) (mended s from to way state y copies)
+  mended_on s from to way state y copies copied i (inr put) =
+      let done = finished s from to way state y copies copied in
+      subst (λ (l : List ℕ). Mended n x l) (sym put) (record {
+        same = record {
+          order = n;
+          region = done.region;
+          words_are = record { heap = is; counts = done.counted };
+          image_is = record { heap = done.heap; counts = inl (done.idle, done.main_is, done.back_is) };
+        };
+        takes = takes_idle y (takes s from to way y copies);
+      })
 
 pub equal_done : (n : ℕ) (x : List ℕ) → IsHeap n x → get_or x 3 0 ≡ 0 → ((k : ℕ) → k < region_len n → get_or x (8 + k) 0 ≡ get_or x (back_at n + k) 0) → IsDone n x x
 equal_done n x is state same =
     let equal : main_of n x ≡ back_of n x = part_moved (back_at n) 8 (region_len n) x x refl (omega (arith, is.long)) (omega (arith, is.long)) same in
     record { heap = is; idle = state; region = main_of n x; counted = inl (state, refl, sym equal); main_is = refl; back_is = sym equal }
-
--- what a stop may leave since a moment before, where nothing was written since
-pub leaves_from : {D : Type 0} (clock : D → ℕ) (leaves : D → List ℕ → Type 0) (left_since : D → ℕ → List ℕ → Type 0) (P Q : List ℕ → Type 0) (a b c : D)
-    → ((t : ℕ) (i : List ℕ) → t ≤ clock a → leaves a i → left_since a t i)
-    → Runs clock leaves left_since Stays a b → ((i : List ℕ) → Q i → P i) → Leaves clock left_since Q b c → Leaves clock left_since P a c
-leaves_from clock leaves left_since P Q a b c counts still is since =
-    leaves_then clock leaves left_since P Q a b c is (leaves_still clock leaves left_since P a a b counts (leaves_none clock leaves left_since P a) still) since

@@ -1,6 +1,6 @@
 -- Lemmas on copies, on comparisons and on the region that counts.
-pub mod Steps
 pub mod Parts
 pub mod CopyBack
+mod Restoring
 mod Pieces
 mod Copying

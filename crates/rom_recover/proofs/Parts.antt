@@ -1,10 +1,10 @@
 -- What changes of the region that counts.
-use Rattle.std.proofs.Common.{◌≡◌, inl, inr, ℕ, ◌+◌, ◌<◌, ◌≤◌, List, length, get_or, drop, refl, sym, ◌∙◌, arith, length-drop}
+use Rattle.std.proofs.Common.{◌≡◌, ℕ, ◌+◌, ◌<◌, ◌≤◌, List, length, get_or, drop, sym, ◌∙◌, arith, length-drop}
 use Rattle.std.proofs.lemmas.List.{get_or-take, get_or-drop, length-take}
 use Rattle.std.proofs.lemmas.Grind.{same_number_lists}
 use Rattle.rom_model.specs.Space.{ChangesOnly}
-use Rattle.rom_header.specs.Layout.{part, main_of, back_of, back_at, region_len}
-use Rattle.rom_header.specs.Regions.{IsHeap, SameRegion}
+use Rattle.rom_header.specs.Layout.{part}
+use Rattle.rom_header.specs.Regions.{IsHeap}
 
 length-part : (at len : ℕ) (x y : List ℕ) → length y ≡ length x → length (part at len y) ≡ length (part at len x)
 length-part at len x y e = omega (arith, length-take len (drop at y), length-take len (drop at x), length-drop at x, length-drop at y)
@@ -32,34 +32,12 @@ part_behind at len lo n x y within fits apart = part_moved at at len x y within.
 -- the header stands where only later words are written
 pub heap_within : (n lo many : ℕ) (x y : List ℕ) → 4 ≤ lo → ChangesOnly lo many x y → IsHeap n x → IsHeap n y
 heap_within n lo many x y late within is = record {
-  magic = within.before 0 (omega arith) ∙ is.magic;
-  version = within.before 1 (omega arith) ∙ is.version;
-  order_is = within.before 2 (omega arith) ∙ is.order_is;
-  least = is.least;
-  most = is.most;
+  header = record {
+    magic = within.before 0 (omega arith) ∙ is.header.magic;
+    version = within.before 1 (omega arith) ∙ is.header.version;
+    order_is = within.before 2 (omega arith) ∙ is.header.order_is;
+    fits = is.header.fits;
+  };
   long = omega (arith, within.as_long, is.long);
   state = rw (within.before 3 (omega arith)) is.state;
-}
-
--- under MUTATING main may change, and under COPYING back may
-pub main_changes : (n : ℕ) (x y : List ℕ) → IsHeap n x → get_or x 3 0 ≡ 1 → ChangesOnly 8 (region_len n) x y → SameRegion x y
-main_changes n x y is state within = record {
-  order = n;
-  region = back_of n x;
-  words_are = record { heap = is; counts = inr (inl (state, refl)) };
-  image_is = record {
-    heap = heap_within n 8 (region_len n) x y (omega arith) within is;
-    counts = inr (inl (within.before 3 (omega arith) ∙ state, part_behind (back_at n) (region_len n) 8 (region_len n) x y within (omega (arith, is.long)) (omega arith)));
-  };
-}
-
-pub back_changes : (n : ℕ) (x y : List ℕ) → IsHeap n x → get_or x 3 0 ≡ 2 → ChangesOnly (back_at n) (region_len n) x y → SameRegion x y
-back_changes n x y is state within = record {
-  order = n;
-  region = main_of n x;
-  words_are = record { heap = is; counts = inr (inr (state, refl)) };
-  image_is = record {
-    heap = heap_within n (back_at n) (region_len n) x y (omega arith) within is;
-    counts = inr (inr (within.before 3 (omega arith) ∙ state, part_before 8 (region_len n) (back_at n) (region_len n) x y within (omega (arith, is.long)) (omega arith)));
-  };
 }

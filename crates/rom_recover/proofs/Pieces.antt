@@ -1,30 +1,33 @@
 -- Words of both regions that were read by pieces.
-use Rattle.std.proofs.Common.{◌≡◌, ◌≢◌, inl, inr, ℕ, ◌+◌, ◌-◌, ◌<◌, ◌≤◌, List, slice_index, arith, sym, ap, ◌∙◌}
+use Rattle.std.proofs.Common.{◌≡◌, ◌≢◌, inl, inr, ℕ, ◌+◌, ◌-◌, ◌<◌, ◌≤◌, List, ◌++◌, length, slice_index, arith, sym, ap, ◌∙◌}
 use Rattle.std.proofs.lemmas.Bool.{cases_lt}
+use Rattle.std.proofs.lemmas.List.{get_or_append_left}
 use Rattle.rom_header.specs.Headers.{IsIdle}
-use Rattle.rom_header.specs.Layout.{MAIN, back_at, region_len}
+use Rattle.rom_model.specs.Blocks.{region_len}
+use Rattle.rom_header.specs.Layout.{MAIN, back_at}
 use Rattle.rom_recover.specs.Recovered.{AreTwins, DifferAt}
 
 -- the words of a piece that was read from there on
 abbrev pub IsPiece : ℕ → ℕ → List ℕ → List ℕ → Type 0
 IsPiece at count words piece = (k : ℕ) → k < count → slice_index piece k ≡ slice_index words (at + k)
 
--- Both regions were read from there on, back for as many words as main at most. Between the two
--- reads the words stayed.
-module _ (order from at_main at_back first second : ℕ) (words later main back : List ℕ) (main_at : at_main ≡ MAIN + from) (back_at_is : at_back ≡ back_at order + from)
-    (stays : later ≡ words) (most : second ≤ first) (main_read : IsPiece at_main first words main) (back_read : IsPiece at_back second later back) where
-  pub main_word : (k : ℕ) → k < second → slice_index words (MAIN + (from + k)) ≡ slice_index main k
+-- Both regions were read from there on, each to the front of an array, and back for as many words as
+-- main at most. Between the two reads the words stayed.
+module _ (order from at_main at_back first second : ℕ) (words later main back main_rest back_rest : List ℕ) (main_at : at_main ≡ MAIN + from) (back_at_is : at_back ≡ back_at order + from)
+    (stays : later ≡ words) (most : second ≤ first) (main_fits : first ≤ length main) (back_fits : second ≤ length back)
+    (main_read : IsPiece at_main first words main) (back_read : IsPiece at_back second later back) where
+  pub main_word : (k : ℕ) → k < second → slice_index words (MAIN + (from + k)) ≡ slice_index (main ++ main_rest) k
   main_word k lt =
       let place : MAIN + (from + k) ≡ at_main + k = omega (arith, main_at) in
-      ap (slice_index words) place ∙ sym (main_read k (omega (arith, lt, most)))
+      ap (slice_index words) place ∙ sym (main_read k (omega (arith, lt, most))) ∙ sym (get_or_append_left main main_rest 0 k (omega (arith, lt, most, main_fits)))
 
-  pub back_word : (k : ℕ) → k < second → slice_index words (back_at order + (from + k)) ≡ slice_index back k
+  pub back_word : (k : ℕ) → k < second → slice_index words (back_at order + (from + k)) ≡ slice_index (back ++ back_rest) k
   back_word k lt =
       let place : back_at order + (from + k) ≡ at_back + k = omega (arith, back_at_is) in
-      ap (slice_index words) place ∙ ap (λ (ws : List ℕ). slice_index ws (at_back + k)) (sym stays) ∙ sym (back_read k lt)
+      ap (slice_index words) place ∙ ap (λ (ws : List ℕ). slice_index ws (at_back + k)) (sym stays) ∙ sym (back_read k lt) ∙ sym (get_or_append_left back back_rest 0 k (omega (arith, lt, back_fits)))
 
   -- regions that are the same so far, and then in what was read
-  pub twins_on : (count : ℕ) → count ≤ second → AreTwins order from words → ((k : ℕ) → k < count → slice_index main k ≡ slice_index back k) → AreTwins order (from + count) words
+  pub twins_on : (count : ℕ) → count ≤ second → AreTwins order from words → ((k : ℕ) → k < count → slice_index (main ++ main_rest) k ≡ slice_index (back ++ back_rest) k) → AreTwins order (from + count) words
   twins_on count fits so_far same k lt = elim (cases_lt k from) [
     | inl before ↦ so_far k before
     | inr behind ↦
@@ -37,8 +40,8 @@ module _ (order from at_main at_back first second : ℕ) (words later main back 
 
   -- the first difference of what was read is that of the regions
   pub differ_at : (index : ℕ) → IsIdle words → from + first ≤ region_len order → AreTwins order from words → index < second
-      → slice_index main index ≢ slice_index back index → ((k : ℕ) → k < index → slice_index main k ≡ slice_index back k)
-      → DifferAt order words (from + index) (slice_index main index) (slice_index back index)
+      → slice_index (main ++ main_rest) index ≢ slice_index (back ++ back_rest) index → ((k : ℕ) → k < index → slice_index (main ++ main_rest) k ≡ slice_index (back ++ back_rest) k)
+      → DifferAt order words (from + index) (slice_index (main ++ main_rest) index) (slice_index (back ++ back_rest) index)
   differ_at index idle fits so_far within differ same = record {
     idle = idle;
     within = omega (arith, fits, most, within);

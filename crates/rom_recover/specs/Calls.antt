@@ -1,33 +1,71 @@
--- How many writes and syncs recovery makes. Both counts stand still at their last value.
-use Rattle.std.specs.Prelude.{◌≡◌, ℕ, ◌+◌, ◌≤◌, min, Result, Ok, Err}
-use Rattle.rom_model.specs.Faults.{LAST}
-use Rattle.rom_header.specs.Layout.{region_len}
+-- How many calls of the device recovery makes, and which of them may fail.
+use Rattle.std.specs.Prelude.{◌≡◌, ℕ, ◌+◌, ◌*◌, ◌≤◌, Bool, Result, Ok, Err, OnOk}
+use Rattle.rom_model.specs.Blocks.{region_len}
+use Rattle.rom_model.specs.Faults.{Adds, FailedLast, StopsAtFault, counted}
+use Rattle.rom_device.specs.Device.{ShownDevice, Does, OnlyReads, Stays}
 use Rattle.rom_header.specs.declared.header.State.{State}
 use Rattle.rom_header.specs.declared.header.State.TheVariants.{Idle, Mutating, Copying}
 use Rattle.rom_recover.specs.declared.recovery.Recovered.{Recovered}
 use Rattle.rom_recover.specs.declared.recovery.RecoverRefused.{RecoverRefused}
 use Rattle.rom_recover.specs.declared.recovery.RecoverRefused.TheVariants.{Twins, Device}
 
--- the count of writes after a recovery from this state: of none under IDLE, and else of a region and the state
-abbrev pub writes_after : ℕ → State → ℕ → ℕ
-writes_after order Idle before = before
-writes_after order Mutating before = min (before + (region_len order + 1)) LAST
-writes_after order Copying before = min (before + (region_len order + 1)) LAST
+-- No call follows one that failed: after `Ok` none failed, and after `Device` the last one did. A difference may be told where a later word could not be read.
+abbrev pub HasFaults : {T : Type 0} → Result T RecoverRefused → ℕ → ℕ → Bool → Type 0
+HasFaults (Ok done) before now failing = now ≡ before
+HasFaults (Err Device) before now failing = FailedLast before now failing
+HasFaults (Err (Twins offset main back)) before now failing = StopsAtFault before now failing
 
--- and that of syncs: of one under IDLE, and else of three
-abbrev pub syncs_after : State → ℕ → ℕ
-syncs_after Idle before = min (before + 1) LAST
-syncs_after Mutating before = min (before + 3) LAST
-syncs_after Copying before = min (before + 3) LAST
+-- A comparison: so many words are read, and at a refusal at most so many.
+pub record Compares {D T : Type 0} (shown : ShownDevice D) (reads : ℕ) (old new : D) (result : Result T RecoverRefused) : Type 0 where
+  pub only : OnlyReads shown old new
+  pub reads_made : OnOk result (Adds reads (shown.reads old) (shown.reads new))
+  pub most_reads : shown.reads new ≤ shown.reads old + reads
+  pub faults : HasFaults result (shown.faults old) (shown.faults new) (shown.failing new)
 
--- The writes that recovery made, by its answer: those of the state that it found; none where the regions differ; no more than a whole recovery makes where the device failed.
+-- Nothing is written, and one sync is called.
+pub record SyncsOnce {D : Type 0} (shown : ShownDevice D) (old new : D) : Type 0 where
+  pub stays : Does shown Stays old new
+  pub writes : shown.writes new ≡ shown.writes old
+  pub syncs : shown.syncs new ≡ counted (shown.syncs old)
+
+-- how many words a recovery from this state reads: the state and both regions under IDLE, else the state and the region that counts
+abbrev pub reads_from : ℕ → State → ℕ
+reads_from order Idle = 1 + 2 * region_len order
+reads_from order Mutating = 1 + region_len order
+reads_from order Copying = 1 + region_len order
+
+-- how many it writes: none under IDLE, else the other region and the state
+abbrev pub writes_from : ℕ → State → ℕ
+writes_from order Idle = 0
+writes_from order Mutating = region_len order + 1
+writes_from order Copying = region_len order + 1
+
+-- how often it syncs
+abbrev pub syncs_from : State → ℕ
+syncs_from Idle = 1
+syncs_from Mutating = 3
+syncs_from Copying = 3
+
+-- The reads that recovery made, by its answer: those of the state that it found, and at a refusal at most so many as any recovery makes.
+abbrev pub AreReads : ℕ → Result Recovered RecoverRefused → ℕ → ℕ → Type 0
+AreReads order (Ok recovered) before now = Adds (reads_from order recovered.found) before now
+AreReads order (Err refused) before now = now ≤ before + (1 + 2 * region_len order)
+
+-- the writes, likewise, of which there are none where the regions differ
 abbrev pub AreWrites : ℕ → Result Recovered RecoverRefused → ℕ → ℕ → Type 0
-AreWrites order (Ok recovered) before now = now ≡ writes_after order recovered.found before
+AreWrites order (Ok recovered) before now = Adds (writes_from order recovered.found) before now
 AreWrites order (Err (Twins offset main back)) before now = now ≡ before
 AreWrites order (Err Device) before now = now ≤ before + (region_len order + 1)
 
--- the syncs, likewise
+-- the syncs, likewise, of which there is one where the regions differ
 abbrev pub AreSyncs : Result Recovered RecoverRefused → ℕ → ℕ → Type 0
-AreSyncs (Ok recovered) before now = now ≡ syncs_after recovered.found before
-AreSyncs (Err (Twins offset main back)) before now = now ≡ syncs_after Idle before
+AreSyncs (Ok recovered) before now = Adds (syncs_from recovered.found) before now
+AreSyncs (Err (Twins offset main back)) before now = Adds 1 before now
 AreSyncs (Err Device) before now = now ≤ before + 3
+
+-- The calls that recovery made.
+pub record Calls {D : Type 0} (shown : ShownDevice D) (order : ℕ) (old new : D) (result : Result Recovered RecoverRefused) : Type 0 where
+  pub reads : AreReads order result (shown.reads old) (shown.reads new)
+  pub writes : AreWrites order result (shown.writes old) (shown.writes new)
+  pub syncs : AreSyncs result (shown.syncs old) (shown.syncs new)
+  pub faults : HasFaults result (shown.faults old) (shown.faults new) (shown.failing new)

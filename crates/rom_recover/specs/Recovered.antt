@@ -1,10 +1,25 @@
 -- What recovery leaves and refuses.
-use Rattle.std.specs.Prelude.{◌≡◌, ◌≢◌, ℕ, ◌+◌, ◌<◌, List, slice_index}
-use Rattle.rom_header.specs.Headers.{IsIdle}
-use Rattle.rom_header.specs.Layout.{MAIN, back_at, region_len, main_of, back_of}
-use Rattle.rom_header.specs.Regions.{IsHeap, Counts}
+use Rattle.std.specs.Prelude.{◌≡◌, ◌≢◌, ◌⊎◌, ℕ, ◌+◌, ◌*◌, ◌<◌, ◌≤◌, List, slice_index}
+use Rattle.rom_model.specs.Blocks.{region_len}
+use Rattle.rom_header.specs.Headers.{IsIdle, state_word}
+use Rattle.rom_header.specs.Layout.{MAIN, back_at, main_of, back_of}
+use Rattle.rom_header.specs.Regions.{IsHeap, Counts, SameRegion}
+use Rattle.rom_header.specs.Writing.{StateOrWithin}
+use Rattle.rom_header.specs.declared.header.State.{State}
+use Rattle.rom_header.specs.declared.header.State.TheVariants.{Idle, Mutating, Copying}
 use Rattle.rom_recover.specs.declared.recovery.RecoverRefused.{RecoverRefused}
 use Rattle.rom_recover.specs.declared.recovery.RecoverRefused.TheVariants.{Twins, Device}
+
+-- the state that a word names; any other word counts as IDLE
+pub record IsStateOf (word : ℕ) (state : State) : Type 0 where
+  pub named : word ≤ 2 → word ≡ state_word state
+  pub other : 2 < word → state ≡ Idle
+
+-- from where to where a region is copied in this state: back to main under MUTATING, and main to back under COPYING
+abbrev pub IsWay : ℕ → State → ℕ → ℕ → Type 0
+IsWay order Idle from to = ⊥
+IsWay order Mutating from to = (from ≡ back_at order) × (to ≡ MAIN)
+IsWay order Copying from to = (from ≡ MAIN) × (to ≡ back_at order)
 
 -- so many words from the start of each region are the same
 abbrev pub AreTwins : ℕ → ℕ → List ℕ → Type 0
@@ -32,3 +47,18 @@ pub record IsDone (order : ℕ) (old new : List ℕ) : Type 0 where
   pub counted : Counts order old region
   pub main_is : main_of order new ≡ region
   pub back_is : back_of order new ≡ region
+
+-- Only the state and the regions differ, and each word of a region is as it was or the other region's at the same offset.
+pub record TakesTwins (order : ℕ) (old new : List ℕ) : Type 0 where
+  pub others : StateOrWithin MAIN (2 * region_len order) old new
+  pub main : (k : ℕ) → k < region_len order → (slice_index new (MAIN + k) ≡ slice_index old (MAIN + k)) ⊎ (slice_index new (MAIN + k) ≡ slice_index old (back_at order + k))
+  pub back : (k : ℕ) → k < region_len order → (slice_index new (back_at order + k) ≡ slice_index old (back_at order + k)) ⊎ (slice_index new (back_at order + k) ≡ slice_index old (MAIN + k))
+
+-- What recovery leaves at any moment of words that it changes: the region that counts stays.
+pub record Mended (order : ℕ) (old new : List ℕ) : Type 0 where
+  pub same : SameRegion old new
+  pub takes : TakesTwins order old new
+
+-- the words are as they were, or so
+abbrev pub Mends : ℕ → List ℕ → List ℕ → Type 0
+Mends order old new = (new ≡ old) ⊎ Mended order old new

@@ -1,12 +1,12 @@
 //! The comparison of both regions.
-ghost use Rattle.std.specs.Prelude.{◌≡◌, ◌≢◌, ◌+◌, ◌<◌, ◌≤◌, ℕ, List, IfErr, IfSome, IfNone, OnOk, IsTrue, slice_index};
-ghost use Rattle.rom_model.specs.Faults.{Rose};
-ghost use Rattle.rom_device.specs.Device.{Runs, Stays};
+ghost use Rattle.std.specs.Prelude.{◌≡◌, ◌≢◌, ◌+◌, ◌*◌, ◌<◌, ◌≤◌, ℕ, IfErr, IfSome, IfNone, OnOk, IsTrue, slice_index};
+ghost use Rattle.rom_model.specs.Blocks.{region_len};
 ghost use Rattle.rom_header.specs.Headers.{IsIdle};
-ghost use Rattle.rom_header.specs.Layout.{region_len, words_needed};
+ghost use Rattle.rom_header.specs.Layout.{words_needed};
+ghost use Rattle.rom_recover.specs.Calls.{Compares};
 ghost use Rattle.rom_recover.specs.Recovered.{AreTwins, IsFirst};
 
-use crate::piece::{PIECE, read_piece};
+use crate::piece::PIECE;
 use crate::recovery::RecoverRefused;
 use rom_device::Device;
 use rom_header::Geometry;
@@ -35,7 +35,8 @@ fn first_difference(main: &[u64; PIECE], back: &[u64; PIECE], count: usize) -> O
 }
 
 /// Compares so many words of both regions behind those that are the same, up to the first
-/// difference. Words that were read before one that could not be read are compared all the same.
+/// difference. Back's words that were read before one that could not be read are compared all the
+/// same, since that calls the device no more.
 fn compare_piece<D: Device>(
     device: &mut D,
     geometry: Geometry,
@@ -43,24 +44,21 @@ fn compare_piece<D: Device>(
     count: usize,
     pieces: &mut Pieces,
 ) -> Result<(), RecoverRefused>
-    requires fits { words_needed geometry ≤ D.size device.old }
+    requires fits { words_needed geometry ≤ D.shown.size device.old }
     requires within { from + count ≤ region_len geometry }
     requires room { count ≤ 64 }
-    requires idle { IsTrue D.tells_words → IsIdle (D.words device.old) }
-    requires so_far { IsTrue D.tells_words → AreTwins geometry from (D.words device.old) }
-    ensures size { D.size device.new ≡ D.size device.old }
-    ensures words { IsTrue D.tells_words → D.words device.new ≡ D.words device.old }
-    ensures same { IsTrue D.tells_words → OnOk result (AreTwins geometry (from + count) (D.words device.old)) }
-    ensures images { IsTrue D.tells_images → Runs D.clock D.leaves D.left_since Stays device.old device.new }
-    ensures still { IsTrue D.tells_images → (i : List ℕ) → D.leaves device.old i → D.leaves device.new i }
-    ensures writes { D.writes device.new ≡ D.writes device.old }
-    ensures syncs { D.syncs device.new ≡ D.syncs device.old }
-    ensures later { D.faults device.old ≤ D.faults device.new }
-    ensures cause { result ≡ Err RecoverRefused.Device → Rose (D.faults device.old) (D.faults device.new) }
-    ensures twins { IsTrue D.tells_words → IfErr result (IsFirst geometry (D.words device.old)) }
+    requires idle { IsTrue D.shown.tells_words → IsIdle (D.shown.words device.old) }
+    requires so_far { IsTrue D.shown.tells_words → AreTwins geometry from (D.shown.words device.old) }
+    ensures same { IsTrue D.shown.tells_words →
+        OnOk result (AreTwins geometry (from + count) (D.shown.words device.old)) }
+    ensures twins { IsTrue D.shown.tells_words → IfErr result (IsFirst geometry (D.shown.words device.old)) }
+    ensures compares { Compares D.shown (2 * count) device.old device.new result }
 {
-    let read = read_piece(device, geometry.main() + from, &mut pieces.main, count);
-    let read = read_piece(device, geometry.back() + from, &mut pieces.back, read);
+    let (main, back) = (geometry.main() + from, geometry.back() + from);
+    if device.read_words(main, &mut pieces.main[..count]) < count {
+        return Err(RecoverRefused::Device);
+    }
+    let read = device.read_words(back, &mut pieces.back[..count]);
     if let Some(index) = first_difference(&pieces.main, &pieces.back, read) {
         return Err(RecoverRefused::Twins {
             offset: from + index as u64,
@@ -76,18 +74,12 @@ fn compare_piece<D: Device>(
 
 /// Compares the regions up to the first difference.
 pub fn compare<D: Device>(device: &mut D, geometry: Geometry) -> Result<(), RecoverRefused>
-    requires fits { words_needed geometry ≤ D.size device.old }
-    requires idle { IsTrue D.tells_words → IsIdle (D.words device.old) }
-    ensures size { D.size device.new ≡ D.size device.old }
-    ensures words { IsTrue D.tells_words → D.words device.new ≡ D.words device.old }
-    ensures same { IsTrue D.tells_words → OnOk result (AreTwins geometry (region_len geometry) (D.words device.old)) }
-    ensures images { IsTrue D.tells_images → Runs D.clock D.leaves D.left_since Stays device.old device.new }
-    ensures still { IsTrue D.tells_images → (i : List ℕ) → D.leaves device.old i → D.leaves device.new i }
-    ensures writes { D.writes device.new ≡ D.writes device.old }
-    ensures syncs { D.syncs device.new ≡ D.syncs device.old }
-    ensures later { D.faults device.old ≤ D.faults device.new }
-    ensures cause { result ≡ Err RecoverRefused.Device → Rose (D.faults device.old) (D.faults device.new) }
-    ensures twins { IsTrue D.tells_words → IfErr result (IsFirst geometry (D.words device.old)) }
+    requires fits { words_needed geometry ≤ D.shown.size device.old }
+    requires idle { IsTrue D.shown.tells_words → IsIdle (D.shown.words device.old) }
+    ensures same { IsTrue D.shown.tells_words →
+        OnOk result (AreTwins geometry (region_len geometry) (D.shown.words device.old)) }
+    ensures twins { IsTrue D.shown.tells_words → IfErr result (IsFirst geometry (D.shown.words device.old)) }
+    ensures compares { Compares D.shown (2 * region_len geometry) device.old device.new result }
 {
     let len = geometry.region();
     let mut pieces = Pieces {

@@ -1,55 +1,45 @@
 //! The copy of the region that counts over the other one.
-ghost use Rattle.std.specs.Prelude.{◌≡◌, ◌⊎◌, ◌+◌, ◌<◌, ◌≤◌, ℕ, List, OnOk, IsTrue, min, slice_set};
-ghost use Rattle.rom_model.specs.Faults.{HasCause, LAST};
-ghost use Rattle.rom_model.specs.Space.{ChangesOnly};
-ghost use Rattle.rom_device.specs.Device.{Leaves, Writes};
-ghost use Rattle.rom_header.specs.Writing.{StateOrWithin};
-ghost use Rattle.rom_recover.specs.Copied.{Finished, Redone};
+ghost use Rattle.std.specs.Prelude.{◌≡◌, ◌≢◌, ◌+◌, ◌≤◌, OnOk, IsTrue, slice_index};
+ghost use Rattle.rom_model.specs.Blocks.{region_len};
+ghost use Rattle.rom_device.specs.Device.{IsSynced, Leaves, Makes};
+ghost use Rattle.rom_header.specs.Headers.{state_word};
+ghost use Rattle.rom_header.specs.Layout.{STATE, words_needed};
+ghost use Rattle.rom_header.specs.Regions.{IsHeap};
+ghost use Rattle.rom_header.specs.Writing.{Alters};
+ghost use Rattle.rom_recover.specs.Recovered.{IsDone, IsWay, Mended, Mends};
 
 use crate::copy::copy_words;
-use rom_device::{Device, Failed};
-use rom_header::State;
+use rom_device::{Device, Failed, write_certain};
+use rom_header::{Geometry, STATE, State};
 
-/// Makes the words certain, writes IDLE, and makes it certain.
-fn finish<D: Device>(device: &mut D) -> Result<(), Failed>
-    requires { 3 < D.size device.old }
-    ensures size { D.size device.new ≡ D.size device.old }
-    ensures words { IsTrue D.tells_words → OnOk result (D.words device.new ≡ slice_set (D.words device.old) 3 0) }
-    ensures outside { IsTrue D.tells_words → ChangesOnly 3 1 (D.words device.old) (D.words device.new) }
-    ensures left { IsTrue D.tells_words → Writes 3 0 (D.words device.old) (D.words device.new) }
-    ensures certain { IsTrue D.tells_images → OnOk result ((i : List ℕ) → D.leaves device.new i → i ≡ D.words device.new) }
-    ensures images { IsTrue D.tells_images → Leaves D.clock D.left_since (Writes 3 0 (D.words device.old)) device.old device.new }
-    ensures writes { OnOk result (D.writes device.new ≡ min (D.writes device.old + 1) LAST) }
-    ensures most_writes { D.writes device.new ≤ D.writes device.old + 1 }
-    ensures syncs { OnOk result (D.syncs device.new ≡ min (D.syncs device.old + 2) LAST) }
-    ensures most_syncs { D.syncs device.new ≤ D.syncs device.old + 2 }
-    ensures cause { HasCause (D.faults device.old) (D.faults device.new) result }
+/// From where to where a region is copied in a state that is not IDLE.
+fn way(geometry: Geometry, state: State) -> (u64, u64)
+    requires { state ≢ State.Idle }
+    ensures { IsWay geometry state result.0 result.1 }
 {
-    device.sync()?;
-    device.write(3, State::Idle.word())?;
-    device.sync()
+    match state {
+        State::Mutating => (geometry.back(), geometry.main()),
+        _ => (geometry.main(), geometry.back()),
+    }
 }
 
-/// Copies one region to the other, and leaves the state IDLE. After `Failed` the other region may
-/// be copied in part, and then the state is as it was.
-pub fn redo<D: Device>(device: &mut D, from: u64, to: u64, len: u64) -> Result<(), Failed>
-    requires from_fits { from + len ≤ D.size device.old }
-    requires to_fits { to + len ≤ D.size device.old }
-    requires late { 8 ≤ to }
-    requires apart { (from + len ≤ to) ⊎ (to + len ≤ from) }
-    requires certain { IsTrue D.tells_images → (i : List ℕ) → D.leaves device.old i → i ≡ D.words device.old }
-    ensures size { D.size device.new ≡ D.size device.old }
-    ensures finished { IsTrue D.tells_words → OnOk result (Finished from to len (D.words device.old) (D.words device.new)) }
-    ensures others { IsTrue D.tells_words → StateOrWithin to len (D.words device.old) (D.words device.new) }
-    ensures left { IsTrue D.tells_words → Redone from to len (D.words device.old) (D.words device.new) }
-    ensures certain { IsTrue D.tells_images → OnOk result ((i : List ℕ) → D.leaves device.new i → i ≡ D.words device.new) }
-    ensures images { IsTrue D.tells_images → Leaves D.clock D.left_since (Redone from to len (D.words device.old)) device.old device.new }
-    ensures writes { OnOk result (D.writes device.new ≡ min (D.writes device.old + (len + 1)) LAST) }
-    ensures most_writes { D.writes device.new ≤ D.writes device.old + (len + 1) }
-    ensures syncs { OnOk result (D.syncs device.new ≡ min (D.syncs device.old + 2) LAST) }
-    ensures most_syncs { D.syncs device.new ≤ D.syncs device.old + 2 }
-    ensures cause { HasCause (D.faults device.old) (D.faults device.new) result }
+/// Copies the region that counts in this state, which is not IDLE, over the other one, and leaves
+/// the state IDLE. Where the copy fails the state is as it was.
+pub fn redo<D: Device>(device: &mut D, geometry: Geometry, state: State) -> Result<(), Failed>
+    requires fits { words_needed geometry ≤ D.shown.size device.old }
+    requires heap { IsTrue D.shown.tells_words → IsHeap geometry (D.shown.words device.old) }
+    requires state { IsTrue D.shown.tells_words → slice_index (D.shown.words device.old) STATE ≡ state_word state }
+    requires busy { state ≢ State.Idle }
+    requires certain { IsSynced D.shown device.old }
+    ensures done { IsTrue D.shown.tells_words →
+        OnOk result (IsDone geometry (D.shown.words device.old) (D.shown.words device.new)) }
+    ensures certain { OnOk result (IsSynced D.shown device.new) }
+    ensures left { Alters D.shown (Mends geometry) device.old device.new }
+    ensures images { IsTrue D.shown.tells_images →
+        Leaves D.shown (Mended geometry (D.shown.words device.old)) device.old device.new }
+    ensures makes { Makes D.shown (region_len geometry) (region_len geometry + 1) 2 device.old device.new result }
 {
-    copy_words(device, from, to, len)?;
-    finish(device)
+    let (from, to) = way(geometry, state);
+    copy_words(device, from, to, geometry.region())?;
+    write_certain(device, STATE, State::Idle.word())
 }
