@@ -1,4 +1,4 @@
-use Rattle.std.proofs.Common.{arith, rules}
+use Rattle.std.proofs.Common.{rules}
 use Rattle.rom_device.proofs.file.FileDeviceDevice.write_words.Goals as goal
 
 pub returns-then-kept-values-clause-failed : goal.returns-then-kept-values-clause-failed
