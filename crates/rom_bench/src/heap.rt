@@ -2,7 +2,7 @@
 ghost use Rattle.std.specs.Prelude.{◌≡◌};
 
 use rom_device::{Device, FileDevice};
-use rom_header::{Geometry, State, read_header, write_new};
+use rom_header::{Geometry, STATE, State, read_header, write_new};
 use rom_recover::recover;
 use std::alloc::Global;
 use std::fs::{File, OpenFile, OpenOptions};
@@ -28,7 +28,7 @@ pub fn make<D: Device>(alloc: Global, device: &mut D, geometry: Geometry) -> io:
 
 /// Writes a state into the header, and makes it certain.
 pub fn mark<D: Device>(device: &mut D, state: State) -> bool {
-    device.len() > 3 && device.write(3, state.word()).is_ok() && device.sync().is_ok()
+    device.len() > STATE && device.write(STATE, state.word()).is_ok() && device.sync().is_ok()
 }
 
 /// Reads the header and recovers. It tells the state that was found, if all went well.

@@ -18,7 +18,7 @@ is_header_fault other = false
 abbrev pub header_fault : {T : Type 0} → Result T HeaderRefused → Result (Unit {0}) (Unit {0})
 header_fault result = fault_of is_header_fault result
 
--- the reads of a header: so many of one that is accepted, and of one that is refused those up to the word that is
+-- how many words of a header are read up to the one that is refused; none on a device that is too small for a header
 abbrev pub refused_reads : HeaderRefused → ℕ
 refused_reads (header.TooSmall need have) = if nat_lt have 8 then 0 else 3
 refused_reads header.NotAHeap = 1
@@ -27,6 +27,7 @@ refused_reads (header.BadOrder order) = 3
 refused_reads (header.BadState state) = 4
 refused_reads header.Device = 4
 
+-- and by the answer, so many of a header that is accepted
 abbrev pub header_reads : {T : Type 0} → ℕ → Result T HeaderRefused → ℕ
 header_reads all (Ok accepted) = all
 header_reads all (Err refused) = refused_reads refused
@@ -38,7 +39,7 @@ is_format_fault other = false
 abbrev pub format_fault : Result (Unit {0}) FormatRefused → Result (Unit {0}) (Unit {0})
 format_fault result = fault_of is_format_fault result
 
--- the reads of the making of a heap: one of the word of the magic, where the device has it
+-- the reads of the making of a heap: one, of the word of the magic, where the device has it
 abbrev pub format_reads : Result (Unit {0}) FormatRefused → ℕ
 format_reads (Err (TooSmall need have)) = if have == 0 then 0 else 1
 format_reads other = 1

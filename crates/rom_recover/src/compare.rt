@@ -1,5 +1,6 @@
 //! The comparison of both regions.
-ghost use Rattle.std.specs.Prelude.{◌≡◌, ◌≢◌, ◌+◌, ◌*◌, ◌<◌, ◌≤◌, ℕ, IfErr, IfSome, IfNone, OnOk, IsTrue, slice_index};
+ghost use Rattle.std.specs.Prelude.{◌≡◌, ◌≢◌, ◌+◌, ◌*◌, ◌<◌, ◌≤◌, ℕ};
+ghost use Rattle.std.specs.Prelude.{IfErr, IfSome, IfNone, OnOk, IsTrue, slice_index};
 ghost use Rattle.rom_model.specs.Blocks.{region_len};
 ghost use Rattle.rom_header.specs.Headers.{IsIdle};
 ghost use Rattle.rom_header.specs.Layout.{words_needed};
@@ -23,7 +24,8 @@ fn first_difference(main: &[u64; PIECE], back: &[u64; PIECE], count: usize) -> O
     requires { count ≤ 64 }
     ensures within { IfSome result (λ index. index < count) }
     ensures differ { IfSome result (λ index. slice_index main.now index ≢ slice_index back.now index) }
-    ensures first { IfSome result (λ index. (k : ℕ) → k < index → slice_index main.now k ≡ slice_index back.now k) }
+    ensures first { IfSome result (λ index.
+        (k : ℕ) → k < index → slice_index main.now k ≡ slice_index back.now k) }
     ensures none { IfNone result ((k : ℕ) → k < count → slice_index main.now k ≡ slice_index back.now k) }
 {
     for index in 0..count {

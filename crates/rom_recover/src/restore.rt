@@ -28,7 +28,8 @@ fn way(geometry: Geometry, state: State) -> (u64, u64)
 pub fn redo<D: Device>(device: &mut D, geometry: Geometry, state: State) -> Result<(), Failed>
     requires fits { words_needed geometry ≤ D.shown.size device.old }
     requires heap { IsTrue D.shown.tells_words → IsHeap geometry (D.shown.words device.old) }
-    requires state { IsTrue D.shown.tells_words → slice_index (D.shown.words device.old) STATE ≡ state_word state }
+    requires state { IsTrue D.shown.tells_words →
+        slice_index (D.shown.words device.old) STATE ≡ state_word state }
     requires busy { state ≢ State.Idle }
     requires certain { IsSynced D.shown device.old }
     ensures done { IsTrue D.shown.tells_words →
@@ -37,7 +38,8 @@ pub fn redo<D: Device>(device: &mut D, geometry: Geometry, state: State) -> Resu
     ensures left { Alters D.shown (Mends geometry) device.old device.new }
     ensures images { IsTrue D.shown.tells_images →
         Leaves D.shown (Mended geometry (D.shown.words device.old)) device.old device.new }
-    ensures makes { Makes D.shown (region_len geometry) (region_len geometry + 1) 2 device.old device.new result }
+    ensures makes { Makes D.shown (region_len geometry) (region_len geometry + 1) 2
+        device.old device.new result }
 {
     let (from, to) = way(geometry, state);
     copy_words(device, from, to, geometry.region())?;

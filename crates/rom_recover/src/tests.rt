@@ -220,11 +220,12 @@ fn what_comes_first_is_answered(rt: HostRuntime) -> Result<(), Fail> {
         main: 5,
         back: 0,
     };
-    // The words at offsets 65 to 67 of main, and of back, cannot be read.
+    // The words at offsets 65 to 67 of main, and of back, cannot be read. Once one of main's cannot,
+    // none of back's is.
     let rows = [
         (73, RecoverRefused::Device),
         (74, RecoverRefused::Device),
-        (75, twins),
+        (75, RecoverRefused::Device),
         (185, RecoverRefused::Device),
         (186, RecoverRefused::Device),
         (187, twins),
@@ -240,18 +241,18 @@ fn what_comes_first_is_answered(rt: HostRuntime) -> Result<(), Fail> {
         let trips = [its_read].to_vec(rt.alloc())?;
         let mut memory = Memory::new(rt.alloc(), words.clone()?, AMPLE, trips)?;
         assert_eq!(rt; opened(&mut memory), Some(Err(want)), "at {at}");
-        // Words behind a difference may be read, and fail, before it is told.
+        // A word of back behind the difference is read, and fails, before it is told.
         assert_eq!(rt; memory.fault_count(), 1, "at {at}");
     }
     Ok(())
 }
 
 #[test]
-fn words_before_one_that_cannot_be_read_are_copied(rt: HostRuntime) -> Result<(), Fail> {
+fn nothing_is_written_once_a_word_cannot_be_read(rt: HostRuntime) -> Result<(), Fail> {
     let sevens = vec![in rt.alloc(); 7u64; 112]?;
     let fresh = fresh_region(rt.alloc())?;
     let words = heap(rt.alloc(), 1, sevens.as_slice(), fresh.as_slice())?;
-    // Back's word at offset 65.
+    // Back's word at offset 65, of the second piece.
     let its_read = Trip {
         call: CallKind::Read,
         from: 185,
@@ -263,8 +264,8 @@ fn words_before_one_that_cannot_be_read_are_copied(rt: HostRuntime) -> Result<()
     let mut memory = Memory::new(rt.alloc(), words, AMPLE, trips)?;
     assert_eq!(rt; opened(&mut memory), Some(Err(RecoverRefused::Device)));
     let left = memory.words();
-    assert_eq!(rt; left.get(8..73), fresh.as_slice().get(..65));
-    assert_eq!(rt; left.get(73..120), sevens.as_slice().get(65..));
+    assert_eq!(rt; left.get(8..72), fresh.as_slice().get(..64));
+    assert_eq!(rt; left.get(72..120), sevens.as_slice().get(64..));
     assert_eq!(rt; left.get(3), Some(&1));
     Ok(())
 }
