@@ -51,8 +51,9 @@ module _ {S : Type 0} (shown : ShownSource S) where
     pub ended : shown.ended new ≡ is_idle result
 
   -- Of a source's reads each gave some byte, or all but the last one: none was made after a failure or after the end.
-  abbrev pub IsAskedOnce : S → S → Type 0
-  IsAskedOnce old new = StopsAtFault (shown.idle old) (shown.idle new) (shown.ended new)
+  pub record IsAskedOnce (old new : S) : Type 0 where
+    pub idle : StopsAtFault (shown.idle old) (shown.idle new) (shown.ended new)
+    pub faults : StopsAtFault (shown.faults old) (shown.faults new) (shown.ended new)
 
   -- Of a source's reads the last one failed, and each before it gave some byte.
   pub record ReadFailed (old new : S) : Type 0 where

@@ -95,7 +95,8 @@ impl<'a, O: Sink> Gathered<'a, O> {
         requires some { 0 < length piece.now }
         requires room { array_vec_len self.old.block < BLOCK }
         ensures count { (0 < result) × (result ≤ length piece.now) }
-        ensures waits { drop self.new.handed self.new.block.items ≡ drop self.old.handed self.old.block.items ++ take result piece.now }
+        ensures waits { drop self.new.handed self.new.block.items
+            ≡ drop self.old.handed self.old.block.items ++ take result piece.now }
         ensures out { self.new.out.now ≡ self.old.out.now }
         ensures failing { self.new.failing ≡ false }
         ensures same_sink { self.new.out.ghost_name ≡ self.old.out.ghost_name }

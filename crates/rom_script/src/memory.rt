@@ -65,7 +65,8 @@ impl Source for Bytes {
     /// It fails exactly where a trip is due, and gives at most its piece.
     fn read(&mut self, buf: &mut [u8]) -> Result<u64, IoFailed>
         ensures within { IfOk result (λ n. n ≤ length buf.new) }
-        ensures bytes { ReadConsumes (Some (bytes_left self.old)) (Some (bytes_left self.new)) result buf.new }
+        ensures bytes { ReadConsumes (Some (bytes_left self.old)) (Some (bytes_left self.new))
+            result buf.new }
         ensures counts { CountsRead shown_bytes self.old self.new result }
 
         ensures reads_on { ReadsOn self.old self.new }
@@ -148,7 +149,8 @@ impl Sink for Collect {
     fn write(&mut self, piece: &[u8]) -> Result<u64, IoFailed>
         requires { 0 < length piece.now }
         ensures some { IfOk result (λ n. (0 < n) × (n ≤ length piece.now)) }
-        ensures bytes { WriteAppends (Some (bytes_taken self.old)) (Some (bytes_taken self.new)) result piece.now }
+        ensures bytes { WriteAppends (Some (bytes_taken self.old)) (Some (bytes_taken self.new))
+            result piece.now }
         ensures counts { CountsWrite shown_collect self.old self.new result }
 
         ensures room { KeepsRoom self.old self.new }

@@ -34,7 +34,8 @@ impl From<AllocError> for ReadRefused {
 
 /// Reads all that a source has left. What it has taken is lost to the source after an `Err`.
 pub fn read_bytes<S: Source>(alloc: Global, source: &mut S) -> Result<Vec<u8>, ReadRefused>
-    ensures all { IfOk result (λ bytes. Consumes (S.shown.left source.old) (S.shown.left source.new) bytes.items) }
+    ensures all { IfOk result (λ bytes.
+        Consumes (S.shown.left source.old) (S.shown.left source.new) bytes.items) }
     ensures within { IfOk result (λ bytes. IsWithinLimit bytes.items) }
     ensures ends { EndsReading S.shown source.old source.new result }
 {

@@ -62,7 +62,8 @@ fn print_through<O: Sink>(
 ) -> Result<(), IoFailed>
     requires none { drop out.old.handed out.old.block.items ≡ [] }
     requires opened { O.shown.taken out.old.opened.value ≡ O.shown.taken out.old.out.now }
-    ensures prints { Prints O.shown out.old.out.now out.new.out.now result (text trio_texts (results.now ∷ []) count) }
+    ensures prints { Prints O.shown out.old.out.now out.new.out.now result
+        (text trio_texts (results.now ∷ []) count) }
     ensures same_sink { out.new.out.ghost_name ≡ out.old.out.ghost_name }
 {
     print_whole(out, results, count)?;

@@ -28,5 +28,5 @@ returns-in_err-extend_from_slice-clause-ends g c =
       too_long = search rules;
       takes = takes_more _ _ _ _ c.loop-block.bytes.items (take c.in-Ok.count c.read.new.buf) c.loop-block.invariant.read c.in-Ok.ensures.bytes.0
           (omega (arith, length-append c.loop-block.bytes.items (take c.in-Ok.count c.read.new.buf), length-take-le c.in-Ok.count c.read.new.buf c.in-Ok.ensures.within));
-      asked_once = inl idle;
+      asked_once = record { idle = inl idle; faults = search rules };
     }
