@@ -1,6 +1,6 @@
 -- What a run of one script leaves to be said of it.
-use Rattle.std.specs.Prelude.{◌≡◌, ◌⊎◌, ℕ, ◌+◌, Bool, true, false, cond, List, [], ◌∷◌, ◌++◌, length, codes, decimal, IfSome, IsSome, slice_set, Option, Some, None, Result, Ok, Err}
-use Rattle.std.proofs.Common.{refl, sym, ap, subst, get_or, arith, inl, inr}
+use Rattle.std.specs.Prelude.{◌≡◌, ◌≢◌, ◌⊎◌, ℕ, ◌+◌, Bool, true, false, cond, List, [], ◌∷◌, ◌++◌, length, map, codes, decimal, IfSome, IsSome, slice_set, Option, Some, None, Result, Ok, Err}
+use Rattle.std.proofs.Common.{refl, sym, ap, subst, ◌∙◌, get_or, arith, inl, inr}
 use Rattle.std.proofs.lemmas.Fmt.{decimal_digit}
 use Rattle.std.specs.Io.KnownBytes.{IsAtEnd}
 use Rattle.rom_model.specs.State.{State}
@@ -28,17 +28,30 @@ one_where true script some = refl
 one_where false script some = absurd (let no : ⊥ = cc in no)
 
 -- a command names one script
-pub one_script : (words : List (List ℕ)) → IsSome (command words) → length (scripts_of (command words)) ≡ 1
+one_script : (words : List (List ℕ)) → IsSome (command words) → length (scripts_of (command words)) ≡ 1
 one_script [] some = absurd (let no : ⊥ = cc in no)
 one_script (name ∷ []) some = absurd (let no : ⊥ = cc in no)
 one_script (name ∷ script ∷ []) some = one_where _ script some
 one_script (name ∷ script ∷ word ∷ words) some = absurd (let no : ⊥ = cc in no)
 
 -- a list of one
-pub only : {S : Type 0} (xs : List S) (s : S) → length xs ≡ 1 → s ≡ get_or xs 0 s → xs ≡ s ∷ []
+only : {S : Type 0} (xs : List S) (s : S) → length xs ≡ 1 → s ≡ get_or xs 0 s → xs ≡ s ∷ []
 only [] s one is = absurd (omega arith)
 only (x ∷ []) s one is = ap (λ y. y ∷ []) (sym is)
 only (x ∷ y ∷ xs) s one is = absurd (omega arith)
+
+-- the first of a command's sources is the only one
+pub only_script : {S : Type 0} (words : List (List ℕ)) (xs : List S) (s : S) → IsSome (command words) →
+    length xs ≡ length (scripts_of (command words)) → s ≡ get_or xs 0 s → xs ≡ s ∷ []
+only_script words xs s some as_many is = only xs s (as_many ∙ one_script words some) is
+
+-- a status that isn't 4 is of no script that failed
+pub no_four : {T : Type 0} (status : Status) (n : ℕ) → n ≡ number_of status → n ≢ 4 → (let r : Result T Status = Err status in r ≢ Err ScriptFailed)
+no_four status n is not_four = λ failed. not_four (is ∙ ap number_of (let same : status ≡ ScriptFailed = cc in same))
+
+-- what is the same of the one element is the same of all
+pub same_of_one : {S : Type 0} (f : S → ℕ) (xs : List S) (s after : S) → xs ≡ s ∷ [] → f after ≡ f s → map f (slice_set xs 0 after) ≡ map f xs
+same_of_one f xs s after one same = subst (λ ys. map f (slice_set ys 0 after) ≡ map f ys) (sym one) (ap (λ n. n ∷ []) same)
 
 digit_one : decimal (0 + 1) ≡ 49 ∷ []
 digit_one = decimal_digit 1 (omega arith)

@@ -1,5 +1,5 @@
 //! The top call: all that the program does.
-ghost use Rattle.std.specs.Prelude.{◌≡◌, ◌↔◌, ◌⊎◌, [], ◌∷◌, length, codes, None, IfSome, IfOk, IfErr, OnOk, IsSome, IsNone};
+ghost use Rattle.std.specs.Prelude.{◌≡◌, ◌≢◌, ◌↔◌, ◌⊎◌, [], ◌∷◌, length, map, codes, None, IfSome, IfOk, IfErr, OnOk, IsSome, IsNone};
 ghost use Rattle.std.specs.List.{list_any};
 ghost use Rattle.std.specs.Io.KnownBytes.{IsAtEnd};
 ghost use Rattle.rom_device.specs.Device.{told_words};
@@ -83,6 +83,8 @@ fn run_script<S: Source, O: Sink>(
     ensures to_its_end { OnOk result (IsAtEnd (S.shown.left script.new)) }
     ensures refused { IfErr result (λ status.
         IsRefused S.shown O.shown status script.old script.new out.old out.new) }
+    ensures unfailed { result ≢ Err Status.ScriptFailed →
+        S.shown.faults script.new ≡ S.shown.faults script.old }
     ensures asked_once { IsAskedOnce S.shown script.old script.new }
     ensures writing { StopsWriting O.shown out.old out.new }
     ensures rest { O.shown.rest out.new ≡ O.shown.rest out.old }
@@ -153,6 +155,8 @@ pub fn run<D: Device + Send, S: Source, O: Sink>(
         IsTold O.shown out.old out.new (codes "not a command") }
     ensures source_failed { result.status ≡ 4 →
         SourceFailed S.shown O.shown scripts.items result.scripts.items out.old out.new }
+    ensures none_failed { result.status ≢ 4 →
+        map S.shown.faults result.scripts.items ≡ map S.shown.faults scripts.items }
     ensures no_memory_told { result.status ≡ 6 → IsTold O.shown out.old out.new (codes "no memory") }
     ensures too_long { result.status ≡ 8 →
         SourceTooLong S.shown O.shown scripts.items result.scripts.items out.old out.new }
