@@ -2,8 +2,8 @@
 use Rattle.std.specs.Prelude.{◌≡◌, ℕ, ◌+◌, ◌-◌, ◌≤◌, List, [], ◌++◌, length, take, drop, Option, Some, None, Result, Ok, Err, OnOk}
 use Rattle.std.proofs.Common.{sym, subst, ap, ◌∙◌, take-append-drop, append_assoc, append-nil, take-take, length-append, arith}
 use Rattle.std.proofs.Math.Seq.{drop-append_seam, take-append_seam}
-use Rattle.rom_script.specs.Grown.{Grown}
-use Rattle.rom_script.specs.Streams.{AppendsFront, Prints}
+use Rattle.rom_script.specs.Gathered.{Grown}
+use Rattle.rom_script.specs.Streams.{AppendsFront, AppendsText}
 use Rattle.std.proofs.lemmas.List.{drop-drop, drop_all, take_all, length-take}
 use Rattle.std.specs.Io.KnownBytes.{Appends, Keeps, append_known}
 use Rattle.std.proofs.KnownBytes.{append_known-moved, Appends-kept}
@@ -50,7 +50,7 @@ all_behind (Some x) (Some y) none w text is w_is all =
 
 -- the text is in the block, and then as much of it handed over as the call says
 pub handed_text : {T E : Type 0} (opened a b c : Option (List ℕ)) (none v w text : List ℕ) (r : Result T E) → none ≡ [] → opened ≡ a → Grown opened c → Appends (append_known a none) (append_known b v) text →
-    Keeps (append_known b v) (append_known c w) → OnOk r (w ≡ []) → Prints a c r text
+    Keeps (append_known b v) (append_known c w) → OnOk r (w ≡ []) → AppendsText a c r text
 handed_text opened a b c none v w text (Ok t) is opened_is grown all kept empty = all_behind a c none w text is empty (Appends-kept _ _ _ text all kept)
 handed_text opened a b c none v w text (Err e) is opened_is grown all kept empty =
     taken_behind opened a c none w text is opened_is grown (length text, subst (λ (z : List ℕ). Appends (append_known a none) (append_known c w) z) (sym (take_all (length text) text (omega arith))) (Appends-kept _ _ _ text all kept))

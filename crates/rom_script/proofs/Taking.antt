@@ -2,15 +2,10 @@
 use Rattle.std.specs.Prelude.{◌≡◌, ◌==◌, ℕ, ◌≤◌, List, ◌++◌, length, take, Option, if◌then◌else◌}
 use Rattle.std.proofs.Common.{ap, ◌∙◌, ne_eqb}
 use Rattle.std.proofs.lemmas.List.{take-append-le}
-use Rattle.std.specs.Io.KnownBytes.{Consumes, Keeps}
-use Rattle.std.proofs.KnownBytes.{Consumes-trans, Consumes-kept}
+use Rattle.std.specs.Io.KnownBytes.{Consumes}
+use Rattle.std.proofs.KnownBytes.{Consumes-trans}
 use Rattle.rom_model.specs.Faults.{counted}
 use Rattle.rom_script.specs.Streams.{Takes}
-
--- a further read took nothing
-pub takes_kept : (Such : List ℕ → Type 0) (a b c : Option (List ℕ)) (bytes : List ℕ) →
-    Consumes a b bytes → Keeps b c → Such bytes → Takes Such a c
-takes_kept Such a b c bytes so_far kept such = record { bytes = bytes; consumed = Consumes-kept a b c bytes so_far kept; such = such }
 
 -- a further read took these bytes
 pub takes_more : (Such : List ℕ → Type 0) (a b c : Option (List ℕ)) (bytes piece : List ℕ) →

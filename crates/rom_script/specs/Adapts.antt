@@ -1,15 +1,23 @@
 -- What a contract sees of an adapted stream.
-use Rattle.std.specs.Prelude.{ℕ, Bool, is_none}
+use Rattle.std.specs.Prelude.{◌≡◌, Bool, false, is_none, None}
 use Rattle.rom_script.specs.declared.adapt.Adapted.{Adapted}
+use Rattle.rom_script.specs.Streams.{ShownSink, ShownSource}
 
--- whether there is no reader or writer in it
-abbrev pub is_missing : {R : Type 0} → Adapted R → Bool
-is_missing a = is_none a.inner
+module _ {R : Type 0} where
+  -- whether there is no reader or writer in it
+  abbrev pub is_missing : Adapted R → Bool
+  is_missing a = is_none a.inner
 
--- how many calls of it failed, up to 2^64 - 1
-abbrev pub faults_of : {R : Type 0} → Adapted R → ℕ
-faults_of a = a.faults
+  -- nothing is told of the bytes
+  abbrev pub shown_source : ShownSource (Adapted R)
+  shown_source = record { left = λ a. None; faults = λ a. a.faults; idle = λ a. a.idle; ended = λ a. a.ended }
 
--- how many reads of it gave no byte, up to 2^64 - 1
-abbrev pub idle_of : {R : Type 0} → Adapted R → ℕ
-idle_of a = a.idle
+  abbrev pub shown_sink : ShownSink (Adapted R)
+  shown_sink = record { taken = λ a. None; faults = λ a. a.faults; failing = λ a. a.failing; Rest = Unit {0}; rest = λ a. tt }
+
+  -- no call was counted yet
+  pub record IsFresh (a : Adapted R) : Type 0 where
+    pub faults : shown_source.faults a ≡ 0
+    pub idle : shown_source.idle a ≡ 0
+    pub ended : shown_source.ended a ≡ false
+    pub failing : shown_sink.failing a ≡ false

@@ -6,4 +6,5 @@ pub mod Adapts
 pub mod Lines
 pub mod Scripts
 pub mod Text
-pub mod Grown
+pub mod Runs
+pub mod Gathered

@@ -1,5 +1,5 @@
 -- The lines of a script, and what each asks for.
-use Rattle.std.specs.Prelude.{◌≡◌, ℕ, ◌-◌, ◌^◌, ◌<◌, ◌==◌, List, [], ◌∷◌, ◌++◌, length, take, map, codes, decimal, slice_index, if◌then◌else◌}
+use Rattle.std.specs.Prelude.{◌≡◌, ℕ, ◌-◌, ◌^◌, ◌<◌, ◌==◌, List, [], ◌∷◌, ◌++◌, length, take, map, codes, decimal, slice_index, if◌then◌else◌, Option, IfSome}
 use Rattle.rom_model.specs.declared.call.Call.{Call}
 use Rattle.rom_model.specs.declared.call.Call.TheVariants as call
 use Rattle.rom_model.specs.declared.call.Query.{Query}
@@ -74,3 +74,7 @@ abbrev pub AreRead : List (List ℕ) → List (Step Call Query) → Type 0
 AreRead [] [] = Unit {0}
 AreRead (line ∷ lines) (step ∷ steps) = Reads line step × AreRead lines steps
 AreRead lines steps = ⊥
+
+-- the steps are those of a source's lines, where it tells its bytes
+abbrev pub AreStepsOf : Option (List ℕ) → List (Step Call Query) → Type 0
+AreStepsOf source steps = IfSome source (λ bytes. AreRead (lines_of bytes) steps)

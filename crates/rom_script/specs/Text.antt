@@ -1,6 +1,6 @@
 -- What is printed of results, as bytes.
-use Rattle.std.specs.Prelude.{◌≡◌, ℕ, ◌+◌, ◌^◌, ◌<◌, List, [], ◌∷◌, ◌++◌, codes, decimal, Option, Some, None}
-use Rattle.std.specs.List.{flat_map, AllByRecursion}
+use Rattle.std.specs.Prelude.{◌≡◌, ℕ, ◌+◌, ◌^◌, ◌<◌, Bool, true, false, if◌then◌else◌, List, [], ◌∷◌, ◌++◌, codes, decimal, Option, Some, None}
+use Rattle.std.specs.List.{flat_map, list_any, AllByRecursion}
 use Rattle.rom_model.specs.declared.call.Reply.{Reply}
 use Rattle.rom_model.specs.declared.call.Reply.TheVariants as reply
 use Rattle.rom_model.specs.declared.call.Answer.{Answer}
@@ -35,38 +35,57 @@ answer_text answer.Empty = codes "empty"
 answer_text (answer.Sizes queue set map) = codes "queue " ++ decimal queue ++ codes " set " ++ decimal set ++ codes " map " ++ decimal map
 answer_text (answer.Total t) = codes "total " ++ decimal t
 
--- an update that was done shows its place
-abbrev pub update_text : Updated Reply → List ℕ
-update_text (Done reply place) = reply_text reply ++ codes " @" ++ decimal place
-update_text Spent = codes "spent"
-update_text Failed = codes "fault"
-update_text Doubt = codes "doubt"
-
--- an answer shows its front
-abbrev pub read_text : Answer → ℕ → List ℕ
-read_text answer front = answer_text answer ++ codes " #" ++ decimal front
-
-abbrev pub result_text : LineResult Reply Answer → List ℕ
-result_text outcome.Unread = codes "unread"
-result_text (outcome.Update updated) = update_text updated
-result_text (outcome.Read answer front) = read_text answer front
+-- how an object's replies and answers are written
+pub record Texts (R A : Type 0) : Type 0 where
+  pub reply : R → List ℕ
+  pub answer : A → List ℕ
 
 -- each line ends with LF
 abbrev pub line_text : List ℕ → List ℕ
 line_text text = text ++ 10 ∷ []
 
--- the lines of one caller's results
-abbrev pub results_text : List (LineResult Reply Answer) → List ℕ
-results_text results = flat_map (λ result. line_text (result_text result)) results
+module _ {R A : Type 0} (texts : Texts R A) where
+  -- an update that was done shows its place
+  abbrev pub update_text : Updated R → List ℕ
+  update_text (Done reply place) = texts.reply reply ++ codes " @" ++ decimal place
+  update_text Spent = codes "spent"
+  update_text Failed = codes "fault"
+  update_text Doubt = codes "doubt"
 
--- the callers' results, numbered from this caller on
-abbrev pub callers_text : ℕ → List (List (LineResult Reply Answer)) → List ℕ
-callers_text caller [] = []
-callers_text caller (results ∷ more) = line_text (codes "caller " ++ decimal caller) ++ results_text results ++ callers_text (caller + 1) more
+  -- an answer shows its front
+  abbrev pub read_text : A → ℕ → List ℕ
+  read_text answer front = texts.answer answer ++ codes " #" ++ decimal front
 
--- the text of a run: the results of its callers, and the count at closing
-abbrev pub text : List (List (LineResult Reply Answer)) → ℕ → List ℕ
-text results count = callers_text 1 results ++ line_text (codes "count " ++ decimal count)
+  abbrev pub result_text : LineResult R A → List ℕ
+  result_text outcome.Unread = codes "unread"
+  result_text (outcome.Update updated) = update_text updated
+  result_text (outcome.Read answer front) = read_text answer front
+
+  -- the lines of one caller's results
+  abbrev pub results_text : List (LineResult R A) → List ℕ
+  results_text results = flat_map (λ result. line_text (result_text result)) results
+
+  -- the callers' results, numbered from this caller on
+  abbrev pub callers_text : ℕ → List (List (LineResult R A)) → List ℕ
+  callers_text caller [] = []
+  callers_text caller (results ∷ more) =
+      line_text (codes "caller " ++ decimal caller) ++ results_text results ++ callers_text (caller + 1) more
+
+  -- the text of a run: the results of its callers, and the count at closing
+  abbrev pub text : List (List (LineResult R A)) → ℕ → List ℕ
+  text results count = callers_text 1 results ++ line_text (codes "count " ++ decimal count)
+
+abbrev pub is_unread : {R A : Type 0} → LineResult R A → Bool
+is_unread outcome.Unread = true
+is_unread other = false
+
+-- the status of results that are all printed: 1 where a line is unread, and else 0
+abbrev pub status_of : {R A : Type 0} → List (List (LineResult R A)) → ℕ
+status_of results = if list_any (λ rs. list_any is_unread rs) results then 1 else 0
+
+-- how those of a queue, a set and a map are written
+abbrev pub trio_texts : Texts Reply Answer
+trio_texts = record { reply = reply_text; answer = answer_text }
 
 -- a number in digits, where there is one
 abbrev pub number_text : Option ℕ → List ℕ
@@ -101,4 +120,4 @@ AreOfType results = AllByRecursion (λ rs. AllByRecursion ResultFits rs) results
 
 -- The printed lines determine their results: what has the same text are the same results with the same count.
 abbrev pub TextDetermines : Type 0
-TextDetermines = (rs qs : List (List (LineResult Reply Answer))) (m n : ℕ) → AreOfType rs → AreOfType qs → m < 2 ^ 64 → n < 2 ^ 64 → text rs m ≡ text qs n → (rs ≡ qs) × (m ≡ n)
+TextDetermines = (rs qs : List (List (LineResult Reply Answer))) (m n : ℕ) → AreOfType rs → AreOfType qs → m < 2 ^ 64 → n < 2 ^ 64 → text trio_texts rs m ≡ text trio_texts qs n → (rs ≡ qs) × (m ≡ n)

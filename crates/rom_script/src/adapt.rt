@@ -1,7 +1,5 @@
 //! Std's readers and writers as sources and sinks. They are trusted: nothing is told of the bytes
 //! that they give and take.
-ghost use Rattle.std.specs.Prelude.{None};
-
 use crate::streams::{IoFailed, Sink, Source};
 use std::io::{Read, Write};
 
@@ -11,54 +9,57 @@ pub struct Adapted<R> {
     inner: Option<R>,
     faults: u64,
     idle: u64,
+    // Whether the last read gave no byte.
+    ended: bool,
+    // Whether the last write failed.
+    failing: bool,
 }
 
 impl<R> Adapted<R> {
     ghost use Rattle.std.specs.Prelude.{◌≡◌, true, false};
-    ghost use Rattle.rom_script.specs.Adapts.{faults_of, idle_of, is_missing};
+    ghost use Rattle.rom_script.specs.Adapts.{IsFresh, is_missing};
 
     /// The source or sink that this reader or writer is.
     pub fn new(inner: R) -> Self
         ensures present { is_missing result ≡ false }
-        ensures counts { (idle_of result ≡ 0) × (faults_of result ≡ 0) }
+        ensures fresh { IsFresh result }
     {
-        Adapted {
-            inner: Some(inner),
-            faults: 0,
-            idle: 0,
-        }
+        Adapted::over(Some(inner))
     }
 
     /// What stands for a file that could not be opened: each call fails and raises the count.
     pub fn missing() -> Self
         ensures missing { is_missing result ≡ true }
-        ensures counts { (idle_of result ≡ 0) × (faults_of result ≡ 0) }
+        ensures fresh { IsFresh result }
+    {
+        Adapted::over(None)
+    }
+
+    fn over(inner: Option<R>) -> Self
+        ensures inner { result.inner ≡ inner }
+        ensures fresh { IsFresh result }
     {
         Adapted {
-            inner: None,
+            inner,
             faults: 0,
             idle: 0,
+            ended: false,
+            failing: false,
         }
     }
 }
 
 impl<R: Read> Source for Adapted<R> {
-    ghost use Rattle.std.specs.Prelude.{◌≡◌, ◌<◌, ◌≤◌, length, IfOk, IsErr, IsTrue, if◌then◌else◌};
-    ghost use Rattle.rom_model.specs.Faults.{HasCause, counted};
-    ghost use Rattle.rom_script.specs.Adapts.{is_missing};
-    ghost use Rattle.rom_script.specs.Streams.{is_idle};
+    ghost use Rattle.std.specs.Prelude.{◌≡◌, ◌<◌, ◌≤◌, length, IfOk, IsErr, IsTrue};
+    ghost use Rattle.rom_script.specs.Adapts.{is_missing, shown_source};
+    ghost use Rattle.rom_script.specs.Streams.{CountsRead};
 
-    ghost left = { λ _. None };
-
-    ghost faults = { λ a. a.faults };
-
-    ghost idle = { λ a. a.idle };
+    ghost shown = { shown_source };
 
     fn read(&mut self, buf: &mut [u8]) -> Result<u64, IoFailed>
         requires { 0 < length buf.old }
         ensures within { IfOk result (λ n. n ≤ length buf.new) }
-        ensures cause { HasCause self.old.faults self.new.faults result }
-        ensures idle { self.new.idle ≡ (if is_idle result then counted self.old.idle else self.old.idle) }
+        ensures counts { CountsRead shown_source self.old self.new result }
 
         ensures missing { IsTrue (is_missing self.old) → IsErr result }
         ensures kept { is_missing self.new ≡ is_missing self.old }
@@ -67,14 +68,13 @@ impl<R: Read> Source for Adapted<R> {
             Some(reader) => reader.read(buf).ok(),
             None => None,
         };
+        self.ended = !matches!(answer, Some(count) if count > 0);
+        if self.ended {
+            self.idle = self.idle.saturating_add(1);
+        }
         match answer {
-            Some(0) => {
-                self.idle = self.idle.saturating_add(1);
-                Ok(0)
-            }
             Some(count) => Ok(count as u64),
             None => {
-                self.idle = self.idle.saturating_add(1);
                 self.faults = self.faults.saturating_add(1);
                 Err(IoFailed)
             }
@@ -84,22 +84,16 @@ impl<R: Read> Source for Adapted<R> {
 
 impl<W: Write> Sink for Adapted<W> {
     ghost use Rattle.std.specs.Prelude.{◌≡◌, ◌<◌, ◌≤◌, length, IfOk, IsErr, IsTrue};
-    ghost use Rattle.rom_model.specs.Faults.{HasCause};
-    ghost use Rattle.rom_script.specs.Adapts.{is_missing};
+    ghost use Rattle.rom_script.specs.Adapts.{is_missing, shown_sink};
+    ghost use Rattle.rom_script.specs.Streams.{CountsWrite};
 
-    ghost taken = { λ _. None };
-
-    ghost faults = { λ a. a.faults };
-
-    ghost Rest = { Unit {0} };
-
-    ghost rest = { λ _. tt };
+    ghost shown = { shown_sink };
 
     /// A writer that takes nothing has failed.
     fn write(&mut self, piece: &[u8]) -> Result<u64, IoFailed>
         requires { 0 < length piece.now }
         ensures some { IfOk result (λ n. (0 < n) × (n ≤ length piece.now)) }
-        ensures cause { HasCause self.old.faults self.new.faults result }
+        ensures counts { CountsWrite shown_sink self.old self.new result }
 
         ensures missing { IsTrue (is_missing self.old) → IsErr result }
         ensures kept { is_missing self.new ≡ is_missing self.old }
@@ -109,8 +103,12 @@ impl<W: Write> Sink for Adapted<W> {
             None => None,
         };
         match answer {
-            Some(count) if count > 0 => Ok(count as u64),
+            Some(count) if count > 0 => {
+                self.failing = false;
+                Ok(count as u64)
+            }
             _ => {
+                self.failing = true;
                 self.faults = self.faults.saturating_add(1);
                 Err(IoFailed)
             }

@@ -7,7 +7,7 @@
 #![tactic(auto)]
 
 mod adapt;
-mod blocks;
+mod gathered;
 mod line;
 mod memory;
 mod names;

@@ -69,9 +69,11 @@ fn piece_len(bytes: &[u8]) -> usize
 /// next one begins. All are indices of `bytes`.
 pub fn line_end(bytes: &[u8], start: u64) -> (u64, u64)
     requires { start < length bytes.now }
-    ensures line { lines_of (drop start bytes.now) ≡ slice_range bytes.now start result.0 ∷ lines_of (drop result.1 bytes.now) }
+    ensures line { lines_of (drop start bytes.now)
+        ≡ slice_range bytes.now start result.0 ∷ lines_of (drop result.1 bytes.now) }
     ensures next { (result.1 ≡ length bytes.now) ⊎ (slice_index bytes.now (result.1 - 1) ≡ 10) }
-    ensures order { (start ≤ result.0) × (result.0 ≤ result.1) × (start < result.1) × (result.1 ≤ length bytes.now) }
+    ensures order { (start ≤ result.0) × (result.0 ≤ result.1) × (start < result.1) }
+    ensures within { result.1 ≤ length bytes.now }
 {
     let rest = &bytes[start as usize..];
     let len = piece_len(rest);

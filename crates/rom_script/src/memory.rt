@@ -1,5 +1,5 @@
 //! Sources and sinks in memory, which tell their bytes and fail as they are told to.
-ghost use Rattle.std.specs.Prelude.{◌≡◌, ℕ, ◌+◌, ◌-◌, ◌<◌, ◌≤◌, List, [], length, take, vec_len, vec_capacity, Some, IfOk, if◌then◌else◌};
+ghost use Rattle.std.specs.Prelude.{◌≡◌, ℕ, ◌<◌, ◌≤◌, length, take, vec_len, vec_capacity, Some, IfOk};
 
 use crate::streams::{IoFailed, Sink, Source};
 use std::alloc::{AllocError, Global};
@@ -14,12 +14,15 @@ pub struct Bytes {
     reads: u64,
     idle: u64,
     faults: u64,
+    // Whether the last read gave no byte.
+    ended: bool,
     ghost within: { at ≤ vec_len content },
     ghost some: { 0 < piece },
 }
 
 impl Bytes {
-    ghost use Rattle.rom_script.specs.Memory.{bytes_left, piece_of, trips_of, reads_of, idle_of, read_faults_of};
+    ghost use Rattle.std.specs.Prelude.{false};
+    ghost use Rattle.rom_script.specs.Memory.{IsUnread, bytes_left, piece_of, trips_of};
 
     /// A source that has this text left. Each read gives at most `piece` bytes, and the reads
     /// whose numbers, counted from 1, are among the trips fail.
@@ -28,7 +31,7 @@ impl Bytes {
         ensures left { bytes_left result ≡ content.items }
         ensures piece { piece_of result ≡ piece }
         ensures trips { trips_of result ≡ trips.items }
-        ensures counts { (reads_of result ≡ 0) × (idle_of result ≡ 0) × (read_faults_of result ≡ 0) }
+        ensures counts { IsUnread result }
     {
         Bytes {
             content,
@@ -38,6 +41,7 @@ impl Bytes {
             reads: 0,
             idle: 0,
             faults: 0,
+            ended: false,
         }
     }
 }
@@ -51,41 +55,36 @@ fn copy_front(to: &mut [u8], from: &[u8], count: usize)
 }
 
 impl Source for Bytes {
-    ghost use Rattle.std.specs.Prelude.{IsErr, IsTrue, is_err, ◌↔◌};
+    ghost use Rattle.std.specs.Prelude.{IsErr, IsTrue, ◌↔◌};
     ghost use Rattle.std.specs.Io.KnownBytes.{ReadConsumes};
-    ghost use Rattle.rom_model.specs.Faults.{HasCause, counted};
-    ghost use Rattle.rom_script.specs.Memory.{bytes_left, piece_of, trips_of, reads_of, idle_of, read_faults_of, trips_at};
-    ghost use Rattle.rom_script.specs.Streams.{is_idle};
+    ghost use Rattle.rom_script.specs.Memory.{ReadsOn, bytes_left, piece_of, reads_of, shown_bytes, trips_at};
+    ghost use Rattle.rom_script.specs.Streams.{CountsRead};
 
-    ghost left = { λ b. Some (bytes_left b) };
-
-    ghost faults = { λ b. b.faults };
-
-    ghost idle = { λ b. b.idle };
+    ghost shown = { shown_bytes };
 
     /// It fails exactly where a trip is due, and gives at most its piece.
     fn read(&mut self, buf: &mut [u8]) -> Result<u64, IoFailed>
         ensures within { IfOk result (λ n. n ≤ length buf.new) }
-        ensures bytes { ReadConsumes (Some (bytes_left self.old)) (Some (bytes_left self.new)) result buf.new }
-        ensures cause { HasCause (read_faults_of self.old) (read_faults_of self.new) result }
-        ensures idle { idle_of self.new ≡ (if is_idle result then counted (idle_of self.old) else idle_of self.old) }
+        ensures bytes { ReadConsumes (Some (bytes_left self.old)) (Some (bytes_left self.new))
+            result buf.new }
+        ensures counts { CountsRead shown_bytes self.old self.new result }
 
-        ensures reads { reads_of self.new ≡ counted (reads_of self.old) }
-        ensures faults { read_faults_of self.new ≡ (if is_err result then counted (read_faults_of self.old) else read_faults_of self.old) }
+        ensures reads_on { ReadsOn self.old self.new }
         ensures fails { IsErr result ↔ IsTrue (trips_at self.old (reads_of self.new)) }
         ensures piece { IfOk result (λ n. n ≤ piece_of self.old) }
-        ensures rest { (piece_of self.new ≡ piece_of self.old) × (trips_of self.new ≡ trips_of self.old) }
     {
         self.reads = self.reads.saturating_add(1);
         if self.trips.contains(&self.reads) {
             self.idle = self.idle.saturating_add(1);
             self.faults = self.faults.saturating_add(1);
+            self.ended = true;
             return Err(IoFailed);
         }
         let rest = &self.content[self.at..];
         let most = self.piece.min(buf.len() as u64).min(rest.len() as u64);
         copy_front(buf, rest, most as usize);
         self.at += most as usize;
+        self.ended = most == 0;
         if most == 0 {
             self.idle = self.idle.saturating_add(1);
         }
@@ -100,22 +99,24 @@ pub struct Collect {
     room: usize,
     piece: u64,
     faults: u64,
+    // Whether the last write failed.
+    failing: bool,
     ghost within: { vec_len bytes ≤ room },
     ghost reserved: { room ≤ vec_capacity bytes },
     ghost some: { 0 < piece },
 }
 
 impl Collect {
-    ghost use Rattle.rom_script.specs.Memory.{bytes_taken, room_of, write_piece_of, write_faults_of};
+    ghost use Rattle.std.specs.Prelude.{false};
+    ghost use Rattle.rom_script.specs.Memory.{IsUnwritten, bytes_taken, room_of, write_piece_of};
 
     /// A sink that has taken nothing. It takes at most `piece` bytes at a time and `room` bytes in
     /// all; a write with no room left fails.
     pub fn with_room(alloc: Global, room: u64, piece: u64) -> Result<Collect, AllocError>
         requires { 0 < piece }
-        ensures empty { IfOk result (λ c. bytes_taken c ≡ []) }
         ensures room { IfOk result (λ c. room_of c ≡ room) }
         ensures piece { IfOk result (λ c. write_piece_of c ≡ piece) }
-        ensures faults { IfOk result (λ c. write_faults_of c ≡ 0) }
+        ensures unwritten { IfOk result IsUnwritten }
     {
         let bytes = Vec::with_capacity(alloc, room as usize)?;
         Ok(Collect {
@@ -123,6 +124,7 @@ impl Collect {
             room: room as usize,
             piece,
             faults: 0,
+            failing: false,
         })
     }
 
@@ -136,33 +138,28 @@ impl Collect {
 }
 
 impl Sink for Collect {
-    ghost use Rattle.std.specs.Prelude.{IsErr, is_err, ◌↔◌};
+    ghost use Rattle.std.specs.Prelude.{IsErr, ◌↔◌};
     ghost use Rattle.std.specs.Io.KnownBytes.{WriteAppends};
-    ghost use Rattle.rom_model.specs.Faults.{HasCause, counted};
-    ghost use Rattle.rom_script.specs.Memory.{bytes_taken, room_of, write_piece_of, write_faults_of};
+    ghost use Rattle.rom_script.specs.Memory.{KeepsRoom, bytes_taken, room_of, shown_collect, write_piece_of};
+    ghost use Rattle.rom_script.specs.Streams.{CountsWrite};
 
-    ghost taken = { λ c. Some (bytes_taken c) };
-
-    ghost faults = { λ c. c.faults };
-
-    ghost Rest = { Unit {0} };
-
-    ghost rest = { λ _. tt };
+    ghost shown = { shown_collect };
 
     /// It fails exactly where no room is left, and takes at most its piece.
     fn write(&mut self, piece: &[u8]) -> Result<u64, IoFailed>
         requires { 0 < length piece.now }
         ensures some { IfOk result (λ n. (0 < n) × (n ≤ length piece.now)) }
-        ensures bytes { WriteAppends (Some (bytes_taken self.old)) (Some (bytes_taken self.new)) result piece.now }
-        ensures cause { HasCause (write_faults_of self.old) (write_faults_of self.new) result }
+        ensures bytes { WriteAppends (Some (bytes_taken self.old)) (Some (bytes_taken self.new))
+            result piece.now }
+        ensures counts { CountsWrite shown_collect self.old self.new result }
 
-        ensures faults { write_faults_of self.new ≡ (if is_err result then counted (write_faults_of self.old) else write_faults_of self.old) }
+        ensures room { KeepsRoom self.old self.new }
         ensures fails { IsErr result ↔ (length (bytes_taken self.old) ≡ room_of self.old) }
         ensures piece { IfOk result (λ n. n ≤ write_piece_of self.old) }
-        ensures rest { (room_of self.new ≡ room_of self.old) × (write_piece_of self.new ≡ write_piece_of self.old) }
     {
         let free = self.room - self.bytes.len();
-        if free == 0 {
+        self.failing = free == 0;
+        if self.failing {
             self.faults = self.faults.saturating_add(1);
             return Err(IoFailed);
         }

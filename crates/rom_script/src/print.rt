@@ -2,9 +2,8 @@
 //! some of the text, from its front.
 ghost use Rattle.std.specs.Prelude.{◌≡◌, ◌++◌, codes, decimal};
 ghost use Rattle.std.specs.List.{flat_map};
-ghost use Rattle.rom_model.specs.Faults.{HasCause};
 ghost use Rattle.rom_script.specs.Streams.{Prints};
-ghost use Rattle.rom_script.specs.Text.{reply_text, number_text, update_text, read_text};
+ghost use Rattle.rom_script.specs.Text.{number_text, read_text, reply_text, trio_texts, update_text};
 
 use crate::streams::{IoFailed, Sink};
 use itoa::Buffer;
@@ -12,9 +11,7 @@ use rom_model::{Answer, Reply, Updated};
 
 /// Prints bytes.
 fn print_bytes<O: Sink>(out: &mut O, bytes: &[u8]) -> Result<(), IoFailed>
-    ensures text { Prints (O.taken out.old) (O.taken out.new) result bytes.now }
-    ensures cause { HasCause (O.faults out.old) (O.faults out.new) result }
-    ensures rest { O.rest out.new ≡ O.rest out.old }
+    ensures prints { Prints O.shown out.old out.new result bytes.now }
 {
     let mut at = 0;
     while at < bytes.len() {
@@ -25,27 +22,21 @@ fn print_bytes<O: Sink>(out: &mut O, bytes: &[u8]) -> Result<(), IoFailed>
 
 /// Prints a text.
 pub fn print_text<O: Sink>(out: &mut O, text: &str) -> Result<(), IoFailed>
-    ensures text { Prints (O.taken out.old) (O.taken out.new) result text.now }
-    ensures cause { HasCause (O.faults out.old) (O.faults out.new) result }
-    ensures rest { O.rest out.new ≡ O.rest out.old }
+    ensures prints { Prints O.shown out.old out.new result text.now }
 {
     print_bytes(out, text.as_bytes())
 }
 
 /// Prints a number in decimal digits.
 pub fn print_number<O: Sink>(out: &mut O, n: u128) -> Result<(), IoFailed>
-    ensures text { Prints (O.taken out.old) (O.taken out.new) result (decimal n) }
-    ensures cause { HasCause (O.faults out.old) (O.faults out.new) result }
-    ensures rest { O.rest out.new ≡ O.rest out.old }
+    ensures prints { Prints O.shown out.old out.new result (decimal n) }
 {
     print_text(out, Buffer::new().format(n))
 }
 
 /// Prints texts one after another.
 pub fn print_pieces<O: Sink>(out: &mut O, pieces: &[&str]) -> Result<(), IoFailed>
-    ensures text { Prints (O.taken out.old) (O.taken out.new) result (flat_map (λ piece. piece.now) pieces.now) }
-    ensures cause { HasCause (O.faults out.old) (O.faults out.new) result }
-    ensures rest { O.rest out.new ≡ O.rest out.old }
+    ensures prints { Prints O.shown out.old out.new result (flat_map (λ piece. piece.now) pieces.now) }
 {
     for piece in pieces {
         print_text(out, piece)?;
@@ -86,9 +77,7 @@ fn digits_of(buffer: &mut Buffer, number: Option<u64>) -> &str
 
 /// Prints what an update was told, with its place where it was done.
 pub fn print_update<O: Sink>(out: &mut O, updated: &Updated<Reply>) -> Result<(), IoFailed>
-    ensures text { Prints (O.taken out.old) (O.taken out.new) result (update_text updated.now) }
-    ensures cause { HasCause (O.faults out.old) (O.faults out.new) result }
-    ensures rest { O.rest out.new ≡ O.rest out.old }
+    ensures prints { Prints O.shown out.old out.new result (update_text trio_texts updated.now) }
 {
     match updated {
         Updated::Done(reply, place) => {
@@ -106,9 +95,7 @@ pub fn print_update<O: Sink>(out: &mut O, updated: &Updated<Reply>) -> Result<()
 
 /// Prints what a query was told, with the front that it read.
 pub fn print_answer<O: Sink>(out: &mut O, answer: &Answer, front: u64) -> Result<(), IoFailed>
-    ensures text { Prints (O.taken out.old) (O.taken out.new) result (read_text answer.now front) }
-    ensures cause { HasCause (O.faults out.old) (O.faults out.new) result }
-    ensures rest { O.rest out.new ≡ O.rest out.old }
+    ensures prints { Prints O.shown out.old out.new result (read_text trio_texts answer.now front) }
 {
     let mut at = Buffer::new();
     let at = at.format(front);

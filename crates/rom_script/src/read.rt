@@ -1,9 +1,7 @@
 //! The bytes of a script, read to their end.
-ghost use Rattle.std.specs.Prelude.{◌≡◌, ℕ, ◌+◌, ◌<◌, ◌≤◌, length, vec_len, IfOk, IfSome, OnOk};
-ghost use Rattle.std.specs.Io.KnownBytes.{Consumes, IsAtEnd};
-ghost use Rattle.rom_model.specs.Faults.{Rose};
-ghost use Rattle.rom_script.specs.Limits.{FitsScript, IsTooLong, IsReadAtMost};
-ghost use Rattle.rom_script.specs.Streams.{Takes};
+ghost use Rattle.std.specs.Prelude.{◌≡◌, ℕ, length, IfOk};
+ghost use Rattle.std.specs.Io.KnownBytes.{Consumes};
+ghost use Rattle.rom_script.specs.Limits.{EndsReading, IsWithinLimit};
 
 use crate::streams::Source;
 use std::alloc::{AllocError, Global};
@@ -34,22 +32,12 @@ impl From<AllocError> for ReadRefused {
     }
 }
 
-/// Reads all that a source has left. Whatever it answers, it has taken at most one byte more than
-/// a script may have, and at most one read gave it nothing; what it has taken is lost to the
-/// source after an `Err`.
+/// Reads all that a source has left. What it has taken is lost to the source after an `Err`.
 pub fn read_bytes<S: Source>(alloc: Global, source: &mut S) -> Result<Vec<u8>, ReadRefused>
-    ensures all { IfOk result (λ bytes. Consumes (S.left source.old) (S.left source.new) bytes.items) }
-    ensures to_its_end { OnOk result (IsAtEnd (S.left source.new)) }
-    ensures fits { IfOk result (λ bytes. FitsScript bytes.items) }
-
-    ensures failed { result ≡ Err ReadRefused.Failed → Rose (S.faults source.old) (S.faults source.new) }
-    ensures failed_early { result ≡ Err ReadRefused.Failed → Takes FitsScript (S.left source.old) (S.left source.new) }
-    ensures too_long { result ≡ Err ReadRefused.TooLong → Takes IsTooLong (S.left source.old) (S.left source.new) }
-    ensures unbroken { result ≡ Err ReadRefused.TooLong → S.idle source.new ≡ S.idle source.old }
-
-    ensures takes { Takes IsReadAtMost (S.left source.old) (S.left source.new) }
-    ensures turns { S.idle source.new ≤ S.idle source.old + 1 }
-    ensures later { S.faults source.old ≤ S.faults source.new }
+    ensures all { IfOk result (λ bytes.
+        Consumes (S.shown.left source.old) (S.shown.left source.new) bytes.items) }
+    ensures within { IfOk result (λ bytes. IsWithinLimit bytes.items) }
+    ensures ends { EndsReading S.shown source.old source.new result }
 {
     let mut bytes = Vec::new(alloc);
     let mut block = [0; BLOCK];

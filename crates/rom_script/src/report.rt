@@ -1,10 +1,9 @@
 //! The text of a run: what each line was told, and the count at closing.
 ghost use Rattle.std.specs.Prelude.{◌≡◌, [], ◌∷◌, drop};
-ghost use Rattle.rom_model.specs.Faults.{HasCause};
 ghost use Rattle.rom_script.specs.Streams.{Prints};
-ghost use Rattle.rom_script.specs.Text.{text, line_text, result_text, results_text};
+ghost use Rattle.rom_script.specs.Text.{line_text, result_text, results_text, text, trio_texts};
 
-use crate::blocks::Blocks;
+use crate::gathered::Gathered;
 use crate::print::{print_answer, print_pieces, print_text, print_update};
 use crate::streams::{IoFailed, Sink};
 use itoa::Buffer;
@@ -12,9 +11,7 @@ use rom_model::{Answer, LineResult, Reply};
 
 /// Prints what a line was told.
 fn print_result<O: Sink>(out: &mut O, told: &LineResult<Reply, Answer>) -> Result<(), IoFailed>
-    ensures text { Prints (O.taken out.old) (O.taken out.new) result (result_text told.now) }
-    ensures cause { HasCause (O.faults out.old) (O.faults out.new) result }
-    ensures rest { O.rest out.new ≡ O.rest out.old }
+    ensures prints { Prints O.shown out.old out.new result (result_text trio_texts told.now) }
 {
     match told {
         LineResult::Unread => print_text(out, "unread"),
@@ -25,9 +22,7 @@ fn print_result<O: Sink>(out: &mut O, told: &LineResult<Reply, Answer>) -> Resul
 
 /// Prints the line of what a line was told.
 fn print_line<O: Sink>(out: &mut O, told: &LineResult<Reply, Answer>) -> Result<(), IoFailed>
-    ensures text { Prints (O.taken out.old) (O.taken out.new) result (line_text (result_text told.now)) }
-    ensures cause { HasCause (O.faults out.old) (O.faults out.new) result }
-    ensures rest { O.rest out.new ≡ O.rest out.old }
+    ensures prints { Prints O.shown out.old out.new result (line_text (result_text trio_texts told.now)) }
 {
     print_result(out, told)?;
     print_text(out, "\n")
@@ -38,9 +33,7 @@ fn print_results<O: Sink>(
     out: &mut O,
     results: &[LineResult<Reply, Answer>],
 ) -> Result<(), IoFailed>
-    ensures text { Prints (O.taken out.old) (O.taken out.new) result (results_text results.now) }
-    ensures cause { HasCause (O.faults out.old) (O.faults out.new) result }
-    ensures rest { O.rest out.new ≡ O.rest out.old }
+    ensures prints { Prints O.shown out.old out.new result (results_text trio_texts results.now) }
 {
     for told in results {
         print_line(out, told)?;
@@ -54,9 +47,7 @@ fn print_whole<O: Sink>(
     results: &[LineResult<Reply, Answer>],
     count: u64,
 ) -> Result<(), IoFailed>
-    ensures text { Prints (O.taken out.old) (O.taken out.new) result (text (results.now ∷ []) count) }
-    ensures cause { HasCause (O.faults out.old) (O.faults out.new) result }
-    ensures rest { O.rest out.new ≡ O.rest out.old }
+    ensures prints { Prints O.shown out.old out.new result (text trio_texts (results.now ∷ []) count) }
 {
     print_text(out, "caller 1\n")?;
     print_results(out, results)?;
@@ -65,15 +56,14 @@ fn print_whole<O: Sink>(
 
 /// Prints the whole text into a block, and hands the rest of it over.
 fn print_through<O: Sink>(
-    out: &mut Blocks<O>,
+    out: &mut Gathered<O>,
     results: &[LineResult<Reply, Answer>],
     count: u64,
 ) -> Result<(), IoFailed>
     requires none { drop out.old.handed out.old.block.items ≡ [] }
-    requires opened { O.taken out.old.opened.value ≡ O.taken out.old.out.now }
-    ensures text { Prints (O.taken out.old.out.now) (O.taken out.new.out.now) result (text (results.now ∷ []) count) }
-    ensures cause { HasCause (O.faults out.old.out.now) (O.faults out.new.out.now) result }
-    ensures rest { O.rest out.new.out.now ≡ O.rest out.old.out.now }
+    requires opened { O.shown.taken out.old.opened.value ≡ O.shown.taken out.old.out.now }
+    ensures prints { Prints O.shown out.old.out.now out.new.out.now result
+        (text trio_texts (results.now ∷ []) count) }
     ensures same_sink { out.new.out.ghost_name ≡ out.old.out.ghost_name }
 {
     print_whole(out, results, count)?;
@@ -88,10 +78,8 @@ pub fn print_run<O: Sink>(
     results: &[LineResult<Reply, Answer>],
     count: u64,
 ) -> Result<(), IoFailed>
-    ensures text { Prints (O.taken out.old) (O.taken out.new) result (text (results.now ∷ []) count) }
-    ensures cause { HasCause (O.faults out.old) (O.faults out.new) result }
-    ensures rest { O.rest out.new ≡ O.rest out.old }
+    ensures prints { Prints O.shown out.old out.new result (text trio_texts (results.now ∷ []) count) }
 {
-    let mut blocks = Blocks::over(out);
-    print_through(&mut blocks, results, count)
+    let mut gathered = Gathered::over(out);
+    print_through(&mut gathered, results, count)
 }

@@ -1,13 +1,10 @@
 //! Whole scripts: their lines in order.
 ghost use Rattle.std.specs.Prelude.{◌≡◌, ℕ, ◌+◌, ◌<◌, ◌≤◌, List, [], ◌∷◌, ◌++◌, length, vec_len, IfOk, IfSome, OnOk, slice_get};
 ghost use Rattle.std.specs.List.{AllByRecursion};
-ghost use Rattle.std.specs.Io.KnownBytes.{IsAtEnd};
-ghost use Rattle.rom_model.specs.Faults.{Rose};
 ghost use Rattle.rom_script.specs.declared.read.TheConstants.{MAX_BYTES};
-ghost use Rattle.rom_script.specs.Limits.{FitsScript, IsTooLong, IsReadAtMost};
-ghost use Rattle.rom_script.specs.Lines.{AreRead, IsStepRead, lines_of};
+ghost use Rattle.rom_script.specs.Limits.{EndsReading, FitsScript};
+ghost use Rattle.rom_script.specs.Lines.{AreRead, AreStepsOf, IsStepRead, lines_of};
 ghost use Rattle.rom_script.specs.Scripts.{steps_of};
-ghost use Rattle.rom_script.specs.Streams.{Takes};
 
 use crate::line::{Line, line_end, read_line};
 use crate::read::{ReadRefused, read_bytes};
@@ -59,22 +56,13 @@ fn lines_in(alloc: Global, bytes: &[u8]) -> Result<Vec<Line>, AllocError>
     Ok(lines)
 }
 
-/// Reads a script to the end of its source. What a source gives and loses is as for `read_bytes`.
+/// Reads a script to the end of its source. What was taken is lost to the source after an `Err`.
 pub fn read_script<S: Source>(alloc: Global, source: &mut S) -> Result<Script, ReadRefused>
-    ensures lines { IfOk result (λ script. IfSome (S.left source.old) (λ bytes. AreRead (lines_of bytes) (steps_of script))) }
+    ensures lines { IfOk result (λ script. AreStepsOf (S.shown.left source.old) (steps_of script)) }
     ensures today { IfOk result (λ script. AllByRecursion IsStepRead (steps_of script)) }
     ensures few { IfOk result (λ script. length (steps_of script) ≤ MAX_BYTES) }
-    ensures fits { OnOk result (IfSome (S.left source.old) FitsScript) }
-    ensures to_its_end { OnOk result (IsAtEnd (S.left source.new)) }
-
-    ensures failed { result ≡ Err ReadRefused.Failed → Rose (S.faults source.old) (S.faults source.new) }
-    ensures failed_early { result ≡ Err ReadRefused.Failed → Takes FitsScript (S.left source.old) (S.left source.new) }
-    ensures too_long { result ≡ Err ReadRefused.TooLong → Takes IsTooLong (S.left source.old) (S.left source.new) }
-    ensures unbroken { result ≡ Err ReadRefused.TooLong → S.idle source.new ≡ S.idle source.old }
-
-    ensures takes { Takes IsReadAtMost (S.left source.old) (S.left source.new) }
-    ensures turns { S.idle source.new ≤ S.idle source.old + 1 }
-    ensures later { S.faults source.old ≤ S.faults source.new }
+    ensures fits { OnOk result (IfSome (S.shown.left source.old) FitsScript) }
+    ensures ends { EndsReading S.shown source.old source.new result }
 {
     let bytes = read_bytes(alloc, source)?;
     let lines = lines_in(alloc, &bytes)?;

@@ -1,8 +1,7 @@
 //! Where scripts come from and where texts go.
-ghost use Rattle.std.specs.Prelude.{◌≡◌, ℕ, ◌<◌, ◌≤◌, List, length, Option, IfOk, if◌then◌else◌};
+ghost use Rattle.std.specs.Prelude.{◌≡◌, ℕ, ◌<◌, ◌≤◌, length, IfOk};
 ghost use Rattle.std.specs.Io.KnownBytes.{ReadConsumes, WriteAppends};
-ghost use Rattle.rom_model.specs.Faults.{HasCause, counted};
-ghost use Rattle.rom_script.specs.Streams.{is_idle};
+ghost use Rattle.rom_script.specs.Streams.{CountsRead, CountsWrite, ShownSink, ShownSource};
 
 /// A read or a write failed.
 #[derive(Clone, Copy, Debug, PartialEq, Eq)]
@@ -10,45 +9,30 @@ pub struct IoFailed;
 
 /// Bytes that are read piece by piece.
 pub trait Source {
-    /// The bytes that are left, where the source tells them.
-    ghost left: { Self → Option (List ℕ) };
-
-    /// How often a read has failed, up to 2^64 - 1.
-    ghost faults: { Self → ℕ };
-
-    /// How many reads gave no byte, by a failure or at the end, up to 2^64 - 1.
-    ghost idle: { Self → ℕ };
+    /// What it shows of itself: the bytes that are left, where it tells them, and how many reads
+    /// failed or gave no byte.
+    ghost shown: { ShownSource Self };
 
     /// Reads the next bytes into the front of `buf`, and says how many they are. `Ok(0)` is the
     /// end of the input. After `IoFailed` the same bytes are left.
     fn read(&mut self, buf: &mut [u8]) -> Result<u64, IoFailed>
         requires { 0 < length buf.old }
         ensures within { IfOk result (λ n. n ≤ length buf.new) }
-        ensures bytes { ReadConsumes (left self.old) (left self.new) result buf.new }
-        ensures cause { HasCause (faults self.old) (faults self.new) result }
-        ensures idle { idle self.new ≡ (if is_idle result then counted (idle self.old) else idle self.old) };
+        ensures bytes { ReadConsumes (shown.left self.old) (shown.left self.new) result buf.new }
+        ensures counts { CountsRead shown self.old self.new result };
 }
 
 /// Bytes that are written piece by piece.
 pub trait Sink {
-    /// The bytes that were taken, where the sink tells them.
-    ghost taken: { Self → Option (List ℕ) };
-
-    /// How often a write has failed, up to 2^64 - 1.
-    ghost faults: { Self → ℕ };
-
-    /// What else contracts must know of it.
-    ghost Rest: { Type 0 };
-
-    /// That of this sink, which no write changes.
-    ghost rest: { Self → Rest };
+    /// What it shows of itself: the bytes that were taken, where it tells them, how many writes
+    /// failed, and what no write changes.
+    ghost shown: { ShownSink Self };
 
     /// Takes the first bytes of the piece, at least one, and says how many. After `IoFailed` it
     /// has taken none of them.
     fn write(&mut self, piece: &[u8]) -> Result<u64, IoFailed>
         requires { 0 < length piece.now }
         ensures some { IfOk result (λ n. (0 < n) × (n ≤ length piece.now)) }
-        ensures bytes { WriteAppends (taken self.old) (taken self.new) result piece.now }
-        ensures cause { HasCause (faults self.old) (faults self.new) result }
-        ensures rest { rest self.new ≡ rest self.old };
+        ensures bytes { WriteAppends (shown.taken self.old) (shown.taken self.new) result piece.now }
+        ensures counts { CountsWrite shown self.old self.new result };
 }

@@ -277,21 +277,26 @@ fn a_sink_without_room_has_the_front_of_the_text(rt: HostRuntime) -> Result<(), 
 struct Widths {
     widths: Vec<u64>,
     faults: u64,
+    failing: bool,
 }
 
 impl Sink for Widths {
-    ghost taken = { λ _. None };
-
-    ghost faults = { λ w. w.faults };
-
-    ghost Rest = { Unit {0} };
-
-    ghost rest = { λ _. tt };
+    ghost shown = { record {
+      taken = λ _. None;
+      faults = λ w. w.faults;
+      failing = λ w. w.failing;
+      Rest = Unit {0};
+      rest = λ _. tt;
+    } };
 
     fn write(&mut self, piece: &[u8]) -> Result<u64, IoFailed> {
         match self.widths.push(piece.len() as u64) {
-            Ok(()) => Ok(piece.len() as u64),
+            Ok(()) => {
+                self.failing = false;
+                Ok(piece.len() as u64)
+            }
             Err(_) => {
+                self.failing = true;
                 self.faults = self.faults.saturating_add(1);
                 Err(IoFailed)
             }
@@ -314,6 +319,7 @@ fn texts_of_runs_leave_in_whole_blocks(rt: HostRuntime) -> Result<(), Fail> {
         let mut out = Widths {
             widths: Vec::new(alloc),
             faults: 0,
+            failing: false,
         };
         print_run(&mut out, &results, 5)?;
         assert!(rt; out.widths.as_slice() == widths, "at {lines} lines");

@@ -188,3 +188,7 @@ pub goes_on_at : (old new : List ℕ) (es fs : List Entry) (lines : List (Step C
 goes_on_at old new es fs lines rs qs i d r lt p t qs_is =
     subst (λ ls. Progress new fs ls qs) (sym (take_more lines i d lt))
     (subst (λ xs. Progress new fs (take i lines ++ get_or lines i d ∷ []) xs) (sym qs_is) (goes_on old new es fs (take i lines) rs (get_or lines i d) r p t))
+
+-- a story that began with these updates has them as its history
+pub began_again : (story : Story State) (es : List Entry) → story ≡ began 4 0 es → story ≡ began 4 0 story.history
+began_again story es is = is ∙ ap (began 4 0) (sym (ap (λ s. s.history) is))

@@ -1,125 +1,155 @@
 -- What a run of one script leaves to be said of it.
-use Rattle.std.specs.Prelude.{◌≡◌, ℕ, ◌+◌, ◌≤◌, Bool, true, false, cond, List, [], ◌∷◌, ◌++◌, length, map, codes, decimal, IfSome, IsSome, slice_set, Option, Some, None, Result, Err}
-use Rattle.std.proofs.Common.{refl, sym, ap, subst, ◌∙◌, get_or, arith}
+use Rattle.std.specs.Prelude.{◌≡◌, ◌≢◌, ◌⊎◌, ℕ, ◌+◌, Bool, true, false, cond, List, [], ◌∷◌, ◌++◌, length, map, codes, decimal, IfSome, IsSome, slice_set, Option, Some, None, Result, Ok, Err}
+use Rattle.std.proofs.Common.{refl, sym, ap, subst, ◌∙◌, get_or, arith, inl, inr}
 use Rattle.std.proofs.lemmas.Fmt.{decimal_digit}
 use Rattle.std.specs.Io.KnownBytes.{IsAtEnd}
 use Rattle.rom_model.specs.State.{State}
-use Rattle.rom_model.specs.Story.{Story}
-use Rattle.rom_model.specs.Faults.{Rose}
-use Rattle.rom_script.specs.Limits.{FitsScript, IsTooLong}
-use Rattle.rom_script.specs.Lines.{AreRead, lines_of}
-use Rattle.rom_script.specs.Streams.{Takes}
+use Rattle.rom_model.specs.Story.{Story, count}
 use Rattle.rom_model.specs.declared.call.Call.{Call}
 use Rattle.rom_model.specs.declared.call.Query.{Query}
+use Rattle.rom_model.specs.declared.call.Reply.{Reply}
+use Rattle.rom_model.specs.declared.call.Answer.{Answer}
 use Rattle.rom_model.specs.declared.line.Step.{Step}
+use Rattle.rom_model.specs.declared.line.LineResult.{LineResult}
+use Rattle.rom_script.specs.Lines.{AreStepsOf}
+use Rattle.rom_script.specs.Text.{status_of, text, trio_texts}
+use Rattle.rom_shell.specs.Began.{began}
+use Rattle.rom_script.specs.Limits.{FitsScript}
+use Rattle.rom_script.specs.Runs.{AreAskedOnce, AreAtEnd, AreWithin, IsCutShort, IsTold, IsWritten, SourceFailed, SourceTooLong}
+use Rattle.rom_script.specs.Streams.{ShownSink, ShownSource, IsAskedOnce, Prints}
 use Rattle.rom_shell.specs.Statuses.{number_of}
 use Rattle.rom_shell.specs.declared.status.Status.{Status}
-use Rattle.rom_shell.specs.declared.status.Status.TheVariants.{ScriptFailed, ScriptTooLong}
+use Rattle.rom_shell.specs.declared.status.Status.TheVariants.{ScriptFailed, NoMemory, ScriptTooLong}
 use Rattle.rom_shell.specs.Words.{Command, Try, command, scripts_of}
-use Rattle.rom_shell.specs.Running.{Ran}
-use Rattle.rom_shell.specs.Run.{AreScripts, AreAskedOnce, AreWithin, AreAtEnd, HasReplies, IsTold, SourceFailed, SourceTooLong}
+use Rattle.rom_shell.specs.Run.{AreAnswered, HasReplies, HasTried, IsRefused}
 
 one_where : (b : Bool) (script : List ℕ) → let asked = cond b (Some (Try (script ∷ []))) None in IsSome asked → length (scripts_of asked) ≡ 1
 one_where true script some = refl
 one_where false script some = absurd (let no : ⊥ = cc in no)
 
 -- a command names one script
-pub one_script : (words : List (List ℕ)) → IsSome (command words) → length (scripts_of (command words)) ≡ 1
+one_script : (words : List (List ℕ)) → IsSome (command words) → length (scripts_of (command words)) ≡ 1
 one_script [] some = absurd (let no : ⊥ = cc in no)
 one_script (name ∷ []) some = absurd (let no : ⊥ = cc in no)
 one_script (name ∷ script ∷ []) some = one_where _ script some
 one_script (name ∷ script ∷ word ∷ words) some = absurd (let no : ⊥ = cc in no)
 
 -- a list of one
-pub only : {S : Type 0} (xs : List S) (s : S) → length xs ≡ 1 → s ≡ get_or xs 0 s → xs ≡ s ∷ []
+only : {S : Type 0} (xs : List S) (s : S) → length xs ≡ 1 → s ≡ get_or xs 0 s → xs ≡ s ∷ []
 only [] s one is = absurd (omega arith)
 only (x ∷ []) s one is = ap (λ y. y ∷ []) (sym is)
 only (x ∷ y ∷ xs) s one is = absurd (omega arith)
 
--- the steps are those of the one script
-are_scripts : (source : Option (List ℕ)) (steps : List (Step Call Query)) → IfSome source (λ bytes. AreRead (lines_of bytes) steps) → AreScripts (source ∷ []) (steps ∷ [])
-are_scripts (Some bytes) steps read = (read, tt)
-are_scripts None steps read = tt
+-- the first of a command's sources is the only one
+pub only_script : {S : Type 0} (words : List (List ℕ)) (xs : List S) (s : S) → IsSome (command words) →
+    length xs ≡ length (scripts_of (command words)) → s ≡ get_or xs 0 s → xs ≡ s ∷ []
+only_script words xs s some as_many is = only xs s (as_many ∙ one_script words some) is
 
-replies_of : (asked : Option Command) (words : Option (List ℕ)) (story : Story State) (source old new : Option (List ℕ)) (status : ℕ) → IsSome asked → Ran story source old new status →
-    HasReplies asked words story (source ∷ []) old new status
-replies_of (Some (Try names)) words story source old new status some ran = record {
-  opening = (ap (λ s. s.order) ran.began_empty, ap (λ s. s.opening) ran.began_empty, ap (λ s. s.opening_count) ran.began_empty);
-  scripts = ran.steps ∷ [];
-  results = ran.results ∷ [];
-  read = are_scripts source ran.steps ran.read;
-  lawful = ran.lawful;
-  each_done = (ran.each_done, tt);
-  of_type = (ran.of_type, tt);
-  within = ran.within;
-  printed = ran.printed;
-}
-replies_of None words story source old new status some ran = absurd (let no : ⊥ = cc in no)
+-- a status that isn't 4 is of no script that failed
+pub no_four : {T : Type 0} (status : Status) (n : ℕ) → n ≡ number_of status → n ≢ 4 → (let r : Result T Status = Err status in r ≢ Err ScriptFailed)
+no_four status n is not_four = λ failed. not_four (is ∙ ap number_of (let same : status ≡ ScriptFailed = cc in same))
 
-number_four : (status : Status) → number_of status ≡ 4 → status ≡ ScriptFailed
-number_four ScriptFailed is = refl
-number_four other is = absurd (omega arith)
-
-number_eight : (status : Status) → number_of status ≡ 8 → status ≡ ScriptTooLong
-number_eight ScriptTooLong is = refl
-number_eight other is = absurd (omega arith)
-
--- the statuses that these numbers are
-pub failed_by : {T : Type 0} (status : Status) (n : ℕ) → n ≡ number_of status → n ≡ 4 → let r : Result T Status = Err status in r ≡ Err ScriptFailed
-failed_by {T} status n is four = ap (λ (s : Status). let r : Result T Status = Err s in r) (number_four status (sym is ∙ four))
-
-pub too_long_by : {T : Type 0} (status : Status) (n : ℕ) → n ≡ number_of status → n ≡ 8 → let r : Result T Status = Err status in r ≡ Err ScriptTooLong
-too_long_by {T} status n is eight = ap (λ (s : Status). let r : Result T Status = Err s in r) (number_eight status (sym is ∙ eight))
-
--- the results of a run of one script
-pub has_replies : {S : Type 0} (left : S → Option (List ℕ)) (asked : Option Command) (words : Option (List ℕ)) (story : Story State) (xs : List S) (s : S) (old new : Option (List ℕ)) (status : ℕ) →
-    IsSome asked → xs ≡ s ∷ [] → Ran story (left s) old new status → HasReplies asked words story (map left xs) old new status
-has_replies left asked words story xs s old new status some is ran = subst (λ ys. HasReplies asked words story (map left ys) old new status) (sym is) (replies_of asked words story (left s) old new status some ran)
-
-pub all_fit : {S : Type 0} (left : S → Option (List ℕ)) (xs : List S) (s : S) → xs ≡ s ∷ [] → IfSome (left s) FitsScript → AreWithin (map left xs)
-all_fit left xs s is fits = subst (λ ys. AreWithin (map left ys)) (sym is) (fits, tt)
-
-pub all_read : {S : Type 0} (left : S → Option (List ℕ)) (xs : List S) (s after : S) → xs ≡ s ∷ [] → IsAtEnd (left after) → AreAtEnd (map left (slice_set xs 0 after))
-all_read left xs s after is end = subst (λ ys. AreAtEnd (map left (slice_set ys 0 after))) (sym is) (end, tt)
+-- what is the same of the one element is the same of all
+pub same_of_one : {S : Type 0} (f : S → ℕ) (xs : List S) (s after : S) → xs ≡ s ∷ [] → f after ≡ f s → map f (slice_set xs 0 after) ≡ map f xs
+same_of_one f xs s after one same = subst (λ ys. map f (slice_set ys 0 after) ≡ map f ys) (sym one) (ap (λ n. n ∷ []) same)
 
 digit_one : decimal (0 + 1) ≡ 49 ∷ []
 digit_one = decimal_digit 1 (omega arith)
 
--- the one script failed
-pub first_failed : {S : Type 0} (left : S → Option (List ℕ)) (faults : S → ℕ) (xs : List S) (s after : S) (old new : Option (List ℕ)) (was now : ℕ) → xs ≡ s ∷ [] →
-    Rose (faults s) (faults after) → Takes FitsScript (left s) (left after) → IsTold old new (codes "script 1 failed") was now →
-    SourceFailed (map left xs) (map left (slice_set xs 0 after)) (map faults xs) (map faults (slice_set xs 0 after)) old new was now
-first_failed left faults xs s after old new was now is rose takes told =
-    subst (λ ys. SourceFailed (map left ys) (map left (slice_set ys 0 after)) (map faults ys) (map faults (slice_set ys 0 after)) old new was now) (sym is) (record {
-      script = 0;
-      first = record { stands = omega arith; others_fit = tt; others_read = tt };
-      rose = rose;
-      taken = takes.bytes;
-      given = takes.consumed;
-      few = takes.such;
-      told = subst (λ ds. IsTold old new (codes "script " ++ ds ++ codes " failed") was now) (sym digit_one) told;
-    })
+module _ {S : Type 0} (source : ShownSource S) where
+  pub all_fit : (xs : List S) (s : S) → xs ≡ s ∷ [] → IfSome (source.left s) FitsScript → AreWithin source xs
+  all_fit xs s is fits = subst (λ ys. AreWithin source ys) (sym is) (fits, tt)
 
--- the one script is too long
-pub first_too_long : {S : Type 0} (left : S → Option (List ℕ)) (idle : S → ℕ) (xs : List S) (s after : S) (old new : Option (List ℕ)) (was now : ℕ) → xs ≡ s ∷ [] →
-    Takes IsTooLong (left s) (left after) → idle after ≡ idle s → IsTold old new (codes "script 1 too long") was now →
-    SourceTooLong (map left xs) (map left (slice_set xs 0 after)) (map idle xs) (map idle (slice_set xs 0 after)) old new was now
-first_too_long left idle xs s after old new was now is takes unbroken told =
-    subst (λ ys. SourceTooLong (map left ys) (map left (slice_set ys 0 after)) (map idle ys) (map idle (slice_set ys 0 after)) old new was now) (sym is) (record {
-      script = 0;
-      first = record { stands = omega arith; others_fit = tt; others_read = tt };
-      taken = takes.bytes;
-      given = takes.consumed;
-      many = takes.such;
-      unbroken = unbroken;
-      told = subst (λ ds. IsTold old new (codes "script " ++ ds ++ codes " too long") was now) (sym digit_one) told;
-    })
+  pub all_read : (xs : List S) (s after : S) → xs ≡ s ∷ [] → IsAtEnd (source.left after) → AreAtEnd source (slice_set xs 0 after)
+  all_read xs s after is end = subst (λ ys. AreAtEnd source (slice_set ys 0 after)) (sym is) (end, tt)
 
--- none was asked at all
-pub unasked : (counts : List ℕ) → AreAskedOnce counts counts
-unasked [] = tt
-unasked (n ∷ counts) = (omega arith, unasked counts)
+  -- none was asked at all
+  pub unasked : (xs : List S) → AreAskedOnce source xs xs
+  unasked [] = tt
+  unasked (s ∷ xs) = (record { idle = inl refl; faults = inl refl }, unasked xs)
 
--- the one script was asked
-pub asked_once : {S : Type 0} (idle : S → ℕ) (xs : List S) (s after : S) → xs ≡ s ∷ [] → idle after ≤ idle s + 1 → AreAskedOnce (map idle xs) (map idle (slice_set xs 0 after))
-asked_once idle xs s after is turns = subst (λ ys. AreAskedOnce (map idle ys) (map idle (slice_set ys 0 after))) (sym is) (turns, tt)
+  -- the one script was asked
+  pub one_asked : (xs : List S) (s after : S) → xs ≡ s ∷ [] → IsAskedOnce source s after → AreAskedOnce source xs (slice_set xs 0 after)
+  one_asked xs s after is once = subst (λ ys. AreAskedOnce source ys (slice_set ys 0 after)) (sym is) (once, tt)
+
+module _ {S O : Type 0} (source : ShownSource S) (sink : ShownSink O) where
+  -- the results of a run of one script
+  pub has_replies : (asked : Option Command) (words : Option (List ℕ)) (story : Story State) (xs : List S) (s : S) (old new : O) (status : ℕ) →
+      IsSome asked → xs ≡ s ∷ [] → HasTried source sink story (s ∷ []) old new status → HasReplies source sink asked words story xs old new status
+  has_replies (Some (Try names)) words story xs s old new status some is tried =
+      subst (λ ys. HasReplies source sink (Some (Try names)) words story ys old new status) (sym is) (tried names words)
+  has_replies None words story xs s old new status some is tried = absurd (let no : ⊥ = cc in no)
+
+  -- the text of these results and of this count is printed, or cut short
+  abbrev pub IsText : List (LineResult Reply Answer) → ℕ → O → O → ℕ → Type 0
+  IsText results n old new status =
+      ((status ≡ status_of (results ∷ [])) × IsWritten sink old new (text trio_texts (results ∷ []) n))
+      ⊎ ((status ≡ 5) × IsCutShort sink old new (text trio_texts (results ∷ []) n))
+
+  -- what a printing of the text says
+  pub printed_whole : {T E : Type 0} (results shown : List (LineResult Reply Answer)) (n m status : ℕ) (old new : O) (v : T) →
+      status ≡ status_of (results ∷ []) → shown ≡ results → n ≡ m →
+      (let r : Result T E = Ok v in Prints sink old new r (text trio_texts (shown ∷ []) n)) → IsText results m old new status
+  printed_whole results shown n m status old new v status_is shown_is n_is p =
+      inl (
+        status_is,
+        subst (λ qs. IsWritten sink old new (text trio_texts (qs ∷ []) m)) shown_is
+            (subst (λ k. IsWritten sink old new (text trio_texts (shown ∷ []) k)) n_is (p.bytes, p.cause.none)),
+      )
+
+  pub printed_short : {T E : Type 0} (results shown : List (LineResult Reply Answer)) (n m status : ℕ) (old new : O) (e : E) →
+      status ≡ 5 → shown ≡ results → n ≡ m →
+      (let r : Result T E = Err e in Prints sink old new r (text trio_texts (shown ∷ []) n)) → IsText results m old new status
+  printed_short results shown n m status old new e status_is shown_is n_is p =
+      inr (
+        status_is,
+        subst (λ qs. IsCutShort sink old new (text trio_texts (qs ∷ []) m)) shown_is
+            (subst (λ k. IsCutShort sink old new (text trio_texts (shown ∷ []) k)) n_is (p.bytes, p.cause.failed)),
+      )
+
+  -- a script that was read, played and printed
+  pub tried : (story : Story State) (s : S) (steps lines : List (Step Call Query)) (results : List (LineResult Reply Answer)) (old new : O) (status : ℕ) →
+      story ≡ began 4 0 story.history → AreStepsOf (source.left s) steps → lines ≡ steps → AreAnswered story (lines ∷ []) (results ∷ []) →
+      IsText results (count story) old new status → HasTried source sink story (s ∷ []) old new status
+  tried story s steps lines results old new status is read lines_are answered printed = λ names words. record {
+    opening = (ap (λ s. s.order) is, ap (λ s. s.opening) is, ap (λ s. s.opening_count) is);
+    scripts = steps ∷ [];
+    results = results ∷ [];
+    read = (read, tt);
+    answered = subst (λ ls. AreAnswered story (ls ∷ []) (results ∷ [])) lines_are answered;
+    printed = printed;
+  }
+
+  -- there was no memory
+  pub no_memory : (status : Status) (n : ℕ) (was now : S) (old new : O) → n ≡ number_of status → n ≡ 6 →
+      IsRefused source sink status was now old new → IsTold sink old new (codes "no memory")
+  no_memory NoMemory n was now old new is six refused = refused
+  no_memory other n was now old new is six refused = absurd (omega arith)
+
+  -- the one script failed
+  pub first_failed : (status : Status) (n : ℕ) (xs : List S) (s after : S) (old new : O) → n ≡ number_of status → n ≡ 4 → xs ≡ s ∷ [] →
+      IsRefused source sink status s after old new → SourceFailed source sink xs (slice_set xs 0 after) old new
+  first_failed ScriptFailed n xs s after old new is four one refused =
+      subst (λ ys. SourceFailed source sink ys (slice_set ys 0 after) old new) (sym one) (record {
+        script = 0;
+        was = s;
+        now = after;
+        first = record { stood = refl; stands = refl; others_fit = tt; others_read = tt };
+        failed = refused.0;
+        told = subst (λ ds. IsTold sink old new (codes "script " ++ ds ++ codes " failed")) (sym digit_one) refused.1;
+      })
+  first_failed other n xs s after old new is four one refused = absurd (omega arith)
+
+  -- the one script is too long
+  pub first_too_long : (status : Status) (n : ℕ) (xs : List S) (s after : S) (old new : O) → n ≡ number_of status → n ≡ 8 → xs ≡ s ∷ [] →
+      IsRefused source sink status s after old new → SourceTooLong source sink xs (slice_set xs 0 after) old new
+  first_too_long ScriptTooLong n xs s after old new is eight one refused =
+      subst (λ ys. SourceTooLong source sink ys (slice_set ys 0 after) old new) (sym one) (record {
+        script = 0;
+        was = s;
+        now = after;
+        first = record { stood = refl; stands = refl; others_fit = tt; others_read = tt };
+        too_long = refused.0;
+        told = subst (λ ds. IsTold sink old new (codes "script " ++ ds ++ codes " too long")) (sym digit_one) refused.1;
+      })
+  first_too_long other n xs s after old new is eight one refused = absurd (omega arith)

@@ -7,4 +7,3 @@ pub mod Sessions
 pub mod Playing
 pub mod Statuses
 pub mod Run
-pub mod Running

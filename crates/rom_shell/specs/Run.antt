@@ -1,25 +1,24 @@
 -- What a run answers and prints.
-use Rattle.std.specs.Prelude.{◌≡◌, ℕ, ◌+◌, ◌<◌, ◌≤◌, ◌⊎◌, List, [], ◌∷◌, ◌++◌, length, take, codes, slice_index, slice_get, unwrap_or, decimal, IfSome, Bool, true, false, Option, Some, None, if◌then◌else◌}
-use Rattle.std.specs.List.{AllByRecursion, list_any}
-use Rattle.std.specs.Io.KnownBytes.{Appends, Consumes, IsAtEnd}
+use Rattle.std.specs.Prelude.{◌≡◌, ℕ, ◌≤◌, ◌⊎◌, List, codes, Option, Some, None}
+use Rattle.std.specs.List.{AllByRecursion}
 use Rattle.rom_model.specs.declared.call.Call.{Call}
 use Rattle.rom_model.specs.declared.call.Query.{Query}
 use Rattle.rom_model.specs.declared.call.Reply.{Reply}
 use Rattle.rom_model.specs.declared.call.Answer.{Answer}
 use Rattle.rom_model.specs.declared.line.Step.{Step}
 use Rattle.rom_model.specs.declared.line.LineResult.{LineResult}
-use Rattle.rom_model.specs.declared.line.LineResult.TheVariants as outcome
-use Rattle.rom_model.specs.Faults.{Rose}
 use Rattle.rom_model.specs.State.{State, empty}
 use Rattle.rom_model.specs.History.{LAST_COUNT}
 use Rattle.rom_model.specs.Story.{Story, count}
 use Rattle.rom_model.specs.Lawful.{IsLawful}
 use Rattle.rom_model.specs.Singly.{each_alone, IsDone}
 use Rattle.rom_model.specs.Trio.{trio}
-use Rattle.rom_script.specs.Limits.{FitsScript, IsTooLong}
-use Rattle.rom_script.specs.Lines.{AreRead, lines_of}
-use Rattle.rom_script.specs.Streams.{AppendsFront}
-use Rattle.rom_script.specs.Text.{text, line_text, AreOfType}
+use Rattle.rom_script.specs.Limits.{FailedEarly, IsTooLong}
+use Rattle.rom_script.specs.Runs.{AreScripts, IsCutShort, IsTold, IsWritten}
+use Rattle.rom_script.specs.Streams.{ShownSink, ShownSource}
+use Rattle.rom_script.specs.Text.{AreOfType, status_of, text, trio_texts}
+use Rattle.rom_shell.specs.declared.status.Status.{Status}
+use Rattle.rom_shell.specs.declared.status.Status.TheVariants.{ScriptFailed, NoMemory, ScriptTooLong}
 use Rattle.rom_shell.specs.Words.{Command, Try}
 
 -- the statuses with which a command may end
@@ -42,95 +41,45 @@ abbrev pub IsOpening : Option Command → Option (List ℕ) → Story State → 
 IsOpening (Some (Try scripts)) words story = (story.order ≡ 4) × (story.opening ≡ empty) × (story.opening_count ≡ 0)
 IsOpening None words story = ⊥
 
--- the steps are those of the sources, where these tell their bytes
-abbrev pub AreScripts : List (Option (List ℕ)) → List (List (Step Call Query)) → Type 0
-AreScripts [] [] = Unit {0}
-AreScripts (Some bytes ∷ sources) (steps ∷ scripts) = AreRead (lines_of bytes) steps × AreScripts sources scripts
-AreScripts (None ∷ sources) (steps ∷ scripts) = AreScripts sources scripts
-AreScripts sources scripts = ⊥
-
--- the scripts that it runs, which are those of its sources
-abbrev pub AreRun : Option Command → List (Option (List ℕ)) → List (List (Step Call Query)) → Type 0
-AreRun (Some (Try names)) sources scripts = AreScripts sources scripts
-AreRun None sources scripts = ⊥
-
--- each source that tells its bytes has no more than a script may
-abbrev pub AreWithin : List (Option (List ℕ)) → Type 0
-AreWithin sources = AllByRecursion (λ left. IfSome left FitsScript) sources
-
--- of each source one read at most gave no byte: none was asked again after a failure or at its end
-abbrev pub AreAskedOnce : List ℕ → List ℕ → Type 0
-AreAskedOnce [] [] = Unit {0}
-AreAskedOnce (was ∷ before) (now ∷ after) = (now ≤ was + 1) × AreAskedOnce before after
-AreAskedOnce before after = ⊥
-
--- no byte is left in a source that tells its bytes
-abbrev pub AreAtEnd : List (Option (List ℕ)) → Type 0
-AreAtEnd sources = AllByRecursion IsAtEnd sources
-
-abbrev pub is_unread : LineResult Reply Answer → Bool
-is_unread outcome.Unread = true
-is_unread other = false
-
--- the status of results that are all printed: 1 where a line is unread, and else 0
-abbrev pub status_of : List (List (LineResult Reply Answer)) → ℕ
-status_of results = if list_any (λ rs. list_any is_unread rs) results then 1 else 0
-
--- What it prints of its session and its results: the text, or some of it where the sink failed.
-abbrev pub IsPrinted : Option Command → Story State → List (List (LineResult Reply Answer)) → Option (List ℕ) → Option (List ℕ) → ℕ → Type 0
-IsPrinted (Some (Try scripts)) story results old new status =
-    ((status ≡ status_of results) × Appends old new (text results (count story))) ⊎ ((status ≡ 5) × AppendsFront old new (text results (count story)))
-IsPrinted None story results old new status = ⊥
-
--- What was printed are the results of one history, which is the story's.
-pub record HasReplies (asked : Option Command) (words : Option (List ℕ)) (story : Story State) (sources : List (Option (List ℕ))) (old new : Option (List ℕ)) (status : ℕ) : Type 0 where
-  pub opening : IsOpening asked words story
-  pub scripts : List (List (Step Call Query))
-  pub results : List (List (LineResult Reply Answer))
-  pub read : AreRun asked sources scripts
+-- The results of these scripts are those of one history, which is the story's.
+pub record AreAnswered (story : Story State) (scripts : List (List (Step Call Query))) (results : List (List (LineResult Reply Answer))) : Type 0 where
   -- each update was done by a pass of its own
   pub lawful : IsLawful trio (each_alone story) scripts results
   pub each_done : AllByRecursion (λ rs. AllByRecursion IsDone rs) results
   -- their numbers are words, and so is the count
   pub of_type : AreOfType results
   pub within : count story ≤ LAST_COUNT
-  pub printed : IsPrinted asked story results old new status
 
--- The line is printed, or some of it where the sink failed.
-abbrev pub IsTold : Option (List ℕ) → Option (List ℕ) → List ℕ → ℕ → ℕ → Type 0
-IsTold old new line before now = Appends old new (line_text line) ⊎ (AppendsFront old new (line_text line) × Rose before now)
+module _ {S O : Type 0} (source : ShownSource S) (sink : ShownSink O) where
+  -- the scripts that it runs, which are those of its sources
+  abbrev pub AreRun : Option Command → List S → List (List (Step Call Query)) → Type 0
+  AreRun (Some (Try names)) sources scripts = AreScripts source sources scripts
+  AreRun None sources scripts = ⊥
 
--- the words of a device, where it tells them
-abbrev pub told_words : Bool → List ℕ → Option (List ℕ)
-told_words true words = Some words
-told_words false words = None
+  -- What it prints of its session and its results: the text, or some of it where the sink failed.
+  abbrev pub IsPrinted : Option Command → Story State → List (List (LineResult Reply Answer)) → O → O → ℕ → Type 0
+  IsPrinted (Some (Try scripts)) story results old new status =
+      ((status ≡ status_of results) × IsWritten sink old new (text trio_texts results (count story)))
+      ⊎ ((status ≡ 5) × IsCutShort sink old new (text trio_texts results (count story)))
+  IsPrinted None story results old new status = ⊥
 
--- what the source of this number tells
-abbrev pub source_at : List (Option (List ℕ)) → ℕ → Option (List ℕ)
-source_at sources i = unwrap_or (slice_get sources i) None
+  -- What was printed are the results of one history, which is the story's.
+  pub record HasReplies (asked : Option Command) (words : Option (List ℕ)) (story : Story State) (sources : List S) (old new : O) (status : ℕ) : Type 0 where
+    pub opening : IsOpening asked words story
+    pub scripts : List (List (Step Call Query))
+    pub results : List (List (LineResult Reply Answer))
+    pub read : AreRun asked sources scripts
+    pub answered : AreAnswered story scripts results
+    pub printed : IsPrinted asked story results old new status
 
--- The scripts before this one were read to their ends, and have no more bytes than they may.
-pub record IsFirstToFail (i : ℕ) (before after : List (Option (List ℕ))) : Type 0 where
-  pub stands : i < length before
-  pub others_fit : AreWithin (take i before)
-  pub others_read : AreAtEnd (take i after)
+  -- so for each command that tries scripts, whatever their names are and whatever the device tells
+  abbrev pub HasTried : Story State → List S → O → O → ℕ → Type 0
+  HasTried story sources old new status =
+      (names : List (List ℕ)) (words : Option (List ℕ)) → HasReplies (Some (Try names)) words story sources old new status
 
--- The first script that fails has a source that failed before it had given more bytes than a script may have, and the line names it.
-pub record SourceFailed (before after : List (Option (List ℕ))) (faults_before faults_after : List ℕ) (old new : Option (List ℕ)) (sink_before sink_now : ℕ) : Type 0 where
-  pub script : ℕ
-  pub first : IsFirstToFail script before after
-  pub rose : Rose (slice_index faults_before script) (slice_index faults_after script)
-  pub taken : List ℕ
-  pub given : Consumes (source_at before script) (source_at after script) taken
-  pub few : FitsScript taken
-  pub told : IsTold old new (codes "script " ++ decimal (script + 1) ++ codes " failed") sink_before sink_now
-
--- The first script that fails has given more bytes than a script may have, some by each read, and the line names it.
-pub record SourceTooLong (before after : List (Option (List ℕ))) (idle_before idle_after : List ℕ) (old new : Option (List ℕ)) (sink_before sink_now : ℕ) : Type 0 where
-  pub script : ℕ
-  pub first : IsFirstToFail script before after
-  pub taken : List ℕ
-  pub given : Consumes (source_at before script) (source_at after script) taken
-  pub many : IsTooLong taken
-  pub unbroken : slice_index idle_after script ≡ slice_index idle_before script
-  pub told : IsTold old new (codes "script " ++ decimal (script + 1) ++ codes " too long") sink_before sink_now
+  -- A script that isn't run, and the line that says why: the status is its cause.
+  abbrev pub IsRefused : Status → S → S → O → O → Type 0
+  IsRefused ScriptFailed was now old new = FailedEarly source was now × IsTold sink old new (codes "script 1 failed")
+  IsRefused ScriptTooLong was now old new = IsTooLong source was now × IsTold sink old new (codes "script 1 too long")
+  IsRefused NoMemory was now old new = IsTold sink old new (codes "no memory")
+  IsRefused other was now old new = ⊥

@@ -1,17 +1,14 @@
 //! A script on a heap.
 ghost use Rattle.std.specs.Prelude.{◌≡◌, ◌≤◌, ◌<◌, ◌+◌, [], ◌∷◌, length, vec_len, vec_capacity, count_by, false, IfOk, IsTrue};
 ghost use Rattle.std.specs.List.{AllByRecursion};
-ghost use Rattle.rom_model.specs.Lawful.{IsLawful};
 ghost use Rattle.rom_model.specs.History.{LAST_COUNT};
-ghost use Rattle.rom_model.specs.Singly.{each_alone, IsDone};
-ghost use Rattle.rom_model.specs.Story.{count};
-ghost use Rattle.rom_model.specs.Trio.{trio};
 ghost use Rattle.rom_script.specs.Lines.{IsStepRead};
 ghost use Rattle.rom_script.specs.Text.{ResultFits};
 ghost use Rattle.rom_shell.specs.Playing.{Taken, is_update};
 ghost use Rattle.rom_shell.specs.Playing as playing;
 ghost use Rattle.rom_shell.specs.Began.{began};
-ghost use Rattle.rom_shell.specs.Sessions.{story_of};
+ghost use Rattle.rom_shell.specs.Run.{AreAnswered};
+ghost use Rattle.rom_shell.specs.Sessions.{EachStory, HasStory};
 
 use crate::queue::Queue;
 use crate::session::Session;
@@ -71,11 +68,11 @@ fn count_updates(lines: &[Line]) -> usize
 pub(crate) fn play(alloc: Global, lines: &[Line]) -> Result<Played, AllocError>
     requires today { AllByRecursion IsStepRead lines.now }
     requires few { length lines.now ≤ LAST_COUNT }
-    ensures lawful { IfOk result (λ played. IsLawful trio (each_alone (story_of played.session)) (lines.now ∷ []) (played.results.items ∷ [])) }
-    ensures each_done { IfOk result (λ played. AllByRecursion IsDone played.results.items) }
-    ensures of_type { IfOk result (λ played. AllByRecursion ResultFits played.results.items) }
-    ensures within { IfOk result (λ played. count (story_of played.session) ≤ LAST_COUNT) }
-    ensures began { IfOk result (λ played. story_of played.session ≡ began 4 0 (story_of played.session).history) }
+    ensures story { IfOk result (λ played. HasStory played.session) }
+    ensures began { IfOk result (λ played. EachStory played.session (λ story.
+        story ≡ began 4 0 story.history)) }
+    ensures answered { IfOk result (λ played. EachStory played.session (λ story.
+        AreAnswered story (lines.now ∷ []) (played.results.items ∷ []))) }
 {
     let mut queue = Queue::new(alloc)?;
     let mut entries = Vec::with_capacity(alloc, count_updates(lines))?;

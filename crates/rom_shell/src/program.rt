@@ -1,17 +1,17 @@
 //! The top call: all that the program does.
-ghost use Rattle.std.specs.Prelude.{◌≡◌, ◌<◌, ◌≤◌, ◌+◌, ◌↔◌, ◌⊎◌, ℕ, List, [], ◌∷◌, length, map, codes, None, IfSome, IfOk, IfErr, OnOk, IsSome, IsNone};
+ghost use Rattle.std.specs.Prelude.{◌≡◌, ◌≢◌, ◌↔◌, ◌⊎◌, [], ◌∷◌, length, map, codes, None, IfSome, IfOk, IfErr, OnOk, IsSome, IsNone};
 ghost use Rattle.std.specs.List.{list_any};
-ghost use Rattle.std.specs.Io.KnownBytes.{Consumes, IsAtEnd};
-ghost use Rattle.rom_model.specs.Faults.{Rose};
-ghost use Rattle.rom_script.specs.Limits.{FitsScript, IsTooLong};
-ghost use Rattle.rom_script.specs.Streams.{Takes};
+ghost use Rattle.std.specs.Io.KnownBytes.{IsAtEnd};
+ghost use Rattle.rom_device.specs.Device.{told_words};
+ghost use Rattle.rom_script.specs.Limits.{FitsScript};
+ghost use Rattle.rom_script.specs.Runs.{AreAskedOnce, AreAtEnd, AreWithin, IsTold, SourceFailed, SourceTooLong};
+ghost use Rattle.rom_script.specs.Streams.{IsAskedOnce, StopsWriting, WriteFailed};
 ghost use Rattle.rom_script.specs.Text.{TextDetermines};
-ghost use Rattle.rom_shell.specs.Run.{AreAskedOnce, AreAtEnd, AreWithin, HasNotRun, HasReplies, HasRun, IsStatus, IsTold, SourceFailed, SourceTooLong, told_words};
-ghost use Rattle.rom_shell.specs.Running.{Ran};
-ghost use Rattle.rom_shell.specs.Sessions.{story_of};
+ghost use Rattle.rom_script.specs.Text as texts;
+ghost use Rattle.rom_shell.specs.Run.{HasNotRun, HasReplies, HasRun, HasTried, IsRefused, IsStatus};
+ghost use Rattle.rom_shell.specs.Sessions.{EachStory, HasStory};
 ghost use Rattle.rom_shell.specs.Statuses.{number_of};
 ghost use Rattle.rom_shell.specs.Words.{command, scripts_of};
-ghost use Rattle.rom_shell.specs.Run as run;
 
 use crate::play::{Played, play};
 use crate::session::Session;
@@ -36,27 +36,27 @@ pub struct Ended<D, S> {
 
 /// Prints one line. A sink that fails may have taken some of it.
 fn tell<O: Sink>(out: &mut O, line: &str)
-    ensures told { IsTold (O.taken out.old) (O.taken out.new) line.now (O.faults out.old) (O.faults out.new) }
-    ensures later { O.faults out.old ≤ O.faults out.new }
+    ensures told { IsTold O.shown out.old out.new line.now }
+    ensures rest { O.shown.rest out.new ≡ O.shown.rest out.old }
 {
     let _ = print_pieces(out, &[line, "\n"]);
 }
 
 fn is_unread(told: &LineResult<Reply, Answer>) -> bool
-    ensures { result ≡ run.is_unread told.now }
+    ensures { result ≡ texts.is_unread told.now }
 {
     matches!(told, LineResult::Unread)
 }
 
 fn any_unread(results: &[LineResult<Reply, Answer>]) -> bool
-    ensures { result ≡ list_any run.is_unread results.now }
+    ensures { result ≡ list_any texts.is_unread results.now }
 {
     results.iter().any(|told| is_unread(told))
 }
 
 /// The status of results that are all printed.
 fn status_of(results: &[LineResult<Reply, Answer>]) -> Status
-    ensures { number_of result ≡ run.status_of (results.now ∷ []) }
+    ensures { number_of result ≡ texts.status_of (results.now ∷ []) }
 {
     if any_unread(results) {
         Status::Unread
@@ -72,23 +72,22 @@ fn run_script<S: Source, O: Sink>(
     script: &mut S,
     out: &mut O,
 ) -> Result<(Status, Session), Status>
-    ensures ran { IfOk result (λ ran. Ran (story_of ran.1) (S.left script.old) (O.taken out.old) (O.taken out.new) (number_of ran.0)) }
-    ensures statuses { IfOk result (λ ran. (ran.0 ≡ Status.Done) ⊎ (ran.0 ≡ Status.Unread) ⊎ (ran.0 ≡ Status.SinkFailed)) }
-    ensures sink_failed { IfOk result (λ ran. ran.0 ≡ Status.SinkFailed → Rose (O.faults out.old) (O.faults out.new)) }
-    ensures fits { OnOk result (IfSome (S.left script.old) FitsScript) }
-    ensures to_its_end { OnOk result (IsAtEnd (S.left script.new)) }
-
-    ensures refused { IfErr result (λ status. (status ≡ Status.ScriptFailed) ⊎ (status ≡ Status.NoMemory) ⊎ (status ≡ Status.ScriptTooLong)) }
-    ensures failed { result ≡ Err Status.ScriptFailed → Rose (S.faults script.old) (S.faults script.new) }
-    ensures failed_early { result ≡ Err Status.ScriptFailed → Takes FitsScript (S.left script.old) (S.left script.new) }
-    ensures failed_told { result ≡ Err Status.ScriptFailed → IsTold (O.taken out.old) (O.taken out.new) (codes "script 1 failed") (O.faults out.old) (O.faults out.new) }
-    ensures too_long { result ≡ Err Status.ScriptTooLong → Takes IsTooLong (S.left script.old) (S.left script.new) }
-    ensures unbroken { result ≡ Err Status.ScriptTooLong → S.idle script.new ≡ S.idle script.old }
-    ensures too_long_told { result ≡ Err Status.ScriptTooLong → IsTold (O.taken out.old) (O.taken out.new) (codes "script 1 too long") (O.faults out.old) (O.faults out.new) }
-    ensures no_memory_told { result ≡ Err Status.NoMemory → IsTold (O.taken out.old) (O.taken out.new) (codes "no memory") (O.faults out.old) (O.faults out.new) }
-    ensures turns { S.idle script.new ≤ S.idle script.old + 1 }
-    ensures sources_later { S.faults script.old ≤ S.faults script.new }
-    ensures sink_later { O.faults out.old ≤ O.faults out.new }
+    ensures story { IfOk result (λ ran. HasStory ran.1) }
+    ensures replies { IfOk result (λ ran. EachStory ran.1 (λ story.
+        HasTried S.shown O.shown story (script.old ∷ []) out.old out.new (number_of ran.0))) }
+    ensures statuses { IfOk result (λ ran.
+        (ran.0 ≡ Status.Done) ⊎ (ran.0 ≡ Status.Unread) ⊎ (ran.0 ≡ Status.SinkFailed)) }
+    ensures sink_failed { IfOk result (λ ran.
+        ran.0 ≡ Status.SinkFailed → WriteFailed O.shown out.old out.new) }
+    ensures fits { OnOk result (IfSome (S.shown.left script.old) FitsScript) }
+    ensures to_its_end { OnOk result (IsAtEnd (S.shown.left script.new)) }
+    ensures refused { IfErr result (λ status.
+        IsRefused S.shown O.shown status script.old script.new out.old out.new) }
+    ensures unfailed { result ≢ Err Status.ScriptFailed →
+        S.shown.faults script.new ≡ S.shown.faults script.old }
+    ensures asked_once { IsAskedOnce S.shown script.old script.new }
+    ensures writing { StopsWriting O.shown out.old out.new }
+    ensures rest { O.shown.rest out.new ≡ O.shown.rest out.old }
 {
     let script = match read_script(alloc, script) {
         Ok(script) => script,
@@ -133,26 +132,34 @@ pub fn run<D: Device + Send, S: Source, O: Sink>(
 
     ensures device { result.device ≡ device }
     ensures sources { length result.scripts.items ≡ length scripts.items }
-    ensures turns { AreAskedOnce (map S.idle scripts.items) (map S.idle result.scripts.items) }
-    ensures sink_later { O.faults out.old ≤ O.faults out.new }
+    ensures asked_once { AreAskedOnce S.shown scripts.items result.scripts.items }
+    ensures writing { StopsWriting O.shown out.old out.new }
+    ensures rest { O.shown.rest out.new ≡ O.shown.rest out.old }
     ensures statuses { IsStatus (command words.now) result.status }
     ensures session { HasRun (command words.now) result.status → IsSome result.session }
     ensures no_session { HasNotRun (command words.now) result.status → IsNone result.session }
 
     // Where the scripts were run, the results of one history are printed.
-    ensures replies { IfSome result.session (λ session. HasReplies (command words.now) (told_words D.tells_words (D.words device)) (story_of session)
-        (map S.left scripts.items) (O.taken out.old) (O.taken out.new) result.status) }
-    ensures fit { IsSome result.session → AreWithin (map S.left scripts.items) }
-    ensures read { IsSome result.session → AreAtEnd (map S.left result.scripts.items) }
-    ensures sink_failed { result.status ≡ 5 → Rose (O.faults out.old) (O.faults out.new) }
+    ensures story { IfSome result.session HasStory }
+    ensures replies { IfSome result.session (λ session. EachStory session (λ story.
+        HasReplies S.shown O.shown (command words.now) (told_words D.shown device) story
+        scripts.items out.old out.new result.status)) }
+    ensures fit { IsSome result.session → AreWithin S.shown scripts.items }
+    ensures read { IsSome result.session → AreAtEnd S.shown result.scripts.items }
+    ensures sink_failed { result.status ≡ 5 → WriteFailed O.shown out.old out.new }
 
     // Else one line says why not.
     ensures not_a_command { (result.status ≡ 2) ↔ (command words.now ≡ None) }
     ensures unread { result.status ≡ 2 → result.scripts ≡ scripts }
-    ensures not_a_command_told { result.status ≡ 2 → IsTold (O.taken out.old) (O.taken out.new) (codes "not a command") (O.faults out.old) (O.faults out.new) }
-    ensures source_failed { result.status ≡ 4 → SourceFailed (map S.left scripts.items) (map S.left result.scripts.items) (map S.faults scripts.items) (map S.faults result.scripts.items) (O.taken out.old) (O.taken out.new) (O.faults out.old) (O.faults out.new) }
-    ensures no_memory_told { result.status ≡ 6 → IsTold (O.taken out.old) (O.taken out.new) (codes "no memory") (O.faults out.old) (O.faults out.new) }
-    ensures too_long { result.status ≡ 8 → SourceTooLong (map S.left scripts.items) (map S.left result.scripts.items) (map S.idle scripts.items) (map S.idle result.scripts.items) (O.taken out.old) (O.taken out.new) (O.faults out.old) (O.faults out.new) }
+    ensures not_a_command_told { result.status ≡ 2 →
+        IsTold O.shown out.old out.new (codes "not a command") }
+    ensures source_failed { result.status ≡ 4 →
+        SourceFailed S.shown O.shown scripts.items result.scripts.items out.old out.new }
+    ensures none_failed { result.status ≢ 4 →
+        map S.shown.faults result.scripts.items ≡ map S.shown.faults scripts.items }
+    ensures no_memory_told { result.status ≡ 6 → IsTold O.shown out.old out.new (codes "no memory") }
+    ensures too_long { result.status ≡ 8 →
+        SourceTooLong S.shown O.shown scripts.items result.scripts.items out.old out.new }
 
     // A text is that of one list of results and one count.
     ensures determined { TextDetermines }

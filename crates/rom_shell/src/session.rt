@@ -1,28 +1,29 @@
 //! What a run did.
-ghost use Rattle.std.specs.Prelude.{◌≡◌, ◌+◌, ◌^◌, ◌≤◌, vec_len};
+ghost use Rattle.std.specs.Prelude.{◌≡◌, ◌+◌, ◌≤◌, vec_len};
 ghost use Rattle.rom_model.specs.History.{LAST_COUNT};
 ghost use Rattle.rom_model.specs.Story.{count};
 
 use rom_model::Entry;
 
-/// A heap that began empty, and the updates that were done on it. A contract sees it as
-/// `story_of` the session.
+/// A heap that began empty, and the updates that were done on it. A contract sees its
+/// stories.
 #[derive(Drop)]
 pub struct Session {
     order: u32,
     opening_count: u64,
     entries: Vec<Entry>,
-    ghost within: { opening_count + vec_len entries ≤ 2 ^ 62 },
+    ghost within: { opening_count + vec_len entries ≤ LAST_COUNT },
 }
 
 impl Session {
-    ghost use Rattle.rom_shell.specs.Sessions.{story_of};
     ghost use Rattle.rom_shell.specs.Began.{began};
+    ghost use Rattle.rom_shell.specs.Sessions.{EachStory, HasStory};
 
     /// The session of these updates on a heap of this order, which had counted so many before.
     pub(crate) fn of(order: u32, opening_count: u64, entries: Vec<Entry>) -> Self
         requires { opening_count + vec_len entries ≤ LAST_COUNT }
-        ensures { story_of result ≡ began order opening_count entries.items }
+        ensures story { HasStory result }
+        ensures began { EachStory result (λ story. story ≡ began order opening_count entries.items) }
     {
         Session {
             order,
@@ -33,7 +34,7 @@ impl Session {
 
     /// The count of updates at closing.
     pub fn count(&self) -> u64
-        ensures count { result ≡ count (story_of self.now) }
+        ensures count { EachStory self.now (λ story. result ≡ count story) }
         ensures within { result ≤ LAST_COUNT }
     {
         self.opening_count + self.entries.len() as u64

@@ -1,11 +1,13 @@
-use Rattle.std.proofs.Common.{◌∙◌, arith, rules}
+use Rattle.std.proofs.Common.{◌∙◌, rules}
 use Rattle.rom_script.proofs.Prints.{wrote_on}
 use Rattle.rom_script.proofs.print.print_bytes.Goals as goal
 
 pub loop-at-preserved : goal.loop-at-preserved
 loop-at-preserved g c = record {
   within = search rules;
-  taken = wrote_on _ _ _ c.args.bytes.now c.loop-at.at c.in_ok-at.field-0 c.loop-at.invariant.taken c.in_ok-at.ensures.bytes;
-  later = omega (arith, c.in_ok-at.ensures.cause.later);
-  same = c.in_ok-at.ensures.rest ∙ c.loop-at.invariant.same;
+  printed = record {
+    bytes = wrote_on _ _ _ c.args.bytes.now c.loop-at.at c.in_ok-at.field-0 c.loop-at.invariant.printed.bytes c.in_ok-at.ensures.bytes;
+    faults = c.in_ok-at.ensures.counts.faults ∙ c.loop-at.invariant.printed.faults;
+    rest = c.in_ok-at.ensures.counts.rest ∙ c.loop-at.invariant.printed.rest;
+  };
 }

@@ -1,14 +1,12 @@
-use Rattle.std.proofs.Common.{◌≡◌, length, ◌-◌, ◌≤◌, take}
-use Rattle.std.specs.Io.KnownBytes.{Appends}
+use Rattle.std.proofs.Common.{length, ◌-◌, ◌≤◌, take}
+use Rattle.rom_script.proofs.Prints.{Printed}
 use Rattle.rom_script.proofs.print.print_bytes.Given as goal
 
 -- the sink has taken the bytes so far
 abbrev pub invariant-loop-at : goal.invariant-loop-at
 invariant-loop-at g l = record {
   within : l.at ≤ length l.bytes;
-  taken : Appends (g.O.Sink.taken l.fn.out) (g.O.Sink.taken l.out) (take l.at l.bytes);
-  later : g.O.Sink.faults l.fn.out ≤ g.O.Sink.faults l.out;
-  same : g.O.Sink.rest l.out ≡ g.O.Sink.rest l.fn.out;
+  printed : Printed g.O.Sink.shown l.fn.out l.out (take l.at l.bytes);
 }
 
 abbrev pub decreases-loop-at : goal.decreases-loop-at

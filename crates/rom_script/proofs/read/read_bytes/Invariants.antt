@@ -7,9 +7,9 @@ use Rattle.rom_script.proofs.read.read_bytes.Given as goal
 abbrev pub invariant-loop-block : goal.invariant-loop-block
 invariant-loop-block g l = record {
   within : vec_len l.bytes ≤ MAX_BYTES + 1;
-  read : Consumes (g.S.Source.left l.fn.source) (g.S.Source.left l.source) l.bytes.items;
-  turns : g.S.Source.idle l.source ≡ g.S.Source.idle l.fn.source;
-  later : g.S.Source.faults l.fn.source ≤ g.S.Source.faults l.source;
+  read : Consumes (g.S.Source.shown.left l.fn.source) (g.S.Source.shown.left l.source) l.bytes.items;
+  idle : g.S.Source.shown.idle l.source ≡ g.S.Source.shown.idle l.fn.source;
+  faults : g.S.Source.shown.faults l.source ≡ g.S.Source.shown.faults l.fn.source;
 }
 
 abbrev pub decreases-loop-block : goal.decreases-loop-block

@@ -1,14 +1,27 @@
-use Rattle.std.proofs.Common.{ap, ◌∙◌}
-use Rattle.rom_script.proofs.Prints.{stopped}
+use Rattle.std.proofs.Common.{ap, ◌∙◌, subst}
+use Rattle.rom_model.specs.Faults.{HasCause}
+use Rattle.rom_script.proofs.Prints.{prints_stopped}
 use Rattle.rom_script.proofs.Handing.{taken_behind, handed_text}
 use Rattle.rom_script.proofs.report.print_through.Goals as goal
 
-pub returns-in_err-print_whole-clause-text : goal.returns-in_err-print_whole-clause-text
-returns-in_err-print_whole-clause-text g c =
-    stopped _ _ _ c.from_residual.result _ c.from_residual.ensures.1
-    (taken_behind _ _ _ _ _ _ c.requires.none (ap (λ z. z.1) c.in_err-print_whole.ensures.rest ∙ c.requires.opened) c.print_whole.new.out.grown c.in_err-print_whole.ensures.text)
+pub returns-in_err-print_whole-clause-prints : goal.returns-in_err-print_whole-clause-prints
+returns-in_err-print_whole-clause-prints g c =
+    let o = g.O.Sink.shown in
+    let p = c.in_err-print_whole.ensures.prints in
+    prints_stopped o _ _ _ c.from_residual.result _ c.from_residual.ensures.1 (record {
+      bytes = taken_behind _ _ _ _ _ _ c.requires.none (ap (λ z. z.1) p.rest ∙ c.requires.opened) c.print_whole.new.out.grown p.bytes;
+      failed = record { once = p.cause.failed.once; last = c.print_whole.new.out.failed p.cause.failed.last };
+      rest = ap (λ z. z.2) p.rest;
+    })
 
-pub returns-clause-text : goal.returns-clause-text
-returns-clause-text g c =
-    handed_text _ _ _ _ _ _ _ _ c.hand_over.result c.requires.none (c.hand_over.ensures.opened ∙ ap (λ z. z.1) c.in_ok-print_whole.ensures.rest ∙ c.requires.opened) c.hand_over.new.self.grown
-    c.in_ok-print_whole.ensures.text c.hand_over.ensures.kept c.hand_over.ensures.none_waits
+pub returns-clause-prints : goal.returns-clause-prints
+returns-clause-prints g c =
+    let o = g.O.Sink.shown in
+    let p = c.in_ok-print_whole.ensures.prints in
+    let h = c.hand_over.ensures.hands in
+    record {
+      bytes = handed_text _ _ _ _ _ _ _ _ c.hand_over.result c.requires.none (c.hand_over.ensures.opened ∙ ap (λ z. z.1) p.rest ∙ c.requires.opened) c.hand_over.new.self.grown
+          p.bytes h.kept c.hand_over.ensures.none_waits;
+      cause = subst (λ n. HasCause n (o.faults c.hand_over.new.self.out.now) (o.failing c.hand_over.new.self.out.now) c.hand_over.result) p.cause.none h.cause;
+      rest = h.rest ∙ ap (λ z. z.2) p.rest;
+    }

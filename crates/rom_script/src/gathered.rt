@@ -1,9 +1,7 @@
 //! Bytes on their way to a sink, gathered so that they leave in whole blocks.
-ghost use Rattle.std.specs.Prelude.{◌≡◌, ◌<◌, ◌≤◌, ◌++◌, [], length, take, drop, OnOk};
-ghost use Rattle.std.specs.Io.KnownBytes.{Keeps, append_known};
+ghost use Rattle.std.specs.Prelude.{◌≡◌, ◌<◌, ◌≤◌, ◌++◌, IsTrue, [], length, take, drop, OnOk};
 ghost use Rattle.arrayvec.specs.ArrayVec.{array_vec_len};
-ghost use Rattle.rom_model.specs.Faults.{HasCause};
-ghost use Rattle.rom_script.specs.Grown.{Grown, Grown-prop};
+ghost use Rattle.rom_script.specs.Gathered.{Grown, Grown-prop, Hands};
 
 use crate::streams::{IoFailed, Sink};
 use arrayvec::ArrayVec;
@@ -14,61 +12,76 @@ const BLOCK: usize = 4096;
 
 /// A sink that hands what it takes over to another one in blocks of 4,096 bytes. What it has taken
 /// is what that sink has taken, and then the bytes that wait here.
-pub struct Blocks<'a, O: Sink> {
+pub struct Gathered<'a, O: Sink> {
     out: &'a mut O,
     // The sink as it was lent, for proofs alone.
     opened: Snapshot<O>,
     block: ArrayVec<u8, BLOCK>,
     // How many bytes of the block are handed over.
     handed: usize,
+    // Whether the last write failed, and then that of the sink behind did.
+    failing: bool,
     ghost within: { handed ≤ array_vec_len block },
-    ghost grown: { Grown (O.taken opened.value) (O.taken out.now) } by { Grown-prop (O.taken opened.value) (O.taken out.now) },
+    ghost grown: { Grown (O.shown.taken opened.value) (O.shown.taken out.now) } by { Grown-prop (O.shown.taken opened.value) (O.shown.taken out.now) },
+    ghost failed: { IsTrue failing → IsTrue (O.shown.failing out.now) },
 }
 
-impl<'a, O: Sink> Blocks<'a, O> {
+impl<'a, O: Sink> Gathered<'a, O> {
+    ghost use Rattle.std.specs.Prelude.{false, is_err};
+
     /// A block in which nothing waits.
-    pub fn over(out: &'a mut O) -> Blocks<'a, O>
+    pub fn over(out: &'a mut O) -> Gathered<'a, O>
         ensures same_sink { result.out.ghost_name ≡ out.entry.ghost_name }
         ensures out { result.out.now ≡ out.old }
-        ensures opened { O.taken result.opened.value ≡ O.taken out.old }
+        ensures opened { O.shown.taken result.opened.value ≡ O.shown.taken out.old }
         ensures none { result.block.items ≡ [] }
     {
         let opened = Snapshot::of(&*out);
-        Blocks {
+        Gathered {
             out,
             opened,
             block: ArrayVec::new(),
             handed: 0,
+            failing: false,
         }
     }
 
     /// Hands a first part of what waits over.
     fn hand_some(&mut self) -> Result<(), IoFailed>
         requires { self.old.handed < array_vec_len self.old.block }
-        ensures kept { Keeps (append_known (O.taken self.old.out.now) (drop self.old.handed self.old.block.items)) (append_known (O.taken self.new.out.now) (drop self.new.handed self.new.block.items)) }
+        ensures hands { Hands O.shown self.old.out.now self.new.out.now
+            (drop self.old.handed self.old.block.items) (drop self.new.handed self.new.block.items) result }
         ensures block { self.new.block ≡ self.old.block }
         ensures on { OnOk result (self.old.handed < self.new.handed) }
-        ensures cause { HasCause (O.faults self.old.out.now) (O.faults self.new.out.now) result }
+        ensures failing { self.new.failing ≡ is_err result }
         ensures same_sink { self.new.out.ghost_name ≡ self.old.out.ghost_name }
-        ensures rest { O.rest self.new.out.now ≡ O.rest self.old.out.now }
-        ensures opened { O.taken self.new.opened.value ≡ O.taken self.old.opened.value }
+        ensures opened { O.shown.taken self.new.opened.value ≡ O.shown.taken self.old.opened.value }
     {
+        self.failing = false;
         let waiting = &self.block.as_slice()[self.handed..];
-        let count = self.out.write(waiting)?;
-        self.handed += count as usize;
-        Ok(())
+        match self.out.write(waiting) {
+            Ok(count) => {
+                self.handed += count as usize;
+                Ok(())
+            }
+            Err(failed) => {
+                self.failing = true;
+                Err(failed)
+            }
+        }
     }
 
     /// Hands all that waits over.
     pub fn hand_over(&mut self) -> Result<(), IoFailed>
-        ensures kept { Keeps (append_known (O.taken self.old.out.now) (drop self.old.handed self.old.block.items)) (append_known (O.taken self.new.out.now) (drop self.new.handed self.new.block.items)) }
+        ensures hands { Hands O.shown self.old.out.now self.new.out.now
+            (drop self.old.handed self.old.block.items) (drop self.new.handed self.new.block.items) result }
         ensures emptied { OnOk result (self.new.block.items ≡ []) }
         ensures none_waits { OnOk result (drop self.new.handed self.new.block.items ≡ []) }
-        ensures cause { HasCause (O.faults self.old.out.now) (O.faults self.new.out.now) result }
+        ensures failing { self.new.failing ≡ is_err result }
         ensures same_sink { self.new.out.ghost_name ≡ self.old.out.ghost_name }
-        ensures rest { O.rest self.new.out.now ≡ O.rest self.old.out.now }
-        ensures opened { O.taken self.new.opened.value ≡ O.taken self.old.opened.value }
+        ensures opened { O.shown.taken self.new.opened.value ≡ O.shown.taken self.old.opened.value }
     {
+        self.failing = false;
         while self.handed < self.block.len() {
             self.hand_some()?;
         }
@@ -82,11 +95,14 @@ impl<'a, O: Sink> Blocks<'a, O> {
         requires some { 0 < length piece.now }
         requires room { array_vec_len self.old.block < BLOCK }
         ensures count { (0 < result) × (result ≤ length piece.now) }
-        ensures waits { drop self.new.handed self.new.block.items ≡ drop self.old.handed self.old.block.items ++ take result piece.now }
+        ensures waits { drop self.new.handed self.new.block.items
+            ≡ drop self.old.handed self.old.block.items ++ take result piece.now }
         ensures out { self.new.out.now ≡ self.old.out.now }
+        ensures failing { self.new.failing ≡ false }
         ensures same_sink { self.new.out.ghost_name ≡ self.old.out.ghost_name }
-        ensures opened { O.taken self.new.opened.value ≡ O.taken self.old.opened.value }
+        ensures opened { O.shown.taken self.new.opened.value ≡ O.shown.taken self.old.opened.value }
     {
+        self.failing = false;
         let count = piece.len().min(self.block.remaining_capacity());
         match self.block.try_extend_from_slice(&piece[..count]) {
             Ok(()) => count as u64,
@@ -95,30 +111,31 @@ impl<'a, O: Sink> Blocks<'a, O> {
     }
 }
 
-impl<O: Sink> Drop for Blocks<'_, O> {
+impl<O: Sink> Drop for Gathered<'_, O> {
     fn drop(self)
         ensures { self.exit.0.now ≡ self.entry.out.now }
     {
-        let Blocks {
+        let Gathered {
             out: _,
             opened: _,
             block: _,
             handed: _,
+            failing: _,
         } = self;
     }
 }
 
-impl<'a, O: Sink> Sink for Blocks<'a, O> {
+impl<'a, O: Sink> Sink for Gathered<'a, O> {
     ghost use Rattle.std.specs.Prelude.{ℕ, List, Option, drop};
     ghost use Rattle.std.specs.Io.KnownBytes.{append_known};
 
-    ghost taken = { λ b. append_known (O.taken b.out.now) (drop b.handed b.block.items) };
-
-    ghost faults = { λ b. O.faults b.out.now };
-
-    ghost Rest = { ℕ × Option (List ℕ) × O.Rest };
-
-    ghost rest = { λ b. (b.out.ghost_name, O.taken b.opened.value, O.rest b.out.now) };
+    ghost shown = { record {
+      taken = λ b. append_known (O.shown.taken b.out.now) (drop b.handed b.block.items);
+      faults = λ b. O.shown.faults b.out.now;
+      failing = λ b. b.failing;
+      Rest = ℕ × Option (List ℕ) × O.shown.Rest;
+      rest = λ b. (b.out.ghost_name, O.shown.taken b.opened.value, O.shown.rest b.out.now);
+    } };
 
     fn write(&mut self, piece: &[u8]) -> Result<u64, IoFailed> {
         if self.block.is_full() {
