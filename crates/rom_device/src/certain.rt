@@ -8,10 +8,13 @@ use crate::device::{Device, Failed};
 /// that value while it may leave other words as they were.
 pub fn write_certain<D: Device>(device: &mut D, at: u64, value: u64) -> Result<(), Failed>
     requires { at < D.shown.size device.old }
-    ensures written { IsTrue D.shown.tells_words → OnOk result (D.shown.words device.new ≡ slice_set (D.shown.words device.old) at value) }
-    ensures left { IsTrue D.shown.tells_words → Writes at value (D.shown.words device.old) (D.shown.words device.new) }
+    ensures written { IsTrue D.shown.tells_words
+        → OnOk result (D.shown.words device.new ≡ slice_set (D.shown.words device.old) at value) }
+    ensures left { IsTrue D.shown.tells_words
+        → Writes at value (D.shown.words device.old) (D.shown.words device.new) }
     ensures certain { OnOk result (IsSynced D.shown device.new) }
-    ensures images { IsTrue D.shown.tells_images → Leaves D.shown (Writes at value (D.shown.words device.old)) device.old device.new }
+    ensures images { IsTrue D.shown.tells_images
+        → Leaves D.shown (Writes at value (D.shown.words device.old)) device.old device.new }
     ensures size { D.shown.size device.new ≡ D.shown.size device.old }
     ensures makes { Makes D.shown 0 1 2 device.old device.new result }
 {

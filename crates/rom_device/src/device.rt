@@ -28,7 +28,8 @@ pub trait Device {
     /// The word at that place. A read changes no word, and a stop may leave what it might before.
     fn read(&mut self, at: u64) -> Result<u64, Failed>
         requires { at < shown.size self.old }
-        ensures word { IsTrue shown.tells_words → IfOk result (λ word. word ≡ slice_index (shown.words self.old) at) }
+        ensures word { IsTrue shown.tells_words
+            → IfOk result (λ word. word ≡ slice_index (shown.words self.old) at) }
         ensures only { OnlyReads shown self.old self.new }
         ensures counts { Counts shown 1 0 0 self.old self.new result };
 
@@ -38,7 +39,8 @@ pub trait Device {
     fn read_words(&mut self, at: u64, into: &mut [u64]) -> usize
         requires { at + length into.old ≤ shown.size self.old }
         ensures len { length into.new ≡ length into.old }
-        ensures read { IsTrue shown.tells_words → (k : ℕ) → k < result → slice_index into.new k ≡ slice_index (shown.words self.old) (at + k) }
+        ensures read { IsTrue shown.tells_words → (k : ℕ) → k < result
+            → slice_index into.new k ≡ slice_index (shown.words self.old) (at + k) }
         ensures only { OnlyReads shown self.old self.new }
         ensures counts { ReadsUpTo shown result (length into.old) self.old self.new }
     {
@@ -54,7 +56,8 @@ pub trait Device {
     /// Puts a value at that place. After `Failed` the word is the old or the new one.
     fn write(&mut self, at: u64, value: u64) -> Result<(), Failed>
         requires { at < shown.size self.old }
-        ensures written { IsTrue shown.tells_words → OnOk result (shown.words self.new ≡ slice_set (shown.words self.old) at value) }
+        ensures written { IsTrue shown.tells_words
+            → OnOk result (shown.words self.new ≡ slice_set (shown.words self.old) at value) }
         ensures does { Does shown (Writes at value) self.old self.new }
         ensures counts { Counts shown 0 1 0 self.old self.new result };
 
@@ -62,7 +65,8 @@ pub trait Device {
     /// those before it are written, it is the old or the new one, and those behind it are as before.
     fn write_words(&mut self, at: u64, values: &[u64]) -> Result<(), Failed>
         requires { at + length values.now ≤ shown.size self.old }
-        ensures written { IsTrue shown.tells_words → OnOk result ((k : ℕ) → k < length values.now → slice_index (shown.words self.new) (at + k) ≡ slice_index values.now k) }
+        ensures written { IsTrue shown.tells_words → OnOk result ((k : ℕ) → k < length values.now
+            → slice_index (shown.words self.new) (at + k) ≡ slice_index values.now k) }
         ensures failed { OnErr result (WritingFailed shown at values.now self.old self.new) }
         ensures does { Does shown (WritesMany at values.now) self.old self.new }
         ensures makes { Makes shown 0 (length values.now) 0 self.old self.new result }
@@ -90,15 +94,19 @@ pub trait Device {
     ghost words_fit: { (d : Self) → IsTrue shown.tells_words → length (shown.words d) ≡ shown.size d };
 
     /// So are those that a stop may leave.
-    ghost images_fit: { (d : Self) (i : List ℕ) → IsTrue shown.tells_images → shown.leaves d i → length i ≡ shown.size d };
+    ghost images_fit: { (d : Self) (i : List ℕ) → IsTrue shown.tells_images
+        → shown.leaves d i → length i ≡ shown.size d };
 
     /// This moment is one of those since an earlier one.
-    ghost counts_now: { (d : Self) (t : ℕ) (i : List ℕ) → IsTrue shown.tells_images → t ≤ shown.clock d → shown.leaves d i → shown.left_since d t i };
+    ghost counts_now: { (d : Self) (t : ℕ) (i : List ℕ) → IsTrue shown.tells_images
+        → t ≤ shown.clock d → shown.leaves d i → shown.left_since d t i };
 
     /// Since this moment there is no other.
-    ghost only_now: { (d : Self) (i : List ℕ) → IsTrue shown.tells_images → shown.left_since d (shown.clock d) i → shown.leaves d i };
+    ghost only_now: { (d : Self) (i : List ℕ) → IsTrue shown.tells_images
+        → shown.left_since d (shown.clock d) i → shown.leaves d i };
 
     ghost size_fits: { (d : Self) → shown.size d < 2 ^ 64 };
 
-    ghost counts_fit: { (d : Self) → (shown.reads d < 2 ^ 64) × (shown.writes d < 2 ^ 64) × (shown.syncs d < 2 ^ 64) × (shown.faults d < 2 ^ 64) };
+    ghost counts_fit: { (d : Self) → (shown.reads d < 2 ^ 64) × (shown.writes d < 2 ^ 64)
+        × (shown.syncs d < 2 ^ 64) × (shown.faults d < 2 ^ 64) };
 }

@@ -132,7 +132,8 @@ impl<D: Device> Device for Fuse<D> {
     fn write(&mut self, at: u64, value: u64) -> Result<(), Failed>
         requires { at < D.shown.size (inner_of self.old) }
         ensures written { IsTrue D.shown.tells_words
-            → OnOk result (D.shown.words (inner_of self.new) ≡ slice_set (D.shown.words (inner_of self.old)) at value) }
+            → OnOk result (D.shown.words (inner_of self.new)
+            ≡ slice_set (D.shown.words (inner_of self.old)) at value) }
         ensures does { Does (shown_by_fuse D.shown) (Writes at value) self.old self.new }
         ensures counts { Counts (shown_by_fuse D.shown) 0 1 0 self.old self.new result }
         ensures passes { Passes D.shown 0 1 0 self.old self.new result }

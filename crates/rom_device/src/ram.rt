@@ -24,7 +24,8 @@ impl Ram {
     /// So many words, each 0. Words that do not fit into memory are want of memory.
     pub fn zeroed(alloc: Global, len: u64) -> Result<Ram, AllocError>
         ensures words { IfOk result (λ ram. words_of ram ≡ replicate len 0) }
-        ensures counts { IfOk result (λ ram. (read_count ram ≡ 0) × (write_count ram ≡ 0) × (sync_count ram ≡ 0)) }
+        ensures counts { IfOk result (λ ram.
+            (read_count ram ≡ 0) × (write_count ram ≡ 0) × (sync_count ram ≡ 0)) }
     {
         Ok(Ram {
             words: vec![in alloc; 0; len as usize]?,
