@@ -1,4 +1,4 @@
-use Rattle.std.proofs.Common.{rules, ℕ, ◌+◌, ◌≤◌, List}
+use Rattle.std.proofs.Common.{rules, ◌+◌, ◌≤◌}
 use Rattle.rom_recover.proofs.Copying.{copied_on, does_piece}
 use Rattle.rom_recover.proofs.copy.copy_words.Goals as goal
 
