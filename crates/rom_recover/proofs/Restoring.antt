@@ -1,8 +1,8 @@
 -- The copy of the region that counts over the other one, on a device.
 use Rattle.std.proofs.Common.{◌≡◌, inr, ℕ, ◌≤◌, IsTrue, List, Result, Ok, Err, OnOk, get_or, set, sym, subst, ◌∙◌}
 use Rattle.rom_model.specs.Blocks.{region_len}
-use Rattle.rom_device.specs.Device.{ShownDevice, Does, IsSynced, Leaves, OnlyReads, Stays, Writes}
-use Rattle.rom_device.proofs.Going.{does_on, leaves_none, leaves_on, leaves_still, leaves_then}
+use Rattle.rom_device.specs.Device.{ShownDevice, Does, IsSynced, Leaves, Stays, Writes}
+use Rattle.rom_device.proofs.Going.{leaves_none, leaves_on, leaves_still, leaves_then}
 use Rattle.rom_header.proofs.Since.{leaves_from}
 use Rattle.rom_header.specs.Headers.{state_word}
 use Rattle.rom_header.specs.Regions.{IsHeap}
@@ -48,9 +48,6 @@ module _ {D : Type 0} (shown : ShownDevice D) (n : ℕ) (s : State) (from to len
 
 -- what follows calls that write nothing
 module _ {D : Type 0} (shown : ShownDevice D) (n : ℕ) (a b : D) where
-  pub quiet_on : (m : D) → Does shown Stays a m → OnlyReads shown m b → Does shown Stays a b
-  quiet_on m first reads = does_on shown Stays (λ x y z stayed stays. stays ∙ stayed) a m b first (record { size = reads.size; words = reads.words; images = reads.images })
-
   module _ (counts : (t : ℕ) (i : List ℕ) → t ≤ shown.clock a → shown.leaves a i → shown.left_since a t i) (both : IsTrue shown.tells_images → IsTrue shown.tells_words) (quiet : Does shown Stays a b) where
     pub quiet_images : IsTrue shown.tells_images → Leaves shown (Mended n (shown.words a)) a b
     quiet_images told = leaves_still shown (Mended n (shown.words a)) a a b counts (leaves_none shown (Mended n (shown.words a)) a) (quiet.images told)

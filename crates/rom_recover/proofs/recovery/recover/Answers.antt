@@ -1,18 +1,17 @@
 use Rattle.std.proofs.Common.{◌≡◌, rules, sym, subst, get_or}
 use Rattle.rom_recover.specs.Recovered.{IsDone}
 use Rattle.rom_recover.proofs.CopyBack.{equal_done}
-use Rattle.rom_recover.proofs.Restoring.{quiet_on, quiet_images, images_from, left_from, done_from}
+use Rattle.rom_recover.proofs.Restoring.{quiet_images, images_from, left_from, done_from}
 use Rattle.rom_recover.proofs.recovery.recover.Goals as goal
 
 pub returns-in_err-found-clause-images : goal.returns-in_err-found-clause-images
 returns-in_err-found-clause-images g c told =
     quiet_images g.D.Device.shown c.args.geometry _ _ (λ t i le left. g.met.D.Device.counts_now c.args.device.now t i told le left) g.met.D.Device.tells_both
-    (quiet_on g.D.Device.shown c.args.geometry _ _ _ c.sync.ensures.does c.read_state.ensures.only) told
+    (search rules) told
 
 pub returns-in_ok-compare-in-Idle-clause-images : goal.returns-in_ok-compare-in-Idle-clause-images
 returns-in_ok-compare-in-Idle-clause-images g c told =
-    quiet_images g.D.Device.shown c.args.geometry _ _ (λ t i le left. g.met.D.Device.counts_now c.args.device.now t i told le left) g.met.D.Device.tells_both
-    (quiet_on g.D.Device.shown c.args.geometry _ _ _ (quiet_on g.D.Device.shown c.args.geometry _ _ _ c.sync.ensures.does c.read_state.ensures.only) c.compare.ensures.compares.only) told
+    quiet_images g.D.Device.shown c.args.geometry _ _ (λ t i le left. g.met.D.Device.counts_now c.args.device.now t i told le left) g.met.D.Device.tells_both (search rules) told
 
 pub returns-in_ok-compare-in-Idle-clause-done : goal.returns-in_ok-compare-in-Idle-clause-done
 returns-in_ok-compare-in-Idle-clause-done g c words =
@@ -24,22 +23,22 @@ returns-in_ok-compare-in-Idle-clause-done g c words =
 
 pub returns-in_err-redo-in_default-clause-left : goal.returns-in_err-redo-in_default-clause-left
 returns-in_err-redo-in_default-clause-left g c =
-    left_from g.D.Device.shown c.args.geometry _ _ (quiet_on g.D.Device.shown c.args.geometry _ _ _ c.sync.ensures.does c.read_state.ensures.only) _ c.redo.ensures.left
+    left_from g.D.Device.shown c.args.geometry _ _ (search rules) _ c.redo.ensures.left
 
 pub returns-in_err-redo-in_default-clause-images : goal.returns-in_err-redo-in_default-clause-images
 returns-in_err-redo-in_default-clause-images g c told =
     images_from g.D.Device.shown c.args.geometry _ _ (λ t i le left. g.met.D.Device.counts_now c.args.device.now t i told le left) g.met.D.Device.tells_both
-    (quiet_on g.D.Device.shown c.args.geometry _ _ _ c.sync.ensures.does c.read_state.ensures.only) _ c.redo.ensures.images told
+    (search rules) _ c.redo.ensures.images told
 
 pub returns-in_ok-redo-in_default-clause-left : goal.returns-in_ok-redo-in_default-clause-left
 returns-in_ok-redo-in_default-clause-left g c =
-    left_from g.D.Device.shown c.args.geometry _ _ (quiet_on g.D.Device.shown c.args.geometry _ _ _ c.sync.ensures.does c.read_state.ensures.only) _ c.redo.ensures.left
+    left_from g.D.Device.shown c.args.geometry _ _ (search rules) _ c.redo.ensures.left
 
 pub returns-in_ok-redo-in_default-clause-images : goal.returns-in_ok-redo-in_default-clause-images
 returns-in_ok-redo-in_default-clause-images g c told =
     images_from g.D.Device.shown c.args.geometry _ _ (λ t i le left. g.met.D.Device.counts_now c.args.device.now t i told le left) g.met.D.Device.tells_both
-    (quiet_on g.D.Device.shown c.args.geometry _ _ _ c.sync.ensures.does c.read_state.ensures.only) _ c.redo.ensures.images told
+    (search rules) _ c.redo.ensures.images told
 
 pub returns-in_ok-redo-in_default-clause-done : goal.returns-in_ok-redo-in_default-clause-done
 returns-in_ok-redo-in_default-clause-done g c =
-    done_from g.D.Device.shown c.args.geometry _ _ (quiet_on g.D.Device.shown c.args.geometry _ _ _ c.sync.ensures.does c.read_state.ensures.only) _ c.in_ok-redo-in_default.ensures.done
+    done_from g.D.Device.shown c.args.geometry _ _ (search rules) _ c.in_ok-redo-in_default.ensures.done
