@@ -1,6 +1,6 @@
 -- What a device shows of itself, what its calls do to its words, and what a stop may leave of them.
-use Rattle.std.specs.Prelude.{◌≡◌, ◌⊎◌, ℕ, ◌+◌, ◌<◌, ◌≤◌, Bool, true, false, IsTrue, if◌then◌else◌, is_err, nat_lt, List, length, slice_index, slice_set, Option, Some, None, Result, OnOk, OnErr}
-use Rattle.rom_model.specs.Faults.{Adds, FailedLast, HasCause, counted}
+use Rattle.std.specs.Prelude.{◌≡◌, ◌⊎◌, ℕ, ◌+◌, ◌<◌, ◌≤◌, Bool, IsTrue, if◌then◌else◌, is_err, nat_lt, List, length, slice_index, slice_set, Option, Some, None, Result, OnOk}
+use Rattle.rom_model.specs.Faults.{Adds, AtMost, FailedLast, HasCause, counted}
 use Rattle.rom_model.specs.Space.{ChangesOnly}
 
 -- A fixed number of 64-bit words that are read, written and made certain.
@@ -45,10 +45,6 @@ pub record WritesUpTo (at k : ℕ) (values old new : List ℕ) : Type 0 where
 -- it is as it was, or has P
 abbrev pub Becomes : (List ℕ → Type 0) → List ℕ → List ℕ → Type 0
 Becomes P old new = (new ≡ old) ⊎ P new
-
--- no image has this
-abbrev pub NoImage : List ℕ → Type 0
-NoImage image = ⊥
 
 -- what a step may make of one of these images
 pub record After (step : List ℕ → List ℕ → Type 0) (old : List ℕ → Type 0) (image : List ℕ) : Type 0 where
@@ -103,14 +99,14 @@ module _ {D : Type 0} (shown : ShownDevice D) where
     pub faults : shown.faults new ≡ (if is_err result then counted (shown.faults old) else shown.faults old)
     pub failing : shown.failing new ≡ is_err result
 
-  -- Several calls, of which none follows one that failed: exactly so many of each after `Ok`, and at most so many after an error.
+  -- Several calls, of which none follows one that failed: exactly so many of each after `Ok`, and after an error at most so many, and none is taken back.
   pub record Makes {T E : Type 0} (reads writes syncs : ℕ) (old new : D) (result : Result T E) : Type 0 where
     pub reads_made : OnOk result (Adds reads (shown.reads old) (shown.reads new))
     pub writes_made : OnOk result (Adds writes (shown.writes old) (shown.writes new))
     pub syncs_made : OnOk result (Adds syncs (shown.syncs old) (shown.syncs new))
-    pub most_reads : shown.reads new ≤ shown.reads old + reads
-    pub most_writes : shown.writes new ≤ shown.writes old + writes
-    pub most_syncs : shown.syncs new ≤ shown.syncs old + syncs
+    pub most_reads : AtMost reads (shown.reads old) (shown.reads new)
+    pub most_writes : AtMost writes (shown.writes old) (shown.writes new)
+    pub most_syncs : AtMost syncs (shown.syncs old) (shown.syncs new)
     pub cause : HasCause (shown.faults old) (shown.faults new) (shown.failing new) result
 
   -- So many of so many words were read one after another, and where they are fewer the next read failed.

@@ -1,5 +1,5 @@
 //! A file whose words are read ahead, and gathered before they are written.
-ghost use Rattle.std.specs.Prelude.{◌≡◌, ◌≢◌, ◌⊎◌, ◌+◌, ◌*◌, ◌<◌, ◌≤◌, ◌^◌, ℕ, length, slice_index, Some, None, IfSome, IsTrue, IsFalse, is_none};
+ghost use Rattle.std.specs.Prelude.{◌≡◌, ◌≢◌, ◌⊎◌, ◌+◌, ◌-◌, ◌*◌, ◌<◌, ◌≤◌, ◌^◌, ℕ, length, slice_index, Some, None, IfSome, IsTrue, IsFalse, is_none};
 ghost use Rattle.std.specs.Bool.{OnTrue, OnFalse};
 ghost use Rattle.rom_device.specs.Run.{word_of, Follows};
 ghost use Rattle.rom_device.specs.Windows.{word_in, Agrees, IsApart, IsMissed, IsRead, PutsMany};
@@ -259,6 +259,8 @@ impl CachedFile {
         requires { at + length values.now ≤ self.old.len }
         ensures most { result ≤ length values.now }
         ensures windows { PutsMany at result values.now self.old.windows self.new.windows }
+        ensures waits { 0 < result
+            → word_of self.new.pending (at + (result - 1)) ≡ Some (slice_index values.now (result - 1)) }
         ensures missing { IsTrue (is_missing self.old) → result ≡ 0 }
         ensures rest { Keeps self.old self.new }
     {

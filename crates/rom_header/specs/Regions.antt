@@ -17,15 +17,15 @@ pub record IsHeap (order : ℕ) (words : List ℕ) : Type 0 where
   pub state : slice_index words STATE ≤ 2
 
 -- The state says which region counts: both where it is 0, IDLE, and they are the same; back where it is 1, MUTATING; main where it is 2, COPYING.
-abbrev pub Counts : ℕ → List ℕ → List ℕ → Type 0
-Counts order words region =
+abbrev pub IsCounted : ℕ → List ℕ → List ℕ → Type 0
+IsCounted order words region =
     ((slice_index words STATE ≡ 0) × (main_of order words ≡ region) × (back_of order words ≡ region))
     ⊎ (((slice_index words STATE ≡ 1) × (back_of order words ≡ region)) ⊎ ((slice_index words STATE ≡ 2) × (main_of order words ≡ region)))
 
 -- In a heap of this order, this region counts.
 pub record IsCurrentRegion (order : ℕ) (words region : List ℕ) : Type 0 where
   pub heap : IsHeap order words
-  pub counts : Counts order words region
+  pub counts : IsCounted order words region
 
 -- Both are heaps of one order in which the same region counts.
 pub record SameRegion (words image : List ℕ) : Type 0 where

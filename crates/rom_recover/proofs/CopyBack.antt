@@ -6,7 +6,7 @@ use Rattle.rom_model.proofs.Changes.{changes_set}
 use Rattle.rom_device.specs.Device.{Writes}
 use Rattle.rom_header.specs.Headers.{state_word}
 use Rattle.rom_header.specs.Layout.{main_of, back_of, back_at}
-use Rattle.rom_header.specs.Regions.{IsHeap, SameRegion, Counts}
+use Rattle.rom_header.specs.Regions.{IsHeap, SameRegion, IsCounted}
 use Rattle.rom_header.specs.declared.header.State.{State}
 use Rattle.rom_header.specs.declared.header.State.TheVariants.{Idle, Mutating, Copying}
 use Rattle.rom_recover.specs.Copied.{Copied, CopiesSome}
@@ -17,7 +17,7 @@ use Rattle.rom_recover.proofs.Parts.{part_moved, part_before, part_behind, heap_
 record Both (n : ℕ) (x y : List ℕ) : Type 0 where
   heap : IsHeap n y
   region : List ℕ
-  counts : Counts n x region
+  counts : IsCounted n x region
   main_is : main_of n y ≡ region
   back_is : back_of n y ≡ region
 

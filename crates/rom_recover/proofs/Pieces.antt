@@ -1,11 +1,16 @@
 -- Words of both regions that were read by pieces.
-use Rattle.std.proofs.Common.{◌≡◌, ◌≢◌, inl, inr, ℕ, ◌+◌, ◌-◌, ◌<◌, ◌≤◌, List, ◌++◌, length, slice_index, arith, sym, ap, ◌∙◌}
+use Rattle.std.proofs.Common.{◌≡◌, ◌≢◌, inl, inr, ℕ, ◌+◌, ◌-◌, ◌*◌, ◌<◌, ◌≤◌, List, ◌++◌, length, slice_index, arith, sym, ap, ◌∙◌}
+use Rattle.std.specs.Prelude.{Err}
 use Rattle.std.proofs.lemmas.Bool.{cases_lt}
 use Rattle.std.proofs.lemmas.List.{get_or_append_left}
 use Rattle.rom_header.specs.Headers.{IsIdle}
 use Rattle.rom_model.specs.Blocks.{region_len}
 use Rattle.rom_header.specs.Layout.{MAIN, back_at}
-use Rattle.rom_recover.specs.Recovered.{AreTwins, DifferAt}
+use Rattle.rom_model.specs.Faults.{Adds, AtMost}
+use Rattle.rom_recover.specs.Calls.{reads_until}
+use Rattle.rom_recover.specs.declared.recovery.RecoverRefused.{RecoverRefused}
+use Rattle.rom_recover.specs.declared.recovery.RecoverRefused.TheVariants.{Twins, Device}
+use Rattle.rom_recover.specs.Recovered.{StandsFrom, AreTwins, DifferAt}
 
 -- the words of a piece that was read from there on
 abbrev pub IsPiece : ℕ → ℕ → List ℕ → List ℕ → Type 0
@@ -50,3 +55,9 @@ module _ (order from at_main at_back first second : ℕ) (words later main back 
     differ = differ;
     first = twins_on index (omega (arith, within)) so_far same;
   }
+
+-- the reads of a comparison that ends in this piece, after those of the pieces before it
+pub reads_on : (from count len before mid now : ℕ) (r : RecoverRefused) → count ≤ 64 → from + count ≤ len → StandsFrom from r → Adds (2 * from) before mid
+    → AtMost (reads_until {T = Unit {0}} (2 * count) (Err r)) mid now → AtMost (reads_until {T = Unit {0}} (2 * len) (Err r)) before now
+reads_on from count len before mid now (Twins offset main back) small within stands so_far more = record { later = omega (arith, so_far, more.later); most = omega (arith, so_far, more.most, stands, small, within) }
+reads_on from count len before mid now Device small within stands so_far more = record { later = omega (arith, so_far, more.later); most = omega (arith, so_far, more.most, within) }

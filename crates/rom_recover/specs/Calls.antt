@@ -1,7 +1,7 @@
 -- How many calls of the device recovery makes, and which of them may fail.
-use Rattle.std.specs.Prelude.{◌≡◌, ℕ, ◌+◌, ◌*◌, ◌≤◌, Bool, Result, Ok, Err, OnOk}
+use Rattle.std.specs.Prelude.{◌≡◌, ℕ, ◌+◌, ◌*◌, min, Bool, Result, Ok, Err, OnOk}
 use Rattle.rom_model.specs.Blocks.{region_len}
-use Rattle.rom_model.specs.Faults.{Adds, FailedLast, StopsAtFault, counted}
+use Rattle.rom_model.specs.Faults.{Adds, AtMost, FailedLast, StopsAtFault, counted}
 use Rattle.rom_device.specs.Device.{ShownDevice, Does, OnlyReads, Stays}
 use Rattle.rom_header.specs.declared.header.State.{State}
 use Rattle.rom_header.specs.declared.header.State.TheVariants.{Idle, Mutating, Copying}
@@ -15,11 +15,16 @@ HasFaults (Ok done) before now failing = now ≡ before
 HasFaults (Err Device) before now failing = FailedLast before now failing
 HasFaults (Err (Twins offset main back)) before now failing = StopsAtFault before now failing
 
+-- How many words are read at most where so many are to be compared: where they differ, at that offset, those up to the end of its piece.
+abbrev pub reads_until : {T : Type 0} → ℕ → Result T RecoverRefused → ℕ
+reads_until all (Err (Twins offset main back)) = min all (2 * (offset + 64))
+reads_until all other = all
+
 -- A comparison: so many words are read, and at a refusal at most so many.
 pub record Compares {D T : Type 0} (shown : ShownDevice D) (reads : ℕ) (old new : D) (result : Result T RecoverRefused) : Type 0 where
   pub only : OnlyReads shown old new
   pub reads_made : OnOk result (Adds reads (shown.reads old) (shown.reads new))
-  pub most_reads : shown.reads new ≤ shown.reads old + reads
+  pub most_reads : AtMost (reads_until reads result) (shown.reads old) (shown.reads new)
   pub faults : HasFaults result (shown.faults old) (shown.faults new) (shown.failing new)
 
 -- Nothing is written, and one sync is called.
@@ -46,22 +51,22 @@ syncs_from Idle = 1
 syncs_from Mutating = 3
 syncs_from Copying = 3
 
--- The reads that recovery made, by its answer: those of the state that it found, and at a refusal at most so many as any recovery makes.
+-- The reads that recovery made, by its answer: those of the state that it found; where the regions differ at most those up to that place, and where the device failed at most so many as any recovery makes.
 abbrev pub AreReads : ℕ → Result Recovered RecoverRefused → ℕ → ℕ → Type 0
 AreReads order (Ok recovered) before now = Adds (reads_from order recovered.found) before now
-AreReads order (Err refused) before now = now ≤ before + (1 + 2 * region_len order)
+AreReads order (Err refused) before now = AtMost (1 + reads_until {T = Recovered} (2 * region_len order) (Err refused)) before now
 
 -- the writes, likewise, of which there are none where the regions differ
 abbrev pub AreWrites : ℕ → Result Recovered RecoverRefused → ℕ → ℕ → Type 0
 AreWrites order (Ok recovered) before now = Adds (writes_from order recovered.found) before now
 AreWrites order (Err (Twins offset main back)) before now = now ≡ before
-AreWrites order (Err Device) before now = now ≤ before + (region_len order + 1)
+AreWrites order (Err Device) before now = AtMost (region_len order + 1) before now
 
 -- the syncs, likewise, of which there is one where the regions differ
 abbrev pub AreSyncs : Result Recovered RecoverRefused → ℕ → ℕ → Type 0
 AreSyncs (Ok recovered) before now = Adds (syncs_from recovered.found) before now
 AreSyncs (Err (Twins offset main back)) before now = Adds 1 before now
-AreSyncs (Err Device) before now = now ≤ before + 3
+AreSyncs (Err Device) before now = AtMost 3 before now
 
 -- The calls that recovery made.
 pub record Calls {D : Type 0} (shown : ShownDevice D) (order : ℕ) (old new : D) (result : Result Recovered RecoverRefused) : Type 0 where

@@ -1,9 +1,10 @@
 -- What recovery leaves and refuses.
 use Rattle.std.specs.Prelude.{◌≡◌, ◌≢◌, ◌⊎◌, ℕ, ◌+◌, ◌*◌, ◌<◌, ◌≤◌, List, slice_index}
 use Rattle.rom_model.specs.Blocks.{region_len}
+use Rattle.rom_device.specs.Device.{Becomes}
 use Rattle.rom_header.specs.Headers.{IsIdle, state_word}
 use Rattle.rom_header.specs.Layout.{MAIN, back_at, main_of, back_of}
-use Rattle.rom_header.specs.Regions.{IsHeap, Counts, SameRegion}
+use Rattle.rom_header.specs.Regions.{IsHeap, IsCounted, SameRegion}
 use Rattle.rom_header.specs.Writing.{StateOrWithin}
 use Rattle.rom_header.specs.declared.header.State.{State}
 use Rattle.rom_header.specs.declared.header.State.TheVariants.{Idle, Mutating, Copying}
@@ -39,12 +40,17 @@ abbrev pub IsFirst : ℕ → List ℕ → RecoverRefused → Type 0
 IsFirst order words (Twins offset main back) = DifferAt order words offset main back
 IsFirst order words Device = Unit {0}
 
+-- a difference stands at that offset or behind it
+abbrev pub StandsFrom : ℕ → RecoverRefused → Type 0
+StandsFrom from (Twins offset main back) = from ≤ offset
+StandsFrom from Device = Unit {0}
+
 -- The state is IDLE, and both regions are the one that counted.
 pub record IsDone (order : ℕ) (old new : List ℕ) : Type 0 where
   pub heap : IsHeap order new
   pub idle : IsIdle new
   pub region : List ℕ
-  pub counted : Counts order old region
+  pub counted : IsCounted order old region
   pub main_is : main_of order new ≡ region
   pub back_is : back_of order new ≡ region
 
@@ -61,4 +67,4 @@ pub record Mended (order : ℕ) (old new : List ℕ) : Type 0 where
 
 -- the words are as they were, or so
 abbrev pub Mends : ℕ → List ℕ → List ℕ → Type 0
-Mends order old new = (new ≡ old) ⊎ Mended order old new
+Mends order old new = Becomes (Mended order old) old new

@@ -5,7 +5,7 @@ ghost use Rattle.rom_model.specs.Blocks.{region_len};
 ghost use Rattle.rom_header.specs.Headers.{IsIdle};
 ghost use Rattle.rom_header.specs.Layout.{words_needed};
 ghost use Rattle.rom_recover.specs.Calls.{Compares};
-ghost use Rattle.rom_recover.specs.Recovered.{AreTwins, IsFirst};
+ghost use Rattle.rom_recover.specs.Recovered.{AreTwins, IsFirst, StandsFrom};
 
 use crate::piece::PIECE;
 use crate::recovery::RecoverRefused;
@@ -54,6 +54,7 @@ fn compare_piece<D: Device>(
     ensures same { IsTrue D.shown.tells_words →
         OnOk result (AreTwins geometry (from + count) (D.shown.words device.old)) }
     ensures twins { IsTrue D.shown.tells_words → IfErr result (IsFirst geometry (D.shown.words device.old)) }
+    ensures stands { IfErr result (StandsFrom from) }
     ensures compares { Compares D.shown (2 * count) device.old device.new result }
 {
     let (main, back) = (geometry.main() + from, geometry.back() + from);

@@ -1,5 +1,6 @@
-use Rattle.std.proofs.Common.{◌≡◌, inl, inr, ◌+◌, ℕ, Option, IfSome, arith, rules, slice_index, subst, sym}
+use Rattle.std.proofs.Common.{◌≡◌, inl, inr, ◌+◌, ◌-◌, ℕ, Option, Some, IfSome, arith, rules, slice_index, subst, sym}
 use Rattle.std.proofs.lemmas.Bool.{cases_lt}
+use Rattle.rom_device.specs.Run.{word_of}
 use Rattle.rom_device.specs.Windows.{word_in}
 use Rattle.rom_device.proofs.cached.CachedFile.keep_words.Goals as goal
 
@@ -17,6 +18,9 @@ loop-index-preserved c =
         before = search rules;
         behind = search rules;
       };
+      waits = λ some.
+          let last : index + 1 - 1 ≡ index = omega arith in
+          subst (λ (n : ℕ). word_of c.keep.new.self.pending (c.args.at + n) ≡ Some (slice_index c.args.values.now n)) (sym last) c.if-not-keep.ensures.waits;
       missing = search rules;
       rest = search rules;
     }
