@@ -9,7 +9,8 @@ use Rattle.rom_model.specs.Region.{IsQueue}
 use Rattle.rom_model.proofs.Times.{times_here, times-append, times_one}
 use Rattle.rom_model.proofs.Nodes.{pow_positive}
 use Rattle.rom_model.proofs.Frames.{each_same}
-use Rattle.rom_queue.specs.Ends.{link_after, IsLinked, MayTake, IsAppended}
+use Rattle.rom_model.specs.Links.{link_after}
+use Rattle.rom_queue.specs.Ends.{IsLinked, MayTake, IsAppended}
 use Rattle.rom_queue.proofs.Links.{link_in, chain_push}
 
 -- what the stores of an append leave

@@ -5,7 +5,7 @@ use Rattle.rom_model.specs.Blocks.{block_of}
 use Rattle.rom_model.specs.Chains.{times, Chain, last_of}
 use Rattle.rom_model.specs.Region.{IsQueue}
 use Rattle.rom_model.proofs.Times.{times_here, times_more}
-use Rattle.rom_queue.specs.Ends.{link_after}
+use Rattle.rom_model.specs.Links.{link_after}
 
 link_tail : (n b : ℕ) (bs : List ℕ) → link_after n (block_of n b + 1) 1 bs ≡ last_of n (b ∷ bs) + 1
 link_tail n b [] = refl

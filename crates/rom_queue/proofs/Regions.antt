@@ -13,7 +13,7 @@ use Rattle.rom_model.proofs.Elements.{AreElements, one_more, one_fewer}
 use Rattle.rom_model.proofs.Frames.{tree_part, part_then, table_same, root_frame, queue_frame, set_frame, map_frame, version_frame}
 use Rattle.rom_model.proofs.Room.{times_members, tree_stays}
 use Rattle.rom_queue.specs.Queue.{with_blocks, with_queue, with_last}
-use Rattle.rom_queue.specs.Ends.{AreNodes, KeepsTree}
+use Rattle.rom_model.specs.Links.{AreNodes, KeepsTree}
 
 module _ {n : ℕ} {w : List ℕ} {p : Chains} {s : State} {k : ℕ} (le : 4 ≤ n) (is : IsRegion n w p s k) where
   pub queue_nodes : AreNodes n p.queue

@@ -3,12 +3,8 @@ use Rattle.std.specs.Prelude.{◌≡◌, ◌≢◌, ℕ, ◌+◌, ◌^◌, ◌<�
 use Rattle.rom_model.specs.Space.{ChangesOnly}
 use Rattle.rom_model.specs.Blocks.{block_of}
 use Rattle.rom_model.specs.Chains.{times, each_word}
+use Rattle.rom_model.specs.Links.{AreNodes, KeepsTree}
 use Rattle.rom_model.specs.Region.{IsQueue, ChangesPart}
-
--- where the last link of a chain stands that begins at that link word
-abbrev pub link_after : ℕ → ℕ → ℕ → List ℕ → ℕ
-link_after n link j [] = link
-link_after n link j (b ∷ blocks) = link_after n (block_of n b + j) j blocks
 
 -- That link is to the node that begins there, which is the tail; there is one value more, and no other word differs.
 pub record IsLinked (link at : ℕ) (old new : List ℕ) : Type 0 where
@@ -25,12 +21,6 @@ pub record HasHead (at : ℕ) (old new : List ℕ) : Type 0 where
   pub tail : at ≢ 0 → slice_index new 4 ≡ slice_index old 4
   pub others : ChangesOnly 3 2 old new
 
--- different blocks of a region, and so no more than it has
-pub record AreNodes (n : ℕ) (blocks : List ℕ) : Type 0 where
-  pub different : (b : ℕ) → times b blocks ≤ 1
-  pub within : (b : ℕ) → 0 < times b blocks → b < 2 ^ n
-  pub few : length blocks ≤ 2 ^ n
-
 -- a queue in the words, and where a block begins that is not in it
 pub record MayTake (n at : ℕ) (words : List ℕ) : Type 0 where
   pub block : ℕ
@@ -41,10 +31,6 @@ pub record MayTake (n at : ℕ) (words : List ℕ) : Type 0 where
   pub queue : IsQueue n words blocks values
   pub are : AreNodes n blocks
   pub absent : times block blocks ≡ 0
-
--- the words of the tree stay
-abbrev pub KeepsTree : ℕ → List ℕ → List ℕ → Type 0
-KeepsTree n old new = (k : ℕ) → 17 ≤ k → k < block_of n 0 → slice_index new k ≡ slice_index old k
 
 -- The block stands at the end of the queue with the value, and no word differs but the queue's and the block's.
 pub record IsAppended {n at : ℕ} {old : List ℕ} (q : MayTake n at old) (value : ℕ) (new : List ℕ) : Type 0 where

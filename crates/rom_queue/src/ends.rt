@@ -4,7 +4,8 @@ ghost use Rattle.std.specs.Prelude.{◌≡◌, ◌≢◌, ℕ, ◌+◌, ◌^◌,
 ghost use Rattle.rom_model.specs.Space.{Costs, Looks, HasRoom, ChangesOnly};
 ghost use Rattle.rom_model.specs.Blocks.{region_len};
 ghost use Rattle.rom_model.specs.Region.{IsQueue};
-ghost use Rattle.rom_queue.specs.Ends.{link_after, IsLinked, MayTake, IsAppended, HasHead, Begins, IsUnlinked};
+ghost use Rattle.rom_model.specs.Links.{link_after};
+ghost use Rattle.rom_queue.specs.Ends.{IsLinked, MayTake, IsAppended, HasHead, Begins, IsUnlinked};
 
 use rom_block::fill_node;
 use rom_model::{Look, QUEUE_HEAD, QUEUE_LEN, QUEUE_TAIL, Space};
