@@ -11,7 +11,8 @@ use Rattle.rom_model.proofs.Nodes.{pow_positive}
 use Rattle.rom_model.proofs.Frames.{each_same}
 use Rattle.rom_model.specs.Links.{link_after}
 use Rattle.rom_queue.specs.Ends.{IsLinked, MayTake, IsAppended}
-use Rattle.rom_queue.proofs.Links.{link_in, chain_push}
+use Rattle.rom_model.proofs.Links.{link_in}
+use Rattle.rom_queue.proofs.Links.{chain_push}
 
 -- what the stores of an append leave
 pub record Stored (n b value link : ℕ) (w w' : List ℕ) : Type 0 where

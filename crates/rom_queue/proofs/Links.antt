@@ -1,9 +1,10 @@
 -- The links of a chain, and where the queue begins and ends.
-use Rattle.std.proofs.Common.{◌≡◌, ◌≢◌, ◌⊎◌, inl, inr, ⊎_elim, ℕ, ◌+◌, ◌*◌, ◌^◌, ◌<◌, ◌≤◌, List, [], ◌∷◌, ◌++◌, refl, ◌∙◌, ap, arith}
+use Rattle.std.proofs.Common.{◌≡◌, ◌≢◌, ℕ, ◌+◌, ◌*◌, ◌^◌, ◌<◌, ◌≤◌, List, [], ◌∷◌, ◌++◌, refl, sym, subst, arith, append-nil}
 use Rattle.std.specs.Prelude.{slice_index}
 use Rattle.rom_model.specs.Blocks.{block_of}
 use Rattle.rom_model.specs.Chains.{times, Chain, last_of}
 use Rattle.rom_model.specs.Region.{IsQueue}
+use Rattle.rom_model.proofs.Links.{IsLink, chain_relinked}
 use Rattle.rom_model.proofs.Times.{times_here, times_more}
 use Rattle.rom_model.specs.Links.{link_after}
 
@@ -11,36 +12,12 @@ link_tail : (n b : ℕ) (bs : List ℕ) → link_after n (block_of n b + 1) 1 bs
 link_tail n b [] = refl
 link_tail n b (c ∷ bs) = link_tail n c bs
 
--- where the last link stands
-pub link_in : (n l j : ℕ) (bs : List ℕ) → (link_after n l j bs ≡ l) ⊎ ((c : ℕ) × (0 < times c bs) × (link_after n l j bs ≡ block_of n c + j))
-link_in n l j [] = inl refl
-link_in n l j (b ∷ bs) = ⊎_elim
-    (λ at. inr (b, omega (arith, times_here b bs), at))
-    (λ w. inr (w.0, omega (arith, w.1, times_more w.0 b bs), w.2))
-    (link_in n (block_of n b + j) j bs)
-
--- a link word of the chain
-abbrev pub IsLink : ℕ → ℕ → ℕ → List ℕ → ℕ → Type 0
-IsLink n l j bs k = (k ≡ l) ⊎ ((c : ℕ) × (0 < times c bs) × (k ≡ block_of n c + j))
-
 -- one more block at the end
 pub chain_push : (n l j : ℕ) (w w' bs : List ℕ) (b : ℕ) → ((c : ℕ) → 0 < times c bs → l ≢ block_of n c + j) → ((c : ℕ) → times c bs ≤ 1)
     → ((k : ℕ) → k ≢ link_after n l j bs → IsLink n l j bs k → slice_index w' k ≡ slice_index w k)
     → slice_index w' (link_after n l j bs) ≡ block_of n b → slice_index w' (block_of n b + j) ≡ 0 → Chain n w l j bs → Chain n w' l j (bs ++ b ∷ [])
-chain_push n l j w w' [] b apart single same put ends chain = (put, ends)
-chain_push n l j w w' (a ∷ bs) b apart single same put ends chain =
-    let fresh : times a bs ≤ 0 = omega (arith, times_here a bs, single a) in
-    let not_end : l ≢ link_after n (block_of n a + j) j bs = λ e. ⊎_elim
-    (λ at. apart a (omega (arith, times_here a bs)) (e ∙ at))
-    (λ x. apart x.0 (omega (arith, x.1, times_more x.0 a bs)) (e ∙ x.2))
-    (link_in n (block_of n a + j) j bs) in (
-      same l not_end (inl refl) ∙ chain.0,
-      chain_push n (block_of n a + j) j w w' bs b
-          (λ c some e. let is : a ≡ c = omega arith in absurd (omega (arith, some, ap (λ x. times x bs) is, fresh)))
-          (λ c. omega (arith, times_more c a bs, single c))
-          (λ k ne is. same k ne (⊎_elim (λ at. inr (a, omega (arith, times_here a bs), at)) (λ x. inr (x.0, omega (arith, x.1, times_more x.0 a bs), x.2)) is))
-          put ends chain.1,
-    )
+chain_push n l j w w' bs b apart single same put ends chain =
+    chain_relinked n l j w w' bs [] (b ∷ []) apart single same (put, ends) (subst (λ (xs : List ℕ). Chain n w l j xs) (sym (append-nil bs)) chain)
 
 last_high : (n b : ℕ) (bs : List ℕ) → 16 ≤ last_of n (b ∷ bs)
 last_high n b [] = omega arith
