@@ -1,0 +1,4 @@
+-- Lemmas on rising numbers, on chains, and on the set's blocks.
+pub mod Rising
+pub mod Passed
+pub mod Chains
