@@ -2,3 +2,5 @@
 pub mod Rising
 pub mod Passed
 pub mod Chains
+pub mod Costs
+pub mod Walking
