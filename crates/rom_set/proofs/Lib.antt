@@ -4,3 +4,4 @@ pub mod Passed
 pub mod Chains
 pub mod Costs
 pub mod Walking
+pub mod Places
