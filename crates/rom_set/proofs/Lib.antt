@@ -5,3 +5,5 @@ pub mod Chains
 pub mod Costs
 pub mod Walking
 pub mod Places
+pub mod Links
+pub mod Linked
