@@ -7,3 +7,4 @@ pub mod Walking
 pub mod Places
 pub mod Links
 pub mod Linked
+pub mod Unlinked
