@@ -8,3 +8,6 @@ pub mod Places
 pub mod Links
 pub mod Linked
 pub mod Unlinked
+pub mod Regions
+pub mod Taking
+pub mod Giving
