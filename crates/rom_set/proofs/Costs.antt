@@ -1,6 +1,6 @@
 -- What looking at words costs, step by step.
 use Rattle.std.proofs.Common.{◌≡◌, ℕ, ◌+◌, ◌≤◌, ◌∙◌, arith}
-use Rattle.rom_model.specs.Space.{ShownSpace, Counts, Looks}
+use Rattle.rom_model.specs.Space.{ShownSpace, Counts, Costs, Looks}
 
 module _ {M : Type 0} (shown : ShownSpace M) (j k : ℕ) where
   pub looks_most : {old new : M} → j ≤ k → Looks shown j old new → Looks shown k old new
@@ -29,3 +29,13 @@ module _ {M : Type 0} (shown : ShownSpace M) (j k : ℕ) where
       rest = counts.rest ∙ is.costs.rest;
     };
   }
+
+pub costs_most : {M : Type 0} (shown : ShownSpace M) (loads stores : ℕ) {j i : ℕ} {old new : M} → j ≤ loads → i ≤ stores → Costs shown j i old new → Costs shown loads stores old new
+costs_most shown loads stores le few is = record {
+  loads_later = is.loads_later;
+  most_loads = λ told. omega (arith, is.most_loads told, le);
+  stores_later = is.stores_later;
+  most_stores = λ told. omega (arith, is.most_stores told, few);
+  limit = is.limit;
+  rest = is.rest;
+}

@@ -1,11 +1,11 @@
 -- The link word of a place, and the words that a change of the set's chain leaves.
-use Rattle.std.proofs.Common.{◌≡◌, ◌≢◌, ◌⊎◌, inl, inr, ⊎_elim, ℕ, ◌+◌, ◌*◌, ◌^◌, ◌<◌, ◌≤◌, List, length, ◌∙◌, ap, arith}
+use Rattle.std.proofs.Common.{◌≡◌, ◌≢◌, ⊎_elim, ℕ, ◌+◌, ◌*◌, ◌^◌, ◌<◌, List, length, ◌∙◌, ap, arith}
 use Rattle.std.specs.Prelude.{slice_index}
 use Rattle.rom_model.specs.Blocks.{block_of}
 use Rattle.rom_model.specs.Chains.{IsIn, times}
 use Rattle.rom_model.specs.Region.{ChangesPart}
 use Rattle.rom_model.proofs.Nodes.{pow_positive}
-use Rattle.rom_set.specs.Nodes.{link_after, AreNodes, KeepsTree}
+use Rattle.rom_set.specs.Nodes.{link_after, KeepsTree}
 use Rattle.rom_set.proofs.Chains.{link_in}
 
 module _ (n : ℕ) (front : List ℕ) where

@@ -1,9 +1,9 @@
 -- What the place of a number says of a region's set.
-use Rattle.std.proofs.Common.{◌≡◌, ℕ, ◌+◌, ◌-◌, ◌*◌, ◌^◌, ◌<◌, ◌≤◌, List, [], ◌∷◌, ◌++◌, refl, sym, ◌∙◌, ap, subst, arith}
+use Rattle.std.proofs.Common.{◌≡◌, ℕ, ◌^◌, List, ◌++◌, sym, ◌∙◌, ap, subst, arith}
 use Rattle.std.specs.Ordering.{nat_cmp}
 use Rattle.std.specs.FinSet as set
 use Rattle.rom_model.specs.State.{State}
-use Rattle.rom_model.specs.Chains.{times, each_word, IsRising}
+use Rattle.rom_model.specs.Chains.{each_word, IsRising}
 use Rattle.rom_model.specs.Region.{Chains, IsSet, IsRegion}
 use Rattle.rom_model.proofs.Counting.{at_most}
 use Rattle.rom_model.proofs.Room.{times_members}

@@ -1,10 +1,9 @@
 -- A block that was taken, and may go to a number's place in the set.
-use Rattle.std.proofs.Common.{◌≡◌, inr, ℕ, ◌+◌, ◌-◌, ◌*◌, ◌^◌, ◌≤◌, false, List, [], ◌∷◌, ◌++◌, refl, sym, ◌∙◌, ap, subst, arith}
+use Rattle.std.proofs.Common.{◌≡◌, inr, ℕ, ◌+◌, ◌-◌, ◌*◌, ◌^◌, ◌≤◌, false, List, [], refl, sym, ◌∙◌, ap, subst, arith}
 use Rattle.std.specs.Prelude.{slice_index}
 use Rattle.rom_model.specs.Space.{ChangesOnly}
 use Rattle.rom_model.specs.State.{State}
 use Rattle.rom_model.specs.Blocks.{IsLowest, block_at, block_of}
-use Rattle.rom_model.specs.Chains.{each_word}
 use Rattle.rom_model.specs.Region.{Chains, element_blocks, taken_by, IsRegion}
 use Rattle.rom_model.proofs.Nodes.{pow_positive}
 use Rattle.rom_model.proofs.Members.{NewBlock}

@@ -1,5 +1,5 @@
 -- The set with one block fewer.
-use Rattle.std.proofs.Common.{◌≡◌, ◌≢◌, ⊎_elim, ℕ, ◌+◌, ◌-◌, ◌*◌, ◌^◌, ◌<◌, ◌≤◌, List, [], ◌∷◌, ◌++◌, length, refl, sym, ◌∙◌, ap, subst, arith, length-append, length-set, get_or-set_other}
+use Rattle.std.proofs.Common.{◌≡◌, ◌≢◌, ⊎_elim, ℕ, ◌+◌, ◌-◌, ◌*◌, ◌^◌, ◌<◌, List, ◌∷◌, ◌++◌, length, refl, sym, ◌∙◌, ap, subst, arith, length-append, length-set, get_or-set_other}
 use Rattle.std.specs.Prelude.{slice_index, slice_set}
 use Rattle.std.specs.FinSet as set
 use Rattle.std.proofs.lemmas.Grind.{get_or-set_at}
@@ -13,7 +13,7 @@ use Rattle.rom_set.specs.Link.{MayUnlink, IsUnlinked}
 use Rattle.rom_set.specs.declared.walk.Place.{Place}
 use Rattle.rom_set.proofs.Chains.{chain_back, chain_moved, chain_relinked, each_append}
 use Rattle.rom_set.proofs.Rising.{rising_back, below_before, above_behind, rising_without, from_list_without}
-use Rattle.rom_set.proofs.Links.{link_within, not_link, not_link_of, link_not_len, beside, set_part, set_tree}
+use Rattle.rom_set.proofs.Links.{link_within, not_link, not_link_of, beside, set_part, set_tree}
 
 -- what the stores of an unlinking leave
 pub record Cut (n b link : ℕ) (w w' : List ℕ) : Type 0 where

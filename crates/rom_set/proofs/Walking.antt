@@ -1,5 +1,5 @@
 -- A walk along the set's chain, step by step.
-use Rattle.std.proofs.Common.{◌≡◌, ◌≢◌, ℕ, ◌+◌, ◌-◌, ◌*◌, ◌^◌, ◌<◌, ◌≤◌, Bool, false, List, [], ◌∷◌, ◌++◌, length, refl, sym, ◌∙◌, ap, subst, arith, length-append, append_assoc}
+use Rattle.std.proofs.Common.{◌≡◌, ℕ, ◌+◌, ◌-◌, ◌*◌, ◌^◌, ◌<◌, ◌≤◌, Bool, false, List, [], ◌∷◌, ◌++◌, length, refl, sym, ◌∙◌, ap, subst, arith, length-append, append_assoc}
 use Rattle.std.specs.Prelude.{slice_index, ◌==◌, if◌then◌else◌}
 use Rattle.std.specs.Ordering.{nat_cmp}
 use Rattle.std.specs.FinSet as set
@@ -12,7 +12,6 @@ use Rattle.rom_model.specs.Walks.{keys_below}
 use Rattle.rom_model.proofs.Times.{times_here, times-append}
 use Rattle.rom_set.specs.Nodes.{link_after, first_of, AreNodes}
 use Rattle.rom_set.specs.Walk.{AreBelow, StartsAbove, starts_with, Walked, IsPlace}
-use Rattle.rom_set.specs.declared.walk.Place.{Place}
 use Rattle.rom_set.proofs.Chains.{link_push, chain_back, chain_first, each_append}
 use Rattle.rom_set.proofs.Rising.{rising_back}
 use Rattle.rom_set.proofs.Passed.{passed}

@@ -1,8 +1,7 @@
 -- What the calls on the set leave of a well-formed region.
-use Rattle.std.specs.Prelude.{◌≡◌, ℕ, ◌+◌, ◌^◌, ◌<◌, Bool, true, false, List, ◌∷◌, ◌++◌, slice_index}
+use Rattle.std.specs.Prelude.{◌≡◌, ℕ, ◌+◌, ◌^◌, ◌<◌, true, false, List, ◌∷◌, ◌++◌, slice_index}
 use Rattle.std.specs.Ordering.{nat_cmp}
 use Rattle.std.specs.FinSet as set
-use Rattle.rom_model.specs.Space.{ShownSpace, Looks}
 use Rattle.rom_model.specs.State.{State, live, cap}
 use Rattle.rom_model.specs.Blocks.{IsLowest, block_of}
 use Rattle.rom_model.specs.Region.{Chains, element_blocks, taken_by, Contents, PartBecomes}

@@ -9,8 +9,8 @@
 //! words.
 #![tactic(auto)]
 
+mod link;
 mod set;
 mod walk;
-mod link;
 
 pub use set::{Inserted, set_has, set_insert, set_len, set_remove};

@@ -1,11 +1,7 @@
-use Rattle.std.proofs.Common.{◌≡◌, ◌≢◌, ℕ, ◌+◌, ◌*◌, ◌^◌, ◌<◌, List, length, arith, ap, sym, ◌∙◌}
+use Rattle.std.proofs.Common.{ℕ, ◌+◌, List, arith, ap, ◌∙◌}
 use Rattle.std.specs.Prelude.{slice_index, slice_set}
-use Rattle.rom_model.specs.Blocks.{block_of}
-use Rattle.rom_model.specs.Chains.{IsIn, times}
 use Rattle.rom_set.specs.Nodes.{link_after}
-use Rattle.rom_set.specs.Link.{MayLink}
-use Rattle.rom_set.specs.declared.walk.Place.{Place}
-use Rattle.rom_set.proofs.Links.{link_within, link_not_len}
+use Rattle.rom_set.proofs.Links.{link_not_len}
 use Rattle.rom_set.proofs.Linked.{stored_of, linked, place_within, place_beside}
 use Rattle.rom_set.proofs.link.link_node.Goals as goal
 

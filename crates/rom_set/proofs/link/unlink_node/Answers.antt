@@ -1,6 +1,5 @@
-use Rattle.std.proofs.Common.{◌≡◌, ◌≢◌, ℕ, ◌+◌, ◌-◌, ◌*◌, ◌^◌, ◌<◌, List, length, arith, ap, sym, ◌∙◌}
+use Rattle.std.proofs.Common.{ℕ, ◌-◌, List, length, arith, ap, ◌∙◌}
 use Rattle.std.specs.Prelude.{slice_index, slice_set}
-use Rattle.rom_model.proofs.Nodes.{pow_small}
 use Rattle.rom_set.specs.Nodes.{link_after}
 use Rattle.rom_set.proofs.Links.{link_not_len}
 use Rattle.rom_set.proofs.Unlinked.{cut_of, len_stays, unlinked, link_in_region, block_within, some_len}

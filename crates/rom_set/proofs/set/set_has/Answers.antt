@@ -1,7 +1,4 @@
-use Rattle.std.proofs.Common.{◌≡◌, ℕ, ◌∙◌, sym}
-use Rattle.rom_model.specs.Region.{Contents}
 use Rattle.rom_set.proofs.Places.{region_set, found_contains}
-use Rattle.rom_set.proofs.Giving.{given_back}
 use Rattle.rom_set.proofs.set.set_has.Goals as goal
 
 pub find-place-requires-clause-sized : goal.find-place-requires-clause-sized

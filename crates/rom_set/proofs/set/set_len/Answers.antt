@@ -1,7 +1,5 @@
 use Rattle.std.proofs.Common.{◌∙◌, sym}
 use Rattle.rom_set.proofs.Rising.{len_members}
-use Rattle.rom_set.proofs.Passed.{passed}
-use Rattle.rom_set.proofs.Chains.{chain_relinked}
 use Rattle.rom_set.proofs.set.set_len.Goals as goal
 
 pub returns-clause-len : goal.returns-clause-len

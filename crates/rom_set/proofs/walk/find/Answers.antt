@@ -1,10 +1,8 @@
-use Rattle.std.proofs.Common.{rules, ◌≡◌, ◌<◌, ◌≤◌, ℕ, ◌+◌, ◌*◌, length, slice_index, arith, sym, ◌∙◌, ap, subst, refl}
+use Rattle.std.proofs.Common.{rules, ◌≡◌, ◌+◌, ◌*◌, length, slice_index, arith, ◌∙◌, ap, refl}
 use Rattle.std.specs.Prelude.{◌==◌}
-use Rattle.rom_model.specs.Space.{Looks}
 use Rattle.rom_model.proofs.Nodes.{pow_small}
 use Rattle.rom_set.proofs.Costs.{looks_most, looks_more}
 use Rattle.rom_set.proofs.Walking.{at_head, front_few, node_within, at_node, at_end, step, falls}
-use Rattle.rom_set.proofs.walk.find.Given.{Over}
 use Rattle.rom_set.proofs.walk.find.Goals as goal
 
 pub loop-node-init : goal.loop-node-init
