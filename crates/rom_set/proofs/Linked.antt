@@ -100,6 +100,7 @@ module _ {n key at : ℕ} {place : Place} {w w' : List ℕ} (m : MayLink n key a
 
   pub linked : IsLinked m w'
   linked = record {
+    holds = stored.first;
     set = linked_set;
     others = set_part n (front ++ m.block ∷ back) w w' stored.as_long stays;
     tree = set_tree n (front ++ m.block ∷ back) w w' stored.as_long stays;

@@ -62,6 +62,7 @@ module _ {n key : ℕ} {w : List ℕ} {p : Chains} {s : State} {k : ℕ} {place 
   became w2 done = record {
     block = new.block;
     lowest = subst (λ x. IsLowest n (taken_by n (element_blocks n p)) 0 x) new.node_is takes.lowest;
+    holds = done.holds;
     front = stands.walked.front;
     back = stands.walked.back;
     blocks = stands.walked.blocks_are;

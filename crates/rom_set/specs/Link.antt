@@ -20,6 +20,7 @@ pub record MayLink (n key at : ℕ) (place : Place) (words : List ℕ) : Type 0 
 
 -- The block stands at that place with the key, and no word differs but the set's and the block's.
 pub record IsLinked {n key at : ℕ} {place : Place} {old : List ℕ} (m : MayLink n key at place old) (new : List ℕ) : Type 0 where
+  pub holds : slice_index new (block_of n m.block + 0) ≡ key
   pub set : IsSet n new (m.is.walked.front ++ m.block ∷ m.is.walked.back) (set.insert m.holds.members key)
   pub others : ChangesPart n 6 8 (m.is.walked.front ++ m.block ∷ m.is.walked.back) old new
   pub tree : KeepsTree n old new

@@ -39,6 +39,7 @@ UnlessNew Full holds = holds
 pub record IsAdded (n : ℕ) (old : List ℕ) (p : Chains) (s : State) (count key : ℕ) (new : List ℕ) : Type 0 where
   pub block : ℕ
   pub lowest : IsLowest n (taken_by n (element_blocks n p)) 0 (2 ^ n + block)
+  pub holds : slice_index new (block_of n block + 0) ≡ key
   pub front : List ℕ
   pub back : List ℕ
   pub blocks : p.set ≡ front ++ back
