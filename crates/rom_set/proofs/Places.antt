@@ -37,3 +37,7 @@ module _ {n : ℕ} {w bs : List ℕ} {members : set.FinSet nat_cmp} {key : ℕ} 
   -- the number is found exactly where the set has it
   pub found_contains : place.found ≡ set.contains members key
   found_contains = at.found ∙ sym (contains_split key (each_word n w 0 at.walked.front) (each_word n w 0 at.walked.back) at.walked.below at.above place_rising) ∙ ap (λ m. set.contains m key) place_members
+
+-- a region and a place in words that are the same
+pub same_words : {n key k : ℕ} {v w : List ℕ} {p : Chains} {s : State} {place : Place} → v ≡ w → IsRegion n w p s k → IsPlace n w p.set key place → IsRegion n v p s k × IsPlace n v p.set key place
+same_words {n} {key} {k} {v} {w} {p} {s} {place} same is at = subst (λ x. IsRegion n x p s k × IsPlace n x p.set key place) (sym same) (is, at)

@@ -76,6 +76,9 @@ module _ {n : ℕ} {w bs : List ℕ} {members : set.FinSet nat_cmp} {key link no
       let same : set.from_list {R = nat_cmp} (each_word n w 0 x.front ++ each_word n w 0 x.back) ≡ members = ap (λ ks. set.from_list ks) (sym words) ∙ is.keys_are in
       omega (arith, some, length-map x.front (λ b. slice_index w (block_of n b + 0)), ap (λ m. keys_below m key) same)
 
+  pub front_fits : AreNodes n bs → length x.front ≤ 2 ^ n
+  front_fits are = omega (arith, are.few, ap length x.blocks_are, length-append x.front x.back)
+
   -- at the chain's end
   pub at_end : (found : Bool) → found ≡ false → node ≡ 0 → IsPlace n w bs key (record { link = link; node = node; found = found })
   at_end found missing none =

@@ -14,7 +14,8 @@ pub fn link_node<M: Space>(space: &mut M, order: u32, place: Place, at: u64, key
     requires sized { length (M.shown.image space.old) ≡ region_len order }
     requires may { MayLink order key at place (M.shown.image space.old) }
     requires room { HasRoom M.shown 6 space.old }
-    ensures linked { (m : MayLink order key at place (M.shown.image space.old)) → IsLinked m (M.shown.image space.new) }
+    ensures linked { (m : MayLink order key at place (M.shown.image space.old))
+        → IsLinked m (M.shown.image space.new) }
     ensures costs { Costs M.shown 5 6 space.old space.new }
 {
     fill_node(space, at, [key, place.node, 0, 0]);
@@ -29,7 +30,8 @@ pub fn unlink_node<M: Space>(space: &mut M, order: u32, place: Place)
     requires sized { length (M.shown.image space.old) ≡ region_len order }
     requires may { MayUnlink order place (M.shown.image space.old) }
     requires room { HasRoom M.shown 2 space.old }
-    ensures unlinked { (m : MayUnlink order place (M.shown.image space.old)) → IsUnlinked m (M.shown.image space.new) }
+    ensures unlinked { (m : MayUnlink order place (M.shown.image space.old))
+        → IsUnlinked m (M.shown.image space.new) }
     ensures costs { Costs M.shown 2 2 space.old space.new }
 {
     let next = space.load(place.node + 1);

@@ -95,7 +95,8 @@ pub fn set_has<M: Look>(space: &mut M, order: u32, key: u64) -> bool
 pub fn set_len<M: Look>(space: &mut M, order: u32) -> u64
     requires order { IsOrder order }
     requires region { IsWellFormed order (M.shown.image space.old) }
-    ensures len { (s : State) (k : ℕ) → Contents order (M.shown.image space.old) s k → result ≡ set.len s.members }
+    ensures len { (s : State) (k : ℕ) → Contents order (M.shown.image space.old) s k
+        → result ≡ set.len s.members }
     ensures looks { Looks M.shown 1 space.old space.new }
 {
     space.load(SET_LEN)

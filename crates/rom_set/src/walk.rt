@@ -1,6 +1,6 @@
 //! The walk along the set's chain. A node is a block of four words, which are a number, where the
 //! next node begins, 0 and 0, and the numbers rise.
-ghost use Rattle.std.specs.Prelude.{◌≡◌, ℕ, ◌+◌, ◌*◌, ◌≤◌, List, length};
+ghost use Rattle.std.specs.Prelude.{◌≡◌, ℕ, ◌+◌, ◌*◌, ◌^◌, ◌≤◌, List, length};
 ghost use Rattle.std.specs.Ordering.{nat_cmp};
 ghost use Rattle.std.specs.FinSet as set;
 ghost use Rattle.rom_model.specs.Space.{Looks};
@@ -34,6 +34,7 @@ pub fn find<M: Look>(space: &mut M, order: u32, key: u64) -> Place
     ensures looks { (blocks : List ℕ) (members : set.FinSet nat_cmp)
         → IsSet order (M.shown.image space.old) blocks members
         → Looks M.shown (2 + 2 * keys_below members key) space.old space.new }
+    ensures ends { Looks M.shown (2 + 2 * 2 ^ order) space.old space.new }
 {
     let mut link = SET_HEAD;
     let mut node = space.load(link);

@@ -1,9 +1,6 @@
 use Rattle.rom_set.proofs.Places.{region_set, found_contains}
 use Rattle.rom_set.proofs.set.set_has.Goals as goal
 
-pub find-place-requires-clause-sized : goal.find-place-requires-clause-sized
-find-place-requires-clause-sized g c = c.requires.region.contents.1.shape.as_long
-
 pub find-place-requires-clause-set : goal.find-place-requires-clause-set
 find-place-requires-clause-set g c = region_set c.requires.region.contents.1
 

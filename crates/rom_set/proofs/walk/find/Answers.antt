@@ -2,7 +2,7 @@ use Rattle.std.proofs.Common.{rules, ◌≡◌, ◌+◌, ◌*◌, length, slice_
 use Rattle.std.specs.Prelude.{◌==◌}
 use Rattle.rom_model.proofs.Nodes.{pow_small}
 use Rattle.rom_set.proofs.Costs.{looks_most, looks_more}
-use Rattle.rom_set.proofs.Walking.{at_head, front_few, node_within, at_node, at_end, step, falls}
+use Rattle.rom_set.proofs.Walking.{at_head, front_few, front_fits, node_within, at_node, at_end, step, falls}
 use Rattle.rom_set.proofs.walk.find.Goals as goal
 
 pub loop-node-init : goal.loop-node-init
@@ -28,6 +28,12 @@ pub returns-then-there-key-clause-looks : goal.returns-then-there-key-clause-loo
 returns-then-there-key-clause-looks g c blocks members is =
     let x = c.loop-node.invariant.way blocks members is in
     looks_more g.M.Look.shown _ _ (omega (arith, front_few is x.0)) x.1 c.load-there.ensures.image c.load-there.ensures.counts
+
+pub returns-then-there-key-clause-ends : goal.returns-then-there-key-clause-ends
+returns-then-there-key-clause-ends g c =
+    let q = c.requires.set in
+    let x = c.loop-node.invariant.way q.blocks q.members q.set in
+    looks_more g.M.Look.shown _ _ (omega (arith, front_fits q.set x.0 q.are)) x.1 c.load-there.ensures.image c.load-there.ensures.counts
 
 pub overflow_add-link : goal.overflow_add-link
 overflow_add-link g c =
@@ -72,3 +78,9 @@ pub returns-clause-looks : goal.returns-clause-looks
 returns-clause-looks g c blocks members is =
     let x = c.loop-node.invariant.way blocks members is in
     looks_most g.M.Look.shown _ _ (omega (arith, front_few is x.0)) x.1
+
+pub returns-clause-ends : goal.returns-clause-ends
+returns-clause-ends g c =
+    let q = c.requires.set in
+    let x = c.loop-node.invariant.way q.blocks q.members q.set in
+    looks_most g.M.Look.shown _ _ (omega (arith, front_fits q.set x.0 q.are)) x.1
