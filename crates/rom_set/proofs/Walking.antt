@@ -35,6 +35,9 @@ below_push : (key x : ℕ) (xs : List ℕ) → AreBelow key xs → x < key → A
 below_push key x [] all lt = (lt, tt)
 below_push key x (y ∷ ys) all lt = (all.0, below_push key x ys all.1 lt)
 
+positive : (m : ℕ) → 0 < m → (m == 0) ≡ false
+positive m some = grind (arith, nat_tests)
+
 -- what is left of a walk falls with each step, since the keys rise
 falls_at : (n key b next : ℕ) (w behind : List ℕ) → Chain n w (block_of n b + 1) 1 behind → IsRising (each_word n w 0 (b ∷ behind)) → slice_index w (block_of n b) < key → next ≡ slice_index w (block_of n b + 1)
     → (if next == 0 then 0 else key - slice_index w next) < key - slice_index w (block_of n b)
@@ -47,9 +50,6 @@ falls_at n key b next w (c ∷ cs) chain rising lt is =
     let plain : block_of n c + 0 ≡ next = omega (arith, here) in
     let flat : block_of n b + 0 ≡ block_of n b = omega arith in
     omega (arith, lt, rising.0, ap (λ k. slice_index w k) plain, ap (λ k. slice_index w k) flat, ap (λ t. if t then 0 else key - slice_index w next) test)
-  where
-    positive : (m : ℕ) → 0 < m → (m == 0) ≡ false
-    positive m some = grind (arith, nat_tests)
 
 -- at the chain's head
 pub at_head : {n : ℕ} {w bs : List ℕ} {members : set.FinSet nat_cmp} (key node : ℕ) → IsSet n w bs members → node ≡ slice_index w 6 → Walked n w bs key 6 node
@@ -99,6 +99,9 @@ module _ {n : ℕ} {w bs : List ℕ} {members : set.FinSet nat_cmp} {key link no
     flat : block_of n first.block + 0 ≡ node
     flat = omega (arith, first.here)
 
+    behind : Chain n w (block_of n first.block + 1) 1 first.behind
+    behind = (chain_back n 6 1 w x.front (first.block ∷ first.behind) (subst (λ cs. Chain n w 6 1 cs) blocks is.chain)).1
+
     pub node_within : AreNodes n bs → node + 4 ≤ 16 + 6 * 2 ^ n
     node_within are = omega (arith, first.here, are.within first.block (omega (arith, ap (times first.block) blocks, times-append first.block x.front (first.block ∷ first.behind), times_here first.block first.behind)))
 
@@ -123,17 +126,9 @@ module _ {n : ℕ} {w bs : List ℕ} {members : set.FinSet nat_cmp} {key link no
       },
       length-append x.front (first.block ∷ []),
     )
-      where
-        behind : Chain n w (block_of n first.block + 1) 1 first.behind
-        behind = (subst (λ cs. Chain n w (link_after n 6 1 x.front) 1 cs) first.are (chain_back n 6 1 w x.front x.back (subst (λ cs. Chain n w 6 1 cs) x.blocks_are is.chain))).1
-
     pub falls : (next : ℕ) → slice_index w node < key → next ≡ slice_index w (node + 1) → (if next == 0 then 0 else key - slice_index w next) < (if node == 0 then 0 else key - slice_index w node)
     falls next lt load =
-        let behind : Chain n w (block_of n first.block + 1) 1 first.behind = (subst (λ cs. Chain n w (link_after n 6 1 x.front) 1 cs) first.are (chain_back n 6 1 w x.front x.back (subst (λ cs. Chain n w 6 1 cs) x.blocks_are is.chain))).1 in
         let rises : IsRising (each_word n w 0 (first.block ∷ first.behind)) = subst (λ cs. IsRising (each_word n w 0 cs)) first.are (rising_back (each_word n w 0 x.front) (each_word n w 0 x.back) rising) in
         let less = falls_at n key first.block next w first.behind behind rises (subst (λ k. slice_index w k < key) first.here lt) (load ∙ ap (λ k. slice_index w (k + 1)) first.here) in
         let test : (node == 0) ≡ false = positive node (omega (arith, first.here)) in
         omega (arith, less, ap (λ k. slice_index w k) first.here, ap (λ t. if t then 0 else key - slice_index w node) test)
-      where
-        positive : (m : ℕ) → 0 < m → (m == 0) ≡ false
-        positive m more = grind (arith, nat_tests)
