@@ -1,8 +1,6 @@
--- Lemmas on rising numbers, on chains, and on the set's blocks.
+-- Lemmas on rising numbers, and on the set's blocks.
 pub mod Rising
 pub mod Passed
-pub mod Chains
-pub mod Costs
 pub mod Walking
 pub mod Places
 pub mod Links

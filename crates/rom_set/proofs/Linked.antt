@@ -10,10 +10,10 @@ use Rattle.rom_model.specs.Chains.{IsIn, times, Chain, each_word, HoldZero, IsRi
 use Rattle.rom_model.specs.Region.{IsSet}
 use Rattle.rom_model.proofs.Times.{times_here, times_away, times-append}
 use Rattle.rom_model.proofs.Frames.{each_same}
-use Rattle.rom_set.specs.Nodes.{link_after}
+use Rattle.rom_model.specs.Links.{link_after}
 use Rattle.rom_set.specs.Link.{MayLink, IsLinked}
 use Rattle.rom_set.specs.declared.walk.Place.{Place}
-use Rattle.rom_set.proofs.Chains.{chain_back, chain_first, chain_moved, chain_relinked, each_append}
+use Rattle.rom_model.proofs.Links.{chain_back, chain_first, chain_moved, chain_relinked, each_append}
 use Rattle.rom_set.proofs.Rising.{above_next, rising_between, from_list_between}
 use Rattle.rom_set.proofs.Links.{link_within, not_link, not_link_of, beside, set_part, set_tree}
 use Rattle.rom_set.proofs.Places.{place_rising, place_members}

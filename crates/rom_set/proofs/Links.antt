@@ -5,8 +5,9 @@ use Rattle.rom_model.specs.Blocks.{block_of}
 use Rattle.rom_model.specs.Chains.{IsIn, times}
 use Rattle.rom_model.specs.Region.{ChangesPart}
 use Rattle.rom_model.proofs.Nodes.{pow_positive}
-use Rattle.rom_set.specs.Nodes.{link_after, KeepsTree}
-use Rattle.rom_set.proofs.Chains.{link_in}
+use Rattle.rom_model.specs.Links.{link_after}
+use Rattle.rom_set.specs.Nodes.{KeepsTree}
+use Rattle.rom_model.proofs.Links.{link_in}
 
 module _ (n : ℕ) (front : List ℕ) where
   -- the link is the head, or a second word of a block

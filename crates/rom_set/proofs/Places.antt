@@ -10,7 +10,7 @@ use Rattle.rom_model.proofs.Room.{times_members}
 use Rattle.rom_set.specs.Nodes.{AreNodes, HoldsSet}
 use Rattle.rom_set.specs.Walk.{IsPlace}
 use Rattle.rom_set.specs.declared.walk.Place.{Place}
-use Rattle.rom_set.proofs.Chains.{each_append}
+use Rattle.rom_model.proofs.Links.{each_append}
 use Rattle.rom_set.proofs.Rising.{contains_split}
 
 module _ {n : ℕ} {w : List ℕ} {p : Chains} {s : State} {k : ℕ} (is : IsRegion n w p s k) where

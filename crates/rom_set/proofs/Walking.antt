@@ -10,9 +10,10 @@ use Rattle.rom_model.specs.Chains.{times, Chain, each_word, IsRising}
 use Rattle.rom_model.specs.Region.{IsSet}
 use Rattle.rom_model.specs.Walks.{keys_below}
 use Rattle.rom_model.proofs.Times.{times_here, times-append}
-use Rattle.rom_set.specs.Nodes.{link_after, first_of, AreNodes}
+use Rattle.rom_model.specs.Links.{first_of}
+use Rattle.rom_set.specs.Nodes.{AreNodes}
 use Rattle.rom_set.specs.Walk.{AreBelow, StartsAbove, starts_with, Walked, IsPlace}
-use Rattle.rom_set.proofs.Chains.{link_push, chain_back, chain_first, each_append}
+use Rattle.rom_model.proofs.Links.{link_push, chain_back, chain_first, each_append}
 use Rattle.rom_set.proofs.Rising.{rising_back}
 use Rattle.rom_set.proofs.Passed.{passed}
 
@@ -126,6 +127,7 @@ module _ {n : ℕ} {w bs : List ℕ} {members : set.FinSet nat_cmp} {key link no
       },
       length-append x.front (first.block ∷ []),
     )
+
     pub falls : (next : ℕ) → slice_index w node < key → next ≡ slice_index w (node + 1) → (if next == 0 then 0 else key - slice_index w next) < (if node == 0 then 0 else key - slice_index w node)
     falls next lt load =
         let rises : IsRising (each_word n w 0 (first.block ∷ first.behind)) = subst (λ cs. IsRising (each_word n w 0 cs)) first.are (rising_back (each_word n w 0 x.front) (each_word n w 0 x.back) rising) in

@@ -4,7 +4,8 @@ use Rattle.std.specs.FinSet as set
 use Rattle.rom_model.specs.Blocks.{block_of}
 use Rattle.rom_model.specs.Chains.{times}
 use Rattle.rom_model.specs.Region.{IsSet, ChangesPart}
-use Rattle.rom_set.specs.Nodes.{link_after, HoldsSet, KeepsTree}
+use Rattle.rom_model.specs.Links.{link_after}
+use Rattle.rom_set.specs.Nodes.{HoldsSet, KeepsTree}
 use Rattle.rom_set.specs.Walk.{IsPlace}
 use Rattle.rom_set.specs.declared.walk.Place.{Place}
 

@@ -1,20 +1,10 @@
 -- The set's nodes in the words of a region.
-use Rattle.std.specs.Prelude.{◌≡◌, ℕ, ◌+◌, ◌^◌, ◌<◌, ◌≤◌, List, [], ◌∷◌, length, slice_index}
+use Rattle.std.specs.Prelude.{◌≡◌, ℕ, ◌^◌, ◌<◌, ◌≤◌, List, length, slice_index}
 use Rattle.std.specs.Ordering.{nat_cmp}
 use Rattle.std.specs.FinSet as set
 use Rattle.rom_model.specs.Blocks.{block_of}
 use Rattle.rom_model.specs.Chains.{times}
 use Rattle.rom_model.specs.Region.{IsSet}
-
--- where the last link of a chain stands that begins at that link word
-abbrev pub link_after : ℕ → ℕ → ℕ → List ℕ → ℕ
-link_after n link j [] = link
-link_after n link j (b ∷ blocks) = link_after n (block_of n b + j) j blocks
-
--- where the first block begins, or 0
-abbrev pub first_of : ℕ → List ℕ → ℕ
-first_of n [] = 0
-first_of n (b ∷ blocks) = block_of n b
 
 -- different blocks of a region, and so no more than it has
 pub record AreNodes (n : ℕ) (blocks : List ℕ) : Type 0 where

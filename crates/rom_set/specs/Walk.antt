@@ -1,7 +1,7 @@
 -- The place of a number in the set's chain.
 use Rattle.std.specs.Prelude.{◌≡◌, ℕ, ◌<◌, ◌≤◌, Bool, false, ◌==◌, List, [], ◌∷◌, ◌++◌}
 use Rattle.rom_model.specs.Chains.{each_word}
-use Rattle.rom_set.specs.Nodes.{link_after, first_of}
+use Rattle.rom_model.specs.Links.{link_after, first_of}
 use Rattle.rom_set.specs.declared.walk.Place.{Place}
 
 -- each of the numbers is below the key

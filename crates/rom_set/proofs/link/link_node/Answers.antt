@@ -1,6 +1,6 @@
 use Rattle.std.proofs.Common.{ℕ, ◌+◌, List, arith, ap, ◌∙◌}
 use Rattle.std.specs.Prelude.{slice_index, slice_set}
-use Rattle.rom_set.specs.Nodes.{link_after}
+use Rattle.rom_model.specs.Links.{link_after}
 use Rattle.rom_set.proofs.Links.{link_not_len}
 use Rattle.rom_set.proofs.Linked.{stored_of, linked, place_within, place_beside}
 use Rattle.rom_set.proofs.link.link_node.Goals as goal

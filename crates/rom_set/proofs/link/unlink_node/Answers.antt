@@ -1,6 +1,6 @@
 use Rattle.std.proofs.Common.{ℕ, ◌-◌, List, length, arith, ap, ◌∙◌}
 use Rattle.std.specs.Prelude.{slice_index, slice_set}
-use Rattle.rom_set.specs.Nodes.{link_after}
+use Rattle.rom_model.specs.Links.{link_after}
 use Rattle.rom_set.proofs.Links.{link_not_len}
 use Rattle.rom_set.proofs.Unlinked.{cut_of, len_stays, unlinked, link_in_region, block_within, some_len}
 use Rattle.rom_set.proofs.link.unlink_node.Goals as goal

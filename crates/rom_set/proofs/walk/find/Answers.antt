@@ -1,7 +1,7 @@
 use Rattle.std.proofs.Common.{rules, ◌≡◌, ◌+◌, ◌*◌, length, slice_index, arith, ◌∙◌, ap, refl}
 use Rattle.std.specs.Prelude.{◌==◌}
 use Rattle.rom_model.proofs.Nodes.{pow_small}
-use Rattle.rom_set.proofs.Costs.{looks_most, looks_more}
+use Rattle.rom_model.proofs.Looks.{looks_most, looks_more}
 use Rattle.rom_set.proofs.Walking.{at_head, front_few, front_fits, node_within, at_node, at_end, step, falls}
 use Rattle.rom_set.proofs.walk.find.Goals as goal
 

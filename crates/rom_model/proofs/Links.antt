@@ -1,11 +1,11 @@
--- The links of a chain that is split into a front and a back.
+-- The links of a chain that is cut in two, and the words of its blocks.
 use Rattle.std.proofs.Common.{◌≡◌, ◌≢◌, ◌⊎◌, inl, inr, ⊎_elim, ℕ, ◌+◌, ◌<◌, ◌≤◌, List, [], ◌∷◌, ◌++◌, refl, ◌∙◌, ap, arith}
 use Rattle.std.specs.Prelude.{slice_index}
 use Rattle.rom_model.specs.Blocks.{block_of}
 use Rattle.rom_model.specs.Chains.{times, Chain, each_word}
 use Rattle.rom_model.proofs.Times.{times_here, times_more}
 use Rattle.rom_model.proofs.Frames.{chain_same}
-use Rattle.rom_set.specs.Nodes.{link_after, first_of}
+use Rattle.rom_model.specs.Links.{link_after, first_of}
 
 -- where the last link stands
 pub link_in : (n l j : ℕ) (bs : List ℕ) → (link_after n l j bs ≡ l) ⊎ ((c : ℕ) × (0 < times c bs) × (link_after n l j bs ≡ block_of n c + j))
