@@ -1,7 +1,8 @@
 -- What the calls on the set leave of a well-formed region.
-use Rattle.std.specs.Prelude.{◌≡◌, ℕ, ◌+◌, ◌^◌, ◌<◌, true, false, List, ◌∷◌, ◌++◌, slice_index}
+use Rattle.std.specs.Prelude.{◌≡◌, ℕ, ◌+◌, ◌*◌, ◌^◌, ◌<◌, true, false, List, ◌∷◌, ◌++◌, slice_index}
 use Rattle.std.specs.Ordering.{nat_cmp}
 use Rattle.std.specs.FinSet as set
+use Rattle.rom_model.specs.Space.{ShownSpace, Looks}
 use Rattle.rom_model.specs.State.{State, live, cap}
 use Rattle.rom_model.specs.Blocks.{IsLowest, block_of}
 use Rattle.rom_model.specs.Region.{Chains, element_blocks, taken_by, Contents, PartBecomes}
@@ -28,11 +29,12 @@ OnNew New holds = holds
 OnNew There holds = Unit {0}
 OnNew Full holds = Unit {0}
 
--- what holds where it was not
-abbrev pub UnlessNew : Inserted → Type 0 → Type 0
-UnlessNew New holds = Unit {0}
-UnlessNew There holds = holds
-UnlessNew Full holds = holds
+-- Where it was not, the words stay, nothing is stored, and so many loads are made at most where the set has
+-- so many numbers below this one.
+abbrev pub KeepsUnlessNew : {M : Type 0} → ShownSpace M → ℕ → ℕ → Inserted → M → M → Type 0
+KeepsUnlessNew shown n below New old new = Unit {0}
+KeepsUnlessNew shown n below There old new = Looks shown (2 + 2 * below) old new
+KeepsUnlessNew shown n below Full old new = Looks shown (n + 3 + 2 * below) old new
 
 -- The number stands in the first block that was free, which was put into the set's chain, and each other
 -- element keeps its block. No word differs but the set's root words, the tree's, and those of the set's blocks.

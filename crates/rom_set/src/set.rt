@@ -7,7 +7,7 @@ ghost use Rattle.rom_model.specs.State.{State};
 ghost use Rattle.rom_model.specs.Walks.{keys_below};
 ghost use Rattle.rom_model.specs.Blocks.{IsOrder};
 ghost use Rattle.rom_model.specs.Region.{Chains, IsRegion, IsWellFormed, Contents};
-ghost use Rattle.rom_set.specs.Set.{with_members, IsInserted, IsAdded, IsRemoved, OnNew, UnlessNew};
+ghost use Rattle.rom_set.specs.Set.{with_members, IsInserted, IsAdded, IsRemoved, OnNew, KeepsUnlessNew};
 
 use crate::link::{link_node, unlink_node};
 use crate::walk::find;
@@ -36,7 +36,7 @@ pub fn set_insert<M: Space>(space: &mut M, order: u32, key: u64) -> Inserted
         → OnNew result (IsAdded order (M.shown.image space.old) p s k key (M.shown.image space.new)) }
     ensures region { IsWellFormed order (M.shown.image space.new) }
     ensures kept { (s : State) (k : ℕ) → Contents order (M.shown.image space.old) s k
-        → UnlessNew result (Looks M.shown (order + 3 + 2 * keys_below s.members key) space.old space.new) }
+        → KeepsUnlessNew M.shown order (keys_below s.members key) result space.old space.new }
     ensures costs { (s : State) (k : ℕ) → Contents order (M.shown.image space.old) s k
         → Costs M.shown (3 * order + 8 + 2 * keys_below s.members key) 31 space.old space.new }
 {
