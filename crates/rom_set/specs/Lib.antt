@@ -1,0 +1,5 @@
+-- The definitions that the contracts of this crate cite.
+pub mod Set
+pub mod Nodes
+pub mod Walk
+pub mod Link

@@ -1,0 +1,36 @@
+-- The place of a number in the set's chain.
+use Rattle.std.specs.Prelude.{◌≡◌, ℕ, ◌<◌, ◌≤◌, Bool, false, ◌==◌, List, [], ◌∷◌, ◌++◌}
+use Rattle.rom_model.specs.Chains.{each_word}
+use Rattle.rom_model.specs.Links.{link_after, first_of}
+use Rattle.rom_set.specs.declared.walk.Place.{Place}
+
+-- each of the numbers is below the key
+abbrev pub AreBelow : ℕ → List ℕ → Type 0
+AreBelow key [] = Unit {0}
+AreBelow key (x ∷ xs) = (x < key) × AreBelow key xs
+
+-- the first of the numbers, where there is one, is not below the key
+abbrev pub StartsAbove : ℕ → List ℕ → Type 0
+StartsAbove key [] = Unit {0}
+StartsAbove key (x ∷ xs) = key ≤ x
+
+-- whether the first is the key
+abbrev pub starts_with : ℕ → List ℕ → Bool
+starts_with key [] = false
+starts_with key (x ∷ xs) = x == key
+
+-- A walk along the chain of these blocks came to that link word, which leads to that node or is 0: the
+-- keys that it passed are below the key.
+pub record Walked (n : ℕ) (words blocks : List ℕ) (key link node : ℕ) : Type 0 where
+  pub front : List ℕ
+  pub back : List ℕ
+  pub blocks_are : blocks ≡ front ++ back
+  pub below : AreBelow key (each_word n words 0 front)
+  pub link_is : link ≡ link_after n 6 1 front
+  pub node_is : node ≡ first_of n back
+
+-- the walk stopped there at the first node whose key is not below the key, or at the chain's end
+pub record IsPlace (n : ℕ) (words blocks : List ℕ) (key : ℕ) (place : Place) : Type 0 where
+  pub walked : Walked n words blocks key place.link place.node
+  pub above : StartsAbove key (each_word n words 0 walked.back)
+  pub found : place.found ≡ starts_with key (each_word n words 0 walked.back)

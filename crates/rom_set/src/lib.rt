@@ -1,0 +1,18 @@
+//! The set of a heap, in the words of a region.
+//!
+//! Each number stands in a block of its own, which links to that of the next greater one. A walk along
+//! the chain finds the place of a number, and stops at the first that is not below it; there a new
+//! number's block is put in, and the block of one that goes is taken out. The contracts promise of
+//! every well-formed region what the set holds then, that each element that stays keeps its block,
+//! that no words change but the set's and the allocator's, that an insertion is refused exactly where
+//! the heap is full, and how many loads and stores a call makes at most. They hold over any space of
+//! words.
+#![tactic(auto)]
+
+mod link;
+mod set;
+#[cfg(test)]
+mod tests;
+mod walk;
+
+pub use set::{Inserted, set_has, set_insert, set_len, set_remove};
