@@ -1,15 +1,15 @@
 //! The allocator of a region's blocks.
-ghost use Rattle.std.specs.Prelude.{◌≡◌, ℕ, ◌+◌, ◌-◌, ◌*◌, ◌^◌, ◌≤◌, Bool, true, false, List, length, IsTrue, MatchOption, IfNone, slice_index};
-ghost use Rattle.rom_model.specs.Space.{AtMost, IsRoom, ChangesOnly, differing};
-ghost use Rattle.rom_model.specs.Blocks.{IsNode, AreWords, IsDisjoint, NoneFree, IsGreatest, nothing, giving, block_at};
-ghost use Rattle.rom_model.specs.Region.{region_len};
+ghost use Rattle.std.specs.Prelude.{◌≡◌, ℕ, ◌+◌, ◌-◌, ◌*◌, ◌^◌, ◌≤◌, Bool, true, false, length, MatchOption, IfNone, slice_index};
+ghost use Rattle.rom_model.specs.Space.{Costs, Looks, HasRoom, IsSparing, ChangesOnly};
+ghost use Rattle.rom_model.specs.Blocks.{IsOrder, IsNode, AreWords, IsDisjoint, NoneFree, IsGreatest, nothing, giving, block_at, region_len};
+ghost use Rattle.rom_block.specs.Walk.{ChangesTree};
 ghost use Rattle.rom_block.specs.Taken.{Takes, IsSomeTree, IsTakenAt, among, AreBlocks, IsTreeAnswer};
 
 use crate::expected::{expected_words, first_difference};
 use crate::fresh::fill_depth;
 use crate::node::{node_at, offset};
 use crate::tree::{find, replace};
-use rom_model::{Look, Rule, Space, Unfit};
+use rom_model::{Look, Rule, Space, TREE, Unfit};
 use std::alloc::Global;
 
 /// A block that is taken.
@@ -30,19 +30,15 @@ pub struct Blocks;
 impl Blocks {
     /// Makes all blocks free. A new region begins so, before its bucket table is taken.
     pub fn format<M: Space>(space: &mut M, order: u32)
-        requires least { 4 ≤ order }
-        requires most { order ≤ 16 }
-        requires sized { length (M.image space.old) ≡ region_len order }
-        requires free { M.has_limit ≡ false }
-        ensures words { AreWords order nothing (M.image space.new) }
-        ensures zero { slice_index (M.image space.new) 16 ≡ 0 }
-        ensures others { ChangesOnly 16 (2 * 2 ^ order) (M.image space.old) (M.image space.new) }
-        ensures loads { IsTrue M.tells_loads → M.loads space.new ≡ M.loads space.old }
-        ensures stores { AtMost M.tells_stores (2 * 2 ^ order) (M.stores space.old) (M.stores space.new) }
-        ensures limit { M.limit space.new ≡ M.limit space.old }
-        ensures rest { M.rest space.new ≡ M.rest space.old }
+        requires order { IsOrder order }
+        requires sized { length (M.shown.image space.old) ≡ region_len order }
+        requires free { M.shown.has_limit ≡ false }
+        ensures words { AreWords order nothing (M.shown.image space.new) }
+        ensures zero { slice_index (M.shown.image space.new) 16 ≡ 0 }
+        ensures others { ChangesOnly 16 (2 * 2 ^ order) (M.shown.image space.old) (M.shown.image space.new) }
+        ensures costs { Costs M.shown 0 (2 * 2 ^ order) space.old space.new }
     {
-        space.store(16, 0);
+        space.store(TREE, 0);
         for depth in 0..order + 1 {
             fill_depth(space, order, depth);
         }
@@ -51,21 +47,19 @@ impl Blocks {
     /// Takes the first free block of an order, and tells where it begins, in words from the
     /// region's start. `None` where no block of the order is free; then nothing is stored.
     pub fn take<M: Space>(space: &mut M, order: u32, want: u32) -> Option<u64>
-        requires least { 4 ≤ order }
-        requires most { order ≤ 16 }
-        requires sized { length (M.image space.old) ≡ region_len order }
+        requires order { IsOrder order }
+        requires sized { length (M.shown.image space.old) ≡ region_len order }
         requires want { want ≤ order }
-        requires blocks { IsSomeTree order (M.image space.old) }
-        requires room { IsRoom M.has_limit (M.limit space.old) (M.stores space.old) (order + 1) }
-        ensures taken { (taken : ℕ → Bool) → IsDisjoint order taken → AreWords order taken (M.image space.old) → MatchOption result (NoneFree order taken want) (Takes order want taken (M.image space.new)) }
-        ensures none { IfNone result (M.image space.new ≡ M.image space.old) }
-        ensures none_stored { IfNone result (IsTrue M.tells_stores → M.stores space.new ≡ M.stores space.old) }
-        ensures others { ChangesOnly 17 (2 * 2 ^ order - 1) (M.image space.old) (M.image space.new) }
-        ensures loads { AtMost M.tells_loads (3 * order + 1) (M.loads space.old) (M.loads space.new) }
-        ensures stores { AtMost M.tells_stores (order + 1) (M.stores space.old) (M.stores space.new) }
-        ensures sparing { IsTrue M.tells_stores → M.stores space.new ≤ M.stores space.old + differing (M.image space.old) (M.image space.new) }
-        ensures limit { M.limit space.new ≡ M.limit space.old }
-        ensures rest { M.rest space.new ≡ M.rest space.old }
+        requires blocks { IsSomeTree order (M.shown.image space.old) }
+        requires room { HasRoom M.shown (order + 1) space.old }
+        ensures taken { (taken : ℕ → Bool) → IsDisjoint order taken
+            → AreWords order taken (M.shown.image space.old)
+            → MatchOption result (NoneFree order taken want)
+            (Takes order want taken (M.shown.image space.new)) }
+        ensures none { IfNone result (Looks M.shown (order + 1) space.old space.new) }
+        ensures others { ChangesTree M.shown order space.old space.new }
+        ensures costs { Costs M.shown (3 * order + 1) (order + 1) space.old space.new }
+        ensures sparing { IsSparing M.shown space.old space.new }
     {
         let node = find(space, order, want)?;
         replace(space, order, node, want, 0);
@@ -75,20 +69,19 @@ impl Blocks {
     /// Gives back the block that begins there, in words from the region's start, and was taken as
     /// one of the order `want`. Halves that are both free are one free block again.
     pub fn give<M: Space>(space: &mut M, order: u32, at: u64, want: u32)
-        requires least { 4 ≤ order }
-        requires most { order ≤ 16 }
-        requires sized { length (M.image space.old) ≡ region_len order }
+        requires order { IsOrder order }
+        requires sized { length (M.shown.image space.old) ≡ region_len order }
         requires want { want ≤ order }
-        requires taken { IsTakenAt order want at (M.image space.old) }
-        requires room { IsRoom M.has_limit (M.limit space.old) (M.stores space.old) (order + 1) }
-        ensures given { (taken : ℕ → Bool) (x : ℕ) → IsDisjoint order taken → AreWords order taken (M.image space.old) → IsNode (order - want) x → at ≡ block_at order want x → taken x ≡ true
-            → IsDisjoint order (giving x taken) × AreWords order (giving x taken) (M.image space.new) }
-        ensures others { ChangesOnly 17 (2 * 2 ^ order - 1) (M.image space.old) (M.image space.new) }
-        ensures loads { AtMost M.tells_loads (2 * order) (M.loads space.old) (M.loads space.new) }
-        ensures stores { AtMost M.tells_stores (order + 1) (M.stores space.old) (M.stores space.new) }
-        ensures sparing { IsTrue M.tells_stores → M.stores space.new ≤ M.stores space.old + differing (M.image space.old) (M.image space.new) }
-        ensures limit { M.limit space.new ≡ M.limit space.old }
-        ensures rest { M.rest space.new ≡ M.rest space.old }
+        requires taken { IsTakenAt order want at (M.shown.image space.old) }
+        requires room { HasRoom M.shown (order + 1) space.old }
+        ensures given { (taken : ℕ → Bool) (x : ℕ) → IsDisjoint order taken
+            → AreWords order taken (M.shown.image space.old)
+            → IsNode (order - want) x → at ≡ block_at order want x → taken x ≡ true
+            → IsDisjoint order (giving x taken)
+            × AreWords order (giving x taken) (M.shown.image space.new) }
+        ensures others { ChangesTree M.shown order space.old space.new }
+        ensures costs { Costs M.shown (2 * order) (order + 1) space.old space.new }
+        ensures sparing { IsSparing M.shown space.old space.new }
     {
         let node = node_at(order, at, want);
         replace(space, order, node, want, want as u64 + 1);
@@ -96,18 +89,16 @@ impl Blocks {
 
     /// The greatest order of a free block. `None` where no block is free.
     pub fn largest_free<M: Look>(space: &mut M, order: u32) -> Option<u32>
-        requires least { 4 ≤ order }
-        requires most { order ≤ 16 }
-        requires sized { length (M.image space.old) ≡ region_len order }
-        requires blocks { IsSomeTree order (M.image space.old) }
-        ensures greatest { (taken : ℕ → Bool) → IsDisjoint order taken → AreWords order taken (M.image space.old) → MatchOption result ((j : ℕ) → j ≤ order → NoneFree order taken j) (IsGreatest order taken) }
-        ensures image { M.image space.new ≡ M.image space.old }
-        ensures loads { AtMost M.tells_loads 1 (M.loads space.old) (M.loads space.new) }
-        ensures stores { IsTrue M.tells_stores → M.stores space.new ≡ M.stores space.old }
-        ensures limit { M.limit space.new ≡ M.limit space.old }
-        ensures rest { M.rest space.new ≡ M.rest space.old }
+        requires order { IsOrder order }
+        requires sized { length (M.shown.image space.old) ≡ region_len order }
+        requires blocks { IsSomeTree order (M.shown.image space.old) }
+        ensures greatest { (taken : ℕ → Bool) → IsDisjoint order taken
+            → AreWords order taken (M.shown.image space.old)
+            → MatchOption result ((j : ℕ) → j ≤ order → NoneFree order taken j)
+            (IsGreatest order taken) }
+        ensures looks { Looks M.shown 1 space.old space.new }
     {
-        let word = space.load(17);
+        let word = space.load(TREE + 1);
         if word == 0 {
             return None;
         }
@@ -118,8 +109,7 @@ impl Blocks {
     /// first that is another. It takes memory for two entries a node, and where there is none
     /// nothing is known of the region.
     pub fn inspect(alloc: Global, region: &[u64], order: u32, taken: &[Taken]) -> Result<(), Unfit>
-        requires least { 4 ≤ order }
-        requires most { order ≤ 16 }
+        requires order { IsOrder order }
         requires sized { length region.now ≡ region_len order }
         requires blocks { AreBlocks order taken.now }
         requires apart { IsDisjoint order (among order taken.now) }

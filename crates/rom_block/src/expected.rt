@@ -1,12 +1,13 @@
 //! The words that the tree must hold for blocks that are taken, and their comparison with a region.
 ghost use Rattle.std.specs.Prelude.{◌≡◌, ℕ, ◌+◌, ◌-◌, ◌*◌, ◌^◌, ◌<◌, ◌≤◌, Bool, List, length, IfOk, MatchOption, slice_index};
-ghost use Rattle.rom_model.specs.Blocks.{IsNode, AreWords, nothing, word};
-ghost use Rattle.rom_block.specs.Levels.{IsMarked, AreBelow, AreExpected};
+ghost use Rattle.rom_model.specs.Blocks.{AreWords, nothing, word};
+ghost use Rattle.rom_block.specs.Levels.{AreForNodes, IsMarked, AreBelow, AreExpected};
+ghost use Rattle.rom_block.specs.Walk.{HoldsTree, IsNodeOf};
 ghost use Rattle.rom_block.specs.Taken.{among, AreBlocks, DiffersFirst};
 
 use crate::blocks::Taken;
 use crate::node::{join, node_at};
-use rom_model::power_of_two;
+use rom_model::{TREE, power_of_two};
 use std::alloc::{AllocError, Global};
 
 /// Marks the nodes of taken blocks.
@@ -26,14 +27,10 @@ fn mark_nodes(order: u32, taken: &[Taken], marks: &mut [bool])
 
 /// The word of a node, from those of its halves. The node has that order.
 fn node_word(order: u32, level: u32, marks: &[bool], words: &[u64], node: u64) -> u64
-    requires most { order ≤ 16 }
-    requires level { level ≤ order }
-    requires marks { length marks.now ≡ 2 * 2 ^ order }
-    requires words { length words.now ≡ 2 * 2 ^ order }
-    requires node { IsNode (order - level) node }
-    requires within { node < 2 * 2 ^ order }
-    requires halves { 0 < level → 2 * node + 1 < 2 * 2 ^ order }
-    ensures { (taken : ℕ → Bool) → IsMarked taken marks.now → AreBelow order taken level words.now → result ≡ word taken level node }
+    requires sized { AreForNodes order marks.now words.now }
+    requires node { IsNodeOf order level node }
+    ensures { (taken : ℕ → Bool) → IsMarked taken marks.now → AreBelow order taken level words.now
+        → result ≡ word taken level node }
 {
     if marks[node as usize] {
         return 0;
@@ -47,12 +44,11 @@ fn node_word(order: u32, level: u32, marks: &[bool], words: &[u64], node: u64) -
 
 /// Fills in the words of the nodes of one order, from those of lower orders.
 fn fill_level(order: u32, level: u32, marks: &[bool], words: &mut [u64])
-    requires most { order ≤ 16 }
+    requires sized { AreForNodes order marks.now words.old }
     requires level { level ≤ order }
-    requires marks { length marks.now ≡ 2 * 2 ^ order }
-    requires words { length words.old ≡ 2 * 2 ^ order }
-    ensures filled { (taken : ℕ → Bool) → IsMarked taken marks.now → AreBelow order taken level words.old → AreBelow order taken (level + 1) words.new }
-    ensures len { length words.new ≡ length words.old }
+    ensures filled { (taken : ℕ → Bool) → IsMarked taken marks.now
+        → AreBelow order taken level words.old → AreBelow order taken (level + 1) words.new }
+    ensures sized { AreForNodes order marks.now words.new }
 {
     let first = power_of_two(order - level);
     for node in first..2 * first {
@@ -63,11 +59,10 @@ fn fill_level(order: u32, level: u32, marks: &[bool], words: &mut [u64])
 
 /// Fills in the words of all nodes, those of the units first.
 fn fill_levels(order: u32, marks: &[bool], words: &mut [u64])
-    requires most { order ≤ 16 }
-    requires marks { length marks.now ≡ 2 * 2 ^ order }
-    requires words { length words.old ≡ 2 * 2 ^ order }
-    ensures filled { (taken : ℕ → Bool) → IsMarked taken marks.now → AreExpected order taken words.new }
-    ensures len { length words.new ≡ length words.old }
+    requires sized { AreForNodes order marks.now words.old }
+    ensures filled { (taken : ℕ → Bool) → IsMarked taken marks.now
+        → AreExpected order taken words.new }
+    ensures sized { AreForNodes order marks.now words.new }
 {
     for level in 0..order + 1 {
         fill_level(order, level, marks, words);
@@ -91,14 +86,15 @@ pub fn expected_words(alloc: Global, order: u32, taken: &[Taken]) -> Result<Vec<
 
 /// The offset of the first word of a region's tree that is another than the one it must hold.
 pub fn first_difference(region: &[u64], order: u32, words: &[u64]) -> Option<u64>
-    requires most { order ≤ 16 }
-    requires tree { 16 + 2 * 2 ^ order ≤ length region.now }
+    requires tree { HoldsTree order region.now }
     requires words { length words.now ≡ 2 * 2 ^ order }
-    ensures { (taken : ℕ → Bool) → AreExpected order taken words.now → MatchOption result (AreWords order taken region.now) (DiffersFirst order taken region.now) }
+    ensures { (taken : ℕ → Bool) → AreExpected order taken words.now
+        → MatchOption result (AreWords order taken region.now)
+        (DiffersFirst order taken region.now) }
 {
     for node in 1..2 * power_of_two(order) {
-        if region[16 + node as usize] != words[node as usize] {
-            return Some(16 + node);
+        if region[(TREE + node) as usize] != words[node as usize] {
+            return Some(TREE + node);
         }
     }
     None

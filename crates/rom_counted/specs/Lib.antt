@@ -1,0 +1,2 @@
+-- What contracts see of counted words.
+pub mod Counted
