@@ -5,13 +5,14 @@ use Rattle.std.specs.FinMap as finite
 use Rattle.std.proofs.lemmas.Bool.{cases_lt}
 use Rattle.rom_model.specs.Space.{ChangesOnly}
 use Rattle.rom_model.specs.State.{empty}
-use Rattle.rom_model.specs.Blocks.{IsNode, IsDisjoint, IsLowest, NoneFree, AreWords, nothing, taking, block_of}
+use Rattle.rom_model.specs.Blocks.{IsNode, IsDisjoint, IsLowest, NoneFree, AreWords, nothing, taking, block_of, region_len}
 use Rattle.rom_model.specs.Chains.{times, each_pair}
-use Rattle.rom_model.specs.Region.{buckets, all_of, region_len, taken_by, Contents}
+use Rattle.rom_model.specs.Region.{buckets, all_of, taken_by, Contents}
 use Rattle.rom_model.proofs.Nodes.{pow_positive}
 use Rattle.rom_model.proofs.Members.{words_same}
 use Rattle.rom_model.proofs.Room.{tree_stays}
 use Rattle.rom_block.specs.Taken.{Takes}
+use Rattle.rom_queue.specs.Fresh.{IsFreshRoot}
 
 pub nothing_disjoint : (n : ℕ) → IsDisjoint n nothing
 nothing_disjoint n = record { nodes = λ i is. absurd (let same : false ≡ true = is in cc); apart = λ i k is. refl }
@@ -118,15 +119,14 @@ module _ (n : ℕ) (w w1 w2 w3 w4 : List ℕ) (sized : length w ≡ region_len n
   root_stays : (k : ℕ) → k < 16 → slice_index w4 k ≡ slice_index w1 k
   root_stays k lt = four.before k (omega (arith, lt)) ∙ three.before k (omega (arith, lt)) ∙ two.before k lt
 
-  pub formatted : slice_index w1 0 ≡ 1 → slice_index w1 1 ≡ 1 → slice_index w1 8 ≡ block_of n 0 → ((k : ℕ) → k < 16 → k ≢ 0 → k ≢ 1 → k ≢ 8 → slice_index w1 k ≡ 0)
-      → slice_index w2 16 ≡ 0 → AreWords n (taking 16 nothing) w3 → ((i : ℕ) → i < buckets n → slice_index w4 (block_of n 0 + i) ≡ 0) → Formatted n w4
-  formatted kind version table zeros last tree heads = record {
+  pub formatted : IsFreshRoot n w1 → slice_index w2 16 ≡ 0 → AreWords n (taking 16 nothing) w3 → ((i : ℕ) → i < buckets n → slice_index w4 (block_of n 0 + i) ≡ 0) → Formatted n w4
+  formatted root last tree heads = record {
     sized = four.as_long ∙ three.as_long ∙ two.as_long ∙ one.as_long ∙ sized;
-    kind = root_stays 0 (omega arith) ∙ kind;
-    version = root_stays 1 (omega arith) ∙ version;
-    table = root_stays 8 (omega arith) ∙ table;
+    kind = root_stays 0 (omega arith) ∙ root.kind;
+    version = root_stays 1 (omega arith) ∙ root.version;
+    table = root_stays 8 (omega arith) ∙ root.table;
     zeros = λ k most a b c. elim (cases_lt k 16) [
-      | inl lt ↦ root_stays k lt ∙ zeros k lt a b c
+      | inl lt ↦ root_stays k lt ∙ root.zeros k lt a b c
       | inr ge ↦ let at : k ≡ 16 = omega (arith, most, ge) in four.before k (omega (arith, most, pow_positive n)) ∙ three.before k (omega (arith, most)) ∙ ap (λ j. slice_index w2 j) at ∙ last
     ];
     heads = heads;

@@ -2,25 +2,33 @@
 use Rattle.std.specs.Prelude.{◌≡◌, ℕ, ◌+◌, ◌^◌, List, [], ◌∷◌, ◌++◌}
 use Rattle.rom_model.specs.State.{State}
 use Rattle.rom_model.specs.Blocks.{IsLowest}
-use Rattle.rom_model.specs.Region.{Chains, element_blocks, taken_by, IsRegion, ChangesPart}
+use Rattle.rom_model.specs.Region.{Chains, element_blocks, taken_by, PartBecomes, Contents}
 
--- The region of this state, in which the queue has these blocks and the other elements keep theirs. No
--- word differs but the queue's root words, the tree's, and those of the queue's blocks before and after.
-pub record QueueBecomes (n : ℕ) (old : List ℕ) (p : Chains) (blocks : List ℕ) (s : State) (count : ℕ) (new : List ℕ) : Type 0 where
-  pub region : IsRegion n new (record p { queue = blocks }) s count
-  pub others : ChangesPart n 3 6 (p.queue ++ blocks) old new
+-- the state with these values in its queue
+abbrev pub with_queue : State → List ℕ → State
+with_queue s values = record s { queue = values }
 
--- the value stands at the end of the queue, in the first block that was free
-pub record IsPushed (n : ℕ) (old : List ℕ) (p : Chains) (s : State) (count value : ℕ) (new : List ℕ) : Type 0 where
+-- the state with a value at its queue's end
+abbrev pub with_last : State → ℕ → State
+with_last s value = with_queue s (s.queue ++ value ∷ [])
+
+-- the chains with these blocks as the queue's
+abbrev pub with_blocks : Chains → List ℕ → Chains
+with_blocks p blocks = record p { queue = blocks }
+
+-- The value stands at the end of the queue, in the first block that was free, and each other element
+-- keeps its block. No word differs but the queue's root words, the tree's, and those of the queue's blocks.
+pub record IsPushed {n : ℕ} {old : List ℕ} {s : State} {count : ℕ} (held : Contents n old s count) (value : ℕ) (new : List ℕ) : Type 0 where
   pub block : ℕ
-  pub lowest : IsLowest n (taken_by n (element_blocks n p)) 0 (2 ^ n + block)
-  pub becomes : QueueBecomes n old p (p.queue ++ block ∷ []) (record s { queue = s.queue ++ value ∷ [] }) count new
+  pub lowest : IsLowest n (taken_by n (element_blocks n held.0)) 0 (2 ^ n + block)
+  pub becomes : PartBecomes n 3 6 (held.0.queue ++ block ∷ []) old new (with_blocks held.0 (held.0.queue ++ block ∷ [])) (with_last s value) count
 
--- the value was the queue's first, and its block is no longer the queue's
-pub record IsPopped (n : ℕ) (old : List ℕ) (p : Chains) (s : State) (count value : ℕ) (new : List ℕ) : Type 0 where
+-- The value was the queue's first, its block is no longer the queue's, and each other element keeps its
+-- block. No word differs but the queue's root words, the tree's, and those of the queue's blocks before.
+pub record IsPopped {n : ℕ} {old : List ℕ} {s : State} {count : ℕ} (held : Contents n old s count) (value : ℕ) (new : List ℕ) : Type 0 where
   pub block : ℕ
   pub behind : List ℕ
-  pub blocks : p.queue ≡ block ∷ behind
+  pub blocks : held.0.queue ≡ block ∷ behind
   pub rest : List ℕ
   pub values : s.queue ≡ value ∷ rest
-  pub becomes : QueueBecomes n old p behind (record s { queue = rest }) count new
+  pub becomes : PartBecomes n 3 6 held.0.queue old new (with_blocks held.0 behind) (with_queue s rest) count

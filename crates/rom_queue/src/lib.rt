@@ -7,11 +7,8 @@
 //! and how many loads and stores a call makes at most. They hold over any space of words.
 #![tactic(auto)]
 
-#[cfg(test)]
-mod counted;
 mod ends;
 mod fresh;
-mod node;
 mod queue;
 #[cfg(test)]
 mod tests;
