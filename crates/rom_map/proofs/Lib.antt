@@ -1,0 +1,5 @@
+-- Lemmas on finite maps, on the chains of buckets, and on the map's blocks.
+pub mod Entries
+pub mod Buckets
+pub mod Heads
+pub mod Walking
