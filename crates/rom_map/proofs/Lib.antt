@@ -3,3 +3,4 @@ pub mod Entries
 pub mod Buckets
 pub mod Heads
 pub mod Walking
+pub mod Linking
