@@ -4,3 +4,4 @@ pub mod Buckets
 pub mod Heads
 pub mod Walking
 pub mod Linking
+pub mod Pairs
