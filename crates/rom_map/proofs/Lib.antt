@@ -5,3 +5,4 @@ pub mod Heads
 pub mod Walking
 pub mod Linking
 pub mod Pairs
+pub mod Places

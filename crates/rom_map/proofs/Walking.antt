@@ -100,7 +100,7 @@ at_head {n} {w} {bs} key link node is here load = record {
 }
 
 module _ {n : ℕ} {w bs : List ℕ} {key link node : ℕ} (is : IsBucket n w (bucket_of n key) bs) (x : Walked n w bs key link node) where
-  pub along : Along n (head_of n (bucket_of n key)) w bs node
+  abbrev pub along : Along n (head_of n (bucket_of n key)) w bs node
   along = record { front = x.front; back = x.back; chain = is; are = x.blocks_are; node_is = x.node_is }
 
   pub front_few : length x.front ≤ length bs
@@ -132,7 +132,7 @@ module _ {n : ℕ} {w bs : List ℕ} {key link node : ℕ} (is : IsBucket n w (b
 
     -- one step more
     pub step : (next : ℕ) → slice_index w node ≢ key → next ≡ slice_index w (node + 2) → (y : Walked n w bs key (node + 2) next) × (length y.front ≡ length x.front + 1)
-    unfolding along further first
+    unfolding further first
     step next other load =
         let word = slice_index w (block_of n here.block + 0) in
         let away : word ≢ key = λ e. other (ap (λ k. slice_index w k) (sym plain) ∙ e) in
