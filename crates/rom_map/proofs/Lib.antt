@@ -6,3 +6,7 @@ pub mod Walking
 pub mod Linking
 pub mod Pairs
 pub mod Places
+pub mod Finding
+pub mod Regions
+pub mod Added
+pub mod Replaced

@@ -1,10 +1,9 @@
 //! The walk along a bucket's chain. A node is a block of four words, which are a key, its value, where
 //! the next node begins, and 0; a bucket's keys stand in any order.
-ghost use Rattle.std.specs.Prelude.{◌≡◌, ◌≢◌, ℕ, ◌+◌, ◌*◌, List, length};
-ghost use Rattle.rom_model.specs.Space.{Looks};
+ghost use Rattle.std.specs.Prelude.{◌≡◌, length};
 ghost use Rattle.rom_model.specs.Blocks.{IsOrder, region_len};
 ghost use Rattle.rom_model.specs.Region.{bucket_of};
-ghost use Rattle.rom_map.specs.Walk.{head_of, IsBucket, HoldsBucket, IsPlace};
+ghost use Rattle.rom_map.specs.Walk.{head_of, HoldsBucket, Finds};
 
 use rom_model::{Look, blocks_at, bucket};
 
@@ -30,14 +29,7 @@ pub fn find<M: Look>(space: &mut M, order: u32, key: u64) -> Place
     requires order { IsOrder order }
     requires sized { length (M.shown.image space.old) ≡ region_len order }
     requires bucket { HoldsBucket order (bucket_of order key) (M.shown.image space.old) }
-    ensures is { (blocks : List ℕ) → IsBucket order (M.shown.image space.old) (bucket_of order key) blocks
-        → IsPlace order (M.shown.image space.old) blocks key result }
-    ensures looks { (blocks : List ℕ)
-        → IsBucket order (M.shown.image space.old) (bucket_of order key) blocks
-        → Looks M.shown (1 + 2 * length blocks) space.old space.new }
-    ensures sooner { (blocks : List ℕ)
-        → IsBucket order (M.shown.image space.old) (bucket_of order key) blocks
-        → result.node ≢ 0 → Looks M.shown (2 * length blocks) space.old space.new }
+    ensures { Finds M.shown order key result space.old space.new }
 {
     let mut link = head_of(order, key);
     let mut node = space.load(link);

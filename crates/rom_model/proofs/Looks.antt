@@ -1,6 +1,7 @@
--- What looking at words costs, step by step.
+-- What looking and storing cost, step by step.
 use Rattle.std.proofs.Common.{◌≡◌, ℕ, ◌+◌, ◌≤◌, ◌∙◌, arith}
-use Rattle.rom_model.specs.Space.{ShownSpace, Counts, Looks}
+use Rattle.std.specs.Prelude.{IsTrue}
+use Rattle.rom_model.specs.Space.{ShownSpace, Counts, Costs, Looks, HasRoom}
 
 module _ {M : Type 0} (shown : ShownSpace M) (j k : ℕ) where
   pub looks_most : {old new : M} → j ≤ k → Looks shown j old new → Looks shown k old new
@@ -29,3 +30,19 @@ module _ {M : Type 0} (shown : ShownSpace M) (j k : ℕ) where
       rest = counts.rest ∙ is.costs.rest;
     };
   }
+
+module _ {M : Type 0} {shown : ShownSpace M} where
+  -- one after another
+  pub costs_then : {j k l m : ℕ} (loads stores : ℕ) {old mid new : M} → j + l ≤ loads → k + m ≤ stores → Costs shown j k old mid → Costs shown l m mid new → Costs shown loads stores old new
+  costs_then loads stores few less one two = record {
+    loads_later = λ told. omega (arith, one.loads_later told, two.loads_later told);
+    most_loads = λ told. omega (arith, one.most_loads told, two.most_loads told);
+    stores_later = λ told. omega (arith, one.stores_later told, two.stores_later told);
+    most_stores = λ told. omega (arith, one.most_stores told, two.most_stores told);
+    limit = two.limit ∙ one.limit;
+    rest = two.rest ∙ one.rest;
+  }
+
+  -- the room that is left
+  pub room_left : {j k m : ℕ} (stores : ℕ) {old new : M} → (IsTrue shown.has_limit → IsTrue shown.tells_stores) → k + stores ≤ m → HasRoom shown m old → Costs shown j k old new → HasRoom shown stores new
+  room_left stores counts few room one told = omega (arith, room told, one.most_stores (counts told), one.limit)

@@ -4,8 +4,6 @@ use Rattle.rom_model.proofs.Nodes.{pow_small}
 use Rattle.rom_model.proofs.Looks.{looks_most, looks_more}
 use Rattle.rom_map.proofs.Heads.{bucket_within, head_within}
 use Rattle.rom_map.proofs.Walking.{node_within, falls, along, at_head, front_few, at_end, front_fewer, at_key, step}
-use Rattle.rom_map.proofs.Entries.{get_at}
-use Rattle.rom_map.proofs.Buckets.{cut}
 use Rattle.rom_map.proofs.walk.find.Goals as goal
 
 pub load-node-requires : goal.load-node-requires
@@ -26,21 +24,15 @@ load-there-requires g c =
     let h = c.loop-node.invariant in
     record { within = omega (arith, node_within (along q.are (h.way q.blocks q.are).0) c.loop-node-test.true q.within, ap length h.image, c.requires.sized) }
 
-pub returns-then-there-key-clause-is : goal.returns-then-there-key-clause-is
-returns-then-there-key-clause-is g c blocks is =
+pub returns-then-there-key : goal.returns-then-there-key
+returns-then-there-key g c =
     let h = c.loop-node.invariant in
     let load : c.load-there.result ≡ slice_index (g.M.Look.shown.image c.args.space.now) c.loop-node.node = c.load-there.ensures.word ∙ ap (λ v. slice_index v c.loop-node.node) h.image in
-    at_key is (h.way blocks is).0 c.loop-node-test.true (omega (arith, load))
-
-pub returns-then-there-key-clause-looks : goal.returns-then-there-key-clause-looks
-returns-then-there-key-clause-looks g c blocks is =
-    let x = c.loop-node.invariant.way blocks is in
-    looks_more g.M.Look.shown _ _ (omega (arith, front_fewer is x.0 c.loop-node-test.true)) x.1 c.load-there.ensures.image c.load-there.ensures.counts
-
-pub returns-then-there-key-clause-sooner : goal.returns-then-there-key-clause-sooner
-returns-then-there-key-clause-sooner g c blocks is some =
-    let x = c.loop-node.invariant.way blocks is in
-    looks_more g.M.Look.shown _ _ (omega (arith, front_fewer is x.0 c.loop-node-test.true)) x.1 c.load-there.ensures.image c.load-there.ensures.counts
+    record {
+      is = λ blocks is. at_key is (h.way blocks is).0 c.loop-node-test.true (omega (arith, load));
+      looks = λ blocks is. let x = h.way blocks is in looks_more g.M.Look.shown _ _ (omega (arith, front_fewer is x.0 c.loop-node-test.true)) x.1 c.load-there.ensures.image c.load-there.ensures.counts;
+      sooner = λ blocks is some. let x = h.way blocks is in looks_more g.M.Look.shown _ _ (omega (arith, front_fewer is x.0 c.loop-node-test.true)) x.1 c.load-there.ensures.image c.load-there.ensures.counts;
+    }
 
 pub overflow_add-link : goal.overflow_add-link
 overflow_add-link g c =
@@ -74,10 +66,9 @@ loop-node-preserved g c =
           (y.0, looks_more g.M.Look.shown (1 + 2 * length x.0.front + 1) (1 + 2 * length y.0.front) (omega (arith, y.1)) one c.load-node-in-loop-node.ensures.image c.load-node-in-loop-node.ensures.counts);
     }
 
-pub returns-clause-is : goal.returns-clause-is
-returns-clause-is g c blocks is = at_end is (c.loop-node.invariant.way blocks is).0 (omega arith)
-
-pub returns-clause-looks : goal.returns-clause-looks
-returns-clause-looks g c blocks is =
-    let x = c.loop-node.invariant.way blocks is in
-    looks_most g.M.Look.shown _ _ (omega (arith, front_few is x.0)) x.1
+pub returns : goal.returns
+returns g c = record {
+  is = λ blocks is. at_end is (c.loop-node.invariant.way blocks is).0 (omega arith);
+  looks = λ blocks is. let x = c.loop-node.invariant.way blocks is in looks_most g.M.Look.shown _ _ (omega (arith, front_few is x.0)) x.1;
+  sooner = λ blocks is some. absurd (omega (arith, some));
+}
