@@ -9,4 +9,5 @@ pub mod Places
 pub mod Finding
 pub mod Regions
 pub mod Added
+pub mod Adding
 pub mod Replaced
