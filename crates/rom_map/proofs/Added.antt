@@ -104,8 +104,8 @@ module _ {n : ℕ} {w w' : List ℕ} {p : Chains} {pairs : finite.FinMap nat_cmp
 
   pairs_now : each_pair n w' (map_blocks n next) ≡ each_pair n w place.ahead ++ (key, value) ∷ each_pair n w place.behind
   pairs_now =
-      let one = pairs_same n w w' place.ahead (λ c j lt some. stays c j (some_ahead c some) lt) in
-      let two = pairs_same n w w' place.behind (λ c j lt some. stays c j (some_behind c some) lt) in
+      let one = pairs_same n w w' place.ahead (λ c j lt some. stays c j (some_ahead c some) (omega (arith, lt))) in
+      let two = pairs_same n w w' place.behind (λ c j lt some. stays c j (some_behind c some) (omega (arith, lt))) in
       ap (each_pair n w') after ∙ pairs_append n w' place.ahead (block ∷ place.behind) ∙ (λ i. one i ++ (key_here i, linked.value_is i) ∷ two i)
 
   pairs_before : entries_map (each_pair n w place.ahead ++ each_pair n w place.behind) ≡ pairs

@@ -49,8 +49,8 @@ module _ {n : ℕ} {w : List ℕ} {p : Chains} {s : State} {k : ℕ} (le : 4 ≤
     may_add : MayAdd n w1 p s.pairs k key new.block
     may_add = record {
       least = le;
-      map = map_stays is w1 only;
-      version = version_stays is w1 only;
+      map = map_stays w1 only is.shape.map;
+      version = version_stays w1 only is.version;
       late = λ c some. (placed is c some).0;
       block_late = new.least;
       absent = omega (arith, new.absent, times_members n p new.block);

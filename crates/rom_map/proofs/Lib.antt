@@ -11,3 +11,5 @@ pub mod Regions
 pub mod Added
 pub mod Adding
 pub mod Replaced
+pub mod Removed
+pub mod Removing

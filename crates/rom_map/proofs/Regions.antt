@@ -19,14 +19,15 @@ use Rattle.rom_map.specs.Map.{with_pairs}
 abbrev pub with_buckets : Chains → (ℕ → List ℕ) → Chains
 with_buckets p g = record p { bucket = g }
 
+-- where no words changed but the tree's
+module _ {n : ℕ} {w : List ℕ} {p : Chains} (w' : List ℕ) (only : ChangesOnly 17 (2 * 2 ^ n - 1) w w') where
+  pub map_stays : {pairs : finite.FinMap nat_cmp ℕ} → IsMap n w p pairs → IsMap n w' p pairs
+  map_stays {pairs} map = map_frame n 0 0 [] w w' (tree_part n 0 0 w w' only) p (λ c some. refl) pairs (inr (omega arith)) (λ i lt. only.behind (block_of n 0 + i) (omega (arith, pow_positive n))) map
+
+  pub version_stays : {k : ℕ} → IsVersion n w p k → IsVersion n w' p k
+  version_stays {k} version = version_frame n 0 0 [] w w' (tree_part n 0 0 w w' only) p (λ c some. refl) k (inr (omega arith)) version
+
 module _ {n : ℕ} {w : List ℕ} {p : Chains} {s : State} {k : ℕ} (is : IsRegion n w p s k) where
-  -- where no words changed but the tree's
-  pub map_stays : (w' : List ℕ) → ChangesOnly 17 (2 * 2 ^ n - 1) w w' → IsMap n w' p s.pairs
-  map_stays w' only = map_frame n 0 0 [] w w' (tree_part n 0 0 w w' only) p (λ c some. refl) s.pairs (inr (omega arith)) (λ i lt. only.behind (block_of n 0 + i) (omega (arith, pow_positive n))) is.shape.map
-
-  pub version_stays : (w' : List ℕ) → ChangesOnly 17 (2 * 2 ^ n - 1) w w' → IsVersion n w' p k
-  version_stays w' only = version_frame n 0 0 [] w w' (tree_part n 0 0 w w' only) p (λ c some. refl) k (inr (omega arith)) is.version
-
   -- where no words changed but the map's and the tree's
   pub remapped : {taken : ℕ → Bool} (w' touched : List ℕ) (high : ℕ) → high ≤ 10 → (g : ℕ → List ℕ) (pairs : finite.FinMap nat_cmp ℕ) → ChangesPart n 9 high touched w w' → ((c : ℕ) → 0 < times c p.queue + times c p.set → times c touched ≡ 0)
       → AreElements n taken (with_buckets p g) → AreWords n taken w' → IsMap n w' (with_buckets p g) pairs → IsVersion n w' (with_buckets p g) k → IsRegion n w' (with_buckets p g) (with_pairs s pairs) k

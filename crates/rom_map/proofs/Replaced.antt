@@ -46,8 +46,8 @@ module _ {n : ℕ} {w w' : List ℕ} {p : Chains} {s : State} {k : ℕ} (least :
   replaced_map =
       let a = around is key lt t.front t.block t.back t.blocks t.holds in
       let block_stays : (c j : ℕ) → c ≢ t.block → j < 4 → slice_index w' (block_of n c + j) ≡ slice_index w (block_of n c + j) = λ c j ne less. stays (block_of n c + j) (λ e. ne (omega (arith, e, less))) in
-      let one = pairs_same n w w' a.ahead (λ c j less some. block_stays c j (λ e. absurd (omega (arith, some, ap (λ x. times x a.ahead) e, apart t.block, single is t.block, times_here t.block a.behind))) less) in
-      let two = pairs_same n w w' a.behind (λ c j less some. block_stays c j (λ e. absurd (omega (arith, some, ap (λ x. times x a.behind) e, apart t.block, single is t.block, times_here t.block a.behind))) less) in
+      let one = pairs_same n w w' a.ahead (λ c j less some. block_stays c j (λ e. absurd (omega (arith, some, ap (λ x. times x a.ahead) e, apart t.block, single is t.block, times_here t.block a.behind))) (omega (arith, less))) in
+      let two = pairs_same n w w' a.behind (λ c j less some. block_stays c j (λ e. absurd (omega (arith, some, ap (λ x. times x a.behind) e, apart t.block, single is t.block, times_here t.block a.behind))) (omega (arith, less))) in
       let key_is : slice_index w' (block_of n t.block + 0) ≡ key = stays (block_of n t.block + 0) (omega arith) ∙ t.holds in
       let pairs : each_pair n w' (map_blocks n p) ≡ each_pair n w a.ahead ++ (key, value) ∷ each_pair n w a.behind = ap (each_pair n w') (whole is key lt t.front t.block t.back t.blocks t.holds) ∙ pairs_append n w' a.ahead (t.block ∷ a.behind) ∙ (λ i. one i ++ (key_is i, written i) ∷ two i) in
       record {
