@@ -32,6 +32,16 @@ module _ {M : Type 0} (shown : ShownSpace M) (j k : ℕ) where
   }
 
 module _ {M : Type 0} {shown : ShownSpace M} where
+  pub costs_most : {j k : ℕ} (loads stores : ℕ) {old new : M} → j ≤ loads → k ≤ stores → Costs shown j k old new → Costs shown loads stores old new
+  costs_most loads stores few less one = record {
+    loads_later = one.loads_later;
+    most_loads = λ told. omega (arith, one.most_loads told);
+    stores_later = one.stores_later;
+    most_stores = λ told. omega (arith, one.most_stores told);
+    limit = one.limit;
+    rest = one.rest;
+  }
+
   -- one after another
   pub costs_then : {j k l m : ℕ} (loads stores : ℕ) {old mid new : M} → j + l ≤ loads → k + m ≤ stores → Costs shown j k old mid → Costs shown l m mid new → Costs shown loads stores old new
   costs_then loads stores few less one two = record {
