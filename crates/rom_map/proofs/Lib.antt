@@ -13,3 +13,4 @@ pub mod Adding
 pub mod Replaced
 pub mod Removed
 pub mod Removing
+pub mod Totals

@@ -81,6 +81,10 @@ module _ {n l : ℕ} {w bs : List ℕ} {node : ℕ} (x : Along n l w bs node) wh
       node_is = load ∙ ap (λ k. slice_index w (k + 2)) first.here ∙ chain_first n (block_of n first.block + 2) 2 w first.behind at_node.1;
     }
 
+    pub further-front : (next : ℕ) (load : next ≡ slice_index w (node + 2)) → (further next load).front ≡ x.front ++ first.block ∷ []
+    unfolding further
+    further-front next load = refl
+
     pub falls : (most next : ℕ) → length bs ≤ most → next ≡ slice_index w (node + 2) → left w most next < left w most node
     falls most next few load =
         let long = ap length blocks ∙ length-append x.front (first.block ∷ first.behind) in
