@@ -56,3 +56,6 @@ module _ {M : Type 0} {shown : ShownSpace M} where
   -- the room that is left
   pub room_left : {j k m : ℕ} (stores : ℕ) {old new : M} → (IsTrue shown.has_limit → IsTrue shown.tells_stores) → k + stores ≤ m → HasRoom shown m old → Costs shown j k old new → HasRoom shown stores new
   room_left stores counts few room one told = omega (arith, room told, one.most_stores (counts told), one.limit)
+
+  pub looks_then : {j k : ℕ} (loads : ℕ) {old mid new : M} → j + k ≤ loads → Looks shown j old mid → Looks shown k mid new → Looks shown loads old new
+  looks_then loads few one two = record { image = two.image ∙ one.image; costs = costs_then loads 0 few (omega arith) one.costs two.costs }
