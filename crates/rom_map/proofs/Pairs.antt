@@ -46,7 +46,7 @@ module _ (n : ℕ) (w : List ℕ) where
   all_counted p [] all = refl
   all_counted p (b ∷ bs) all =
       let rest = all_counted p bs (λ c some. all c (omega (arith, some, times_more c b bs))) in
-      let one = ap (λ t. cond t 1 0) (all b (omega (arith, times_here b bs))) in
+      let one : cond (p (slice_index w (block_of n b + 0))) 1 0 ≡ 1 = ap (λ t. cond t 1 0) (all b (omega (arith, times_here b bs))) in
       sum_by-cons (λ e. cond (p e.0) 1 0) (slice_index w (block_of n b + 0), slice_index w (block_of n b + 1)) (each_pair n w bs) ∙ (λ i. one i + rest i) ∙ (let more : 1 + length bs ≡ length (b ∷ bs) = omega arith in more)
 
 -- a block of some bucket is one of its bucket
