@@ -21,10 +21,10 @@ pub struct Taken {
     pub order: u32,
 }
 
-/// The allocator of a region of order 4 to 16, which has 2^order units of four words each. Its calls
-/// store to the words 17 to 16 + 2 * 2^order - 1 alone, which are the tree; `format` stores 0 to
-/// word 16 too. A block of the order
-/// `want` is 2^want neighbouring units, the first of which has a number that 2^want divides.
+/// The allocator of a region of order 4 to 16, which has 2^order units of four words each. Its
+/// calls store to the words 17 to 16 + 2 * 2^order - 1 alone, which are the tree; `format` stores 0
+/// to word 16 too. A block of the order `want` is 2^want neighbouring units, the first of which has
+/// a number that 2^want divides.
 pub struct Blocks;
 
 impl Blocks {
@@ -35,7 +35,8 @@ impl Blocks {
         requires free { M.shown.has_limit ≡ false }
         ensures words { AreWords order nothing (M.shown.image space.new) }
         ensures zero { slice_index (M.shown.image space.new) 16 ≡ 0 }
-        ensures others { ChangesOnly 16 (2 * 2 ^ order) (M.shown.image space.old) (M.shown.image space.new) }
+        ensures others { ChangesOnly 16 (2 * 2 ^ order) (M.shown.image space.old)
+            (M.shown.image space.new) }
         ensures costs { Costs M.shown 0 (2 * 2 ^ order) space.old space.new }
     {
         space.store(TREE, 0);
