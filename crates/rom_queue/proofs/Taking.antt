@@ -1,5 +1,5 @@
 -- A block that was taken, and may go to the queue's end.
-use Rattle.std.proofs.Common.{◌≡◌, inr, ℕ, ◌+◌, ◌-◌, ◌*◌, ◌^◌, ◌<◌, ◌≤◌, Bool, List, [], ◌∷◌, ◌++◌, refl, ◌∙◌, subst, arith}
+use Rattle.std.proofs.Common.{◌≡◌, inr, ℕ, ◌+◌, ◌-◌, ◌*◌, ◌^◌, ◌<◌, ◌≤◌, Bool, List, [], refl, ◌∙◌, subst, arith}
 use Rattle.rom_model.specs.Space.{ChangesOnly}
 use Rattle.rom_model.specs.State.{State, live, cap}
 use Rattle.rom_model.specs.Blocks.{IsLowest, IsDisjoint, AreWords, block_at, block_of}

@@ -16,7 +16,8 @@ fn store_zeros<M: Space>(space: &mut M, from: u64, len: u64)
     requires fits { from + len ≤ length (M.shown.image space.old) }
     requires small { from + len < 2 ^ 63 }
     requires free { M.shown.has_limit ≡ false }
-    ensures zeros { (k : ℕ) → from ≤ k → k < from + len → slice_index (M.shown.image space.new) k ≡ 0 }
+    ensures zeros { (k : ℕ) → from ≤ k → k < from + len
+        → slice_index (M.shown.image space.new) k ≡ 0 }
     ensures others { ChangesOnly from len (M.shown.image space.old) (M.shown.image space.new) }
     ensures costs { Costs M.shown 0 len space.old space.new }
 {

@@ -1,11 +1,12 @@
 //! The queue by its words, and by what it holds.
-ghost use Rattle.std.specs.Prelude.{◌≡◌, ◌+◌, ◌≤◌, ◌<◌, ◌*◌, ◌^◌, length, IfOk, false};
-ghost use Rattle.rom_model.specs.Space.{AtMost, IsRoom};
+ghost use Rattle.std.specs.Prelude.{IfOk};
 ghost use Rattle.rom_model.specs.VecSpace.{words_of};
-ghost use Rattle.rom_model.specs.Region.{region_len, IsWellFormed};
+ghost use Rattle.rom_model.specs.Blocks.{IsOrder};
+ghost use Rattle.rom_model.specs.Region.{IsWellFormed};
+ghost use Rattle.rom_counted.specs.Counted.{Begins};
 
-use crate::counted::{Counted, LIMIT, Tally};
 use crate::{format_region, fresh_region, queue_front, queue_len, queue_pop, queue_push};
+use rom_counted::Counted;
 use rom_model::VecSpace;
 use std::alloc::Global;
 use std::marker::Brand;
@@ -37,9 +38,8 @@ fn region(free: u64, changes: &[(usize, u64)]) -> [u64; 112] {
 }
 
 fn fresh(alloc: Global, order: u32) -> Result<VecSpace, Fail>
-    requires least { 4 ≤ order }
-    requires most { order ≤ 16 }
-    ensures region { IfOk result (λ space. IsWellFormed order (words_of space)) }
+    requires { IsOrder order }
+    ensures { IfOk result (λ space. IsWellFormed order (words_of space)) }
 {
     let space = fresh_region(alloc, order)?;
     Ok(space)
@@ -146,48 +146,34 @@ fn thousands_of_values_pass_through_a_heap_of_order_16(rt: HostRuntime) -> Resul
     Ok(())
 }
 
-/// The words of a new heap of order 16, counted.
-fn counted<L: Ledger>(alloc: Global, blank: Blank) -> Result<Counted<L>, Fail>
-    requires name { blank.name ≡ L.name }
-    requires parts { blank.parts ≡ L.parts }
-    requires some { 0 < blank.parts }
-    ensures region { IfOk result (λ counted. IsWellFormed 16 (words_of counted.space)) }
-    ensures stores { IfOk result (λ counted. counted.stores ≡ 0) }
-{
-    let space = fresh(alloc, 16)?;
-    Ok(Counted {
-        space,
-        tally: Tally::begin(blank),
-        loads: 0,
-        stores: 0,
-    })
-}
+/// How many stores a call may make.
+const MOST_STORES: u64 = 31;
 
-/// Pushes and pops a value, and tells how many loads and stores each of them made.
+/// Pushes and pops a value in a new heap of order 16, and tells how many loads and stores each of the
+/// two made.
 fn counts<L: Ledger>(alloc: Global, blank: Blank) -> Result<[(u64, u64); 2], Fail>
-    requires name { blank.name ≡ L.name }
-    requires parts { blank.parts ≡ L.parts }
-    requires some { 0 < blank.parts }
+    requires { Begins L.name L.parts blank.name blank.parts }
 {
-    let mut space: Counted<L> = counted(alloc, blank)?;
+    let mut space: Counted<L> = Counted::begin(fresh(alloc, 16)?, 2 * MOST_STORES, blank);
     let pushed = queue_push(&mut space, 16, 9);
-    let first = (space.loads, space.stores);
-    space.loads = 0;
-    space.stores = 0;
+    let (loads, stores) = (space.loads(), space.stores());
     let popped = queue_pop(&mut space, 16);
     if !pushed || popped != Some(9) {
         return Ok([(0, 0); 2]);
     }
-    Ok([first, (space.loads, space.stores)])
+    Ok([
+        (loads, stores),
+        (space.loads() - loads, space.stores() - stores),
+    ])
 }
 
 #[test]
 fn loads_and_stores_of_a_push_and_a_pop(rt: HostRuntime) -> Result<(), Fail> {
     let [push, pop] = counts::<Brand>(rt.alloc(), Blank::new(1))?;
     assert!(rt; push.0 > 0 && push.0 <= 3 * 16 + 7);
-    assert!(rt; push.1 > 0 && push.1 <= LIMIT);
+    assert!(rt; push.1 > 0 && push.1 <= MOST_STORES);
     assert!(rt; pop.0 > 0 && pop.0 <= 2 * 16 + 4);
-    assert!(rt; pop.1 > 0 && pop.1 <= LIMIT);
+    assert!(rt; pop.1 > 0 && pop.1 <= MOST_STORES);
     Ok(())
 }
 
