@@ -74,7 +74,7 @@ module _ {n : ℕ} {w w' : List ℕ} {p : Chains} {pairs : finite.FinMap nat_cmp
         subst (λ j. Chain n w' (head_of n j) 2 (next.bucket j)) (sym same) (subst (λ bs. Chain n w' (head_of n own) 2 bs) (sym (bucket_here p own (block ∷ p.bucket own))) at)
     | inr ne ↦
         subst (λ bs. Chain n w' (head_of n i) 2 bs) (sym (bucket_other p own i (block ∷ p.bucket own) ne))
-            (chain_same n (head_of n i) 2 w w' (p.bucket i) (head_stays i lt ne) (λ c some. stays c 2 (in_all i c lt some) (omega arith)) (may.map.chains i lt))
+        (chain_same n (head_of n i) 2 w w' (p.bucket i) (head_stays i lt ne) (λ c some. stays c 2 (in_all i c lt some) (omega arith)) (may.map.chains i lt))
   ]
 
   -- what stands in a bucket stood there before, or is the new block

@@ -46,8 +46,11 @@ module _ (n : ℕ) (w : List ℕ) where
   all_counted p [] all = refl
   all_counted p (b ∷ bs) all =
       let rest = all_counted p bs (λ c some. all c (omega (arith, some, times_more c b bs))) in
-      let one : cond (p (slice_index w (block_of n b + 0))) 1 0 ≡ 1 = ap (λ t. cond t 1 0) (all b (omega (arith, times_here b bs))) in
-      sum_by-cons (λ e. cond (p e.0) 1 0) (slice_index w (block_of n b + 0), slice_index w (block_of n b + 1)) (each_pair n w bs) ∙ (λ i. one i + rest i) ∙ (let more : 1 + length bs ≡ length (b ∷ bs) = omega arith in more)
+      sum_by-cons (λ e. cond (p e.0) 1 0) (slice_index w (block_of n b + 0), slice_index w (block_of n b + 1)) (each_pair n w bs) ∙ one (p (slice_index w (block_of n b + 0))) (all b (omega (arith, times_here b bs))) ∙ ap suc rest
+    where
+      one : (t : Bool) → t ≡ true → cond t 1 0 + sum_by (λ e. cond (p e.0) 1 0) (each_pair n w bs) ≡ suc (sum_by (λ e. cond (p e.0) 1 0) (each_pair n w bs))
+      one true is = omega arith
+      one false is = absurd (let never : false ≡ true = is in cc)
 
 -- a block of some bucket is one of its bucket
 pub in_bucket : (f : ℕ → List ℕ) (m b : ℕ) → 0 < times b (all_of f m) → (i : ℕ) × (i < m) × (0 < times b (f i))

@@ -107,8 +107,8 @@ module _ {n : ℕ} {w : List ℕ} {p : Chains} {s : State} {k key : ℕ} {place 
       | inl same ↦ subst (λ j. Chain n w' (head_of n j) 2 (next.bucket j)) (sym same) (subst (λ bs. Chain n w' (head_of n own) 2 bs) (sym (bucket_here p own (t.front ++ t.back))) own_chain)
       | inr ne ↦
           subst (λ bs. Chain n w' (head_of n i) 2 bs) (sym (bucket_other p own i (t.front ++ t.back) ne))
-              (chain_same n (head_of n i) 2 w w' (p.bucket i) (un.others (head_of n i) (head_apart i lt ne) (λ e. absurd (omega (arith, e))))
-              (λ c some. stays c 2 (in_all i c lt some) (omega arith) (λ e. elsewhere i c lt ne some)) (is.shape.map.chains i lt))
+          (chain_same n (head_of n i) 2 w w' (p.bucket i) (un.others (head_of n i) (head_apart i lt ne) (λ e. absurd (omega (arith, e))))
+          (λ c some. stays c 2 (in_all i c lt some) (omega arith) (λ e. elsewhere i c lt ne some)) (is.shape.map.chains i lt))
     ]
 
     -- what stands in a bucket stood there before
@@ -120,6 +120,10 @@ module _ {n : ℕ} {w : List ℕ} {p : Chains} {s : State} {k key : ℕ} {place 
 
     stood_all : (c : ℕ) → 0 < times c (map_blocks n next) → 0 < times c (map_blocks n p)
     stood_all c some = omega (arith, some, one_block_fewer c)
+
+    -- the bucket's other blocks keep their keys and values
+    pub pairs_stay : each_pair n w' (t.front ++ t.back) ≡ each_pair n w (t.front ++ t.back)
+    pairs_stay = pairs_same n w w' (t.front ++ t.back) (λ c j lt some. stays c j (in_all own c within (omega (arith, some, times-append c t.front t.back, in_own c, times_more c t.block t.back))) (omega (arith, lt)) (λ e. absurd (omega (arith, e, lt))))
 
     pairs_now : each_pair n w' (map_blocks n next) ≡ each_pair n w place_in.ahead ++ each_pair n w place_in.behind
     pairs_now =
@@ -143,8 +147,16 @@ module _ {n : ℕ} {w : List ℕ} {p : Chains} {s : State} {k key : ℕ} {place 
           | inl same ↦
               let now = ap (λ x. each_word n w 0 (next.bucket x)) same ∙ ap (each_word n w 0) (bucket_here p own (t.front ++ t.back)) ∙ each_append n 0 w t.front t.back in
               let was = ap (each_word n w 0) t.blocks ∙ each_append n 0 w t.front (t.block ∷ t.back) in
-              omega (arith, ap (times j) words, ap (times j) now, ap (times j) was, times-append j (each_word n w 0 t.front) (each_word n w 0 t.back), times-append j (each_word n w 0 t.front) (each_word n w 0 (t.block ∷ t.back)),
-              times_more j (slice_index w (block_of n t.block + 0)) (each_word n w 0 t.back), is.version.keys_differ own j within)
+              omega (
+                arith,
+                ap (times j) words,
+                ap (times j) now,
+                ap (times j) was,
+                times-append j (each_word n w 0 t.front) (each_word n w 0 t.back),
+                times-append j (each_word n w 0 t.front) (each_word n w 0 (t.block ∷ t.back)),
+                times_more j (slice_index w (block_of n t.block + 0)) (each_word n w 0 t.back),
+                is.version.keys_differ own j within,
+              )
           | inr ne ↦ omega (arith, ap (times j) words, ap (λ bs. times j (each_word n w 0 bs)) (bucket_other p own i (t.front ++ t.back) ne), is.version.keys_differ i j lt)
         ]
 

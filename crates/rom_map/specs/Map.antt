@@ -5,7 +5,7 @@ use Rattle.std.specs.FinMap as map
 use Rattle.rom_model.specs.Space.{ShownSpace, Costs, Looks, ChangesOnly}
 use Rattle.rom_model.specs.State.{State, live, cap}
 use Rattle.rom_model.specs.Blocks.{IsLowest, block_of}
-use Rattle.rom_model.specs.Chains.{times}
+use Rattle.rom_model.specs.Chains.{times, each_pair}
 use Rattle.rom_model.specs.Region.{Chains, bucket_of, element_blocks, taken_by, IsRegion, Contents, PartBecomes}
 use Rattle.rom_map.specs.declared.map.Put.{Put}
 use Rattle.rom_map.specs.declared.map.Put.TheVariants.{New, Was, Full}
@@ -58,14 +58,15 @@ PutCosts shown n beside value New old new = Costs shown (3 * n + 8 + 2 * beside)
 PutCosts shown n beside value (Was before) old new = Costs shown (1 + 2 * beside) 1 old new × (before ≡ value → Looks shown (1 + 2 * beside) old new)
 PutCosts shown n beside value Full old new = Looks shown (n + 2 + 2 * beside) old new
 
--- The key's block is no longer in its bucket's chain, and each other element keeps its block. No word
--- differs but the map's size, the bucket's word in the table with those beside it, the tree's, and
--- those of the bucket's blocks before.
+-- The key's block is no longer in its bucket's chain, and each other element keeps its block, also
+-- those of the bucket. No word differs but the map's size, the bucket's word in the table with those
+-- beside it, the tree's, and those of the bucket's blocks before.
 pub record IsDeleted (n : ℕ) (old : List ℕ) (p : Chains) (s : State) (count key : ℕ) (new : List ℕ) : Type 0 where
   pub block : ℕ
   pub holds : slice_index old (block_of n block + 0) ≡ key
   pub front : List ℕ
   pub back : List ℕ
   pub blocks : p.bucket (bucket_of n key) ≡ front ++ block ∷ back
+  pub stay : each_pair n new (front ++ back) ≡ each_pair n old (front ++ back)
   pub becomes : PartBecomes n 9 10 (table_block (bucket_of n key) ∷ p.bucket (bucket_of n key)) old new (with_bucket p (bucket_of n key) (front ++ back))
       (with_pairs s (map.remove s.pairs key)) count
