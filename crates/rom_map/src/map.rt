@@ -1,0 +1,106 @@
+//! The calls on a key of the map.
+ghost use Rattle.std.specs.Prelude.{◌≡◌, ℕ, ◌+◌, ◌*◌, IfSome, IfNone};
+ghost use Rattle.std.specs.FinMap as map;
+ghost use Rattle.rom_model.specs.Space.{Costs, Looks, HasRoom};
+ghost use Rattle.rom_model.specs.State.{State};
+ghost use Rattle.rom_model.specs.Walks.{keys_beside};
+ghost use Rattle.rom_model.specs.Blocks.{IsOrder};
+ghost use Rattle.rom_model.specs.Region.{Chains, IsRegion, IsWellFormed, Contents};
+ghost use Rattle.rom_map.specs.Map.{with_pairs, IsPut, PutLeaves, PutCosts, IsDeleted};
+
+use crate::link::{link_first, replace_value, unlink_node};
+use crate::walk::find;
+use rom_block::Blocks;
+use rom_model::{Look, MAP_LEN, Space};
+
+/// What a put tells.
+#[derive(Clone, Copy, Debug, PartialEq, Eq)]
+pub enum Put {
+    /// The key has the value now, and was not in the map before.
+    New,
+    /// The key has the value now, and had this one before.
+    Was(u64),
+    /// The key is not in the map, and there is no room for it.
+    Full,
+}
+
+/// Gives a key a value.
+pub fn map_put<M: Space>(space: &mut M, order: u32, key: u64, value: u64) -> Put
+    requires order { IsOrder order }
+    requires region { IsWellFormed order (M.shown.image space.old) }
+    requires room { HasRoom M.shown 31 space.old }
+    ensures contents { (s : State) (k : ℕ) → Contents order (M.shown.image space.old) s k
+        → IsPut order s k key value result (M.shown.image space.new) }
+    ensures others { (p : Chains) (s : State) (k : ℕ) → IsRegion order (M.shown.image space.old) p s k
+        → PutLeaves order (M.shown.image space.old) p s k key value result (M.shown.image space.new) }
+    ensures region { IsWellFormed order (M.shown.image space.new) }
+    ensures each { (s : State) (k : ℕ) → Contents order (M.shown.image space.old) s k
+        → PutCosts M.shown order (keys_beside order s.pairs key) value result space.old space.new }
+    ensures costs { (s : State) (k : ℕ) → Contents order (M.shown.image space.old) s k
+        → Costs M.shown (3 * order + 8 + 2 * keys_beside order s.pairs key) 31 space.old space.new }
+{
+    let place = find(space, order, key);
+    if place.node != 0 {
+        return Put::Was(replace_value(space, place.node, value));
+    }
+    let Some(node) = Blocks::take(space, order, 0) else {
+        return Put::Full;
+    };
+    link_first(space, order, node, key, value);
+    Put::New
+}
+
+/// Takes a key out of the map, and tells the value that it had. It is `None` exactly where the key is
+/// not in the map, and then nothing is stored.
+pub fn map_del<M: Space>(space: &mut M, order: u32, key: u64) -> Option<u64>
+    requires order { IsOrder order }
+    requires region { IsWellFormed order (M.shown.image space.old) }
+    requires room { HasRoom M.shown 31 space.old }
+    ensures was { (s : State) (k : ℕ) → Contents order (M.shown.image space.old) s k
+        → result ≡ map.get s.pairs key }
+    ensures contents { (s : State) (k : ℕ) → Contents order (M.shown.image space.old) s k
+        → Contents order (M.shown.image space.new) (with_pairs s (map.remove s.pairs key)) k }
+    ensures others { (p : Chains) (s : State) (k : ℕ) → IsRegion order (M.shown.image space.old) p s k
+        → IfSome result (λ value. IsDeleted order (M.shown.image space.old) p s k key (M.shown.image space.new)) }
+    ensures region { IsWellFormed order (M.shown.image space.new) }
+    ensures none { (s : State) (k : ℕ) → Contents order (M.shown.image space.old) s k
+        → IfNone result (Looks M.shown (1 + 2 * keys_beside order s.pairs key) space.old space.new) }
+    ensures costs { (s : State) (k : ℕ) → Contents order (M.shown.image space.old) s k
+        → Costs M.shown (2 * order + 3 + 2 * keys_beside order s.pairs key) 31 space.old space.new }
+{
+    let place = find(space, order, key);
+    if place.node == 0 {
+        return None;
+    }
+    let was = space.load(place.node + 1);
+    unlink_node(space, place);
+    Blocks::give(space, order, place.node, 0);
+    Some(was)
+}
+
+/// The value of a key.
+pub fn map_get<M: Look>(space: &mut M, order: u32, key: u64) -> Option<u64>
+    requires order { IsOrder order }
+    requires region { IsWellFormed order (M.shown.image space.old) }
+    ensures is { (s : State) (k : ℕ) → Contents order (M.shown.image space.old) s k
+        → result ≡ map.get s.pairs key }
+    ensures looks { (s : State) (k : ℕ) → Contents order (M.shown.image space.old) s k
+        → Looks M.shown (1 + 2 * keys_beside order s.pairs key) space.old space.new }
+{
+    let place = find(space, order, key);
+    if place.node == 0 {
+        return None;
+    }
+    Some(space.load(place.node + 1))
+}
+
+/// How many keys the map has.
+pub fn map_len<M: Look>(space: &mut M, order: u32) -> u64
+    requires order { IsOrder order }
+    requires region { IsWellFormed order (M.shown.image space.old) }
+    ensures len { (s : State) (k : ℕ) → Contents order (M.shown.image space.old) s k
+        → result ≡ map.len s.pairs }
+    ensures looks { Looks M.shown 1 space.old space.new }
+{
+    space.load(MAP_LEN)
+}
