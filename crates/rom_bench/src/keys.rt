@@ -13,3 +13,10 @@ pub fn key_of(number: u64) -> u64 {
     let scattered = number.wrapping_mul(FACTOR);
     scattered ^ (scattered >> 32)
 }
+
+/// From which number to which one the keys are called for that are there, so many. As many were put
+/// before them as after them.
+pub fn middle(count: u64) -> (u64, u64) {
+    let from = HALF.saturating_sub(count) / 2;
+    (from, from.saturating_add(count))
+}

@@ -3,7 +3,7 @@
 ghost use Rattle.rom_model.specs.VecSpace.{words_of};
 ghost use Rattle.rom_model.specs.Region.{IsWellFormed};
 
-use crate::keys::{HALF, ORDER, key_of};
+use crate::keys::{HALF, ORDER, key_of, middle};
 use rom_map::{Put, map_del, map_get, map_put};
 use rom_model::VecSpace;
 use rom_queue::fresh_region;
@@ -37,7 +37,7 @@ impl Call {
 }
 
 /// Gives the keys of these numbers a value, and tells the sum of those that they had.
-fn put_all(space: &mut VecSpace, from: u64, to: u64, value: u64) -> u64
+pub fn put_all(space: &mut VecSpace, from: u64, to: u64, value: u64) -> u64
     requires region { IsWellFormed 16 (words_of space.old) }
     ensures region { IsWellFormed 16 (words_of space.new) }
 {
@@ -50,23 +50,23 @@ fn put_all(space: &mut VecSpace, from: u64, to: u64, value: u64) -> u64
     sum
 }
 
-/// The sum of the values of so many keys.
-fn get_all(space: &mut VecSpace, count: u64) -> u64
+/// The sum of the values of the keys of these numbers.
+fn get_all(space: &mut VecSpace, from: u64, to: u64) -> u64
     requires region { IsWellFormed 16 (words_of space.old) }
 {
     let mut sum = 0u64;
-    for number in 0..count {
+    for number in from..to {
         sum = sum.wrapping_add(map_get(space, ORDER, key_of(number)).unwrap_or(0));
     }
     sum
 }
 
-/// Takes so many keys out, and tells the sum of their values.
-fn del_all(space: &mut VecSpace, count: u64) -> u64
+/// Takes the keys of these numbers out, and tells the sum of their values.
+fn del_all(space: &mut VecSpace, from: u64, to: u64) -> u64
     requires region { IsWellFormed 16 (words_of space.old) }
 {
     let mut sum = 0u64;
-    for number in 0..count {
+    for number in from..to {
         sum = sum.wrapping_add(map_del(space, ORDER, key_of(number)).unwrap_or(0));
     }
     sum
@@ -76,11 +76,12 @@ fn del_all(space: &mut VecSpace, count: u64) -> u64
 pub fn ours(alloc: Global, call: Call, count: u64) -> Result<u64, AllocError> {
     let mut space = fresh_region(alloc, ORDER)?;
     put_all(&mut space, 0, HALF, 1);
+    let (from, to) = middle(count);
     Ok(match call {
         Call::Put => put_all(&mut space, HALF, HALF.saturating_add(count), 1),
-        Call::Again => put_all(&mut space, 0, count, 2),
-        Call::Get => get_all(&mut space, count),
-        Call::Del => del_all(&mut space, count),
+        Call::Again => put_all(&mut space, from, to, 2),
+        Call::Get => get_all(&mut space, from, to),
+        Call::Del => del_all(&mut space, from, to),
     })
 }
 
@@ -96,17 +97,17 @@ fn std_put_all(map: &mut Std, from: u64, to: u64, value: u64) -> Result<u64, All
     Ok(sum)
 }
 
-fn std_get_all(map: &Std, count: u64) -> u64 {
+fn std_get_all(map: &Std, from: u64, to: u64) -> u64 {
     let mut sum = 0u64;
-    for number in 0..count {
+    for number in from..to {
         sum = sum.wrapping_add(*map.get(&key_of(number)).unwrap_or(&0));
     }
     sum
 }
 
-fn std_del_all(map: &mut Std, count: u64) -> u64 {
+fn std_del_all(map: &mut Std, from: u64, to: u64) -> u64 {
     let mut sum = 0u64;
-    for number in 0..count {
+    for number in from..to {
         sum = sum.wrapping_add(map.remove(&key_of(number)).unwrap_or(0));
     }
     sum
@@ -116,10 +117,11 @@ fn std_del_all(map: &mut Std, count: u64) -> u64 {
 pub fn others(alloc: Global, call: Call, count: u64) -> Result<u64, AllocError> {
     let mut map = HashMap::with_capacity(alloc, 2 * HALF as usize)?;
     std_put_all(&mut map, 0, HALF, 1)?;
+    let (from, to) = middle(count);
     match call {
         Call::Put => std_put_all(&mut map, HALF, HALF.saturating_add(count), 1),
-        Call::Again => std_put_all(&mut map, 0, count, 2),
-        Call::Get => Ok(std_get_all(&map, count)),
-        Call::Del => Ok(std_del_all(&mut map, count)),
+        Call::Again => std_put_all(&mut map, from, to, 2),
+        Call::Get => Ok(std_get_all(&map, from, to)),
+        Call::Del => Ok(std_del_all(&mut map, from, to)),
     }
 }

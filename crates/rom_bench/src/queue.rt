@@ -9,7 +9,7 @@ use rom_queue::{fresh_region, queue_pop, queue_push};
 use std::alloc::{AllocError, Global};
 
 /// Pushes so many numbers, and tells how many had room.
-pub fn push_all(space: &mut VecSpace, count: u64) -> u64
+fn push_all(space: &mut VecSpace, count: u64) -> u64
     requires region { IsWellFormed 16 (words_of space.old) }
     ensures region { IsWellFormed 16 (words_of space.new) }
 {

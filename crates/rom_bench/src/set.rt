@@ -1,10 +1,10 @@
-//! Calls on a set of 1,000 numbers in a heap of order 16 in memory, half of which is in use, and the same
-//! calls on the standard library's set.
+//! Calls on a set of 1,000 numbers in a heap of order 16 in memory, half of which is in use, mostly by the
+//! map, and the same calls on the standard library's set.
 ghost use Rattle.rom_model.specs.VecSpace.{words_of};
 ghost use Rattle.rom_model.specs.Region.{IsWellFormed};
 
 use crate::keys::{HALF, ORDER, key_of};
-use crate::queue::push_all;
+use crate::map::put_all;
 use rom_model::VecSpace;
 use rom_queue::fresh_region;
 use rom_set::{Inserted, set_has, set_insert};
@@ -64,7 +64,7 @@ fn has_all(space: &mut VecSpace, count: u64) -> u64
 /// So many of these calls on the heap's set, and how many of them told that the number was new, or there.
 pub fn ours(alloc: Global, call: Call, count: u64) -> Result<u64, AllocError> {
     let mut space = fresh_region(alloc, ORDER)?;
-    push_all(&mut space, HALF - MEMBERS);
+    put_all(&mut space, 0, HALF - MEMBERS, 1);
     insert_all(&mut space, 0, MEMBERS);
     Ok(match call {
         Call::Insert => insert_all(&mut space, MEMBERS, MEMBERS.saturating_add(count)),
