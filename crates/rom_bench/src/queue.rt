@@ -3,11 +3,10 @@ ghost use Rattle.std.specs.Prelude.{◌≡◌, false};
 ghost use Rattle.rom_model.specs.VecSpace.{words_of};
 ghost use Rattle.rom_model.specs.Region.{IsWellFormed};
 
+use crate::keys::ORDER;
 use rom_model::VecSpace;
 use rom_queue::{fresh_region, queue_pop, queue_push};
 use std::alloc::{AllocError, Global};
-
-const ORDER: u32 = 16;
 
 /// Pushes so many numbers, and tells how many had room.
 fn push_all(space: &mut VecSpace, count: u64) -> u64
