@@ -1,5 +1,5 @@
 -- A block that was taken, and goes to the front of a bucket.
-use Rattle.std.proofs.Common.{◌≡◌, ◌≢◌, ℕ, ◌+◌, ◌-◌, ◌*◌, ◌^◌, ◌<◌, ◌≤◌, Bool, List, [], ◌∷◌, ◌∙◌, ap, subst, arith}
+use Rattle.std.proofs.Common.{◌≡◌, ◌≢◌, ℕ, ◌+◌, ◌-◌, ◌*◌, ◌^◌, ◌<◌, ◌≤◌, Bool, List, [], ◌∷◌, ◌∙◌, ap, sym, subst, arith}
 use Rattle.std.specs.Prelude.{slice_index}
 use Rattle.std.specs.FinMap as finite
 use Rattle.rom_model.specs.Space.{ChangesOnly}
@@ -7,16 +7,19 @@ use Rattle.rom_model.specs.State.{State, live, cap}
 use Rattle.rom_model.specs.Blocks.{IsLowest, IsDisjoint, AreWords, taking, block_at, block_of, region_len}
 use Rattle.rom_model.specs.Chains.{times, each_word}
 use Rattle.rom_model.specs.Region.{Chains, buckets, bucket_of, map_blocks, element_blocks, taken_by, IsRegion}
-use Rattle.rom_model.proofs.Times.{times_away}
+use Rattle.rom_model.proofs.Times.{times_away, times_bucket}
 use Rattle.rom_model.proofs.Nodes.{pow_positive, pow_small}
 use Rattle.rom_model.proofs.Members.{NewBlock}
 use Rattle.rom_model.proofs.Elements.{AreElements, one_more}
+use Rattle.rom_model.proofs.Links.{chain_first}
 use Rattle.rom_model.proofs.Frames.{tree_part, part_then, each_same}
 use Rattle.rom_model.proofs.Room.{times_members, tree_stays, region_disjoint, new_block, not_full}
 use Rattle.rom_block.specs.Taken.{Takes}
+use Rattle.rom_map.specs.Walk.{head_of}
 use Rattle.rom_map.specs.Link.{IsLinked}
 use Rattle.rom_map.specs.Map.{with_bucket, table_block, IsAdded}
 use Rattle.rom_map.proofs.Heads.{four_each}
+use Rattle.rom_map.proofs.Walking.{first_other}
 use Rattle.rom_map.proofs.Places.{placed, few}
 use Rattle.rom_map.proofs.Regions.{map_stays, version_stays, remapped}
 use Rattle.rom_map.proofs.Added.{MayAdd, one_block_more, added_map, added_version, added_part, added_tree}
@@ -41,6 +44,12 @@ module _ {n : ℕ} {w : List ℕ} {p : Chains} {s : State} {k : ℕ} (le : 4 ≤
 
   pub at_most : at + 4 ≤ region_len n
   at_most = omega (arith, here, new.most)
+
+  -- the block is not the first of a bucket before
+  pub head_differs : (i : ℕ) → i < buckets n → slice_index w1 (head_of n i) ≢ at
+  head_differs i lt e =
+      let none : times new.block (p.bucket i) ≡ 0 = omega (arith, new.absent, times_members n p new.block, times_bucket p.bucket (buckets n) i new.block lt) in
+      first_other n new.block (p.bucket i) none (sym (chain_first n (head_of n i) 2 w1 (p.bucket i) ((map_stays w1 only is.shape.map).chains i lt)) ∙ e ∙ here)
 
   pub size_small : n ≤ 16 → slice_index w1 9 < 2 ^ 63
   size_small most = omega (arith, only.before 9 (omega arith), is.shape.map.len, few is, pow_small n most)

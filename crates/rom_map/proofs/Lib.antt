@@ -3,6 +3,7 @@ pub mod Entries
 pub mod Buckets
 pub mod Heads
 pub mod Walking
+pub mod Sparing
 pub mod Linking
 pub mod Pairs
 pub mod Places

@@ -11,7 +11,7 @@ use Rattle.rom_model.specs.Region.{Chains, buckets, bucket_of, map_blocks, IsMap
 use Rattle.rom_model.proofs.Times.{times_here, times_more, times-append, times_bucket}
 use Rattle.rom_model.proofs.Nodes.{pow_positive}
 use Rattle.rom_model.proofs.Frames.{chain_same, each_same, pairs_same}
-use Rattle.rom_model.proofs.Links.{link_in, chain_back, chain_moved, chain_relinked, each_append}
+use Rattle.rom_model.proofs.Links.{link_in, chain_back, chain_first, chain_moved, chain_relinked, each_append}
 use Rattle.rom_map.specs.Walk.{head_of}
 use Rattle.rom_map.specs.Link.{IsUnlinked}
 use Rattle.rom_map.specs.Map.{with_bucket, table_block}
@@ -20,6 +20,7 @@ use Rattle.rom_map.proofs.Heads.{head_before, head_within}
 use Rattle.rom_map.proofs.Entries.{entries_map, remove_between}
 use Rattle.rom_map.proofs.Buckets.{Cut, bucket_here, bucket_other}
 use Rattle.rom_map.proofs.Pairs.{pairs_append, around, whole, none_ahead, none_else, pairs_here}
+use Rattle.rom_map.proofs.Walking.{first_other}
 use Rattle.rom_map.proofs.Places.{There, single_in, placed, placed_in}
 
 module _ {n : ℕ} {w : List ℕ} {p : Chains} {s : State} {k key : ℕ} {place : Place} (le : 4 ≤ n) (is : IsRegion n w p s k) (within : bucket_of n key < buckets n) (t : There n w p key place) where
@@ -56,6 +57,14 @@ module _ {n : ℕ} {w : List ℕ} {p : Chains} {s : State} {k key : ℕ} {place 
       (λ at. omega (arith, t.link_is, at, head_within n own le within))
       (λ x. omega (arith, t.link_is, x.2, placed_in is own within x.0 (omega (arith, in_own x.0, x.1))))
       (link_in n (head_of n own) 2 t.front)
+
+  -- the link leads to the block, and the block to another
+  pub link_differs : slice_index w place.link ≢ slice_index w (place.node + 2)
+  link_differs e =
+      let was : Chain n w (head_of n own) 2 (t.front ++ t.block ∷ t.back) = subst (λ bs. Chain n w (head_of n own) 2 bs) t.blocks (is.shape.map.chains own within) in
+      let rest = chain_back n (head_of n own) 2 w t.front (t.block ∷ t.back) was in
+      let none : times t.block t.back ≡ 0 = omega (arith, in_own t.block, single_in is own within t.block, times_here t.block t.back) in
+      first_other n t.block t.back none (sym (chain_first n (block_of n t.block + 2) 2 w t.back rest.1) ∙ ap (λ a. slice_index w (a + 2)) (sym t.node_is) ∙ sym e ∙ ap (λ a. slice_index w a) t.link_is ∙ rest.0)
 
   module _ {w' : List ℕ} (un : IsUnlinked place w w') where
     abbrev next : Chains

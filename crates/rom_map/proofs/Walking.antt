@@ -21,6 +21,13 @@ pub first_node : (n node : ℕ) (back : List ℕ) → node ≡ first_of n back �
 first_node n node [] is some = absurd (some is)
 first_node n node (b ∷ bs) is some = record { block = b; behind = bs; are = refl; here = is }
 
+-- a block that is not in the chain is not its first
+pub first_other : (n block : ℕ) (back : List ℕ) → times block back ≡ 0 → first_of n back ≢ block_of n block
+first_other n block [] none e = absurd (omega (arith, e))
+first_other n block (b ∷ bs) none e =
+    let same : b ≡ block = omega (arith, e) in
+    absurd (omega (arith, none, ap (λ c. times c (b ∷ bs)) same, times_here b bs))
+
 pub no_node : (n node : ℕ) (back : List ℕ) → node ≡ first_of n back → node ≡ 0 → back ≡ []
 no_node n node [] is none = refl
 no_node n node (b ∷ bs) is none = absurd (omega (arith, is, none))

@@ -1,7 +1,9 @@
 //! Putting a node into a bucket's chain, taking one out, and giving one another value.
 ghost use Rattle.std.specs.Prelude.{◌≡◌, ◌≢◌, ◌+◌, ◌-◌, ◌^◌, ◌<◌, ◌≤◌, length, slice_index, slice_set};
-ghost use Rattle.rom_model.specs.Space.{Costs, Looks, HasRoom};
+ghost use Rattle.rom_model.specs.Space.{Costs, Looks, HasRoom, IsSparing};
 ghost use Rattle.rom_model.specs.Blocks.{IsOrder, block_of, region_len};
+ghost use Rattle.rom_model.specs.Region.{bucket_of};
+ghost use Rattle.rom_map.specs.Walk.{head_of};
 ghost use Rattle.rom_map.specs.Link.{IsLinked, IsUnlinked};
 
 use crate::walk::{Place, head_of};
@@ -19,6 +21,8 @@ pub fn link_first<M: Space>(space: &mut M, order: u32, at: u64, key: u64, value:
     requires room { HasRoom M.shown 6 space.old }
     ensures linked { IsLinked order at key value (M.shown.image space.old) (M.shown.image space.new) }
     ensures costs { Costs M.shown 6 6 space.old space.new }
+    ensures sparing { slice_index (M.shown.image space.old) (head_of order (bucket_of order key)) ≢ at
+        → IsSparing M.shown space.old space.new }
 {
     let link = head_of(order, key);
     let next = space.load(link);
@@ -39,6 +43,8 @@ pub fn unlink_node<M: Space>(space: &mut M, place: Place)
     requires room { HasRoom M.shown 2 space.old }
     ensures unlinked { IsUnlinked place (M.shown.image space.old) (M.shown.image space.new) }
     ensures costs { Costs M.shown 2 2 space.old space.new }
+    ensures sparing { slice_index (M.shown.image space.old) place.link
+        ≢ slice_index (M.shown.image space.old) (place.node + 2) → IsSparing M.shown space.old space.new }
 {
     let next = space.load(place.node + 2);
     space.store(place.link, next);
@@ -56,6 +62,7 @@ pub fn replace_value<M: Space>(space: &mut M, node: u64, value: u64) -> u64
     ensures image { M.shown.image space.new ≡ slice_set (M.shown.image space.old) (node + 1) value }
     ensures costs { Costs M.shown 1 1 space.old space.new }
     ensures kept { result ≡ value → Looks M.shown 1 space.old space.new }
+    ensures sparing { IsSparing M.shown space.old space.new }
 {
     let was = space.load(node + 1);
     if was != value {

@@ -1,7 +1,7 @@
 //! The calls on a key of the map.
 ghost use Rattle.std.specs.Prelude.{◌≡◌, ℕ, ◌+◌, ◌*◌, IfSome, IfNone};
 ghost use Rattle.std.specs.FinMap as map;
-ghost use Rattle.rom_model.specs.Space.{Costs, Looks, HasRoom};
+ghost use Rattle.rom_model.specs.Space.{Costs, Looks, HasRoom, IsSparing};
 ghost use Rattle.rom_model.specs.State.{State};
 ghost use Rattle.rom_model.specs.Walks.{keys_beside};
 ghost use Rattle.rom_model.specs.Blocks.{IsOrder};
@@ -38,6 +38,7 @@ pub fn map_put<M: Space>(space: &mut M, order: u32, key: u64, value: u64) -> Put
         → PutCosts M.shown order (keys_beside order s.pairs key) value result space.old space.new }
     ensures costs { (s : State) (k : ℕ) → Contents order (M.shown.image space.old) s k
         → Costs M.shown (3 * order + 8 + 2 * keys_beside order s.pairs key) 31 space.old space.new }
+    ensures sparing { IsSparing M.shown space.old space.new }
 {
     let place = find(space, order, key);
     if place.node != 0 {
@@ -67,6 +68,7 @@ pub fn map_del<M: Space>(space: &mut M, order: u32, key: u64) -> Option<u64>
         → IfNone result (Looks M.shown (1 + 2 * keys_beside order s.pairs key) space.old space.new) }
     ensures costs { (s : State) (k : ℕ) → Contents order (M.shown.image space.old) s k
         → Costs M.shown (2 * order + 3 + 2 * keys_beside order s.pairs key) 31 space.old space.new }
+    ensures sparing { IsSparing M.shown space.old space.new }
 {
     let place = find(space, order, key);
     if place.node == 0 {

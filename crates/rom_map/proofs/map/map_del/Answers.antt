@@ -1,15 +1,17 @@
-use Rattle.std.proofs.Common.{◌≡◌, ◌+◌, ◌*◌, ℕ, List, ◌++◌, slice_index, length, arith, le_refl, sym, ◌∙◌, ap, subst}
+use Rattle.std.proofs.Common.{◌≡◌, ◌≢◌, ◌+◌, ◌-◌, ◌*◌, ◌^◌, ℕ, List, ◌++◌, slice_index, length, arith, le_refl, sym, ◌∙◌, ap, subst}
 use Rattle.std.specs.Prelude.{Some}
 use Rattle.std.specs.FinMap as finite
 use Rattle.rom_model.specs.Walks.{keys_beside}
 use Rattle.rom_model.specs.Region.{bucket_of, Contents}
+use Rattle.rom_model.proofs.Nodes.{pow_positive}
 use Rattle.rom_model.proofs.Looks.{looks_more, costs_most, costs_then, room_left}
 use Rattle.rom_map.specs.Link.{IsUnlinked}
 use Rattle.rom_map.specs.Map.{with_pairs, with_bucket}
 use Rattle.rom_map.proofs.Entries.{remove_absent}
 use Rattle.rom_map.proofs.Places.{holds_bucket}
 use Rattle.rom_map.proofs.Finding.{own_within, looked, image_same, long, no_value, sooner, node, value, inside, small}
-use Rattle.rom_map.proofs.Removed.{link_high, link_inside}
+use Rattle.rom_map.proofs.Sparing.{sparing_after, sparing_load, range_last}
+use Rattle.rom_map.proofs.Removed.{link_high, link_inside, link_differs}
 use Rattle.rom_map.proofs.Removing.{size_some, may_give, deleted}
 use Rattle.rom_map.proofs.map.map_del.Goals as goal
 
@@ -124,3 +126,22 @@ returns-clause-costs g c s k held =
     let beside = keys_beside c.args.order s.pairs c.args.key in
     let look = looks_more g.M.Look.shown _ _ (le_refl (2 * beside + 1)) (sooner c.requires.order held.1 c.find-place.ensures (λ e. absurd (omega arith))) c.load-was.ensures.image c.load-was.ensures.counts in
     costs_then _ _ (omega arith) (omega arith) (costs_then (2 * beside + 3) 2 (omega arith) (omega arith) look.costs c.unlink_node.ensures.costs) c.give.ensures.costs
+
+pub returns-then-place-eq0-clause-sparing : goal.returns-then-place-eq0-clause-sparing
+returns-then-place-eq0-clause-sparing g c told = omega (arith, (looked c.requires.order c.requires.region.contents.1 c.find-place.ensures).costs.most_stores told)
+
+pub returns-clause-sparing : goal.returns-clause-sparing
+returns-clause-sparing g c =
+    let o = c.requires.order in
+    let n = c.args.order in
+    let is = c.requires.region.contents.1 in
+    let t = node o is c.find-place.ensures (λ e. absurd (omega arith)) in
+    let un = c.unlink_node.ensures.unlinked in
+    let high = link_high o.least is (own_within c.args.key o) t in
+    let same = c.load-was.ensures.image ∙ image_same o is c.find-place.ensures in
+    let differs = subst (λ (v : List ℕ). slice_index v c.find-place.result.link ≢ slice_index v (c.find-place.result.node + 2)) (sym same) (link_differs o.least is (own_within c.args.key o) t) in
+    sparing_after g.M.Look.shown _ _ _ (looked o is c.find-place.ensures)
+    (sparing_load g.M.Look.shown _ _ _ c.load-was.ensures.image c.load-was.ensures.counts
+    (range_last g.M.Look.shown 17 (2 * 2 ^ n - 1) _ _ _ un.as_long c.give.ensures.others
+    (λ k ge lt. un.others k (λ e. absurd (omega (arith, e, lt, high, pow_positive n))) (λ e. absurd (omega (arith, e, ge))))
+    (c.unlink_node.ensures.sparing differs) c.give.ensures.sparing))

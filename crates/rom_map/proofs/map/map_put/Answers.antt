@@ -1,15 +1,17 @@
-use Rattle.std.proofs.Common.{◌+◌, ◌*◌, ℕ, List, ◌∷◌, slice_index, slice_set, arith, sym, ◌∙◌, ap, subst}
+use Rattle.std.proofs.Common.{inl, ◌+◌, ◌-◌, ◌*◌, ◌^◌, ℕ, List, ◌∷◌, slice_index, slice_set, arith, sym, ◌∙◌, ap, subst}
 use Rattle.std.specs.Prelude.{Some}
 use Rattle.std.specs.FinMap as finite
 use Rattle.rom_model.specs.Chains.{times, each_word}
 use Rattle.rom_model.specs.Walks.{keys_beside}
 use Rattle.rom_model.specs.Region.{bucket_of, map_blocks, element_blocks, taken_by, IsRegion}
+use Rattle.rom_model.proofs.Nodes.{pow_positive}
 use Rattle.rom_model.proofs.Looks.{costs_then, room_left}
 use Rattle.rom_model.proofs.Room.{region_disjoint, full}
 use Rattle.rom_map.specs.Map.{with_pairs, with_bucket, IsAdded}
 use Rattle.rom_map.proofs.Places.{holds_bucket}
 use Rattle.rom_map.proofs.Finding.{own_within, looked, image_same, long, no_key, no_value, sooner, node, value, inside, small}
-use Rattle.rom_map.proofs.Adding.{had_room, at_least, at_most, size_small, added}
+use Rattle.rom_map.proofs.Sparing.{sparing_after, sparing_range}
+use Rattle.rom_map.proofs.Adding.{had_room, head_differs, at_least, at_most, size_small, added}
 use Rattle.rom_map.proofs.Replaced.{replaced}
 use Rattle.rom_map.proofs.map.map_put.Goals as goal
 
@@ -153,3 +155,25 @@ returns-clause-each g c s k held =
 
 pub returns-clause-costs : goal.returns-clause-costs
 returns-clause-costs g c s k held = returns-clause-each g c s k held
+
+pub returns-then-place-ne0-clause-sparing : goal.returns-then-place-ne0-clause-sparing
+returns-then-place-ne0-clause-sparing g c = sparing_after g.M.Look.shown _ _ _ (looked c.requires.order c.requires.region.contents.1 c.find-place.ensures) c.replace_value.ensures.sparing
+
+pub returns-in_default-clause-sparing : goal.returns-in_default-clause-sparing
+returns-in_default-clause-sparing g c = sparing_after g.M.Look.shown _ _ _ (looked c.requires.order c.requires.region.contents.1 c.find-place.ensures) c.in_default.ensures.sparing
+
+pub returns-clause-sparing : goal.returns-clause-sparing
+returns-clause-sparing g c =
+    let o = c.requires.order in
+    let n = c.args.order in
+    let r = c.requires.region in
+    let i = bucket_of n c.args.key in
+    let same = image_same o r.contents.1 c.find-place.ensures in
+    let mid = subst (λ v. IsRegion n v r.contents.0 r.state r.count) (sym same) r.contents.1 in
+    let linked = c.link_first.ensures.linked in
+    let late = at_least o.least mid c.in-Some.ensures.others c.in-Some.ensures.taken in
+    let differs = head_differs o.least mid c.in-Some.ensures.others c.in-Some.ensures.taken i (own_within c.args.key o) in
+    sparing_after g.M.Look.shown _ _ _ (looked o r.contents.1 c.find-place.ensures)
+    (sparing_range g.M.Look.shown 17 (2 * 2 ^ n - 1) _ _ _ c.in-Some.ensures.others linked.as_long
+    (λ k ge lt. linked.others k (inl (omega (arith, lt, late, pow_positive n))) (λ e. absurd (omega (arith, e, lt, pow_positive n))) (λ e. absurd (omega (arith, e, ge))))
+    c.in-Some.ensures.sparing (c.link_first.ensures.sparing differs))

@@ -1,0 +1,13 @@
+use Rattle.std.proofs.Common.{◌≡◌, ◌+◌, List, ℕ, length, get_or, sym, ◌∙◌, ap, arith}
+use Rattle.rom_block.proofs.Apart.{sparing_store}
+use Rattle.rom_map.proofs.Sparing.{sparing_load}
+use Rattle.rom_map.proofs.link.replace_value.Goals as goal
+
+pub returns-then-was-value-clause-sparing : goal.returns-then-was-value-clause-sparing
+returns-then-was-value-clause-sparing g c =
+    let at = c.args.node + 1 in
+    let mid = c.load-was.new.self in
+    let load = c.load-was.ensures in
+    sparing_load g.M.Look.shown c.args.space.now mid c.store.new.self load.image load.counts
+    (sparing_store g.M.Look.shown mid c.store.new.self at c.args.value c.store.ensures.image (omega (arith, c.requires.within, ap length load.image))
+    (λ e. c.if-was-value.true (load.word ∙ sym (ap (λ (w : List ℕ). get_or w at 0) load.image) ∙ e)) c.store.ensures.counts)
