@@ -1,5 +1,5 @@
 -- What the search for a key tells of a well-formed region.
-use Rattle.std.proofs.Common.{◌≡◌, ℕ, ◌+◌, ◌*◌, ◌^◌, ◌<◌, ◌≤◌, length, ◌∙◌, ap, arith}
+use Rattle.std.proofs.Common.{◌≡◌, ℕ, ◌+◌, ◌*◌, ◌^◌, ◌<◌, ◌≤◌, List, ◌∷◌, length, ◌∙◌, ap, subst, arith, length-append}
 use Rattle.std.specs.Prelude.{slice_index, None, Some}
 use Rattle.std.specs.FinMap as finite
 use Rattle.rom_model.specs.Space.{ShownSpace, Looks}
@@ -10,7 +10,8 @@ use Rattle.rom_model.specs.Walks.{keys_beside}
 use Rattle.rom_model.specs.Region.{Chains, buckets, bucket_of, map_blocks, IsRegion}
 use Rattle.rom_model.proofs.Nodes.{pow_small}
 use Rattle.rom_model.proofs.Looks.{looks_most}
-use Rattle.rom_map.specs.Walk.{IsPlace, Finds}
+use Rattle.rom_map.specs.Walk.{IsBucket, IsPlace, Finds}
+use Rattle.rom_map.specs.Map.{KeyBlock}
 use Rattle.rom_map.specs.declared.walk.Place.{Place}
 use Rattle.rom_map.proofs.Heads.{bucket_within}
 use Rattle.rom_map.proofs.Pairs.{beside, nowhere}
@@ -39,13 +40,19 @@ module _ {M : Type 0} {shown : ShownSpace M} {n key : ℕ} {place : Place} {old 
   pub no_value : place.node ≡ 0 → finite.get s.pairs key ≡ None
   no_value none = get_missing region key (own_within key o) place found none
 
+  -- by the blocks before the key's
+  pub passed : (at : KeyBlock n (shown.image old) p key) → Looks shown (2 + 2 * length at.front) old mid
+  passed at = finds.found at.front at.block at.back (subst (λ bs. IsBucket n (shown.image old) (bucket_of n key) bs) at.blocks (region.shape.map.chains (bucket_of n key) (own_within key o))) at.holds
+
   -- where there is one
   module _ (some : place.node ≡ 0 → ⊥) where
-    pub sooner : Looks shown (2 * keys_beside n s.pairs key) old mid
-    sooner = looks_most shown (2 * length (p.bucket (bucket_of n key))) (2 * keys_beside n s.pairs key) (omega (arith, beside region key (own_within key o))) (finds.sooner (p.bucket (bucket_of n key)) (region.shape.map.chains (bucket_of n key) (own_within key o)) some)
-
     pub node : There n (shown.image old) p key place
     node = there region key (own_within key o) place found some
+
+    pub sooner : Looks shown (2 * keys_beside n s.pairs key) old mid
+    sooner =
+        let at : KeyBlock n (shown.image old) p key = record { front = node.front; block = node.block; back = node.back; blocks = node.blocks; holds = node.holds } in
+        looks_most shown (2 + 2 * length node.front) (2 * keys_beside n s.pairs key) (omega (arith, beside region key (own_within key o), ap length node.blocks, length-append node.front (node.block ∷ node.back))) (passed at)
 
     pub value : finite.get s.pairs key ≡ Some (slice_index (shown.image old) (place.node + 1))
     value = get_there region key (own_within key o) place found some

@@ -1,12 +1,12 @@
 -- A walk along a bucket's chain, step by step.
-use Rattle.std.proofs.Common.{◌≡◌, ◌≢◌, ℕ, zero, suc, ◌+◌, ◌*◌, ◌^◌, ◌<◌, ◌≤◌, false, List, [], ◌∷◌, ◌++◌, length, refl, sym, ◌∙◌, ap, subst, arith, length-append, append_assoc, append-nil}
+use Rattle.std.proofs.Common.{◌≡◌, ◌≢◌, ℕ, zero, suc, ◌+◌, ◌*◌, ◌^◌, ◌<◌, ◌≤◌, false, List, [], ◌∷◌, ◌++◌, length, get_or, refl, sym, ◌∙◌, ap, subst, arith, length-append, append_assoc, append-nil}
 use Rattle.std.specs.Prelude.{slice_index, ◌==◌, if◌then◌else◌}
 use Rattle.std.proofs.lemmas.Bool.Decides.{nat_tests}
 use Rattle.rom_model.specs.Blocks.{block_of}
 use Rattle.rom_model.specs.Chains.{times, Chain, each_word}
 use Rattle.rom_model.specs.Links.{link_after, first_of}
 use Rattle.rom_model.specs.Region.{bucket_of}
-use Rattle.rom_model.proofs.Times.{times_here, times_away, times-append}
+use Rattle.rom_model.proofs.Times.{times_here, times_away, times_more, times-append}
 use Rattle.rom_model.proofs.Links.{link_push, chain_back, chain_first, each_append}
 use Rattle.rom_map.specs.Walk.{head_of, IsBucket, StartsWith, Walked, IsPlace}
 
@@ -159,3 +159,20 @@ module _ {n : ℕ} {w bs : List ℕ} {key link node : ℕ} (is : IsBucket n w (b
           },
           length-append x.front (here.block ∷ []),
         )
+
+tail : List ℕ → List ℕ
+tail [] = []
+tail (x ∷ xs) = xs
+
+-- blocks that were passed, and have not got the key, are no more than those before one that has it
+pub not_further : (n key : ℕ) (w passed rest front : List ℕ) (block : ℕ) (back : List ℕ) → front ++ block ∷ back ≡ passed ++ rest → times key (each_word n w 0 passed) ≡ 0 → slice_index w (block_of n block + 0) ≡ key → length passed ≤ length front
+unfolding tail
+not_further n key w [] rest front block back same none holds = omega arith
+not_further n key w (x ∷ xs) rest [] block back same none holds =
+    let word = slice_index w (block_of n x + 0) in
+    let first : block ≡ x = ap (λ bs. get_or bs 0 0) same in
+    let is : word ≡ key = ap (λ b. slice_index w (block_of n b + 0)) (sym first) ∙ holds in
+    absurd (omega (arith, none, ap (λ v. times v (word ∷ each_word n w 0 xs)) is, times_here word (each_word n w 0 xs)))
+not_further n key w (x ∷ xs) rest (f ∷ front) block back same none holds =
+    let word = slice_index w (block_of n x + 0) in
+    omega (arith, not_further n key w xs rest front block back (ap tail same) (omega (arith, none, times_more key word (each_word n w 0 xs))) holds)

@@ -22,6 +22,14 @@ with_bucket p i blocks = record p { bucket = λ j. if j == i then blocks else p.
 abbrev pub table_block : ℕ → ℕ
 table_block i = i / 4
 
+-- The block in which a key stands, and those before and behind it in its bucket's chain.
+pub record KeyBlock (n : ℕ) (words : List ℕ) (p : Chains) (key : ℕ) : Type 0 where
+  pub front : List ℕ
+  pub block : ℕ
+  pub back : List ℕ
+  pub blocks : p.bucket (bucket_of n key) ≡ front ++ block ∷ back
+  pub holds : slice_index words (block_of n block + 0) ≡ key
+
 -- What a put tells, and the words that it leaves. There is one answer that fits.
 abbrev pub IsPut : ℕ → State → ℕ → ℕ → ℕ → Put → List ℕ → Type 0
 IsPut n s count key value New new = (map.get s.pairs key ≡ None) × (live s < cap n) × Contents n new (with_pairs s (map.insert s.pairs key value)) count
@@ -57,6 +65,12 @@ abbrev pub PutCosts : {M : Type 0} → ShownSpace M → ℕ → ℕ → ℕ → 
 PutCosts shown n beside value New old new = Costs shown (3 * n + 8 + 2 * beside) 31 old new
 PutCosts shown n beside value (Was before) old new = Costs shown (1 + 2 * beside) 1 old new × (before ≡ value → Looks shown (1 + 2 * beside) old new)
 PutCosts shown n beside value Full old new = Looks shown (n + 2 + 2 * beside) old new
+
+-- What a put costs where the key had a value, by how many blocks stand before the key's.
+abbrev pub AgainCosts : {M : Type 0} → ShownSpace M → ℕ → ℕ → Put → M → M → Type 0
+AgainCosts shown before value New old new = Unit {0}
+AgainCosts shown before value (Was had) old new = Costs shown (3 + 2 * before) 1 old new × (had ≡ value → Looks shown (3 + 2 * before) old new)
+AgainCosts shown before value Full old new = Unit {0}
 
 -- The key's block is no longer in its bucket's chain, and each other element keeps its block, also
 -- those of the bucket. No word differs but the map's size, the bucket's word in the table with those

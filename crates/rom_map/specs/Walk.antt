@@ -1,5 +1,5 @@
 -- The chain of a bucket, and the place of a key in it.
-use Rattle.std.specs.Prelude.{◌≡◌, ◌≢◌, ℕ, ◌+◌, ◌*◌, ◌^◌, ◌<◌, ◌≤◌, List, [], ◌∷◌, ◌++◌, length}
+use Rattle.std.specs.Prelude.{◌≡◌, ℕ, ◌+◌, ◌*◌, ◌^◌, ◌<◌, ◌≤◌, List, [], ◌∷◌, ◌++◌, length, slice_index}
 use Rattle.rom_model.specs.Space.{ShownSpace, Looks}
 use Rattle.rom_model.specs.Blocks.{block_of}
 use Rattle.rom_model.specs.Chains.{times, Chain, each_word}
@@ -41,8 +41,9 @@ pub record IsPlace (n : ℕ) (words blocks : List ℕ) (key : ℕ) (place : Plac
   pub walked : Walked n words blocks key place.link place.node
   pub stops : StartsWith key (each_word n words 0 walked.back)
 
--- The place of the key in whatever blocks are its bucket's nodes. A node that was passed took two loads; where the key was found, one of them is left.
+-- The place of the key in whatever blocks are its bucket's nodes. The first link took one load, and each node that was passed two; the node that has the key took one more.
 pub record Finds {M : Type 0} (shown : ShownSpace M) (n key : ℕ) (place : Place) (old new : M) : Type 0 where
   pub is : (blocks : List ℕ) → IsBucket n (shown.image old) (bucket_of n key) blocks → IsPlace n (shown.image old) blocks key place
   pub looks : (blocks : List ℕ) → IsBucket n (shown.image old) (bucket_of n key) blocks → Looks shown (1 + 2 * length blocks) old new
-  pub sooner : (blocks : List ℕ) → IsBucket n (shown.image old) (bucket_of n key) blocks → place.node ≢ 0 → Looks shown (2 * length blocks) old new
+  pub found : (front : List ℕ) (block : ℕ) (back : List ℕ) → IsBucket n (shown.image old) (bucket_of n key) (front ++ block ∷ back)
+      → slice_index (shown.image old) (block_of n block + 0) ≡ key → Looks shown (2 + 2 * length front) old new

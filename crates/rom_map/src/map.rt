@@ -1,12 +1,12 @@
 //! The calls on a key of the map.
-ghost use Rattle.std.specs.Prelude.{◌≡◌, ℕ, ◌+◌, ◌*◌, IfSome, IfNone};
+ghost use Rattle.std.specs.Prelude.{◌≡◌, ℕ, ◌+◌, ◌*◌, IfSome, IfNone, length};
 ghost use Rattle.std.specs.FinMap as map;
 ghost use Rattle.rom_model.specs.Space.{Costs, Looks, HasRoom, IsSparing};
 ghost use Rattle.rom_model.specs.State.{State};
 ghost use Rattle.rom_model.specs.Walks.{keys_beside};
 ghost use Rattle.rom_model.specs.Blocks.{IsOrder};
 ghost use Rattle.rom_model.specs.Region.{Chains, IsRegion, IsWellFormed, Contents};
-ghost use Rattle.rom_map.specs.Map.{with_pairs, IsPut, PutLeaves, PutCosts, IsDeleted};
+ghost use Rattle.rom_map.specs.Map.{with_pairs, KeyBlock, IsPut, PutLeaves, PutCosts, AgainCosts, IsDeleted};
 
 use crate::link::{link_first, replace_value, unlink_node};
 use crate::walk::find;
@@ -38,6 +38,9 @@ pub fn map_put<M: Space>(space: &mut M, order: u32, key: u64, value: u64) -> Put
         → PutCosts M.shown order (keys_beside order s.pairs key) value result space.old space.new }
     ensures costs { (s : State) (k : ℕ) → Contents order (M.shown.image space.old) s k
         → Costs M.shown (3 * order + 8 + 2 * keys_beside order s.pairs key) 31 space.old space.new }
+    ensures sooner { (p : Chains) (s : State) (k : ℕ) → IsRegion order (M.shown.image space.old) p s k
+        → (at : KeyBlock order (M.shown.image space.old) p key)
+        → AgainCosts M.shown (length at.front) value result space.old space.new }
     ensures sparing { IsSparing M.shown space.old space.new }
 {
     let place = find(space, order, key);
@@ -68,6 +71,9 @@ pub fn map_del<M: Space>(space: &mut M, order: u32, key: u64) -> Option<u64>
         → IfNone result (Looks M.shown (1 + 2 * keys_beside order s.pairs key) space.old space.new) }
     ensures costs { (s : State) (k : ℕ) → Contents order (M.shown.image space.old) s k
         → Costs M.shown (2 * order + 3 + 2 * keys_beside order s.pairs key) 31 space.old space.new }
+    ensures sooner { (p : Chains) (s : State) (k : ℕ) → IsRegion order (M.shown.image space.old) p s k
+        → (at : KeyBlock order (M.shown.image space.old) p key)
+        → Costs M.shown (2 * order + 5 + 2 * length at.front) (order + 3) space.old space.new }
     ensures sparing { IsSparing M.shown space.old space.new }
 {
     let place = find(space, order, key);
@@ -88,6 +94,9 @@ pub fn map_get<M: Look>(space: &mut M, order: u32, key: u64) -> Option<u64>
         → result ≡ map.get s.pairs key }
     ensures looks { (s : State) (k : ℕ) → Contents order (M.shown.image space.old) s k
         → Looks M.shown (1 + 2 * keys_beside order s.pairs key) space.old space.new }
+    ensures sooner { (p : Chains) (s : State) (k : ℕ) → IsRegion order (M.shown.image space.old) p s k
+        → (at : KeyBlock order (M.shown.image space.old) p key)
+        → Looks M.shown (3 + 2 * length at.front) space.old space.new }
 {
     let place = find(space, order, key);
     if place.node == 0 {

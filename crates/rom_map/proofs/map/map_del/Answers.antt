@@ -9,7 +9,7 @@ use Rattle.rom_map.specs.Link.{IsUnlinked}
 use Rattle.rom_map.specs.Map.{with_pairs, with_bucket}
 use Rattle.rom_map.proofs.Entries.{remove_absent}
 use Rattle.rom_map.proofs.Places.{holds_bucket}
-use Rattle.rom_map.proofs.Finding.{own_within, looked, image_same, long, no_value, sooner, node, value, inside, small}
+use Rattle.rom_map.proofs.Finding.{own_within, looked, image_same, long, no_value, passed, sooner, node, value, inside, small}
 use Rattle.rom_map.proofs.Sparing.{sparing_after, sparing_load, range_last}
 use Rattle.rom_map.proofs.Removed.{link_high, link_inside, link_differs}
 use Rattle.rom_map.proofs.Removing.{size_some, may_give, deleted}
@@ -145,3 +145,11 @@ returns-clause-sparing g c =
     (range_last g.M.Look.shown 17 (2 * 2 ^ n - 1) _ _ _ un.as_long c.give.ensures.others
     (λ k ge lt. un.others k (λ e. absurd (omega (arith, e, lt, high, pow_positive n))) (λ e. absurd (omega (arith, e, ge))))
     (c.unlink_node.ensures.sparing differs) c.give.ensures.sparing))
+
+pub returns-then-place-eq0-clause-sooner : goal.returns-then-place-eq0-clause-sooner
+returns-then-place-eq0-clause-sooner g c p s k is at = costs_most _ _ (omega arith) (omega arith) (passed c.requires.order is c.find-place.ensures at).costs
+
+pub returns-clause-sooner : goal.returns-clause-sooner
+returns-clause-sooner g c p s k is at =
+    let look = looks_more g.M.Look.shown _ _ (le_refl (2 + 2 * length at.front + 1)) (passed c.requires.order is c.find-place.ensures at) c.load-was.ensures.image c.load-was.ensures.counts in
+    costs_then _ _ (omega arith) (omega arith) (costs_then (2 * length at.front + 5) 2 (omega arith) (omega arith) look.costs c.unlink_node.ensures.costs) c.give.ensures.costs

@@ -1,9 +1,9 @@
 use Rattle.std.proofs.Common.{◌≡◌, ◌+◌, slice_index, arith, sym, ◌∙◌, ap}
 use Rattle.std.specs.Prelude.{Some}
 use Rattle.rom_model.specs.Region.{bucket_of}
-use Rattle.rom_model.proofs.Looks.{looks_more}
+use Rattle.rom_model.proofs.Looks.{looks_most, looks_more}
 use Rattle.rom_map.proofs.Places.{holds_bucket}
-use Rattle.rom_map.proofs.Finding.{own_within, looked, image_same, no_value, sooner, value, inside, small}
+use Rattle.rom_map.proofs.Finding.{own_within, looked, image_same, no_value, passed, sooner, value, inside, small}
 use Rattle.rom_map.proofs.map.map_get.Goals as goal
 
 pub find-place-requires-clause-sized : goal.find-place-requires-clause-sized
@@ -32,3 +32,9 @@ returns-clause-is g c s k held =
 
 pub returns-clause-looks : goal.returns-clause-looks
 returns-clause-looks g c s k held = looks_more g.M.Look.shown _ _ (omega arith) (sooner c.requires.order held.1 c.find-place.ensures (λ e. absurd (omega arith))) c.load.ensures.image c.load.ensures.counts
+
+pub returns-then-place-eq0-clause-sooner : goal.returns-then-place-eq0-clause-sooner
+returns-then-place-eq0-clause-sooner g c p s k is at = looks_most g.M.Look.shown _ _ (omega arith) (passed c.requires.order is c.find-place.ensures at)
+
+pub returns-clause-sooner : goal.returns-clause-sooner
+returns-clause-sooner g c p s k is at = looks_more g.M.Look.shown _ _ (omega arith) (passed c.requires.order is c.find-place.ensures at) c.load.ensures.image c.load.ensures.counts

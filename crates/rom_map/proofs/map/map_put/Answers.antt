@@ -5,11 +5,11 @@ use Rattle.rom_model.specs.Chains.{times, each_word}
 use Rattle.rom_model.specs.Walks.{keys_beside}
 use Rattle.rom_model.specs.Region.{bucket_of, map_blocks, element_blocks, taken_by, IsRegion}
 use Rattle.rom_model.proofs.Nodes.{pow_positive}
-use Rattle.rom_model.proofs.Looks.{costs_then, room_left}
+use Rattle.rom_model.proofs.Looks.{looks_then, costs_then, room_left}
 use Rattle.rom_model.proofs.Room.{region_disjoint, full}
 use Rattle.rom_map.specs.Map.{with_pairs, with_bucket, IsAdded}
 use Rattle.rom_map.proofs.Places.{holds_bucket}
-use Rattle.rom_map.proofs.Finding.{own_within, looked, image_same, long, no_key, no_value, sooner, node, value, inside, small}
+use Rattle.rom_map.proofs.Finding.{own_within, looked, image_same, long, no_key, no_value, passed, sooner, node, value, inside, small}
 use Rattle.rom_map.proofs.Sparing.{sparing_after, sparing_range}
 use Rattle.rom_map.proofs.Adding.{had_room, head_differs, at_least, at_most, size_small, added}
 use Rattle.rom_map.proofs.Replaced.{replaced}
@@ -177,3 +177,10 @@ returns-clause-sparing g c =
     (sparing_range g.M.Look.shown 17 (2 * 2 ^ n - 1) _ _ _ c.in-Some.ensures.others linked.as_long
     (λ k ge lt. linked.others k (inl (omega (arith, lt, late, pow_positive n))) (λ e. absurd (omega (arith, e, lt, pow_positive n))) (λ e. absurd (omega (arith, e, ge))))
     c.in-Some.ensures.sparing (c.link_first.ensures.sparing differs))
+
+pub returns-then-place-ne0-clause-sooner : goal.returns-then-place-ne0-clause-sooner
+returns-then-place-ne0-clause-sooner g c p s k is at =
+    let look = passed c.requires.order is c.find-place.ensures at in (
+      costs_then _ _ (omega arith) (omega arith) look.costs c.replace_value.ensures.costs,
+      λ same. looks_then _ (omega arith) look (c.replace_value.ensures.kept same),
+    )

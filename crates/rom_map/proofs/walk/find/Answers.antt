@@ -1,9 +1,9 @@
-use Rattle.std.proofs.Common.{◌≡◌, ◌+◌, ◌*◌, ◌^◌, length, slice_index, rules, arith, ◌∙◌, ap}
+use Rattle.std.proofs.Common.{◌≡◌, ◌+◌, ◌*◌, ◌^◌, ◌∷◌, ◌++◌, length, slice_index, rules, arith, ◌∙◌, ap}
 use Rattle.rom_model.specs.Region.{bucket_of}
 use Rattle.rom_model.proofs.Nodes.{pow_small}
 use Rattle.rom_model.proofs.Looks.{looks_most, looks_more}
 use Rattle.rom_map.proofs.Heads.{bucket_within, head_within}
-use Rattle.rom_map.proofs.Walking.{node_within, falls, along, at_head, front_few, at_end, front_fewer, at_key, step}
+use Rattle.rom_map.proofs.Walking.{node_within, falls, along, at_head, front_few, at_end, front_fewer, at_key, step, not_further}
 use Rattle.rom_map.proofs.walk.find.Goals as goal
 
 pub load-node-requires : goal.load-node-requires
@@ -31,7 +31,10 @@ returns-then-there-key g c =
     record {
       is = λ blocks is. at_key is (h.way blocks is).0 c.loop-node-test.true (omega (arith, load));
       looks = λ blocks is. let x = h.way blocks is in looks_more g.M.Look.shown _ _ (omega (arith, front_fewer is x.0 c.loop-node-test.true)) x.1 c.load-there.ensures.image c.load-there.ensures.counts;
-      sooner = λ blocks is some. let x = h.way blocks is in looks_more g.M.Look.shown _ _ (omega (arith, front_fewer is x.0 c.loop-node-test.true)) x.1 c.load-there.ensures.image c.load-there.ensures.counts;
+      found = λ front block back is holds.
+          let x = h.way (front ++ block ∷ back) is in
+          let few = not_further c.args.order c.args.key (g.M.Look.shown.image c.args.space.now) x.0.front x.0.back front block back x.0.blocks_are x.0.passed holds in
+          looks_more g.M.Look.shown _ _ (omega (arith, few)) x.1 c.load-there.ensures.image c.load-there.ensures.counts;
     }
 
 pub overflow_add-link : goal.overflow_add-link
@@ -70,5 +73,8 @@ pub returns : goal.returns
 returns g c = record {
   is = λ blocks is. at_end is (c.loop-node.invariant.way blocks is).0 (omega arith);
   looks = λ blocks is. let x = c.loop-node.invariant.way blocks is in looks_most g.M.Look.shown _ _ (omega (arith, front_few is x.0)) x.1;
-  sooner = λ blocks is some. absurd (omega (arith, some));
+  found = λ front block back is holds.
+      let x = c.loop-node.invariant.way (front ++ block ∷ back) is in
+      let few = not_further c.args.order c.args.key (g.M.Look.shown.image c.args.space.now) x.0.front x.0.back front block back x.0.blocks_are x.0.passed holds in
+      looks_most g.M.Look.shown _ _ (omega (arith, few)) x.1;
 }
