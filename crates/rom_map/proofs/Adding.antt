@@ -1,5 +1,5 @@
 -- A block that was taken, and goes to the front of a bucket.
-use Rattle.std.proofs.Common.{◌≡◌, ◌≢◌, ℕ, ◌+◌, ◌-◌, ◌*◌, ◌^◌, ◌<◌, ◌≤◌, Bool, List, [], ◌∷◌, ◌∙◌, ap, sym, subst, arith}
+use Rattle.std.proofs.Common.{◌≡◌, ◌≢◌, ℕ, ◌+◌, ◌-◌, ◌*◌, ◌^◌, ◌<◌, ◌≤◌, Bool, List, [], ◌∷◌, refl, ◌∙◌, ap, sym, subst, arith}
 use Rattle.std.specs.Prelude.{slice_index}
 use Rattle.std.specs.FinMap as finite
 use Rattle.rom_model.specs.Space.{ChangesOnly}
@@ -90,7 +90,11 @@ module _ {n : ℕ} {w : List ℕ} {p : Chains} {s : State} {k : ℕ} (le : 4 ≤
       added_block =
           let part = part_then n 9 10 [] touched touched w w1 w2 (λ b some. absurd (omega (arith, some))) (λ b some. some) (tree_part n 9 10 w w1 only) (added_part may_add linked) in
           record {
+            front = [];
             block = new.block;
+            back = p.bucket own;
+            blocks = refl;
+            first = refl;
             lowest = subst (λ x. IsLowest n (taken_by n (element_blocks n p)) 0 x) new.node_is takes.lowest;
             becomes = record {
               region = remapped is w2 touched 10 (omega arith) next.bucket (finite.insert s.pairs key value) part away elements (tree_stays n (taking takes.node (taken_by n (element_blocks n p))) w1 w2 (added_tree may_add linked) takes.words_are) (added_map may_add linked) (added_version may_add linked);

@@ -8,6 +8,7 @@ use Rattle.rom_model.specs.Chains.{times, each_word}
 use Rattle.rom_model.specs.Links.{link_after}
 use Rattle.rom_model.specs.Region.{Chains, buckets, bucket_of, map_blocks, IsRegion}
 use Rattle.rom_model.proofs.Times.{times_here, times_bucket, times-append}
+use Rattle.rom_model.proofs.Nodes.{pow_positive}
 use Rattle.rom_model.proofs.Counting.{at_most}
 use Rattle.rom_model.proofs.Room.{times_members}
 use Rattle.rom_map.specs.Walk.{head_of, HoldsBucket, StartsWith, IsPlace}
@@ -23,8 +24,9 @@ module _ {n : ℕ} {w : List ℕ} {p : Chains} {s : State} {k : ℕ} (is : IsReg
   pub placed : (c : ℕ) → 0 < times c (map_blocks n p) → (2 ^ (n - 4) ≤ c) × (c < 2 ^ n)
   placed c some = is.shape.within c (omega (arith, some, times_members n p c))
 
-  pub few : length (map_blocks n p) ≤ 2 ^ n
-  few = at_most 0 (2 ^ n) (map_blocks n p) single (λ b some. let at = placed b some in (omega arith, omega (arith, at.1)))
+  -- the table's blocks are not among them
+  pub few : length (map_blocks n p) < 2 ^ n
+  few = omega (arith, pow_positive n, pow_positive (n - 4), at_most (2 ^ (n - 4)) (2 ^ n - 2 ^ (n - 4)) (map_blocks n p) single (λ b some. let at = placed b some in (at.0, omega (arith, at.1))))
 
   module _ (i : ℕ) (lt : i < buckets n) where
     pub single_in : (c : ℕ) → times c (p.bucket i) ≤ 1

@@ -130,6 +130,10 @@ module _ {n : ℕ} {w : List ℕ} {p : Chains} {s : State} {k key : ℕ} {place 
     stood_all : (c : ℕ) → 0 < times c (map_blocks n next) → 0 < times c (map_blocks n p)
     stood_all c some = omega (arith, some, one_block_fewer c)
 
+    -- and so do those of the block that goes
+    pub block_stays : (j : ℕ) → j < 4 → slice_index w' (block_of n t.block + j) ≡ slice_index w (block_of n t.block + j)
+    block_stays j lt = stays t.block j (in_all own t.block within (omega (arith, in_own t.block, times_here t.block t.back))) lt (λ two. omega (arith, in_own t.block, single_in is own within t.block, times_here t.block t.back))
+
     -- the bucket's other blocks keep their keys and values
     pub pairs_stay : each_pair n w' (t.front ++ t.back) ≡ each_pair n w (t.front ++ t.back)
     pairs_stay = pairs_same n w w' (t.front ++ t.back) (λ c j lt some. stays c j (in_all own c within (omega (arith, some, times-append c t.front t.back, in_own c, times_more c t.block t.back))) (omega (arith, lt)) (λ e. absurd (omega (arith, e, lt))))

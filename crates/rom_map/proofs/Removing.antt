@@ -20,7 +20,7 @@ use Rattle.rom_map.specs.declared.walk.Place.{Place}
 use Rattle.rom_map.proofs.Heads.{four_each}
 use Rattle.rom_map.proofs.Places.{There}
 use Rattle.rom_map.proofs.Regions.{map_stays, version_stays, remapped}
-use Rattle.rom_map.proofs.Removed.{link_high, one_block_fewer, removed_map, removed_version, removed_part, pairs_stay}
+use Rattle.rom_map.proofs.Removed.{link_high, one_block_fewer, removed_map, removed_version, removed_part, block_stays, pairs_stay}
 
 module _ {n : ℕ} {w : List ℕ} {p : Chains} {s : State} {k key : ℕ} {place : Place} (le : 4 ≤ n) (is : IsRegion n w p s k) (within : bucket_of n key < buckets n) (t : There n w p key place) where
   among : 0 < times t.block (p.bucket (bucket_of n key))
@@ -82,6 +82,7 @@ module _ {n : ℕ} {w : List ℕ} {p : Chains} {s : State} {k key : ℕ} {place 
           front = t.front;
           back = t.back;
           blocks = t.blocks;
+          kept = λ j lt. only.behind (block_of n t.block + j) (omega (arith, pow_positive n)) ∙ block_stays le is within t un j lt;
           stay = pairs_same n w1 w2 (t.front ++ t.back) (λ c j lt some. only.behind (block_of n c + j) (omega (arith, pow_positive n))) ∙ pairs_stay le is within t un;
           becomes = record {
             region = remapped is w2 touched 10 (omega arith) next.bucket (finite.remove s.pairs key) part away elements (given taken (2 ^ n + t.block) (region_disjoint le is) words node at held).1

@@ -36,13 +36,17 @@ IsPut n s count key value New new = (map.get s.pairs key ≡ None) × (live s < 
 IsPut n s count key value (Was before) new = (map.get s.pairs key ≡ Some before) × Contents n new (with_pairs s (map.insert s.pairs key value)) count
 IsPut n s count key value Full new = (map.get s.pairs key ≡ None) × (live s ≡ cap n)
 
--- The key stands in the first block that was free, which is the first of its bucket's chain, and each
+-- The key stands in the first block that was free, which goes to the front of its bucket's chain, and each
 -- other element keeps its block. No word differs but the map's size, the bucket's word in the table
 -- with those beside it, the tree's, and those of the block.
 pub record IsAdded (n : ℕ) (old : List ℕ) (p : Chains) (s : State) (count key value : ℕ) (new : List ℕ) : Type 0 where
+  pub front : List ℕ
   pub block : ℕ
+  pub back : List ℕ
+  pub blocks : p.bucket (bucket_of n key) ≡ front ++ back
+  pub first : front ≡ []
   pub lowest : IsLowest n (taken_by n (element_blocks n p)) 0 (2 ^ n + block)
-  pub becomes : PartBecomes n 9 10 (table_block (bucket_of n key) ∷ block ∷ []) old new (with_bucket p (bucket_of n key) (block ∷ p.bucket (bucket_of n key)))
+  pub becomes : PartBecomes n 9 10 (table_block (bucket_of n key) ∷ block ∷ []) old new (with_bucket p (bucket_of n key) (front ++ block ∷ back))
       (with_pairs s (map.insert s.pairs key value)) count
 
 -- The key's block has the value as its second word, and no other word differs.
@@ -72,8 +76,8 @@ AgainCosts shown before value New old new = Unit {0}
 AgainCosts shown before value (Was had) old new = Costs shown (3 + 2 * before) 1 old new × (had ≡ value → Looks shown (3 + 2 * before) old new)
 AgainCosts shown before value Full old new = Unit {0}
 
--- The key's block is no longer in its bucket's chain, and each other element keeps its block, also
--- those of the bucket. No word differs but the map's size, the bucket's word in the table with those
+-- The key's block is no longer in its bucket's chain, but its words stay; and each other element keeps
+-- its block, also those of the bucket. No word differs but the map's size, the bucket's word in the table with those
 -- beside it, the tree's, and those of the bucket's blocks before.
 pub record IsDeleted (n : ℕ) (old : List ℕ) (p : Chains) (s : State) (count key : ℕ) (new : List ℕ) : Type 0 where
   pub block : ℕ
@@ -81,6 +85,7 @@ pub record IsDeleted (n : ℕ) (old : List ℕ) (p : Chains) (s : State) (count 
   pub front : List ℕ
   pub back : List ℕ
   pub blocks : p.bucket (bucket_of n key) ≡ front ++ block ∷ back
+  pub kept : (j : ℕ) → j < 4 → slice_index new (block_of n block + j) ≡ slice_index old (block_of n block + j)
   pub stay : each_pair n new (front ++ back) ≡ each_pair n old (front ++ back)
   pub becomes : PartBecomes n 9 10 (table_block (bucket_of n key) ∷ p.bucket (bucket_of n key)) old new (with_bucket p (bucket_of n key) (front ++ back))
       (with_pairs s (map.remove s.pairs key)) count

@@ -39,6 +39,7 @@ pub fn map_total<M: Look>(space: &mut M, order: u32) -> u128
     requires region { IsWellFormed order (M.shown.image space.old) }
     ensures total { (s : State) (k : ℕ) → Contents order (M.shown.image space.old) s k
         → result ≡ sum (map.values s.pairs) }
+    ensures fits { result < 2 ^ 80 }
     ensures looks { (s : State) (k : ℕ) → Contents order (M.shown.image space.old) s k
         → Looks M.shown (buckets order + 2 * map.len s.pairs) space.old space.new }
 {

@@ -1,4 +1,4 @@
-use Rattle.std.proofs.Common.{inl, ◌+◌, ◌-◌, ◌*◌, ◌^◌, ℕ, List, ◌∷◌, slice_index, slice_set, arith, sym, ◌∙◌, ap, subst}
+use Rattle.std.proofs.Common.{inl, ◌+◌, ◌-◌, ◌*◌, ◌^◌, ℕ, List, ◌∷◌, ◌++◌, slice_index, slice_set, arith, sym, ◌∙◌, ap, subst}
 use Rattle.std.specs.Prelude.{Some}
 use Rattle.std.specs.FinMap as finite
 use Rattle.rom_model.specs.Chains.{times, each_word}
@@ -141,7 +141,7 @@ returns-clause-contents g c s k held =
     let mid = subst (λ v. IsRegion c.args.order v held.0 s k) (sym same) held.1 in
     let x = returns-clause-others g c held.0 s k held.1 in
     let i = bucket_of c.args.order c.args.key in
-    (no_value o held.1 c.find-place.ensures (omega arith), had_room o.least mid c.in-Some.ensures.others c.in-Some.ensures.taken, (with_bucket held.0 i (x.block ∷ held.0.bucket i), x.becomes.region))
+    (no_value o held.1 c.find-place.ensures (omega arith), had_room o.least mid c.in-Some.ensures.others c.in-Some.ensures.taken, (with_bucket held.0 i (x.front ++ x.block ∷ x.back), x.becomes.region))
 
 pub returns-clause-region : goal.returns-clause-region
 returns-clause-region g c =

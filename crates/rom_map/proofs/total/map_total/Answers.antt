@@ -53,3 +53,10 @@ returns-clause-looks g c s k held =
     let last : c.loop-number.number ≡ buckets c.args.order = omega (arith, c.power_of_two-number-end.ensures.is) in
     let x = (c.loop-number.invariant.far held.0 s k held.1).1 in
     looks_most g.M.Look.shown _ _ (omega (arith, last, ap (λ m. length (all_of held.0.bucket m)) last, many held.1)) x
+
+pub returns-clause-fits : goal.returns-clause-fits
+returns-clause-fits g c =
+    let r = c.requires.region in
+    let last : c.loop-number.number ≡ buckets c.args.order = omega (arith, c.power_of_two-number-end.ensures.is) in
+    let x = (c.loop-number.invariant.far r.contents.0 r.state r.count r.contents.1).0 in
+    omega (arith, x.fits, ap (λ m. length (all_of r.contents.0.bucket m)) last, few r.contents.1, pow_small c.args.order c.requires.order.most)
