@@ -9,6 +9,7 @@ use crate::{Put, map_del, map_get, map_len, map_put, map_total};
 use rom_counted::Counted;
 use rom_model::VecSpace;
 use rom_queue::fresh_region;
+use rom_set::{Inserted, set_insert};
 use std::alloc::Global;
 use std::marker::Brand;
 use std::sync::ledger::{Blank, Ledger};
@@ -44,25 +45,76 @@ fn look(space: &mut VecSpace, order: u32, key: u64) -> (Option<u64>, u64, u128)
     )
 }
 
+/// A new region of order 4 up to its blocks, whose words are 0: the root, and then the tree.
+const ROOT_AND_TREE: [u64; 48] = [
+    1, 1, 0, 0, 0, 0, 0, 0, 48, 0, 0, 0, 0, 0, 0, 0, 0, 4, 3, 4, 2, 3, 3, 3, 1, 2, 2, 2, 2, 2, 2,
+    2, 0, 1, 1, 1, 1, 1, 1, 1, 1, 1, 1, 1, 1, 1, 1, 1,
+];
+
+/// The words of a new region of order 4. Then these words differ, by their offsets.
+fn region(changes: &[(usize, u64)]) -> [u64; 112] {
+    let mut words = [0; 112];
+    for (offset, word) in ROOT_AND_TREE.iter().enumerate() {
+        words[offset] = *word;
+    }
+    for (offset, word) in changes {
+        if *offset < 112 {
+            words[*offset] = *word;
+        }
+    }
+    words
+}
+
 #[test]
 fn two_keys_of_one_bucket_word_for_word(rt: HostRuntime) -> Result<(), Fail> {
     let mut space = fresh(rt.alloc(), 4)?;
-    assert_eq!(rt; map_put(&mut space, 4, 0, 7), Put::New);
-    assert_eq!(rt; map_put(&mut space, 4, 5, u64::MAX), Put::New);
+    assert_eq!(rt; map_put(&mut space, 4, 0, 1), Put::New);
+    assert_eq!(rt; map_put(&mut space, 4, 5, 2), Put::New);
     // The bucket table is the first block, and the key that came last is the first of its bucket.
-    let both = [56, 0, 0, 0, 0, 7, 0, 0, 5, u64::MAX, 52, 0];
-    assert!(rt; space.words().get(48..60) == Some(both.as_slice()));
-    assert_eq!(rt;
-        look(&mut space, 4, 0),
-        (Some(7), 2, 7 + u128::from(u64::MAX))
-    );
-    assert_eq!(rt; map_put(&mut space, 4, 5, 9), Put::Was(u64::MAX));
-    assert_eq!(rt; map_del(&mut space, 4, 0), Some(7));
+    let both = [
+        (9, 2),
+        (20, 1),
+        (24, 0),
+        (25, 1),
+        (33, 0),
+        (34, 0),
+        (48, 56),
+        (53, 1),
+        (56, 5),
+        (57, 2),
+        (58, 52),
+    ];
+    assert!(rt; space.words() == region(&both).as_slice());
+    assert_eq!(rt; look(&mut space, 4, 0), (Some(1), 2, 3));
+    assert_eq!(rt; map_del(&mut space, 4, 0), Some(1));
     // The words of a block that went stay.
-    let last = [56, 0, 0, 0, 0, 7, 0, 0, 5, 9, 0, 0];
-    assert!(rt; space.words().get(48..60) == Some(last.as_slice()));
+    let last = [
+        (9, 1),
+        (20, 1),
+        (25, 1),
+        (34, 0),
+        (48, 56),
+        (53, 1),
+        (56, 5),
+        (57, 2),
+    ];
+    assert!(rt; space.words() == region(&last).as_slice());
+    assert_eq!(rt; look(&mut space, 4, 5), (Some(2), 1, 2));
     assert_eq!(rt; map_del(&mut space, 4, 0), None);
-    assert_eq!(rt; look(&mut space, 4, 0), (None, 1, 9));
+    assert_eq!(rt; map_put(&mut space, 4, 5, u64::MAX), Put::Was(2));
+    assert_eq!(rt; look(&mut space, 4, 0), (None, 1, u128::from(u64::MAX)));
+    Ok(())
+}
+
+#[test]
+fn a_heap_that_a_set_fills_has_no_room_for_a_key(rt: HostRuntime) -> Result<(), Fail> {
+    let mut space = fresh(rt.alloc(), 4)?;
+    for number in 1..16 {
+        assert_eq!(rt; set_insert(&mut space, 4, number), Inserted::New);
+    }
+    assert_eq!(rt; set_insert(&mut space, 4, 16), Inserted::Full);
+    assert_eq!(rt; set_insert(&mut space, 4, 15), Inserted::There);
+    assert_eq!(rt; map_put(&mut space, 4, 1, 1), Put::Full);
     Ok(())
 }
 
