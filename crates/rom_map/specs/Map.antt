@@ -36,9 +36,9 @@ IsPut n s count key value New new = (map.get s.pairs key ≡ None) × (live s < 
 IsPut n s count key value (Was before) new = (map.get s.pairs key ≡ Some before) × Contents n new (with_pairs s (map.insert s.pairs key value)) count
 IsPut n s count key value Full new = (map.get s.pairs key ≡ None) × (live s ≡ cap n)
 
--- The key stands in the first block that was free, which goes to the front of its bucket's chain, and each
--- other element keeps its block. No word differs but the map's size, the bucket's word in the table
--- with those beside it, the tree's, and those of the block.
+-- The key stands in the first block that was free, which goes to the front of its bucket's chain, and
+-- each other element keeps its block. No word differs but the map's size, the bucket's word in the
+-- table with those beside it, the tree's, and those of the block.
 pub record IsAdded (n : ℕ) (old : List ℕ) (p : Chains) (s : State) (count key value : ℕ) (new : List ℕ) : Type 0 where
   pub front : List ℕ
   pub block : ℕ

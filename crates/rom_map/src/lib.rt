@@ -5,8 +5,8 @@
 //! is none; a new key's block goes to the front of the chain, and the block of one that goes is taken
 //! out of it. The contracts promise of every well-formed region what the map holds then, that each
 //! element that stays keeps its block, that no words change but the map's and the allocator's, that a
-//! new key is refused exactly where the heap is full, and how many loads and stores a call makes at
-//! most. They hold over any space of words.
+//! new key is refused exactly where the heap is full, how many loads and stores a call makes at most,
+//! and that it stores no more often than words differ afterwards. They hold over any space of words.
 #![tactic(auto)]
 
 mod link;

@@ -1,4 +1,4 @@
-use Rattle.std.proofs.Common.{◌≡◌, ◌+◌, List, ℕ, length, get_or, sym, ◌∙◌, ap, arith}
+use Rattle.std.proofs.Common.{◌+◌, List, ℕ, length, get_or, sym, ◌∙◌, ap, arith}
 use Rattle.rom_block.proofs.Apart.{sparing_store}
 use Rattle.rom_map.proofs.Sparing.{sparing_load}
 use Rattle.rom_map.proofs.link.replace_value.Goals as goal

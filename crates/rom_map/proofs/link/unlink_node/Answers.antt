@@ -1,4 +1,4 @@
-use Rattle.std.proofs.Common.{◌≡◌, ◌≢◌, ◌+◌, ◌-◌, List, ℕ, length, get_or, sym, ◌∙◌, ap, arith, length-set}
+use Rattle.std.proofs.Common.{◌≡◌, ◌≢◌, ◌-◌, List, ℕ, length, get_or, sym, ◌∙◌, ap, arith, length-set}
 use Rattle.rom_block.proofs.Apart.{sparing_store}
 use Rattle.rom_block.proofs.Sparing.{stays_at}
 use Rattle.rom_map.proofs.Sparing.{sparing_load, then_size}
