@@ -77,8 +77,8 @@ AgainCosts shown before value (Was had) old new = Costs shown (3 + 2 * before) 1
 AgainCosts shown before value Full old new = Unit {0}
 
 -- The key's block is no longer in its bucket's chain, but its words stay; and each other element keeps
--- its block, also those of the bucket. No word differs but the map's size, the bucket's word in the table with those
--- beside it, the tree's, and those of the bucket's blocks before.
+-- its block, also those of the bucket. No word differs but the map's size, the bucket's word in the
+-- table with those beside it, the tree's, and those of the bucket's blocks before.
 pub record IsDeleted (n : ℕ) (old : List ℕ) (p : Chains) (s : State) (count key : ℕ) (new : List ℕ) : Type 0 where
   pub block : ℕ
   pub holds : slice_index old (block_of n block + 0) ≡ key
