@@ -115,6 +115,23 @@ link_fits {n} q = ⊎_elim
     })
     (link_in n 3 1 q.blocks)
 
+-- filling the block leaves the words beside it
+pub stays_beside : {n at : ℕ} {v : List ℕ} (q : MayTake n at v) {w : List ℕ} (f : List ℕ) → ChangesOnly at 4 w f → (k : ℕ) → (IsIn n q.block k → ⊥) → slice_index f k ≡ slice_index w k
+stays_beside {n} {at} q f filled k outside = elim (cases_lt k at) [
+  | inl lt ↦ filled.before k lt
+  | inr ge ↦ elim (cases_lt k (at + 4)) [ inl lt ↦ absurd (outside (omega (arith, q.here, ge), omega (arith, q.here, lt))) | inr le ↦ filled.behind k le ]
+]
+
+-- and linking it leaves the block
+pub filled_apart : {n at : ℕ} {v : List ℕ} (q : MayTake n at v) (last : ℕ) {w f w' : List ℕ} → last ≡ link_after n 3 1 q.blocks → ChangesOnly at 4 w f → IsLinked last at f w' → (k : ℕ) → (slice_index f k ≡ slice_index w k) ⊎ (slice_index w' k ≡ slice_index f k)
+filled_apart {n} {at} q last end_is filled l k = elim (cases_lt k at) [
+  | inl lt ↦ inl (filled.before k lt)
+  | inr ge ↦ elim (cases_lt k (at + 4)) [
+    | inl lt ↦ inr (l.others k (λ e. (link_fits q).outside (omega (arith, e, end_is, q.here, ge), omega (arith, e, end_is, q.here, lt))) (λ e. absurd (omega (arith, e, q.here, ge))) (λ e. absurd (omega (arith, e, q.here, ge))))
+    | inr le ↦ inl (filled.behind k le)
+  ]
+]
+
 -- the block is filled, and then it is linked
 pub stored_two : {n at value last : ℕ} {w f w' : List ℕ} (q : MayTake n at w) → last ≡ link_after n 3 1 q.blocks
     → slice_index f at ≡ value → slice_index f (at + 1) ≡ 0 → slice_index f (at + 2) ≡ 0 → slice_index f (at + 3) ≡ 0 → ChangesOnly at 4 w f
@@ -128,10 +145,7 @@ stored_two {n} {at} {value} {last} {w} {f} {w'} q end_is first second third four
   linked = ap (λ k. slice_index w' k) (sym end_is) ∙ l.linked ∙ q.here;
   tail = l.tail ∙ q.here;
   len = l.len ∙ ap (λ k. k + 1) (filled.before 5 (omega (arith, q.here)));
-  others = λ k outside ne n4 n5. l.others k (λ e. ne (e ∙ end_is)) n4 n5 ∙ elim (cases_lt k at) [
-    | inl lt ↦ filled.before k lt
-    | inr ge ↦ elim (cases_lt k (at + 4)) [ inl lt ↦ absurd (outside (omega (arith, q.here, ge), omega (arith, q.here, lt))) | inr le ↦ filled.behind k le ]
-  ];
+  others = λ k outside ne n4 n5. l.others k (λ e. ne (e ∙ end_is)) n4 n5 ∙ stays_beside q f filled k outside;
 }
   where
     plain : block_of n q.block ≡ block_of n q.block + 0

@@ -84,5 +84,6 @@ module _ {n : ℕ} {w : List ℕ} {p : Chains} {s : State} {k : ℕ} (le : 4 ≤
           blocks = head_of.first;
           rest = rest;
           values = head_of.values ∙ ap (λ v. v ∷ rest) (sym loaded);
+          kept = λ j lt. tree.behind (block_of n block + j) (omega (arith, pow_positive n)) ∙ only.behind (block_of n block + j) (omega arith);
           becomes = popped le is w1 w2 block head_of.begins.behind rest head_of.first only (unlinked head_of.begins) tree (given taken (2 ^ n + block) (region_disjoint le is) words node at held).1;
         }

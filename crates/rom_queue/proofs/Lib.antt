@@ -1,5 +1,6 @@
 -- Lemmas on the queue's blocks.
 pub mod Links
+pub mod Sparing
 pub mod Appended
 pub mod Unlinked
 pub mod Regions

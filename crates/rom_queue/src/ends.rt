@@ -1,7 +1,7 @@
 //! The two ends of the queue: its head, its tail and its length among the root words, and its nodes.
 //! A node is a block of four words, which are a value, where the next node begins, 0 and 0.
 ghost use Rattle.std.specs.Prelude.{◌≡◌, ◌≢◌, ℕ, ◌+◌, ◌^◌, ◌<◌, ◌≤◌, List, length, slice_index};
-ghost use Rattle.rom_model.specs.Space.{Costs, Looks, HasRoom, ChangesOnly};
+ghost use Rattle.rom_model.specs.Space.{Costs, Looks, HasRoom, IsSparing, ChangesOnly};
 ghost use Rattle.rom_model.specs.Blocks.{region_len};
 ghost use Rattle.rom_model.specs.Region.{IsQueue};
 ghost use Rattle.rom_model.specs.Links.{link_after};
@@ -36,6 +36,9 @@ fn link_last<M: Space>(space: &mut M, link: u64, at: u64)
     requires room { HasRoom M.shown 3 space.old }
     ensures linked { IsLinked link at (M.shown.image space.old) (M.shown.image space.new) }
     ensures costs { Costs M.shown 1 3 space.old space.new }
+    ensures sparing { slice_index (M.shown.image space.old) link ≢ at
+        → slice_index (M.shown.image space.old) QUEUE_TAIL ≢ at
+        → IsSparing M.shown space.old space.new }
 {
     space.store(link, at);
     space.store(QUEUE_TAIL, at);
@@ -52,6 +55,7 @@ pub fn append<M: Space>(space: &mut M, order: u32, at: u64, value: u64)
     ensures appended { (q : MayTake order at (M.shown.image space.old))
         → IsAppended q value (M.shown.image space.new) }
     ensures costs { Costs M.shown 6 7 space.old space.new }
+    ensures sparing { IsSparing M.shown space.old space.new }
 {
     let last = last_link(space, order);
     fill_node(space, at, [value, 0, 0, 0]);
@@ -64,6 +68,9 @@ fn set_head<M: Space>(space: &mut M, at: u64)
     requires room { HasRoom M.shown 2 space.old }
     ensures head { HasHead at (M.shown.image space.old) (M.shown.image space.new) }
     ensures costs { Costs M.shown 0 2 space.old space.new }
+    ensures sparing { slice_index (M.shown.image space.old) QUEUE_HEAD ≢ at
+        → slice_index (M.shown.image space.old) QUEUE_TAIL ≢ 0
+        → IsSparing M.shown space.old space.new }
 {
     space.store(QUEUE_HEAD, at);
     if at == 0 {
@@ -81,6 +88,7 @@ pub fn unlink_first<M: Space>(space: &mut M, order: u32, at: u64)
         → IsUnlinked q (M.shown.image space.new) }
     ensures others { ChangesOnly QUEUE_HEAD 3 (M.shown.image space.old) (M.shown.image space.new) }
     ensures costs { Costs M.shown 2 3 space.old space.new }
+    ensures sparing { IsSparing M.shown space.old space.new }
 {
     let next = space.load(at + 1);
     set_head(space, next);

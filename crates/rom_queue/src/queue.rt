@@ -1,7 +1,7 @@
 //! The calls on the queue.
 ghost use Rattle.std.specs.Prelude.{◌≡◌, ℕ, ◌+◌, ◌*◌, ◌<◌, drop, length, IfSome, IfNone, slice_get};
 ghost use Rattle.std.specs.Bool.{MatchBool, OnTrue, OnFalse};
-ghost use Rattle.rom_model.specs.Space.{Costs, Looks, HasRoom};
+ghost use Rattle.rom_model.specs.Space.{Costs, Looks, HasRoom, IsSparing};
 ghost use Rattle.rom_model.specs.State.{State, live, cap};
 ghost use Rattle.rom_model.specs.Blocks.{IsOrder};
 ghost use Rattle.rom_model.specs.Region.{IsWellFormed, Contents};
@@ -26,6 +26,7 @@ pub fn queue_push<M: Space>(space: &mut M, order: u32, value: u64) -> bool
     ensures region { IsWellFormed order (M.shown.image space.new) }
     ensures full { OnFalse result (Looks M.shown (order + 1) space.old space.new) }
     ensures costs { Costs M.shown (3 * order + 7) 31 space.old space.new }
+    ensures sparing { IsSparing M.shown space.old space.new }
 {
     let Some(node) = Blocks::take(space, order, 0) else {
         return false;
@@ -49,6 +50,7 @@ pub fn queue_pop<M: Space>(space: &mut M, order: u32) -> Option<u64>
     ensures region { IsWellFormed order (M.shown.image space.new) }
     ensures empty { IfNone result (Looks M.shown 1 space.old space.new) }
     ensures costs { Costs M.shown (2 * order + 4) 31 space.old space.new }
+    ensures sparing { IsSparing M.shown space.old space.new }
 {
     let head = space.load(QUEUE_HEAD);
     if head == 0 {

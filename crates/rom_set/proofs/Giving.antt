@@ -96,6 +96,7 @@ module _ {n key : ℕ} {w : List ℕ} {p : Chains} {s : State} {k : ℕ} {place 
       front = stands.walked.front;
       back = node.behind;
       blocks = blocks;
+      kept = λ j lt. tree.behind (block_of n node.block + j) (omega (arith, pow_positive n)) ∙ done.kept j lt;
       becomes = subst (λ x. PartBecomes n 6 8 p.set w w2 (with_blocks p (stands.walked.front ++ node.behind)) (with_members s (set.remove s.members x)) k) node.holds
           (removed le is w1 w2 node.block stands.walked.front node.behind _ blocks done.others done.set tree (given taken (2 ^ n + node.block) (region_disjoint le is) words is_node at held).1);
     }

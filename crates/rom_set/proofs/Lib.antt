@@ -4,6 +4,7 @@ pub mod Passed
 pub mod Walking
 pub mod Places
 pub mod Links
+pub mod Sparing
 pub mod Linked
 pub mod Unlinked
 pub mod Regions

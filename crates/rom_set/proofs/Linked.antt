@@ -10,12 +10,12 @@ use Rattle.rom_model.specs.Chains.{IsIn, times, Chain, each_word, HoldZero, IsRi
 use Rattle.rom_model.specs.Region.{IsSet}
 use Rattle.rom_model.proofs.Times.{times_here, times_away, times-append}
 use Rattle.rom_model.proofs.Frames.{each_same}
-use Rattle.rom_model.specs.Links.{link_after}
+use Rattle.rom_model.specs.Links.{link_after, first_of}
 use Rattle.rom_set.specs.Link.{MayLink, IsLinked}
 use Rattle.rom_set.specs.declared.walk.Place.{Place}
 use Rattle.rom_model.proofs.Links.{chain_back, chain_first, chain_moved, chain_relinked, each_append}
 use Rattle.rom_set.proofs.Rising.{above_next, rising_between, from_list_between}
-use Rattle.rom_set.proofs.Links.{link_within, not_link, not_link_of, beside, set_part, set_tree}
+use Rattle.rom_set.proofs.Links.{first_other, link_within, not_link, not_link_of, beside, set_part, set_tree}
 use Rattle.rom_set.proofs.Places.{place_rising, place_members}
 
 -- what the stores of a linking leave
@@ -117,6 +117,24 @@ module _ {n key at : ℕ} {place : Place} {w : List ℕ} (m : MayLink n key at p
   place_beside inside =
       let j = link_after n 6 1 m.is.walked.front - block_of n m.block in
       not_link_of n m.is.walked.front m.block j (omega (arith, inside.1, inside.0)) (omega (arith, in_front m.block, m.absent)) (omega (arith, inside.0))
+
+  -- a link elsewhere than in the block stays where the block is filled
+  pub link_stays : (f : List ℕ) → ChangesOnly at 4 w f → slice_index f place.link ≡ slice_index w place.link
+  link_stays f filled = elim (cases_lt place.link at) [
+    | inl lt ↦ filled.before place.link lt
+    | inr ge ↦ elim (cases_lt place.link (at + 4)) [
+      | inl lt ↦ absurd (place_beside (omega (arith, m.here, m.is.walked.link_is, ge), omega (arith, m.here, m.is.walked.link_is, lt)))
+      | inr le ↦ filled.behind place.link le
+    ]
+  ]
+
+  -- the link word becomes another
+  pub link_changes : slice_index w place.link ≢ at
+  link_changes same =
+      let rest = chain_back n 6 1 w m.is.walked.front m.is.walked.back (subst (λ cs. Chain n w 6 1 cs) m.is.walked.blocks_are m.holds.set.chain) in
+      let next : slice_index w place.link ≡ first_of n m.is.walked.back = ap (λ k. slice_index w k) m.is.walked.link_is ∙ chain_first n (link_after n 6 1 m.is.walked.front) 1 w m.is.walked.back rest in
+      let none : times m.block m.is.walked.back ≡ 0 = omega (arith, m.absent, ap (times m.block) m.is.walked.blocks_are, times-append m.block m.is.walked.front m.is.walked.back) in
+      first_other n m.block m.is.walked.back none (sym next ∙ same ∙ m.here)
 
 -- the block is filled, then linked, and the size is one more
 pub stored_of : (n b key next at l link len : ℕ) (w f w' : List ℕ) → at ≡ block_of n b → l ≡ link → (IsIn n b link → ⊥) → link ≢ 7 → link < length w → 7 < length w

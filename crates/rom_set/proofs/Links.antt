@@ -1,12 +1,18 @@
 -- The link word of a place, and the words that a change of the set's chain leaves.
-use Rattle.std.proofs.Common.{◌≡◌, ◌≢◌, ⊎_elim, ℕ, ◌+◌, ◌*◌, ◌^◌, ◌<◌, List, length, ◌∙◌, ap, arith}
+use Rattle.std.proofs.Common.{◌≡◌, ◌≢◌, ⊎_elim, ℕ, ◌+◌, ◌*◌, ◌^◌, ◌<◌, List, [], ◌∷◌, length, ◌∙◌, ap, arith}
 use Rattle.std.specs.Prelude.{slice_index}
 use Rattle.rom_model.specs.Blocks.{block_of}
 use Rattle.rom_model.specs.Chains.{IsIn, times}
 use Rattle.rom_model.specs.Region.{ChangesPart}
 use Rattle.rom_model.proofs.Nodes.{pow_positive}
-use Rattle.rom_model.specs.Links.{link_after, KeepsTree}
+use Rattle.rom_model.proofs.Times.{times_here}
+use Rattle.rom_model.specs.Links.{link_after, first_of, KeepsTree}
 use Rattle.rom_model.proofs.Links.{link_in}
+
+-- a block that is not among them is not where they begin
+pub first_other : (n b : ℕ) (bs : List ℕ) → times b bs ≡ 0 → first_of n bs ≢ block_of n b
+first_other n b [] none e = absurd (omega (arith, e))
+first_other n b (x ∷ xs) none e = let same : x ≡ b = omega (arith, e) in absurd (omega (arith, none, ap (λ y. times b (y ∷ xs)) same, times_here b xs))
 
 module _ (n : ℕ) (front : List ℕ) where
   -- the link is the head, or a second word of a block

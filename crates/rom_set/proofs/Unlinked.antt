@@ -8,12 +8,12 @@ use Rattle.rom_model.specs.Chains.{IsIn, times, Chain, each_word, HoldZero, IsRi
 use Rattle.rom_model.specs.Region.{IsSet}
 use Rattle.rom_model.proofs.Times.{times_here, times_more, times-append}
 use Rattle.rom_model.proofs.Frames.{each_same}
-use Rattle.rom_model.specs.Links.{link_after}
+use Rattle.rom_model.specs.Links.{link_after, first_of}
 use Rattle.rom_set.specs.Link.{MayUnlink, IsUnlinked}
 use Rattle.rom_set.specs.declared.walk.Place.{Place}
-use Rattle.rom_model.proofs.Links.{chain_back, chain_moved, chain_relinked, each_append}
+use Rattle.rom_model.proofs.Links.{chain_back, chain_first, chain_moved, chain_relinked, each_append}
 use Rattle.rom_set.proofs.Rising.{rising_back, below_before, above_behind, rising_without, from_list_without}
-use Rattle.rom_set.proofs.Links.{link_within, not_link, not_link_of, beside, set_part, set_tree}
+use Rattle.rom_set.proofs.Links.{first_other, link_within, not_link, not_link_of, beside, set_part, set_tree}
 
 -- what the stores of an unlinking leave
 pub record Cut (n b link : ℕ) (w w' : List ℕ) : Type 0 where
@@ -31,6 +31,17 @@ module _ {n : ℕ} {place : Place} {w : List ℕ} (m : MayUnlink n place w) wher
 
   pub block_within : m.block < 2 ^ n
   block_within = m.holds.are.within m.block (omega (arith, counts m.block, times_here m.block m.back))
+
+  none_before : times m.block m.front ≡ 0
+  none_before = omega (arith, counts m.block, times_here m.block m.back, m.holds.are.different m.block)
+
+  -- the link word becomes another
+  pub link_changes : slice_index w place.link ≢ slice_index w (place.node + 1)
+  link_changes same =
+      let rest = chain_back n 6 1 w m.front (m.block ∷ m.back) (subst (λ cs. Chain n w 6 1 cs) m.blocks_are m.holds.set.chain) in
+      let next : slice_index w (place.node + 1) ≡ first_of n m.back = ap (λ k. slice_index w (k + 1)) m.node_is ∙ chain_first n (block_of n m.block + 1) 1 w m.back rest.1 in
+      let here : slice_index w place.link ≡ block_of n m.block = ap (λ k. slice_index w k) m.link_is ∙ rest.0 in
+      first_other n m.block m.back (omega (arith, counts m.block, times_here m.block m.back, m.holds.are.different m.block)) (sym next ∙ sym same ∙ here)
 
   pub some_len : 0 < slice_index w 7
   some_len = omega (arith, m.holds.set.len, ap length m.blocks_are, length-append m.front (m.block ∷ m.back))
@@ -95,6 +106,7 @@ module _ {n : ℕ} {place : Place} {w : List ℕ} (m : MayUnlink n place w) wher
     pub unlinked : IsUnlinked m w'
     unlinked = record {
       set = unlinked_set;
+      kept = λ j lt. block_stays m.block j (not_link_of n m.front m.block j lt none_before);
       others = set_part n m.holds.blocks w w' cut.as_long stays;
       tree = set_tree n m.holds.blocks w w' cut.as_long stays;
     }

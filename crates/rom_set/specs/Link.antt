@@ -36,8 +36,10 @@ pub record MayUnlink (n : ℕ) (place : Place) (words : List ℕ) : Type 0 where
   pub link_is : place.link ≡ link_after n 6 1 front
   pub node_is : place.node ≡ block_of n block
 
--- The block is out of the chain and its key out of the set, and no word differs but the set's.
+-- The block is out of the chain and its key out of the set, and no word differs but the set's. Those of
+-- the block stay.
 pub record IsUnlinked {n : ℕ} {place : Place} {old : List ℕ} (m : MayUnlink n place old) (new : List ℕ) : Type 0 where
   pub set : IsSet n new (m.front ++ m.back) (set.remove m.holds.members (slice_index old (block_of n m.block + 0)))
+  pub kept : (j : ℕ) → j < 4 → slice_index new (block_of n m.block + j) ≡ slice_index old (block_of n m.block + j)
   pub others : ChangesPart n 6 8 m.holds.blocks old new
   pub tree : KeepsTree n old new

@@ -47,12 +47,13 @@ pub record IsAdded (n : ℕ) (old : List ℕ) (p : Chains) (s : State) (count ke
   pub blocks : p.set ≡ front ++ back
   pub becomes : PartBecomes n 6 8 (front ++ block ∷ back) old new (with_blocks p (front ++ block ∷ back)) (with_members s (set.insert s.members key)) count
 
--- The number's block is no longer in the set's chain, and each other element keeps its block. No word
--- differs but the set's root words, the tree's, and those of the set's blocks before.
+-- The number's block is no longer in the set's chain, and its words stay. Each other element keeps its
+-- block. No word differs but the set's root words, the tree's, and those of the set's blocks before.
 pub record IsRemoved (n : ℕ) (old : List ℕ) (p : Chains) (s : State) (count key : ℕ) (new : List ℕ) : Type 0 where
   pub block : ℕ
   pub holds : slice_index old (block_of n block + 0) ≡ key
   pub front : List ℕ
   pub back : List ℕ
   pub blocks : p.set ≡ front ++ block ∷ back
+  pub kept : (j : ℕ) → j < 4 → slice_index new (block_of n block + j) ≡ slice_index old (block_of n block + j)
   pub becomes : PartBecomes n 6 8 p.set old new (with_blocks p (front ++ back)) (with_members s (set.remove s.members key)) count

@@ -1,6 +1,6 @@
 //! Putting a node into the set's chain, and taking one out.
 ghost use Rattle.std.specs.Prelude.{◌≡◌, ◌≤◌, length};
-ghost use Rattle.rom_model.specs.Space.{Costs, HasRoom};
+ghost use Rattle.rom_model.specs.Space.{Costs, HasRoom, IsSparing};
 ghost use Rattle.rom_model.specs.Blocks.{region_len};
 ghost use Rattle.rom_set.specs.Link.{MayLink, IsLinked, MayUnlink, IsUnlinked};
 
@@ -17,6 +17,7 @@ pub fn link_node<M: Space>(space: &mut M, order: u32, place: Place, at: u64, key
     ensures linked { (m : MayLink order key at place (M.shown.image space.old))
         → IsLinked m (M.shown.image space.new) }
     ensures costs { Costs M.shown 5 6 space.old space.new }
+    ensures sparing { IsSparing M.shown space.old space.new }
 {
     fill_node(space, at, [key, place.node, 0, 0]);
     space.store(place.link, at);
@@ -33,6 +34,7 @@ pub fn unlink_node<M: Space>(space: &mut M, order: u32, place: Place)
     ensures unlinked { (m : MayUnlink order place (M.shown.image space.old))
         → IsUnlinked m (M.shown.image space.new) }
     ensures costs { Costs M.shown 2 2 space.old space.new }
+    ensures sparing { IsSparing M.shown space.old space.new }
 {
     let next = space.load(place.node + 1);
     space.store(place.link, next);

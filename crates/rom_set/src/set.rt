@@ -2,7 +2,7 @@
 ghost use Rattle.std.specs.Prelude.{◌≡◌, ℕ, ◌+◌, ◌*◌, true, false};
 ghost use Rattle.std.specs.Bool.{MatchBool, OnTrue, OnFalse};
 ghost use Rattle.std.specs.FinSet as set;
-ghost use Rattle.rom_model.specs.Space.{Costs, Looks, HasRoom};
+ghost use Rattle.rom_model.specs.Space.{Costs, Looks, HasRoom, IsSparing};
 ghost use Rattle.rom_model.specs.State.{State};
 ghost use Rattle.rom_model.specs.Walks.{keys_below};
 ghost use Rattle.rom_model.specs.Blocks.{IsOrder};
@@ -39,6 +39,7 @@ pub fn set_insert<M: Space>(space: &mut M, order: u32, key: u64) -> Inserted
         → KeepsUnlessNew M.shown order (keys_below s.members key) result space.old space.new }
     ensures costs { (s : State) (k : ℕ) → Contents order (M.shown.image space.old) s k
         → Costs M.shown (3 * order + 8 + 2 * keys_below s.members key) 31 space.old space.new }
+    ensures sparing { IsSparing M.shown space.old space.new }
 {
     let place = find(space, order, key);
     if place.found {
@@ -68,6 +69,7 @@ pub fn set_remove<M: Space>(space: &mut M, order: u32, key: u64) -> bool
         → OnFalse result (Looks M.shown (2 + 2 * keys_below s.members key) space.old space.new) }
     ensures costs { (s : State) (k : ℕ) → Contents order (M.shown.image space.old) s k
         → Costs M.shown (2 * order + 4 + 2 * keys_below s.members key) 31 space.old space.new }
+    ensures sparing { IsSparing M.shown space.old space.new }
 {
     let place = find(space, order, key);
     if !place.found {

@@ -1,8 +1,10 @@
-use Rattle.std.proofs.Common.{◌≡◌, ℕ, List, length, arith, rules, sym, ◌∙◌, subst}
+use Rattle.std.proofs.Common.{◌≡◌, ℕ, List, length, slice_index, arith, rules, sym, ◌∙◌, ap, subst}
 use Rattle.rom_model.specs.Space.{ChangesOnly}
 use Rattle.rom_model.proofs.Nodes.{pow_small}
-use Rattle.rom_queue.proofs.Links.{tail_small}
-use Rattle.rom_queue.proofs.Appended.{stored_two, appended, link_fits}
+use Rattle.rom_block.proofs.Apart.{sparing_then}
+use Rattle.rom_queue.proofs.Links.{tail_small, last_zero, other_tail}
+use Rattle.rom_queue.proofs.Sparing.{sparing_looks}
+use Rattle.rom_queue.proofs.Appended.{stored_two, appended, link_fits, stays_beside, filled_apart}
 use Rattle.rom_queue.proofs.ends.append.Goals as goal
 
 pub last_link-last-requires-clause-small : goal.last_link-last-requires-clause-small
@@ -33,3 +35,23 @@ returns-clause-appended g c q =
     let a = c.fill_node.ensures in
     let filled : ChangesOnly c.args.at 4 w f = subst (λ (v : List ℕ). ChangesOnly c.args.at 4 v f) c.last_link-last.ensures.looks.image a.others in
     appended q (stored_two q (c.last_link-last.ensures.is q.blocks q.values q.queue) a.first a.second a.third a.fourth filled c.link_last.ensures.linked)
+
+pub returns-clause-sparing : goal.returns-clause-sparing
+returns-clause-sparing g c =
+    let shown = g.M.Look.shown in
+    let q = c.requires.queue in
+    let w = shown.image c.args.space.now in
+    let looked = c.last_link-last.new.space in
+    let filled = c.fill_node.new.space in
+    let after = c.link_last.new.space in
+    let a = c.fill_node.ensures in
+    let l = c.link_last.ensures.linked in
+    let link_is = c.last_link-last.ensures.is q.blocks q.values q.queue in
+    let only : ChangesOnly c.args.at 4 w (shown.image filled) = subst (λ (v : List ℕ). ChangesOnly c.args.at 4 v (shown.image filled)) c.last_link-last.ensures.looks.image a.others in
+    let fits = link_fits q in
+    let zero : slice_index (shown.image filled) c.last_link-last.result ≡ 0 = stays_beside q (shown.image filled) only c.last_link-last.result (λ inside. fits.outside (omega (arith, inside.0, link_is), omega (arith, inside.1, link_is)))
+    ∙ ap (λ k. slice_index w k) link_is ∙ last_zero c.args.order 3 1 w q.blocks q.queue.chain in
+    let tail : slice_index (shown.image filled) 4 ≡ slice_index w 4 = only.before 4 (omega (arith, q.here)) in
+    let linking = c.link_last.ensures.sparing (λ e. absurd (omega (arith, e, zero, q.here))) (λ e. other_tail c.args.order q.block q.blocks q.absent (sym q.queue.tail ∙ sym tail ∙ e ∙ q.here)) in
+    sparing_looks shown c.args.space.now looked after c.last_link-last.ensures.looks
+    (sparing_then shown looked filled after a.others.as_long l.as_long (filled_apart q c.last_link-last.result link_is a.others l) a.sparing linking)

@@ -1,8 +1,10 @@
-use Rattle.std.proofs.Common.{◌≡◌, ◌<◌, length, drop, slice_index, slice_get, arith, sym, ◌∙◌, ap, subst}
-use Rattle.rom_model.specs.Space.{ChangesOnly}
+use Rattle.std.proofs.Common.{◌≡◌, inl, inr, ⊎_elim, ◌<◌, length, drop, slice_index, slice_get, arith, sym, ◌∙◌, ap, subst}
+use Rattle.rom_model.specs.Space.{ChangesOnly, differing}
 use Rattle.rom_model.specs.Region.{Contents}
 use Rattle.rom_queue.specs.Queue.{with_blocks, with_queue}
 use Rattle.rom_queue.specs.Ends.{Begins, IsUnlinked}
+use Rattle.std.proofs.lemmas.Bool.{cases_lt}
+use Rattle.rom_block.proofs.Apart.{sparing_then}
 use Rattle.rom_queue.proofs.Heads.{no_values, head_of, may_give, given_back}
 use Rattle.rom_queue.proofs.queue.queue_pop.Goals as goal
 
@@ -63,3 +65,14 @@ pub returns-clause-region : goal.returns-clause-region
 returns-clause-region g c =
     let r = c.requires.region in
     record { state = with_queue r.state (drop 1 r.state.queue); count = r.count; contents = returns-clause-contents g c r.state r.count r.contents }
+
+pub returns-clause-sparing : goal.returns-clause-sparing
+returns-clause-sparing g c told =
+    let shown = g.M.Look.shown in
+    let after = c.give.new.space in
+    let only = c.unlink_first.ensures.others in
+    let tree = c.give.ensures.others in
+    let both = sparing_then shown c.load-value.new.self c.unlink_first.new.space after only.as_long tree.as_long
+    (λ k. ⊎_elim (λ lt. inr (tree.before k lt)) (λ ge. inl (only.behind k (omega (arith, ge)))) (cases_lt k 17)) c.unlink_first.ensures.sparing c.give.ensures.sparing in
+    let same = ap (λ x. differing x (shown.image after)) (c.load-value.ensures.image ∙ c.load-head.ensures.image) in
+    omega (arith, both told, same, c.load-head.ensures.counts.stores_made told, c.load-value.ensures.counts.stores_made told)

@@ -2,6 +2,8 @@ use Rattle.std.proofs.Common.{[], ◌∷◌, ◌++◌}
 use Rattle.rom_model.specs.Region.{element_blocks, taken_by, Contents}
 use Rattle.rom_model.proofs.Room.{region_disjoint, full}
 use Rattle.rom_queue.specs.Queue.{with_blocks, with_last}
+use Rattle.rom_block.proofs.Apart.{sparing_then}
+use Rattle.rom_queue.proofs.Sparing.{tree_apart}
 use Rattle.rom_queue.proofs.Taking.{had_room, may_take, became}
 use Rattle.rom_queue.proofs.queue.queue_push.Goals as goal
 
@@ -37,3 +39,11 @@ pub returns-clause-region : goal.returns-clause-region
 returns-clause-region g c =
     let r = c.requires.region in
     record { state = with_last r.state c.args.value; count = r.count; contents = returns-clause-contents g c r.state r.count r.contents }
+
+pub returns-clause-sparing : goal.returns-clause-sparing
+returns-clause-sparing g c =
+    let r = c.requires.region in
+    let held : Contents c.args.order (g.M.Look.shown.image c.args.space.now) r.state r.count = r.contents in
+    let take = c.in-Some.ensures in
+    let appended = c.append.ensures.appended (may_take c.requires.order.least held.1 take.others take.taken) in
+    sparing_then g.M.Look.shown c.args.space.now _ c.append.new.space take.others.as_long appended.others.as_long (tree_apart c.args.order _ _ _ _ take.others appended.tree) take.sparing c.append.ensures.sparing

@@ -5,6 +5,8 @@ use Rattle.rom_model.specs.Region.{Chains, element_blocks, taken_by, IsRegion}
 use Rattle.rom_model.proofs.Room.{region_disjoint, full, not_full}
 use Rattle.rom_set.specs.Set.{IsAdded}
 use Rattle.rom_set.proofs.Places.{region_set, same_words, found_contains}
+use Rattle.rom_block.proofs.Apart.{sparing_then}
+use Rattle.rom_set.proofs.Sparing.{sparing_looks, tree_apart}
 use Rattle.rom_set.proofs.Taking.{new, may_link, became}
 use Rattle.rom_set.proofs.set.set_insert.Given.{Over}
 use Rattle.rom_set.proofs.set.set_insert.Goals as goal
@@ -69,3 +71,16 @@ pub returns-clause-region : goal.returns-clause-region
 returns-clause-region g c =
     let r = c.requires.region in
     record { state = _; count = r.count; contents = (returns-clause-contents g c r.state r.count r.contents).2 }
+
+pub returns-clause-sparing : goal.returns-clause-sparing
+returns-clause-sparing g c =
+    let shown = g.M.Look.shown in
+    let le = c.requires.order.least in
+    let r = c.requires.region in
+    let x = same_words c.find-place.ensures.ends.image r.contents.1 (c.find-place.ensures.is r.contents.0.set r.state.members r.contents.1.shape.set) in
+    let only = c.in-Some.ensures.others in
+    let linked = c.link_node.ensures.linked (may_link le x.0 x.1 c.if-place.false only (c.in-Some.ensures.taken _ (region_disjoint le x.0) x.0.shape.tree)) in
+    let walked = c.find-place.new.space in
+    let after = c.link_node.new.space in
+    sparing_looks shown c.args.space.now walked after c.find-place.ensures.ends
+    (sparing_then shown walked _ after only.as_long linked.others.as_long (tree_apart c.args.order _ _ _ _ only linked.tree) c.in-Some.ensures.sparing c.link_node.ensures.sparing)

@@ -1,8 +1,10 @@
-use Rattle.std.proofs.Common.{◌≡◌, ℕ, ◌++◌, Bool, true, false, not, List, refl, sym, ◌∙◌, subst}
+use Rattle.std.proofs.Common.{◌≡◌, ⊎_elim, inl, inr, ℕ, ◌++◌, Bool, true, false, not, List, refl, sym, ◌∙◌, subst}
 use Rattle.rom_model.specs.State.{State}
 use Rattle.rom_model.specs.Region.{Chains, IsRegion}
 use Rattle.rom_set.specs.Set.{IsRemoved}
 use Rattle.rom_set.proofs.Places.{region_set, same_words, found_contains}
+use Rattle.rom_block.proofs.Apart.{sparing_then}
+use Rattle.rom_set.proofs.Sparing.{sparing_looks, tree_apart}
 use Rattle.rom_set.proofs.Giving.{may_unlink, may_give, given_back}
 use Rattle.rom_set.proofs.set.set_remove.Given.{Over}
 use Rattle.rom_set.proofs.set.set_remove.Goals as goal
@@ -67,3 +69,14 @@ pub returns-clause-region : goal.returns-clause-region
 returns-clause-region g c =
     let r = c.requires.region in
     record { state = _; count = r.count; contents = (returns-clause-contents g c r.state r.count r.contents).1 }
+
+pub returns-clause-sparing : goal.returns-clause-sparing
+returns-clause-sparing g c =
+    let shown = g.M.Look.shown in
+    let r = c.requires.region in
+    let x = same_words c.find-place.ensures.ends.image r.contents.1 (c.find-place.ensures.is r.contents.0.set r.state.members r.contents.1.shape.set) in
+    let unlinked = c.unlink_node.ensures.unlinked (may_unlink c.requires.order.least x.0 x.1 (is_true c.find-place.result.found c.if-not-place.false)) in
+    let walked = c.find-place.new.space in
+    let after = c.give.new.space in
+    sparing_looks shown c.args.space.now walked after c.find-place.ensures.ends
+    (sparing_then shown walked c.unlink_node.new.space after unlinked.others.as_long c.give.ensures.others.as_long (λ k. ⊎_elim inr inl (tree_apart c.args.order _ _ _ _ c.give.ensures.others unlinked.tree k)) c.unlink_node.ensures.sparing c.give.ensures.sparing)
