@@ -1,6 +1,5 @@
 -- Lemmas on the queue's blocks.
 pub mod Links
-pub mod Sparing
 pub mod Appended
 pub mod Unlinked
 pub mod Regions

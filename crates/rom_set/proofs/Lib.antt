@@ -4,7 +4,6 @@ pub mod Passed
 pub mod Walking
 pub mod Places
 pub mod Links
-pub mod Sparing
 pub mod Linked
 pub mod Unlinked
 pub mod Regions

@@ -1,9 +1,8 @@
 use Rattle.std.proofs.Common.{◌≡◌, ℕ, List, length, slice_index, arith, rules, sym, ◌∙◌, ap, subst}
 use Rattle.rom_model.specs.Space.{ChangesOnly}
 use Rattle.rom_model.proofs.Nodes.{pow_small}
-use Rattle.rom_block.proofs.Apart.{sparing_then}
+use Rattle.rom_block.proofs.Apart.{sparing_then, sparing_looks}
 use Rattle.rom_queue.proofs.Links.{tail_small, last_zero, other_tail}
-use Rattle.rom_queue.proofs.Sparing.{sparing_looks}
 use Rattle.rom_queue.proofs.Appended.{stored_two, appended, link_fits, stays_beside, filled_apart}
 use Rattle.rom_queue.proofs.ends.append.Goals as goal
 

@@ -1,6 +1,6 @@
-use Rattle.std.proofs.Common.{◌≡◌, ◌+◌, length, slice_index, rules, refl, arith, ap}
+use Rattle.std.proofs.Common.{◌≡◌, ◌+◌, slice_index, rules, refl, arith, ap}
 use Rattle.rom_model.specs.Space.{IsSparing}
-use Rattle.rom_queue.proofs.Sparing.{sparing_more, sparing_load}
+use Rattle.rom_block.proofs.Apart.{sparing_more, sparing_load}
 use Rattle.rom_queue.proofs.ends.link_last.Goals as goal
 
 pub returns-clause-sparing : goal.returns-clause-sparing

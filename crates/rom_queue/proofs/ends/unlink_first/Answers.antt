@@ -2,7 +2,7 @@ use Rattle.std.proofs.Common.{◌≡◌, ◌+◌, ◌-◌, length, slice_index, 
 use Rattle.rom_model.specs.Blocks.{block_of}
 use Rattle.rom_model.specs.Space.{IsSparing, differing}
 use Rattle.rom_queue.proofs.Links.{no_loop, last_high}
-use Rattle.rom_queue.proofs.Sparing.{sparing_more, sparing_load}
+use Rattle.rom_block.proofs.Apart.{sparing_more, sparing_load}
 use Rattle.rom_queue.proofs.Unlinked.{HeadMoved, unlinked}
 use Rattle.rom_queue.proofs.ends.unlink_first.Goals as goal
 

@@ -2,8 +2,7 @@ use Rattle.std.proofs.Common.{[], ◌∷◌, ◌++◌}
 use Rattle.rom_model.specs.Region.{element_blocks, taken_by, Contents}
 use Rattle.rom_model.proofs.Room.{region_disjoint, full}
 use Rattle.rom_queue.specs.Queue.{with_blocks, with_last}
-use Rattle.rom_block.proofs.Apart.{sparing_then}
-use Rattle.rom_queue.proofs.Sparing.{tree_apart}
+use Rattle.rom_block.proofs.Apart.{sparing_then, tree_apart}
 use Rattle.rom_queue.proofs.Taking.{had_room, may_take, became}
 use Rattle.rom_queue.proofs.queue.queue_push.Goals as goal
 

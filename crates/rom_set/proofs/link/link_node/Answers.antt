@@ -2,7 +2,7 @@ use Rattle.std.proofs.Common.{◌≡◌, ℕ, ◌+◌, List, length, arith, ap, 
 use Rattle.std.specs.Prelude.{slice_index, slice_set}
 use Rattle.rom_model.specs.Links.{link_after}
 use Rattle.rom_set.proofs.Links.{link_not_len}
-use Rattle.rom_set.proofs.Sparing.{sparing_more, sparing_load}
+use Rattle.rom_block.proofs.Apart.{sparing_more, sparing_load}
 use Rattle.rom_set.proofs.Linked.{stored_of, linked, place_within, place_beside, link_stays, link_changes}
 use Rattle.rom_set.proofs.link.link_node.Goals as goal
 

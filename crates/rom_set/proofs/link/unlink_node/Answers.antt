@@ -1,9 +1,9 @@
-use Rattle.std.proofs.Common.{◌≡◌, ℕ, ◌-◌, List, length, refl, sym, arith, ap, ◌∙◌, length-set}
+use Rattle.std.proofs.Common.{◌≡◌, ℕ, ◌-◌, List, length, arith, ap, ◌∙◌, length-set}
 use Rattle.std.specs.Prelude.{slice_index, slice_set}
 use Rattle.rom_model.specs.Links.{link_after}
 use Rattle.rom_set.proofs.Links.{link_not_len}
 use Rattle.rom_model.specs.Space.{IsSparing}
-use Rattle.rom_set.proofs.Sparing.{sparing_more, sparing_load}
+use Rattle.rom_block.proofs.Apart.{sparing_more, sparing_load}
 use Rattle.rom_set.proofs.Unlinked.{cut_of, len_stays, unlinked, link_in_region, block_within, some_len, link_changes}
 use Rattle.rom_set.proofs.link.unlink_node.Goals as goal
 

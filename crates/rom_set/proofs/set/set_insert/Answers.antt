@@ -5,8 +5,7 @@ use Rattle.rom_model.specs.Region.{Chains, element_blocks, taken_by, IsRegion}
 use Rattle.rom_model.proofs.Room.{region_disjoint, full, not_full}
 use Rattle.rom_set.specs.Set.{IsAdded}
 use Rattle.rom_set.proofs.Places.{region_set, same_words, found_contains}
-use Rattle.rom_block.proofs.Apart.{sparing_then}
-use Rattle.rom_set.proofs.Sparing.{sparing_looks, tree_apart}
+use Rattle.rom_block.proofs.Apart.{sparing_then, sparing_looks, tree_apart}
 use Rattle.rom_set.proofs.Taking.{new, may_link, became}
 use Rattle.rom_set.proofs.set.set_insert.Given.{Over}
 use Rattle.rom_set.proofs.set.set_insert.Goals as goal

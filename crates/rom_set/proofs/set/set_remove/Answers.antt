@@ -3,8 +3,7 @@ use Rattle.rom_model.specs.State.{State}
 use Rattle.rom_model.specs.Region.{Chains, IsRegion}
 use Rattle.rom_set.specs.Set.{IsRemoved}
 use Rattle.rom_set.proofs.Places.{region_set, same_words, found_contains}
-use Rattle.rom_block.proofs.Apart.{sparing_then}
-use Rattle.rom_set.proofs.Sparing.{sparing_looks, tree_apart}
+use Rattle.rom_block.proofs.Apart.{sparing_then, sparing_looks, tree_apart}
 use Rattle.rom_set.proofs.Giving.{may_unlink, may_give, given_back}
 use Rattle.rom_set.proofs.set.set_remove.Given.{Over}
 use Rattle.rom_set.proofs.set.set_remove.Goals as goal
