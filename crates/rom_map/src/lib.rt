@@ -11,8 +11,6 @@
 
 mod link;
 mod map;
-#[cfg(test)]
-mod tests;
 mod total;
 mod walk;
 

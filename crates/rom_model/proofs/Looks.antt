@@ -1,7 +1,7 @@
 -- What looking and storing cost, step by step.
 use Rattle.std.proofs.Common.{◌≡◌, ℕ, ◌+◌, ◌≤◌, ◌∙◌, arith}
 use Rattle.std.specs.Prelude.{IsTrue}
-use Rattle.rom_model.specs.Space.{ShownSpace, Counts, Costs, Looks, HasRoom}
+use Rattle.rom_model.specs.Space.{ShownSpace, Counts, Costs, Looks, Stores, HasRoom}
 
 module _ {M : Type 0} (shown : ShownSpace M) (j k : ℕ) where
   pub looks_most : {old new : M} → j ≤ k → Looks shown j old new → Looks shown k old new
@@ -59,3 +59,23 @@ module _ {M : Type 0} {shown : ShownSpace M} where
 
   pub looks_then : {j k : ℕ} (loads : ℕ) {old mid new : M} → j + k ≤ loads → Looks shown j old mid → Looks shown k mid new → Looks shown loads old new
   looks_then loads few one two = record { image = two.image ∙ one.image; costs = costs_then loads 0 few (omega arith) one.costs two.costs }
+
+  -- of the costs the stores alone
+  pub stores_most : {j k : ℕ} (stores : ℕ) {old new : M} → k ≤ stores → Costs shown j k old new → Stores shown stores old new
+  stores_most stores few one = record {
+    loads_later = one.loads_later;
+    stores_later = one.stores_later;
+    most_stores = λ told. omega (arith, one.most_stores told);
+    limit = one.limit;
+    rest = one.rest;
+  }
+
+  -- stores after one that is counted
+  pub stores_after : {j k m : ℕ} (stores : ℕ) {old mid new : M} → j + m ≤ stores → Counts shown k j old mid → Stores shown m mid new → Stores shown stores old new
+  stores_after stores few one two = record {
+    loads_later = λ told. omega (arith, one.loads_made told, two.loads_later told);
+    stores_later = λ told. omega (arith, one.stores_made told, two.stores_later told);
+    most_stores = λ told. omega (arith, one.stores_made told, two.most_stores told);
+    limit = two.limit ∙ one.limit;
+    rest = two.rest ∙ one.rest;
+  }

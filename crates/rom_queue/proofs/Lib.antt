@@ -3,6 +3,5 @@ pub mod Links
 pub mod Appended
 pub mod Unlinked
 pub mod Regions
-pub mod Emptied
 pub mod Taking
 pub mod Heads

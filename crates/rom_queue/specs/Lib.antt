@@ -1,4 +1,3 @@
 -- The definitions that the contracts of this crate cite.
-pub mod Fresh
 pub mod Queue
 pub mod Ends

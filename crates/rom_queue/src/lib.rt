@@ -1,4 +1,4 @@
-//! The queue of a heap, in the words of a region, and the region of a new heap.
+//! The queue of a heap, in the words of a region.
 //!
 //! Each value stands in a block of its own, which links to the next. A push takes the first free
 //! block and a pop gives the first node's block back. The contracts promise of every well-formed
@@ -8,10 +8,6 @@
 #![tactic(auto)]
 
 mod ends;
-mod fresh;
 mod queue;
-#[cfg(test)]
-mod tests;
 
-pub use fresh::{format_region, fresh_region};
 pub use queue::{queue_front, queue_len, queue_pop, queue_push};

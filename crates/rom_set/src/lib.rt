@@ -11,8 +11,6 @@
 
 mod link;
 mod set;
-#[cfg(test)]
-mod tests;
 mod walk;
 
 pub use set::{Inserted, set_has, set_insert, set_len, set_remove};

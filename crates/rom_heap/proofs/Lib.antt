@@ -1,0 +1,2 @@
+-- Lemmas on the region of a new heap, and on updates.
+pub mod Emptied

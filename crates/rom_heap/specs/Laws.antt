@@ -1,0 +1,13 @@
+-- The laws of the object, which its trait asks for.
+use Rattle.std.specs.Prelude.{◌≡◌, ℕ, ◌≤◌, List, length, slice_index}
+use Rattle.rom_model.specs.History.{LAST_COUNT}
+use Rattle.rom_model.specs.State.{State}
+use Rattle.rom_model.specs.Blocks.{region_len}
+use Rattle.rom_model.specs.Region.{Contents}
+use Rattle.rom_model.proofs.Contents as contents
+
+pub one_contents : (n : ℕ) (words : List ℕ) (s t : State) (j k : ℕ) → Contents n words s j → Contents n words t k → (s ≡ t) × (j ≡ k)
+one_contents n words s t j k one two = contents.one_contents one two
+
+pub contents_within : (n : ℕ) (words : List ℕ) (s : State) (k : ℕ) → Contents n words s k → (length words ≡ region_len n) × (slice_index words 2 ≡ k) × (k ≤ LAST_COUNT)
+contents_within n words s k is = contents.contents_within is

@@ -1,0 +1,37 @@
+-- What an update leaves of a region, and how many words it stores at most.
+use Rattle.std.specs.Prelude.{◌≡◌, ℕ, ◌+◌, List}
+use Rattle.rom_model.specs.Space.{ShownSpace, Stores}
+use Rattle.rom_model.specs.State.{State, step}
+use Rattle.rom_model.specs.Region.{Contents}
+use Rattle.rom_model.specs.declared.call.Call.{Call}
+use Rattle.rom_model.specs.declared.call.Call.TheVariants.{Put, Del}
+use Rattle.rom_model.specs.declared.call.Reply.{Reply}
+use Rattle.rom_model.specs.declared.call.Reply.TheVariants as reply
+
+-- How many stores an update makes at most in a heap of order n, beside that of the count. A block that is
+-- taken or given back changes at most n + 1 words of the allocator's tree; a node has four words.
+abbrev pub most_stores : ℕ → Call → Reply → ℕ
+-- the tree and the node, a link and the tail, and the size
+most_stores n call reply.Queued = (n + 1) + 4 + 2 + 1
+-- the tree, the head and the tail, and the size
+most_stores n call (reply.Head v) = (n + 1) + 2 + 1
+-- the tree and the node, a link, and the size
+most_stores n call reply.Added = (n + 1) + 4 + 1 + 1
+most_stores n (Put k v) reply.NoPrior = (n + 1) + 4 + 1 + 1
+-- the tree, a link, and the size
+most_stores n call reply.Removed = (n + 1) + 1 + 1
+most_stores n (Del k) (reply.Was u) = (n + 1) + 1 + 1
+-- one value, or two
+most_stores n (Put k v) (reply.Was u) = 1
+most_stores n call reply.Moved = 2
+-- where nothing changes
+most_stores n call other = 0
+
+-- What an update does that is counted already: the reply and the state are those of the step, and so many stores are made at most.
+pub record Does {M : Type 0} (shown : ShownSpace M) (n : ℕ) (call : Call) (told : Reply) (old new : M) : Type 0 where
+  pub step_is : (s : State) (j k : ℕ) → Contents n (shown.image old) s k → let after = step n s j call in (told ≡ after.1) × Contents n (shown.image new) after.0 k
+  pub stores : Stores shown (most_stores n call told) old new
+
+-- So of an update, which is counted.
+abbrev pub DoesNext : ℕ → Call → Reply → List ℕ → List ℕ → Type 0
+DoesNext n call told old new = (s : State) (k : ℕ) → Contents n old s k → let after = step n s k call in (told ≡ after.1) × Contents n new after.0 (k + 1)

@@ -1,0 +1,78 @@
+//! The object.
+ghost use Rattle.rom_model.specs.State.{State};
+ghost use Rattle.rom_model.specs.Region.{Contents};
+ghost use Rattle.rom_model.specs.Trio.{trio};
+ghost use Rattle.rom_heap.specs.Laws.{one_contents, contents_within};
+ghost use Rattle.rom_model.proofs.Tags.{call_back, call_only, reply_back, reply_only};
+
+use crate::answer::answer;
+use crate::apply::apply;
+use crate::fresh::format_region;
+use rom_model::{
+    Answer, Args, Back, Call, Look, Object, Query, Reply, Space, call_words, reply_words,
+    words_call, words_reply,
+};
+
+/// A queue, a set and a map of numbers.
+pub struct Trio;
+
+impl Object for Trio {
+    ghost KIND = { 1 };
+
+    const KIND: u64 = 1;
+
+    ghost STORES = { 32 };
+
+    const STORES: u64 = 32;
+
+    ghost State = { State };
+
+    type Call = Call;
+    type Query = Query;
+    type Reply = Reply;
+    type Answer = Answer;
+
+    ghost machine = { trio };
+
+    ghost Contents = { Contents };
+
+    fn call_words(call: &Call) -> Args {
+        call_words(call)
+    }
+
+    fn words_call(words: &Args) -> Option<Call> {
+        words_call(words)
+    }
+
+    fn reply_words(reply: &Reply) -> Back {
+        reply_words(reply)
+    }
+
+    fn words_reply(words: &Back) -> Option<Reply> {
+        words_reply(words)
+    }
+
+    fn format<M: Space>(space: &mut M, order: u32) {
+        format_region(space, order);
+    }
+
+    fn apply<M: Space>(space: &mut M, order: u32, call: &Call) -> Reply {
+        apply(space, order, call)
+    }
+
+    fn answer<M: Look>(space: &mut M, order: u32, query: &Query) -> Answer {
+        answer(space, order, query)
+    }
+
+    ghost call_back = { call_back };
+
+    ghost call_only = { call_only };
+
+    ghost reply_back = { reply_back };
+
+    ghost reply_only = { reply_only };
+
+    ghost one_contents = { one_contents };
+
+    ghost contents_within = { contents_within };
+}

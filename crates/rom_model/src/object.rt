@@ -1,0 +1,121 @@
+//! What a heap keeps: an object in the words of a region.
+ghost use Rattle.std.specs.Prelude.{◌≡◌, ℕ, ◌+◌, ◌<◌, ◌≤◌, List, length, Option, Some, IfOk, slice_index, false};
+ghost use Rattle.rom_model.specs.Space.{KeepsSpace, Looks, Stores, HasRoom};
+ghost use Rattle.rom_model.specs.VecSpace.{words_of};
+ghost use Rattle.rom_model.specs.Machine.{Machine};
+ghost use Rattle.rom_model.specs.History.{LAST_COUNT};
+ghost use Rattle.rom_model.specs.Blocks.{IsOrder, region_len};
+
+use crate::sizes::region_len;
+use crate::space::{Look, Space};
+use crate::vec_space::VecSpace;
+use crate::words::{Args, Back};
+use std::alloc::{AllocError, Global};
+
+/// An object that is kept in a region of words. What runs it, keeps it safe over a stop and prints it
+/// knows no more of it than this.
+///
+/// A region of an order from 4 to 16 stands for a state and a count of updates. An update changes the
+/// words through any space, and a query looks at them through any view; neither takes memory.
+pub trait Object {
+    ghost KIND: { ℕ };
+
+    /// The number of its kind.
+    const KIND: u64;
+
+    ghost STORES: { ℕ };
+
+    /// The greatest number of stores of one update.
+    const STORES: u64;
+
+    /// Its states.
+    ghost State: { Type 0 };
+
+    /// What updates it.
+    type Call: Copy;
+
+    /// What reads it.
+    type Query: Copy;
+
+    /// What an update is told.
+    type Reply: Copy;
+
+    /// What a query is told.
+    type Answer: Copy;
+
+    /// What its calls and queries do, the words of its calls and replies, and how many loads a query
+    /// makes at most.
+    ghost machine: { Machine State Self.Call Self.Query Self.Reply Self.Answer };
+
+    /// The words of a region of that order are well-formed, and stand for that state and that count.
+    ghost Contents: { ℕ → List ℕ → State → ℕ → Type 0 };
+
+    /// The words of a call.
+    fn call_words(call: &Self::Call) -> Args
+        ensures { result ≡ machine.call_words call.now };
+
+    /// The call that the words are those of. It is `None` exactly where there is none.
+    fn words_call(words: &Args) -> Option<Self::Call>
+        ensures { result ≡ machine.words_call words.now };
+
+    /// The words of a reply.
+    fn reply_words(reply: &Self::Reply) -> Back
+        ensures { result ≡ machine.reply_words reply.now };
+
+    /// The reply that the words are those of. It is `None` exactly where there is none.
+    fn words_reply(words: &Back) -> Option<Self::Reply>
+        ensures { result ≡ machine.words_reply words.now };
+
+    /// Makes the words those of a new region, whatever they were.
+    fn format<M: Space>(space: &mut M, order: u32)
+        requires order { IsOrder order }
+        requires sized { length (M.shown.image space.old) ≡ region_len order }
+        requires free { M.shown.has_limit ≡ false }
+        ensures made { Contents order (M.shown.image space.new) machine.empty 0 }
+        ensures space { KeepsSpace M.shown space.old space.new };
+
+    /// Does an update, and counts it.
+    fn apply<M: Space>(space: &mut M, order: u32, call: &Self::Call) -> Self::Reply
+        requires order { IsOrder order }
+        requires region { (s : State) × (k : ℕ) × Contents order (M.shown.image space.old) s k × (k < LAST_COUNT) }
+        requires room { HasRoom M.shown STORES space.old }
+        ensures done { (s : State) (k : ℕ) → Contents order (M.shown.image space.old) s k
+            → let after = machine.step order s k call.now in
+            (result ≡ after.1) × Contents order (M.shown.image space.new) after.0 (k + 1) }
+        ensures stores { Stores M.shown STORES space.old space.new };
+
+    /// Answers a query.
+    fn answer<M: Look>(space: &mut M, order: u32, query: &Self::Query) -> Self::Answer
+        requires order { IsOrder order }
+        requires region { (s : State) × (k : ℕ) × Contents order (M.shown.image space.old) s k }
+        ensures told { (s : State) (k : ℕ) → Contents order (M.shown.image space.old) s k
+            → result ≡ machine.tell s query.now }
+        ensures looks { (s : State) (k : ℕ) → Contents order (M.shown.image space.old) s k
+            → Looks M.shown (machine.cost order s query.now) space.old space.new };
+
+    /// The words of a call stand for it alone.
+    ghost call_back: { (call : Self.Call) → machine.words_call (machine.call_words call) ≡ Some call };
+
+    ghost call_only: { (words : List ℕ) (call : Self.Call) → machine.words_call words ≡ Some call → machine.call_words call ≡ words };
+
+    /// The words of a reply stand for it alone.
+    ghost reply_back: { (reply : Self.Reply) → machine.words_reply (machine.reply_words reply) ≡ Some reply };
+
+    ghost reply_only: { (words : List ℕ) (reply : Self.Reply) → machine.words_reply words ≡ Some reply → machine.reply_words reply ≡ words };
+
+    /// A region stands for one state and one count.
+    ghost one_contents: { (order : ℕ) (words : List ℕ) (s t : State) (j k : ℕ) → Contents order words s j → Contents order words t k → (s ≡ t) × (j ≡ k) };
+
+    /// It has the words of its order, and the count is its word 2 and within the limit.
+    ghost contents_within: { (order : ℕ) (words : List ℕ) (s : State) (k : ℕ) → Contents order words s k → (length words ≡ region_len order) × (slice_index words 2 ≡ k) × (k ≤ LAST_COUNT) };
+}
+
+/// The words of a new region of that order in memory. There is no other error than want of memory.
+pub fn new_region<O: Object>(alloc: Global, order: u32) -> Result<VecSpace, AllocError>
+    requires order { IsOrder order }
+    ensures made { IfOk result (λ space. O.Contents order (words_of space) O.machine.empty 0) }
+{
+    let mut space = VecSpace::zeroed(alloc, region_len(order))?;
+    O::format(&mut space, order);
+    Ok(space)
+}
