@@ -163,8 +163,8 @@ fn a_thousand_numbers_in_three_orders(rt: HostRuntime) -> Result<(), Fail> {
     Ok(())
 }
 
-/// How many stores a call may make.
-const MOST_STORES: u64 = 31;
+/// How many stores must be left where a call begins.
+const STORES_LEFT: u64 = 31;
 
 /// How many loads and stores were made since there were so many.
 fn since<L: Ledger>(space: &Counted<L>, before: (u64, u64)) -> (u64, u64) {
@@ -179,7 +179,7 @@ fn since<L: Ledger>(space: &Counted<L>, before: (u64, u64)) -> (u64, u64) {
 fn counts<L: Ledger>(alloc: Global, blank: Blank) -> Result<[(u64, u64); 4], Fail>
     requires { Begins L.name L.parts blank.name blank.parts }
 {
-    let mut space: Counted<L> = Counted::begin(fresh(alloc, 16)?, 3 * MOST_STORES, blank);
+    let mut space: Counted<L> = Counted::begin(fresh(alloc, 16)?, 3 * STORES_LEFT, blank);
     let first = set_insert(&mut space, 16, 5);
     let one = since(&space, (0, 0));
     let second = set_insert(&mut space, 16, 9);
@@ -199,11 +199,11 @@ fn counts<L: Ledger>(alloc: Global, blank: Blank) -> Result<[(u64, u64); 4], Fai
 fn loads_and_stores_of_the_calls(rt: HostRuntime) -> Result<(), Fail> {
     let [one, two, three, four] = counts::<Brand>(rt.alloc(), Blank::new(1))?;
     assert!(rt; one.0 > 0 && one.0 <= 3 * 16 + 8);
-    assert!(rt; one.1 > 0 && one.1 <= MOST_STORES);
+    assert!(rt; one.1 > 0 && one.1 <= 16 + 7);
     assert!(rt; two.0 > 0 && two.0 <= 3 * 16 + 8 + 2);
-    assert!(rt; two.1 > 0 && two.1 <= MOST_STORES);
+    assert!(rt; two.1 > 0 && two.1 <= 16 + 7);
     assert_eq!(rt; three, (4, 0));
     assert!(rt; four.0 > 0 && four.0 <= 2 * 16 + 4 + 2);
-    assert!(rt; four.1 > 0 && four.1 <= MOST_STORES);
+    assert!(rt; four.1 > 0 && four.1 <= 16 + 3);
     Ok(())
 }
