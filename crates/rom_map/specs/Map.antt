@@ -66,7 +66,7 @@ PutLeaves n old p s count key value Full new = Unit {0}
 -- What a put costs by its answer, where so many keys have the key's bucket. Nothing is stored where
 -- the key had the value already, or there is no room.
 abbrev pub PutCosts : {M : Type 0} → ShownSpace M → ℕ → ℕ → ℕ → Put → M → M → Type 0
-PutCosts shown n beside value New old new = Costs shown (3 * n + 8 + 2 * beside) 31 old new
+PutCosts shown n beside value New old new = Costs shown (3 * n + 8 + 2 * beside) (n + 7) old new
 PutCosts shown n beside value (Was before) old new = Costs shown (1 + 2 * beside) 1 old new × (before ≡ value → Looks shown (1 + 2 * beside) old new)
 PutCosts shown n beside value Full old new = Looks shown (n + 2 + 2 * beside) old new
 

@@ -37,7 +37,7 @@ pub fn map_put<M: Space>(space: &mut M, order: u32, key: u64, value: u64) -> Put
     ensures each { (s : State) (k : ℕ) → Contents order (M.shown.image space.old) s k
         → PutCosts M.shown order (keys_beside order s.pairs key) value result space.old space.new }
     ensures costs { (s : State) (k : ℕ) → Contents order (M.shown.image space.old) s k
-        → Costs M.shown (3 * order + 8 + 2 * keys_beside order s.pairs key) 31 space.old space.new }
+        → Costs M.shown (3 * order + 8 + 2 * keys_beside order s.pairs key) (order + 7) space.old space.new }
     ensures sooner { (p : Chains) (s : State) (k : ℕ) → IsRegion order (M.shown.image space.old) p s k
         → (at : KeyBlock order (M.shown.image space.old) p key)
         → AgainCosts M.shown (length at.front) value result space.old space.new }
@@ -70,7 +70,7 @@ pub fn map_del<M: Space>(space: &mut M, order: u32, key: u64) -> Option<u64>
     ensures none { (s : State) (k : ℕ) → Contents order (M.shown.image space.old) s k
         → IfNone result (Looks M.shown (1 + 2 * keys_beside order s.pairs key) space.old space.new) }
     ensures costs { (s : State) (k : ℕ) → Contents order (M.shown.image space.old) s k
-        → Costs M.shown (2 * order + 3 + 2 * keys_beside order s.pairs key) 31 space.old space.new }
+        → Costs M.shown (2 * order + 3 + 2 * keys_beside order s.pairs key) (order + 3) space.old space.new }
     ensures sooner { (p : Chains) (s : State) (k : ℕ) → IsRegion order (M.shown.image space.old) p s k
         → (at : KeyBlock order (M.shown.image space.old) p key)
         → Costs M.shown (2 * order + 5 + 2 * length at.front) (order + 3) space.old space.new }

@@ -25,7 +25,7 @@ pub fn queue_push<M: Space>(space: &mut M, order: u32, value: u64) -> bool
         → OnTrue result (IsPushed held value (M.shown.image space.new)) }
     ensures region { IsWellFormed order (M.shown.image space.new) }
     ensures full { OnFalse result (Looks M.shown (order + 1) space.old space.new) }
-    ensures costs { Costs M.shown (3 * order + 7) 31 space.old space.new }
+    ensures costs { Costs M.shown (3 * order + 7) (order + 8) space.old space.new }
     ensures sparing { IsSparing M.shown space.old space.new }
 {
     let Some(node) = Blocks::take(space, order, 0) else {
@@ -49,7 +49,7 @@ pub fn queue_pop<M: Space>(space: &mut M, order: u32) -> Option<u64>
         → IfSome result (λ value. IsPopped held value (M.shown.image space.new)) }
     ensures region { IsWellFormed order (M.shown.image space.new) }
     ensures empty { IfNone result (Looks M.shown 1 space.old space.new) }
-    ensures costs { Costs M.shown (2 * order + 4) 31 space.old space.new }
+    ensures costs { Costs M.shown (2 * order + 4) (order + 4) space.old space.new }
     ensures sparing { IsSparing M.shown space.old space.new }
 {
     let head = space.load(QUEUE_HEAD);

@@ -38,7 +38,7 @@ pub fn set_insert<M: Space>(space: &mut M, order: u32, key: u64) -> Inserted
     ensures kept { (s : State) (k : ℕ) → Contents order (M.shown.image space.old) s k
         → KeepsUnlessNew M.shown order (keys_below s.members key) result space.old space.new }
     ensures costs { (s : State) (k : ℕ) → Contents order (M.shown.image space.old) s k
-        → Costs M.shown (3 * order + 8 + 2 * keys_below s.members key) 31 space.old space.new }
+        → Costs M.shown (3 * order + 8 + 2 * keys_below s.members key) (order + 7) space.old space.new }
     ensures sparing { IsSparing M.shown space.old space.new }
 {
     let place = find(space, order, key);
@@ -68,7 +68,7 @@ pub fn set_remove<M: Space>(space: &mut M, order: u32, key: u64) -> bool
     ensures kept { (s : State) (k : ℕ) → Contents order (M.shown.image space.old) s k
         → OnFalse result (Looks M.shown (2 + 2 * keys_below s.members key) space.old space.new) }
     ensures costs { (s : State) (k : ℕ) → Contents order (M.shown.image space.old) s k
-        → Costs M.shown (2 * order + 4 + 2 * keys_below s.members key) 31 space.old space.new }
+        → Costs M.shown (2 * order + 4 + 2 * keys_below s.members key) (order + 3) space.old space.new }
     ensures sparing { IsSparing M.shown space.old space.new }
 {
     let place = find(space, order, key);
