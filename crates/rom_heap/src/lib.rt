@@ -7,11 +7,9 @@
 //! and stores there are at most.
 #![tactic(auto)]
 
-mod trio;
-mod fresh;
-mod apply;
 mod answer;
-#[cfg(test)]
-mod tests;
+mod apply;
+mod fresh;
+mod trio;
 
 pub use trio::Trio;

@@ -28,8 +28,11 @@ impl Object for Trio {
     ghost State = { State };
 
     type Call = Call;
+
     type Query = Query;
+
     type Reply = Reply;
+
     type Answer = Answer;
 
     ghost machine = { trio };
