@@ -9,12 +9,15 @@
 //! and that it stores no more often than words differ afterwards. They hold over any space of words.
 #![tactic(auto)]
 
+mod entry;
 mod link;
 mod map;
+mod shift;
 #[cfg(test)]
 mod tests;
 mod total;
 mod walk;
 
 pub use map::{Put, map_del, map_get, map_len, map_put};
+pub use shift::{Moved, map_move};
 pub use total::map_total;
