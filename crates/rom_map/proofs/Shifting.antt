@@ -19,7 +19,7 @@ use Rattle.rom_map.proofs.Places.{There, placed_in}
 use Rattle.rom_map.proofs.Replaced.{only, replaced}
 
 -- a word that is not the one that differs
-outside : {w w' : List ℕ} (at j : ℕ) → ChangesOnly at 1 w w' → j ≢ at → slice_index w' j ≡ slice_index w j
+pub outside : {w w' : List ℕ} (at j : ℕ) → ChangesOnly at 1 w w' → j ≢ at → slice_index w' j ≡ slice_index w j
 outside at j only ne = elim (cases_lt j at) [ inl less ↦ only.before j less | inr ge ↦ only.behind j (omega (arith, ge, ne)) ]
 
 -- a node as the place of its key
@@ -43,7 +43,7 @@ module _ {n : ℕ} {w : List ℕ} {p : Chains} {s : State} {k key node : ℕ} (i
   inside = omega (arith, has.begins, there.within, is.shape.as_long)
 
   -- where only the values of other words differ, it is the node still
-  stays : {w' : List ℕ} (at : ℕ) → ChangesOnly at 1 w w' → block_of n has.at.block + 0 ≢ at → HasNode n w' p key node
+  abbrev pub stays : {w' : List ℕ} (at : ℕ) → ChangesOnly at 1 w w' → block_of n has.at.block + 0 ≢ at → HasNode n w' p key node
   stays at only ne = record {
     at = record {
       front = has.at.front;
@@ -72,7 +72,7 @@ module _ {n : ℕ} {w : List ℕ} {p : Chains} {s : State} {k from to source tar
     first_region : IsRegion n first p (with_pairs s (finite.insert s.pairs from less)) k
     first_region = (replaced least is from less one_lt (place is one_lt one) (there is one_lt one) refl).region
 
-    still : HasNode n first p to target
+    abbrev still : HasNode n first p to target
     still = stays is two_lt two (block_of n one.at.block + 1) first_only (λ e. absurd (omega (arith, e)))
 
     abbrev second : List ℕ
