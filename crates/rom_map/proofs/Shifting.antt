@@ -1,6 +1,6 @@
 -- The region in which two keys have other values.
-use Rattle.std.proofs.Common.{◌≡◌, ◌≢◌, inl, inr, ℕ, ◌+◌, ◌*◌, ◌^◌, ◌<◌, ◌≤◌, List, ◌∷◌, ◌++◌, length, refl, sym, ◌∙◌, ap, arith}
-use Rattle.std.specs.Prelude.{slice_index, slice_set}
+use Rattle.std.proofs.Common.{◌≡◌, ◌≢◌, inl, inr, ℕ, ◌+◌, ◌<◌, ◌≤◌, List, ◌∷◌, length, refl, sym, ◌∙◌, ap, arith}
+use Rattle.std.specs.Prelude.{slice_index, slice_set, unwrap_or, Some}
 use Rattle.std.specs.FinMap as finite
 use Rattle.std.proofs.lemmas.Bool.{cases_lt}
 use Rattle.rom_model.specs.Space.{ChangesOnly}
@@ -10,11 +10,11 @@ use Rattle.rom_model.specs.Chains.{times}
 use Rattle.rom_model.specs.Links.{link_after}
 use Rattle.rom_model.specs.Region.{Chains, buckets, bucket_of, IsRegion}
 use Rattle.rom_model.proofs.Times.{times_here, times-append}
-use Rattle.rom_model.proofs.Nodes.{pow_small}
 use Rattle.rom_map.specs.Walk.{head_of}
 use Rattle.rom_map.specs.Map.{with_pairs}
 use Rattle.rom_map.specs.Shift.{IsShifted, HasNode}
 use Rattle.rom_map.specs.declared.walk.Place.{Place}
+use Rattle.rom_map.proofs.Pairs.{get_here}
 use Rattle.rom_map.proofs.Places.{There, placed_in}
 use Rattle.rom_map.proofs.Replaced.{only, replaced}
 
@@ -42,7 +42,12 @@ module _ {n : ℕ} {w : List ℕ} {p : Chains} {s : State} {k key node : ℕ} (i
   pub inside : node + 4 ≤ length w
   inside = omega (arith, has.begins, there.within, is.shape.as_long)
 
-  -- where only the values of other words differ, it is the node still
+  pub value_here : (value : ℕ) → finite.get s.pairs key ≡ Some value → slice_index w (node + 1) ≡ value
+  value_here value has_it =
+      ap (λ b. slice_index w (b + 1)) has.begins
+      ∙ ap (λ o. unwrap_or o 0) (sym (get_here is key lt has.at.front has.at.block has.at.back has.at.blocks has.at.holds) ∙ has_it)
+
+  -- where only the value of another node differs, it is the node still
   abbrev pub stays : {w' : List ℕ} (at : ℕ) → ChangesOnly at 1 w w' → block_of n has.at.block + 0 ≢ at → HasNode n w' p key node
   stays at only ne = record {
     at = record {
@@ -75,19 +80,17 @@ module _ {n : ℕ} {w : List ℕ} {p : Chains} {s : State} {k from to source tar
     abbrev still : HasNode n first p to target
     still = stays is two_lt two (block_of n one.at.block + 1) first_only (λ e. absurd (omega (arith, e)))
 
-    abbrev second : List ℕ
-    second = slice_set first (target + 1) more
+    module _ {w' : List ℕ} (now : w' ≡ slice_set first (target + 1) more) where
+      second_only : ChangesOnly (block_of n two.at.block + 1) 1 first w'
+      second_only = only least first_region to more two_lt (place first_region two_lt still) (there first_region two_lt still) now
 
-    second_only : ChangesOnly (block_of n still.at.block + 1) 1 first second
-    second_only = only least first_region to more two_lt (place first_region two_lt still) (there first_region two_lt still) refl
+      pub shifted_region : IsRegion n w' p (with_pairs s (finite.insert (finite.insert s.pairs from less) to more)) k
+      shifted_region = (replaced least first_region to more two_lt (place first_region two_lt still) (there first_region two_lt still) now).region
 
-    pub shifted_region : IsRegion n second p (with_pairs s (finite.insert (finite.insert s.pairs from less) to more)) k
-    shifted_region = (replaced least first_region to more two_lt (place first_region two_lt still) (there first_region two_lt still) refl).region
-
-    pub shifted : IsShifted n w p from to second
-    shifted = record {
-      source = one.at;
-      target = two.at;
-      as_long = second_only.as_long ∙ first_only.as_long;
-      others = λ j not_one not_two. outside _ j second_only not_two ∙ outside _ j first_only not_one;
-    }
+      pub shifted : IsShifted n w p from to w'
+      shifted = record {
+        source = one.at;
+        target = two.at;
+        as_long = second_only.as_long ∙ first_only.as_long;
+        others = λ j not_one not_two. outside _ j second_only not_two ∙ outside _ j first_only not_one;
+      }

@@ -1,5 +1,5 @@
 -- What a move of an amount from one key's value to another's leaves of a well-formed region.
-use Rattle.std.specs.Prelude.{◌≡◌, ◌≢◌, ℕ, ◌+◌, None, Some, List, length, slice_index}
+use Rattle.std.specs.Prelude.{◌≡◌, ◌≢◌, ℕ, ◌+◌, Some, List, length, slice_index}
 use Rattle.std.specs.FinMap as map
 use Rattle.rom_model.specs.Space.{ShownSpace, Looks}
 use Rattle.rom_model.specs.State.{State, transfer}
@@ -48,24 +48,27 @@ pub record MoveLeaves (n : ℕ) (old : List ℕ) (p : Chains) (s : State) (count
   pub region : IsRegion n new p (after_move s from to amount).0 count
   pub words : MovedWords n old p from to moved new
 
--- Unless the move is done, the words stay, nothing is stored, and so many loads are made at most.
-abbrev pub KeepsUnlessDone : {M : Type 0} → ShownSpace M → ℕ → Moved → M → M → Type 0
-KeepsUnlessDone shown loads Done old new = Unit {0}
-KeepsUnlessDone shown loads Absent old new = Looks shown loads old new
-KeepsUnlessDone shown loads (Short value) old new = Looks shown loads old new
-KeepsUnlessDone shown loads Over old new = Looks shown loads old new
+-- Unless the move is done and its amount is not 0, the words stay, nothing is stored, and so many loads
+-- are made at most.
+abbrev pub KeepsUnlessMoved : {M : Type 0} → ShownSpace M → ℕ → ℕ → Moved → M → M → Type 0
+KeepsUnlessMoved shown loads amount Done old new = amount ≡ 0 → Looks shown loads old new
+KeepsUnlessMoved shown loads amount Absent old new = Looks shown loads old new
+KeepsUnlessMoved shown loads amount (Short value) old new = Looks shown loads old new
+KeepsUnlessMoved shown loads amount Over old new = Looks shown loads old new
 
 -- The key's node begins there.
 pub record HasNode (n : ℕ) (words : List ℕ) (p : Chains) (key node : ℕ) : Type 0 where
   pub at : KeyBlock n words p key
   pub begins : node ≡ block_of n at.block
 
--- The two keys are different ones, and a move gives their nodes these values.
+-- The two keys are different ones, and a move gives their nodes these values, which are those that they
+-- have where the amount is 0.
 pub record Changing (n : ℕ) (words : List ℕ) (p : Chains) (s : State) (from to amount : ℕ) (source target : Entry) : Type 0 where
   pub differ : from ≢ to
   pub source_is : HasNode n words p from source.node
   pub target_is : HasNode n words p to target.node
   pub after : after_move s from to amount ≡ (with_pairs s (map.insert (map.insert s.pairs from source.value) to target.value), reply.Moved)
+  pub idle : amount ≡ 0 → (map.get s.pairs from ≡ Some source.value) × (map.get s.pairs to ≡ Some target.value)
 
 -- what is to be done for a move
 abbrev pub IsPlan : ℕ → List ℕ → Chains → State → ℕ → ℕ → ℕ → Plan → Type 0

@@ -1,11 +1,11 @@
 //! Moving an amount from one key's value to another's.
-ghost use Rattle.std.specs.Prelude.{◌≡◌, ◌≢◌, ℕ, ◌+◌, ◌*◌, ◌^◌, ◌<◌, ◌≤◌, length, slice_set};
+ghost use Rattle.std.specs.Prelude.{◌≡◌, ◌≢◌, ℕ, ◌+◌, ◌*◌, ◌^◌, ◌<◌, ◌≤◌, length, slice_index, slice_set};
 ghost use Rattle.rom_model.specs.Space.{Costs, Looks, HasRoom, IsSparing};
 ghost use Rattle.rom_model.specs.State.{State};
 ghost use Rattle.rom_model.specs.Walks.{keys_beside};
 ghost use Rattle.rom_model.specs.Blocks.{IsOrder};
 ghost use Rattle.rom_model.specs.Region.{Chains, IsRegion, IsWellFormed, Contents};
-ghost use Rattle.rom_map.specs.Shift.{IsMoved, MoveLeaves, KeepsUnlessDone, IsPlan};
+ghost use Rattle.rom_map.specs.Shift.{IsMoved, MoveLeaves, KeepsUnlessMoved, IsPlan};
 
 use crate::entry::{Entry, find_entry};
 use crate::link::replace_value;
@@ -84,6 +84,9 @@ fn replace_both<M: Space>(space: &mut M, source: Entry, target: Entry)
     ensures image { M.shown.image space.new ≡ slice_set
         (slice_set (M.shown.image space.old) (source.node + 1) source.value) (target.node + 1) target.value }
     ensures costs { Costs M.shown 2 2 space.old space.new }
+    ensures kept { slice_index (M.shown.image space.old) (source.node + 1) ≡ source.value
+        → slice_index (M.shown.image space.old) (target.node + 1) ≡ target.value
+        → Looks M.shown 2 space.old space.new }
     ensures sparing { source.node ≢ target.node → IsSparing M.shown space.old space.new }
 {
     replace_value(space, source.node, source.value);
@@ -107,8 +110,8 @@ pub fn map_move<M: Space>(space: &mut M, order: u32, from: u64, to: u64, amount:
     ensures alone { from ≡ to → (s : State) (k : ℕ) → Contents order (M.shown.image space.old) s k
         → Looks M.shown (3 + 2 * keys_beside order s.pairs from) space.old space.new }
     ensures kept { (s : State) (k : ℕ) → Contents order (M.shown.image space.old) s k
-        → KeepsUnlessDone M.shown (6 + 2 * keys_beside order s.pairs from + 2 * keys_beside order s.pairs to)
-        result space.old space.new }
+        → KeepsUnlessMoved M.shown (6 + 2 * keys_beside order s.pairs from + 2 * keys_beside order s.pairs to)
+        amount result space.old space.new }
     ensures sparing { IsSparing M.shown space.old space.new }
 {
     match plan_move(space, order, from, to, amount) {

@@ -5,7 +5,7 @@ ghost use Rattle.rom_model.specs.Blocks.{IsOrder};
 ghost use Rattle.rom_model.specs.Region.{IsWellFormed};
 ghost use Rattle.rom_counted.specs.Counted.{Begins};
 
-use crate::{Put, map_del, map_get, map_len, map_put, map_total};
+use crate::{Moved, Put, map_del, map_get, map_len, map_move, map_put, map_total};
 use rom_counted::Counted;
 use rom_model::VecSpace;
 use rom_queue::fresh_region;
@@ -103,6 +103,37 @@ fn two_keys_of_one_bucket_word_for_word(rt: HostRuntime) -> Result<(), Fail> {
     assert_eq!(rt; map_del(&mut space, 4, 0), None);
     assert_eq!(rt; map_put(&mut space, 4, 5, u64::MAX), Put::Was(2));
     assert_eq!(rt; look(&mut space, 4, 0), (None, 1, u128::from(u64::MAX)));
+    Ok(())
+}
+
+#[test]
+fn moves_of_an_amount(rt: HostRuntime) -> Result<(), Fail> {
+    let mut space = fresh(rt.alloc(), 4)?;
+    assert_eq!(rt; map_move(&mut space, 4, 0, 0, 0), Moved::Absent);
+    assert_eq!(rt; map_put(&mut space, 4, 0, 10), Put::New);
+    // The other key is not there, which comes before the amount being too great.
+    assert_eq!(rt; map_move(&mut space, 4, 0, 5, 11), Moved::Absent);
+    assert_eq!(rt; map_move(&mut space, 4, 5, 0, 0), Moved::Absent);
+    assert_eq!(rt; map_put(&mut space, 4, 5, u64::MAX - 4), Put::New);
+    assert_eq!(rt; map_move(&mut space, 4, 0, 5, 11), Moved::Short(10));
+    assert_eq!(rt; map_move(&mut space, 4, 0, 0, 11), Moved::Short(10));
+    assert_eq!(rt; map_move(&mut space, 4, 0, 5, 5), Moved::Over);
+    assert_eq!(rt; map_move(&mut space, 4, 0, 0, 10), Moved::Done);
+    assert_eq!(rt;
+        look(&mut space, 4, 0),
+        (Some(10), 2, u128::from(u64::MAX) + 6)
+    );
+    assert_eq!(rt; map_move(&mut space, 4, 0, 5, 4), Moved::Done);
+    assert_eq!(rt;
+        look(&mut space, 4, 0),
+        (Some(6), 2, u128::from(u64::MAX) + 6)
+    );
+    assert_eq!(rt; get(&mut space, 4, 5), Some(u64::MAX));
+    assert_eq!(rt; map_move(&mut space, 4, 5, 0, u64::MAX - 6), Moved::Done);
+    assert_eq!(rt;
+        look(&mut space, 4, 5),
+        (Some(6), 2, u128::from(u64::MAX) + 6)
+    );
     Ok(())
 }
 

@@ -1,4 +1,4 @@
-use Rattle.std.proofs.Common.{List, ℕ, ◌+◌, ◌^◌, ◌*◌, arith, sym, ◌∙◌, ap}
+use Rattle.std.proofs.Common.{List, ℕ, ◌+◌, arith, sym, ◌∙◌, ap}
 use Rattle.std.specs.Prelude.{Some, slice_index}
 use Rattle.rom_model.specs.Region.{bucket_of}
 use Rattle.rom_model.proofs.Looks.{looks_more}

@@ -1,26 +1,24 @@
-use Rattle.std.proofs.Common.{◌≡◌, ◌≢◌, ℕ, ◌+◌, ◌*◌, ◌^◌, ◌<◌, ◌≤◌, List, length, sym, ◌∙◌, ap, subst, arith}
-use Rattle.std.specs.Prelude.{slice_set}
-use Rattle.std.specs.FinMap as map
+use Rattle.std.proofs.Common.{◌≡◌, ℕ, ◌+◌, List, length, sym, ◌∙◌, ap, subst, arith}
+use Rattle.std.specs.Prelude.{slice_index, slice_set}
 use Rattle.rom_model.specs.Space.{ShownSpace, Looks}
 use Rattle.rom_model.specs.State.{State}
-use Rattle.rom_model.specs.Region.{IsRegion, IsWellFormed, Contents}
+use Rattle.rom_model.specs.Region.{IsRegion, IsWellFormed}
 use Rattle.rom_model.proofs.Nodes.{pow_small}
-use Rattle.rom_model.proofs.Looks.{looks_most, costs_most, costs_then, room_left}
-use Rattle.rom_map.specs.Map.{with_pairs}
-use Rattle.rom_map.specs.Shift.{after_move, MovedWords, IsShifted, KeepsUnlessDone}
+use Rattle.rom_model.proofs.Looks.{looks_most, looks_then, costs_most, costs_then, room_left}
+use Rattle.rom_map.specs.Shift.{after_move, MovedWords, KeepsUnlessMoved}
 use Rattle.rom_map.specs.declared.shift.Moved.{Moved}
 use Rattle.rom_map.specs.declared.shift.Moved.TheVariants.{Done, Absent, Short, Over}
 use Rattle.rom_map.proofs.Finding.{own_within}
 use Rattle.rom_map.proofs.Sparing.{sparing_after}
-use Rattle.rom_map.proofs.Shifting.{inside, apart, shifted_region, shifted}
+use Rattle.rom_map.proofs.Shifting.{inside, value_here, apart, shifted_region, shifted}
 use Rattle.rom_map.proofs.shift.map_move.Goals as goal
 
 -- each word stays
-keeps : {M : Type 0} (shown : ShownSpace M) (loads : ℕ) (told : Moved) (old new : M) → Looks shown loads old new → KeepsUnlessDone shown loads told old new
-keeps shown loads Done old new looks = tt
-keeps shown loads Absent old new looks = looks
-keeps shown loads (Short value) old new looks = looks
-keeps shown loads Over old new looks = looks
+keeps : {M : Type 0} (shown : ShownSpace M) (loads amount : ℕ) (told : Moved) (old new : M) → Looks shown loads old new → KeepsUnlessMoved shown loads amount told old new
+keeps shown loads amount Done old new looks = λ none. looks
+keeps shown loads amount Absent old new looks = looks
+keeps shown loads amount (Short value) old new looks = looks
+keeps shown loads amount Over old new looks = looks
 
 pub returns-in-Stays-clause-others : goal.returns-in-Stays-clause-others
 returns-in-Stays-clause-others g c p s k is =
@@ -50,7 +48,7 @@ pub returns-in-Stays-clause-alone : goal.returns-in-Stays-clause-alone
 returns-in-Stays-clause-alone g c one s k held = looks_most g.M.Look.shown _ _ (omega arith) (c.plan_move.ensures.alone one s k held)
 
 pub returns-in-Stays-clause-kept : goal.returns-in-Stays-clause-kept
-returns-in-Stays-clause-kept g c s k held = keeps g.M.Look.shown _ c.in-Stays.told _ _ (looks_most g.M.Look.shown _ _ (omega arith) (c.plan_move.ensures.looks s k held))
+returns-in-Stays-clause-kept g c s k held = keeps g.M.Look.shown _ c.args.amount c.in-Stays.told _ _ (looks_most g.M.Look.shown _ _ (omega arith) (c.plan_move.ensures.looks s k held))
 
 pub returns-in-Stays-clause-sparing : goal.returns-in-Stays-clause-sparing
 returns-in-Stays-clause-sparing g c told =
@@ -84,18 +82,16 @@ pub returns-in-Changes-clause-others : goal.returns-in-Changes-clause-others
 returns-in-Changes-clause-others g c p s k is =
     let o = c.requires.order in
     let n = c.args.order in
-    let from = c.args.from in
-    let to = c.args.to in
     let source = c.in-Changes.source in
     let target = c.in-Changes.target in
-    let w = g.M.Look.shown.image c.args.space.now in
+    let new = g.M.Look.shown.image c.replace_both.new.space in
     let does = c.in-Changes.ensures.is p s k is in
-    let now = c.replace_both.ensures.image ∙ ap (λ (v : List ℕ). slice_set (slice_set v (source.node + 1) source.value) (target.node + 1) target.value) (c.plan_move.ensures.looks s k (p, is)).image in
+    let now : new ≡ slice_set (slice_set (g.M.Look.shown.image c.args.space.now) (source.node + 1) source.value) (target.node + 1) target.value =
+    subst (λ (v : List ℕ). new ≡ slice_set (slice_set v (source.node + 1) source.value) (target.node + 1) target.value) (c.plan_move.ensures.looks s k (p, is)).image c.replace_both.ensures.image in
     record {
-      region = subst (λ (v : List ℕ). IsRegion n v p (after_move s from to c.args.amount).0 k) (sym now)
-          (subst (λ (x : State). IsRegion n (slice_set (slice_set w (source.node + 1) source.value) (target.node + 1) target.value) p x k) (sym (ap (λ a. a.0) does.after))
-          (shifted_region o.least is does.differ (own_within from o) (own_within to o) does.source_is does.target_is source.value target.value));
-      words = subst (λ (v : List ℕ). IsShifted n w p from to v) (sym now) (shifted o.least is does.differ (own_within from o) (own_within to o) does.source_is does.target_is source.value target.value);
+      region = subst (λ (x : State). IsRegion n new p x k) (sym (ap (λ a. a.0) does.after))
+          (shifted_region o.least is does.differ (own_within c.args.from o) (own_within c.args.to o) does.source_is does.target_is source.value target.value now);
+      words = shifted o.least is does.differ (own_within c.args.from o) (own_within c.args.to o) does.source_is does.target_is source.value target.value now;
     }
 
 pub returns-in-Changes-clause-contents : goal.returns-in-Changes-clause-contents
@@ -113,6 +109,16 @@ returns-in-Changes-clause-costs g c s k held = costs_then _ _ (omega arith) (ome
 
 pub returns-in-Changes-clause-alone : goal.returns-in-Changes-clause-alone
 returns-in-Changes-clause-alone g c one s k held = absurd ((c.in-Changes.ensures.is held.0 s k held.1).differ one)
+
+pub returns-in-Changes-clause-kept : goal.returns-in-Changes-clause-kept
+returns-in-Changes-clause-kept g c s k held none =
+    let o = c.requires.order in
+    let does = c.in-Changes.ensures.is held.0 s k held.1 in
+    let looks = c.plan_move.ensures.looks s k held in
+    let had = does.idle none in
+    let source = ap (λ (v : List ℕ). slice_index v (c.in-Changes.source.node + 1)) looks.image ∙ value_here held.1 (own_within c.args.from o) does.source_is c.in-Changes.source.value had.0 in
+    let target = ap (λ (v : List ℕ). slice_index v (c.in-Changes.target.node + 1)) looks.image ∙ value_here held.1 (own_within c.args.to o) does.target_is c.in-Changes.target.value had.1 in
+    looks_then _ (omega arith) looks (c.replace_both.ensures.kept source target)
 
 pub returns-in-Changes-clause-sparing : goal.returns-in-Changes-clause-sparing
 returns-in-Changes-clause-sparing g c =

@@ -1,4 +1,4 @@
-use Rattle.std.proofs.Common.{◌≡◌, ℕ, ◌+◌, ◌-◌, ◌*◌, ◌^◌, ◌<◌, ◌≤◌, List, refl, sym, ◌∙◌, ap, subst, arith}
+use Rattle.std.proofs.Common.{◌≡◌, ℕ, ◌+◌, ◌-◌, List, refl, sym, ◌∙◌, ap, subst, arith}
 use Rattle.std.specs.Prelude.{Some}
 use Rattle.std.specs.FinMap as map
 use Rattle.rom_model.specs.Region.{IsRegion, IsWellFormed, Contents}
@@ -92,6 +92,7 @@ returns-clause-is g c p s k is =
       target_is = subst (λ v. HasNode c.args.order v p c.args.to c.in-Some-find_entry.target.node) same two.1;
       after = moved s c.args.from c.args.to d c.in-Some.source.value one.0 w two.0 c.if-source-amount-2.false c.if-from-to.false (omega arith)
           ∙ ap (λ (x : ℕ). (with_pairs s (map.insert (map.insert s.pairs c.args.from (c.in-Some.source.value - d)) c.args.to x), reply.Moved)) more;
+      idle = λ none. (one.0 ∙ ap (λ x. Some x) (omega (arith, none)), two.0 ∙ ap (λ x. Some x) (omega (arith, none)));
     }
 
 pub returns-clause-looks : goal.returns-clause-looks
