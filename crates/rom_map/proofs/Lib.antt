@@ -12,6 +12,8 @@ pub mod Regions
 pub mod Added
 pub mod Adding
 pub mod Replaced
+pub mod Moves
+pub mod Shifting
 pub mod Removed
 pub mod Removing
 pub mod Totals

@@ -3,16 +3,20 @@
 //! Each key stands with its value in a block of its own, in the chain of the key's bucket, whose first
 //! link is a word of the bucket table. A walk along that chain finds a key's block or tells that there
 //! is none; a new key's block goes to the front of the chain, and the block of one that goes is taken
-//! out of it. The contracts promise of every well-formed region what the map holds then, that each
-//! element that stays keeps its block, that no words change but the map's and the allocator's, that a
-//! new key is refused exactly where the heap is full, how many loads and stores a call makes at most,
-//! and that it stores no more often than words differ afterwards. They hold over any space of words.
+//! out of it. A move of an amount from one key's value to another's changes both values or nothing. The
+//! contracts promise of every well-formed region what the map holds then, that each element that stays
+//! keeps its block, that no words change but the map's and the allocator's, that a new key is refused
+//! exactly where the heap is full, how many loads and stores a call makes at most, and that it stores no
+//! more often than words differ afterwards. They hold over any space of words.
 #![tactic(auto)]
 
+mod entry;
 mod link;
 mod map;
+mod shift;
 mod total;
 mod walk;
 
 pub use map::{Put, map_del, map_get, map_len, map_put};
+pub use shift::{Moved, map_move};
 pub use total::map_total;

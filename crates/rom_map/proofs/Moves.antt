@@ -1,0 +1,56 @@
+-- What a move comes to, case by case.
+use Rattle.std.proofs.Common.{◌≡◌, ◌≢◌, ℕ, ◌+◌, ◌-◌, ◌^◌, ◌<◌, ◌≤◌, Bool, true, false, ◌∙◌, ap, arith}
+use Rattle.std.specs.Prelude.{◌==◌, nat_lt, if◌then◌else◌, None, Some}
+use Rattle.std.specs.FinMap as map
+use Rattle.std.proofs.lemmas.Bool.Decides.{nat_tests}
+use Rattle.rom_model.specs.State.{State, transfer, shift}
+use Rattle.rom_model.specs.declared.call.Reply.{Reply}
+use Rattle.rom_model.specs.declared.call.Reply.TheVariants as reply
+use Rattle.rom_map.specs.Map.{with_pairs}
+use Rattle.rom_map.specs.Shift.{after_move}
+
+if_true : (t : Bool) (x y : State × Reply) → t ≡ true → (if t then x else y) ≡ x
+if_true t x y is = ap (λ (t : Bool). if t then x else y) is
+
+if_false : (t : Bool) (x y : State × Reply) → t ≡ false → (if t then x else y) ≡ y
+if_false t x y is = ap (λ (t : Bool). if t then x else y) is
+
+below : (x y : ℕ) → x < y → nat_lt x y ≡ true
+below x y less = grind (arith, nat_tests)
+
+not_below : (x y : ℕ) → y ≤ x → nat_lt x y ≡ false
+not_below x y ge = grind (arith, nat_tests)
+
+same : (x y : ℕ) → x ≡ y → (x == y) ≡ true
+same x y is = grind (arith, nat_tests)
+
+other : (x y : ℕ) → x ≢ y → (x == y) ≡ false
+other x y ne = grind (arith, nat_tests)
+
+module _ (s : State) (a b d : ℕ) where
+  pub no_source : map.get s.pairs a ≡ None → after_move s a b d ≡ (s, reply.Absent)
+  no_source none = λ i. transfer s a b d (none i) (map.get s.pairs b)
+
+  module _ (u : ℕ) (source : map.get s.pairs a ≡ Some u) where
+    pub no_target : map.get s.pairs b ≡ None → after_move s a b d ≡ (s, reply.Absent)
+    no_target none = λ i. transfer s a b d (source i) (none i)
+
+    module _ (w : ℕ) (target : map.get s.pairs b ≡ Some w) where
+      both : after_move s a b d ≡ shift s a b d u w
+      both = λ i. transfer s a b d (source i) (target i)
+
+      pub short : u < d → after_move s a b d ≡ (s, reply.Short u)
+      short less = both ∙ if_true (nat_lt u d) _ _ (below u d less)
+
+      enough : d ≤ u → after_move s a b d ≡ (if a == b then (s, reply.Moved) else
+          if nat_lt (w + d) (2 ^ 64) then (with_pairs s (map.insert (map.insert s.pairs a (u - d)) b (w + d)), reply.Moved) else (s, reply.Over))
+      enough ge = both ∙ if_false (nat_lt u d) _ _ (not_below u d ge)
+
+      pub alone : d ≤ u → a ≡ b → after_move s a b d ≡ (s, reply.Moved)
+      alone ge one = enough ge ∙ if_true (a == b) _ _ (same a b one)
+
+      pub over : d ≤ u → a ≢ b → 2 ^ 64 ≤ w + d → after_move s a b d ≡ (s, reply.Over)
+      over ge two much = enough ge ∙ if_false (a == b) _ _ (other a b two) ∙ if_false (nat_lt (w + d) (2 ^ 64)) _ _ (not_below (w + d) (2 ^ 64) much)
+
+      pub moved : d ≤ u → a ≢ b → w + d < 2 ^ 64 → after_move s a b d ≡ (with_pairs s (map.insert (map.insert s.pairs a (u - d)) b (w + d)), reply.Moved)
+      moved ge two fits = enough ge ∙ if_false (a == b) _ _ (other a b two) ∙ if_true (nat_lt (w + d) (2 ^ 64)) _ _ (below (w + d) (2 ^ 64) fits)

@@ -1,0 +1,38 @@
+//! A key's node with its value.
+ghost use Rattle.std.specs.Prelude.{◌≡◌, ℕ, ◌+◌, ◌*◌, None, Some, MatchOption};
+ghost use Rattle.std.specs.FinMap as map;
+ghost use Rattle.rom_model.specs.Space.{Looks};
+ghost use Rattle.rom_model.specs.State.{State};
+ghost use Rattle.rom_model.specs.Walks.{keys_beside};
+ghost use Rattle.rom_model.specs.Blocks.{IsOrder};
+ghost use Rattle.rom_model.specs.Region.{Chains, IsRegion, IsWellFormed, Contents};
+ghost use Rattle.rom_map.specs.Shift.{HasNode};
+
+use crate::walk::find;
+use rom_model::Look;
+
+/// A node, and a value for it.
+#[derive(Clone, Copy)]
+pub struct Entry {
+    /// Where the node begins.
+    pub node: u64,
+    pub value: u64,
+}
+
+/// The node of a key with the key's value, where the map has the key.
+pub fn find_entry<M: Look>(space: &mut M, order: u32, key: u64) -> Option<Entry>
+    requires order { IsOrder order }
+    requires region { IsWellFormed order (M.shown.image space.old) }
+    ensures is { (p : Chains) (s : State) (k : ℕ) → IsRegion order (M.shown.image space.old) p s k
+        → MatchOption result (map.get s.pairs key ≡ None) (λ entry. (map.get s.pairs key ≡ Some entry.value)
+        × HasNode order (M.shown.image space.old) p key entry.node) }
+    ensures looks { (s : State) (k : ℕ) → Contents order (M.shown.image space.old) s k
+        → Looks M.shown (1 + 2 * keys_beside order s.pairs key) space.old space.new }
+{
+    let node = find(space, order, key).node;
+    if node == 0 {
+        return None;
+    }
+    let value = space.load(node + 1);
+    Some(Entry { node, value })
+}
