@@ -4,7 +4,7 @@ use Rattle.std.specs.Prelude.{Result, Ok, Err, if◌then◌else◌}
 use Rattle.rom_model.specs.declared.unfit.Rule.{Rule}
 use Rattle.rom_model.specs.declared.unfit.Break.{Break}
 use Rattle.rom_model.specs.Tests.{Test, tested, checked, is_word, are_zero}
-use Rattle.rom_model.proofs.Outcomes.{one_err, not_both}
+use Rattle.rom_model.proofs.Outcomes.{one_ok, one_err, not_both}
 
 -- the first that does not hold is the first of all
 pub first_breaks : {A : Type 0} (a : A) (xs ys : List Test) (e : Break) → checked xs ≡ Err e → tested (xs ++ ys) a ≡ Err e
@@ -32,6 +32,29 @@ breaking {A} (x ∷ xs) a e is = go x.holds (breaking xs a e) is
     go : (b : Bool) → (checked xs ≡ Err e → tested xs a ≡ Err e) → (if b then checked xs else Err x.broken) ≡ Err e → ◌≡◌ {A = Result A Break} (if b then tested xs a else Err x.broken) (Err e)
     go true more rest = more rest
     go false more here = ap (λ (d : Break). Err d) (one_err {A = Unit {0}} x.broken e here)
+
+-- all tests hold, and what was found is what was found before
+pub record Passed {A : Type 0} (tests : List Test) (a found : A) : Type 0 where
+  pub all : checked tests ≡ Ok tt
+  pub same : found ≡ a
+
+pub passed : {A : Type 0} (tests : List Test) (a found : A) → tested tests a ≡ Ok found → Passed tests a found
+passed [] a found is = record { all = refl; same = one_ok found a (sym is) }
+passed {A} (t ∷ ts) a found is = let p = go t.holds (passed ts a found) is in record { all = p.0; same = p.1 }
+  where
+    go : (b : Bool) → (tested ts a ≡ Ok found → Passed ts a found) → ◌≡◌ {A = Result A Break} (if b then tested ts a else Err t.broken) (Ok found)
+        → (◌≡◌ {A = Result (Unit {0}) Break} (if b then checked ts else Err t.broken) (Ok tt)) × (found ≡ a)
+    go true more rest = let p = more rest in (p.all, p.same)
+    go false more here = absurd (not_both found t.broken (sym here))
+
+-- tests that hold find what was found before
+pub passing : {A : Type 0} (tests : List Test) (a : A) → checked tests ≡ Ok tt → tested tests a ≡ Ok a
+passing [] a is = refl
+passing {A} (t ∷ ts) a is = go t.holds (passing ts a) is
+  where
+    go : (b : Bool) → (checked ts ≡ Ok tt → tested ts a ≡ Ok a) → ◌≡◌ {A = Result (Unit {0}) Break} (if b then checked ts else Err t.broken) (Ok tt) → ◌≡◌ {A = Result A Break} (if b then tested ts a else Err t.broken) (Ok a)
+    go true more rest = more rest
+    go false more here = absurd (not_both tt t.broken (sym here))
 
 -- the rest of the zeros
 pub zeros_go_on : (words : List ℕ) (at many : ℕ) (rule : Rule) → 0 < many → checked (is_word words at rule 0 ∷ []) ≡ Ok tt → checked (are_zero words at many rule) ≡ checked (are_zero words (at + 1) (many - 1) rule)
