@@ -1,7 +1,7 @@
 -- A well-formed region passes all parts of the inspection.
 use Rattle.std.proofs.Common.{◌≡◌, inl, inr, ℕ, zero, suc, ◌+◌, ◌-◌, ◌^◌, ◌<◌, ◌≤◌, true, List, [], ◌∷◌, ◌++◌, length, refl, sym, ◌∙◌, ap, arith, length-append}
 use Rattle.std.specs.Prelude.{Ok, Err, slice_index, nat_le}
-use Rattle.std.proofs.lemmas.Bool.{cases_lt}
+use Rattle.std.proofs.lemmas.Bool.{cases_lt, le-leb, lt-ltb}
 use Rattle.rom_model.specs.State.{State}
 use Rattle.rom_model.specs.Blocks.{block_of}
 use Rattle.rom_model.specs.Chains.{times, Chain, each_word, HoldZero, IsRising}
@@ -19,7 +19,7 @@ use Rattle.rom_inspect.specs.Walks.{key_of, is_above, first_link, next_word, nex
 use Rattle.rom_inspect.specs.Parts.{OneByOne, Inspection, FirstBreak}
 use Rattle.rom_model.proofs.Outcomes.{not_both, one_err}
 use Rattle.rom_inspect.proofs.Outcomes.{inspection_single}
-use Rattle.rom_model.proofs.Holding.{of_le, of_lt, word_holds, holds_more, zeros_hold}
+use Rattle.rom_model.proofs.Holding.{word_holds, holds_more, zeros_hold}
 use Rattle.rom_inspect.proofs.Holding.{queue_holds, set_holds, bucket_holds}
 use Rattle.rom_inspect.proofs.Onward.{onward, times_onward, length_onward, last_onward}
 use Rattle.rom_inspect.proofs.Passing.{HavePassed, passed_all}
@@ -58,7 +58,7 @@ module _ (n : ℕ) (w : List ℕ) where
 
   next_above : (bs : List ℕ) (c : ℕ) (cs : List ℕ) → IsRising (each_word n w 0 (c ∷ cs)) → Above (c ∷ bs) cs
   next_above bs c [] rising = tt
-  next_above bs c (d ∷ cs) rising = of_lt (key_of n w c) (key_of n w d) rising.0
+  next_above bs c (d ∷ cs) rising = lt-ltb (key_of n w c) (key_of n w d) rising.0
 
   rest_rises : (c : ℕ) (cs : List ℕ) → IsRising (each_word n w 0 (c ∷ cs)) → IsRising (each_word n w 0 cs)
   rest_rises c [] rising = tt
@@ -126,7 +126,7 @@ module _ (n : ℕ) (w : List ℕ) (p : Chains) (st : State) (count : ℕ) (is : 
       let t1 = is_word w 1 rule.Root 1 in
       word_holds w 0 rule.Root 1 (t1 ∷ t2 ∷ t8 ∷ zeros) tt root.kind
       ∙ (word_holds w 1 rule.Root 1 (t2 ∷ t8 ∷ zeros) tt is.version.version
-      ∙ (holds_more t2 (t8 ∷ zeros) tt (of_le (slice_index w 2) (2 ^ 62) (let fits : slice_index w 2 ≤ 2 ^ 62 = omega (arith, root.count_is, root.count_fits) in fits))
+      ∙ (holds_more t2 (t8 ∷ zeros) tt (le-leb (slice_index w 2) (2 ^ 62) (let fits : slice_index w 2 ≤ 2 ^ 62 = omega (arith, root.count_is, root.count_fits) in fits))
       ∙ (word_holds w 8 rule.Root (block_of n 0) zeros tt root.table
       ∙ zeros_hold w 10 7 rule.Root (λ k lt. root.zeros (10 + k) (omega arith) (omega (arith, lt))))))
 

@@ -1,6 +1,6 @@
 -- The end of a part: the tests after its walk.
 use Rattle.std.proofs.Common.{◌≡◌, inl, inr, ℕ, zero, suc, ◌+◌, ◌<◌, ◌≤◌, Bool, List, [], ◌∷◌, ◌++◌, length, refl, sym, ◌∙◌, ap, subst, arith}
-use Rattle.std.specs.Prelude.{Result, Ok, Err, MatchResult}
+use Rattle.std.specs.Prelude.{Result, Ok, Err}
 use Rattle.rom_model.specs.declared.unfit.Rule.TheVariants.{Ends, Count}
 use Rattle.rom_model.specs.Region.{buckets}
 use Rattle.rom_model.specs.declared.unfit.Break.{Break}

@@ -1,17 +1,15 @@
 -- What the tests of a node say where they hold, and what makes them hold.
-use Rattle.std.proofs.Common.{◌≡◌, ℕ, zero, suc, ◌+◌, ◌-◌, ◌<◌, ◌≤◌, Bool, true, false, List, [], ◌∷◌, ◌++◌, refl, sym, ◌∙◌, ap, arith}
-use Rattle.std.specs.Prelude.{Result, Ok, Err, slice_index, ◌==◌, nat_lt, nat_le, if◌then◌else◌}
-use Rattle.std.proofs.lemmas.Bool.Decides.{nat_tests}
-use Rattle.rom_model.specs.declared.unfit.Rule.{Rule}
+use Rattle.std.proofs.Common.{◌≡◌, ℕ, zero, suc, ◌+◌, ◌-◌, ◌<◌, ◌≤◌, true, List, [], ◌∷◌, ◌∙◌, ap, arith}
+use Rattle.std.specs.Prelude.{Ok, slice_index, ◌==◌}
+use Rattle.std.proofs.lemmas.Bool.{eq-eqb, eqb-true}
 use Rattle.rom_model.specs.declared.unfit.Rule.TheVariants.{Pad, Order, Bucket, Repeat}
 use Rattle.rom_model.specs.Blocks.{block_of}
 use Rattle.rom_model.specs.Chains.{times, each_word}
 use Rattle.rom_model.specs.Region.{bucket_of}
-use Rattle.rom_model.specs.declared.unfit.Break.{Break}
 use Rattle.rom_inspect.specs.declared.walk.Walk.TheVariants as along
-use Rattle.rom_model.specs.Tests.{Test, test, tested, checked, is_word, are_zero}
+use Rattle.rom_model.specs.Tests.{Test, test, checked, are_zero}
 use Rattle.rom_inspect.specs.Walks.{key_of, is_above, node_tests}
-use Rattle.rom_model.proofs.Holding.{eq_of, of_eq, all_hold, holds_more, zeros_hold, held_zeros, hold_both, both_hold}
+use Rattle.rom_model.proofs.Holding.{all_hold, holds_more, zeros_hold, held_zeros, hold_both, both_hold}
 
 module _ (n : ℕ) (w before : List ℕ) (b : ℕ) where
   pads_there : (j : ℕ) → 2 ≤ j → j < 4 → checked (are_zero w (block_of n b + 2) 2 Pad) ≡ Ok tt → slice_index w (block_of n b + j) ≡ 0
@@ -60,19 +58,19 @@ module _ (n : ℕ) (w before : List ℕ) (b : ℕ) where
 
     pub bucket_own : checked (node_tests n w (along.Bucket i) before b) ≡ Ok tt → bucket_of n (key_of n w b) ≡ i
     unfolding own once
-    bucket_own hold = eq_of (bucket_of n (key_of n w b)) i (all_hold own (once ∷ []) tt tt (hold_both (are_zero w (block_of n b + 3) 1 Pad) (own ∷ once ∷ []) hold).second).here
+    bucket_own hold = eqb-true (bucket_of n (key_of n w b)) i (all_hold own (once ∷ []) tt tt (hold_both (are_zero w (block_of n b + 3) 1 Pad) (own ∷ once ∷ []) hold).second).here
 
     pub bucket_once : checked (node_tests n w (along.Bucket i) before b) ≡ Ok tt → times (key_of n w b) (each_word n w 0 before) ≡ 0
     unfolding own once
     bucket_once hold =
         let rest = (all_hold own (once ∷ []) tt tt (hold_both (are_zero w (block_of n b + 3) 1 Pad) (own ∷ once ∷ []) hold).second).rest in
-        eq_of (times (key_of n w b) (each_word n w 0 before)) 0 (all_hold once [] tt tt rest).here
+        eqb-true (times (key_of n w b) (each_word n w 0 before)) 0 (all_hold once [] tt tt rest).here
 
     pub bucket_holds : slice_index w (block_of n b + 3) ≡ 0 → bucket_of n (key_of n w b) ≡ i → times (key_of n w b) (each_word n w 0 before) ≡ 0 → checked (node_tests n w (along.Bucket i) before b) ≡ Ok tt
     unfolding own once
     bucket_holds pad its none =
         both_hold (are_zero w (block_of n b + 3) 1 Pad) (own ∷ once ∷ []) (zeros_hold w (block_of n b + 3) 1 Pad pads)
-        (holds_more own (once ∷ []) tt (of_eq (bucket_of n (key_of n w b)) i its) ∙ holds_more once [] tt (of_eq (times (key_of n w b) (each_word n w 0 before)) 0 none))
+        (holds_more own (once ∷ []) tt (eq-eqb (bucket_of n (key_of n w b)) i its) ∙ holds_more once [] tt (eq-eqb (times (key_of n w b) (each_word n w 0 before)) 0 none))
       where
         pads : (k : ℕ) → k < 1 → slice_index w (block_of n b + 3 + k) ≡ 0
         pads zero lt = (let e : block_of n b + 3 + 0 ≡ block_of n b + 3 = omega arith in ap (λ k. slice_index w k) e) ∙ pad

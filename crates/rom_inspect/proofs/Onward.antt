@@ -1,7 +1,7 @@
 -- The blocks that a walk reached, in the order of their chain.
 use Rattle.std.proofs.Common.{◌≡◌, inl, inr, ℕ, ◌+◌, ◌<◌, ◌≤◌, true, List, [], ◌∷◌, ◌++◌, length, refl, ap, subst, arith}
 use Rattle.std.specs.Prelude.{Ok}
-use Rattle.std.proofs.lemmas.Bool.{cases_eq}
+use Rattle.std.proofs.lemmas.Bool.{cases_eq, ltb-true}
 use Rattle.rom_model.specs.Chains.{times, Chain, last_of, each_word, IsRising, HoldZero}
 use Rattle.rom_model.specs.Region.{bucket_of}
 use Rattle.rom_model.proofs.Times.{times_here, times_away}
@@ -10,7 +10,6 @@ use Rattle.rom_inspect.specs.declared.walk.Walk.TheVariants as along
 use Rattle.rom_model.specs.Tests.{checked}
 use Rattle.rom_inspect.specs.Tests.{newest}
 use Rattle.rom_inspect.specs.Walks.{key_of, is_above, first_link, next_word, next_link, node_tests, Reaches, AreApart}
-use Rattle.rom_model.proofs.Holding.{lt_of}
 use Rattle.rom_inspect.proofs.Holding.{queue_pads, set_pads, set_above, bucket_pad, bucket_own, bucket_once}
 
 -- these, of which the last comes first, in their order before others
@@ -91,7 +90,7 @@ module _ (n : ℕ) (w seen bs : List ℕ) where
 
 above_below : (n : ℕ) (w bs : List ℕ) (b : ℕ) (cs : List ℕ) → is_above n w bs (key_of n w b) ≡ true → IsBelow n w bs (b ∷ cs)
 above_below n w [] b cs is = tt
-above_below n w (a ∷ bs) b cs is = lt_of (key_of n w a) (key_of n w b) is
+above_below n w (a ∷ bs) b cs is = ltb-true (key_of n w a) (key_of n w b) is
 
 rises : (n : ℕ) (w : List ℕ) (b : ℕ) (bs cs : List ℕ) → IsBelow n w (b ∷ bs) cs → IsRising (each_word n w 0 cs) → IsRising (each_word n w 0 (b ∷ cs))
 rises n w b bs [] below rising = tt

@@ -1,6 +1,6 @@
 -- All parts of the inspection passed, side by side.
-use Rattle.std.proofs.Common.{◌≡◌, ℕ, Bool, true, false, List, [], ◌∷◌, ◌++◌, refl, sym, ◌∙◌, subst}
-use Rattle.std.specs.Prelude.{Result, Ok, Err, if◌then◌else◌}
+use Rattle.std.proofs.Common.{◌≡◌, ℕ, List, [], ◌++◌, refl, sym, ◌∙◌, subst}
+use Rattle.std.specs.Prelude.{Result, Ok}
 use Rattle.rom_model.specs.Blocks.{AreWords}
 use Rattle.rom_model.specs.Region.{buckets, taken_by}
 use Rattle.rom_model.specs.declared.unfit.Break.{Break}

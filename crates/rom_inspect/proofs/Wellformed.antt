@@ -3,7 +3,7 @@ use Rattle.std.proofs.Common.{◌≡◌, ◌≢◌, inl, inr, ℕ, zero, suc, �
 use Rattle.std.specs.Prelude.{Ok, slice_index, ◌==◌, ◌||◌, ◌&&◌, nat_le, nat_lt, if◌then◌else◌}
 use Rattle.std.specs.FinSet as set
 use Rattle.std.specs.FinMap as finite
-use Rattle.std.proofs.lemmas.Bool.{cases_eq, cases_lt}
+use Rattle.std.proofs.lemmas.Bool.{cases_eq, cases_lt, eqb-true, leb-true}
 use Rattle.std.proofs.lemmas.Bool.Decides.{nat_tests}
 use Rattle.rom_model.specs.State.{State}
 use Rattle.rom_model.specs.Blocks.{block_of}
@@ -22,7 +22,7 @@ use Rattle.rom_inspect.specs.Tests.{newest, root_tests}
 use Rattle.rom_inspect.specs.Walks.{key_of, next_link, Reaches, AreApart}
 use Rattle.rom_inspect.specs.Parts.{OneByOne}
 use Rattle.rom_model.proofs.Outcomes.{one_ok}
-use Rattle.rom_model.proofs.Holding.{eq_of, le_of, all_hold, held_zeros}
+use Rattle.rom_model.proofs.Holding.{all_hold, held_zeros}
 use Rattle.rom_inspect.proofs.Onward.{onward, times_onward, length_onward, last_onward, key_times_onward, chain_onward, apart_onward, queue_zeros, set_zeros, bucket_zeros, bucket_keys, rising_onward, keys_once}
 use Rattle.rom_inspect.proofs.Passing.{HavePassed}
 
@@ -154,13 +154,13 @@ rooted n w is =
     let d = all_hold t8 zeros tt tt c.rest in
     record {
       root = record {
-        kind = eq_of (slice_index w 0) 1 a.here;
+        kind = eqb-true (slice_index w 0) 1 a.here;
         count_is = refl;
-        count_fits = le_of (slice_index w 2) (2 ^ 62) c.here;
-        table = eq_of (slice_index w 8) (block_of n 0) d.here;
+        count_fits = leb-true (slice_index w 2) (2 ^ 62) c.here;
+        table = eqb-true (slice_index w 8) (block_of n 0) d.here;
         zeros = λ k lo hi. (let e : k ≡ 10 + (k - 10) = omega arith in ap (λ i. slice_index w i) e) ∙ held_zeros w 10 7 rule.Root d.rest (k - 10) (omega arith);
       };
-      version = eq_of (slice_index w 1) 1 b.here;
+      version = eqb-true (slice_index w 1) 1 b.here;
     }
 
 module _ (n : ℕ) (w q s m : List ℕ) (long : length w ≡ region_len n) (p : HavePassed n w q s m) where
@@ -185,8 +185,8 @@ module _ (n : ℕ) (w q s m : List ℕ) (long : length w ≡ region_len n) (p : 
       let b = all_hold t5 [] tt tt a.rest in
       record {
         chain = chain_onward n w along.Queue [] q [] p.queue.0 p.queue.1;
-        tail = eq_of (slice_index w 4) (newest n q) a.here ∙ sym (last_onward n q);
-        len = eq_of (slice_index w 5) (length q) b.here ∙ (let e : length q ≡ length (onward q []) = omega (arith, length_onward q []) in e);
+        tail = eqb-true (slice_index w 4) (newest n q) a.here ∙ sym (last_onward n q);
+        len = eqb-true (slice_index w 5) (length q) b.here ∙ (let e : length q ≡ length (onward q []) = omega (arith, length_onward q []) in e);
         values_are = refl;
         third = queue_zeros n w [] q p.queue.0 2 (omega arith) (omega arith);
         fourth = queue_zeros n w [] q p.queue.0 3 (omega arith) (omega arith);
@@ -197,7 +197,7 @@ module _ (n : ℕ) (w q s m : List ℕ) (long : length w ≡ region_len n) (p : 
       let a = all_hold (is_word w 7 rule.Count (length s)) [] tt tt p.set_ends in
       record {
         chain = chain_onward n w along.Set (q ++ []) s [] p.set.0 p.set.1;
-        len = eq_of (slice_index w 7) (length s) a.here ∙ (let e : length s ≡ length (onward s []) = omega (arith, length_onward s []) in e);
+        len = eqb-true (slice_index w 7) (length s) a.here ∙ (let e : length s ≡ length (onward s []) = omega (arith, length_onward s []) in e);
         rising = rising_onward n w (q ++ []) s [] p.set.0 (below_none s) tt;
         keys_are = refl;
         third = set_zeros n w (q ++ []) s p.set.0 2 (omega arith) (omega arith);
@@ -213,7 +213,7 @@ module _ (n : ℕ) (w q s m : List ℕ) (long : length w ≡ region_len n) (p : 
       let a = all_hold (is_word w 9 rule.Count (length m)) [] tt tt p.map_ends in
       record {
         chains = λ i lt. bucket_chain n w i (walked.blocks i) (walked.each i lt);
-        len = eq_of (slice_index w 9) (length m) a.here ∙ sym walked.long;
+        len = eqb-true (slice_index w 9) (length m) a.here ∙ sym walked.long;
         own_bucket = λ i b lt some. bucket_owns n w i (walked.blocks i) (walked.each i lt) b some;
         pairs_are = refl;
       }

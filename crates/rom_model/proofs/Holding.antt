@@ -1,30 +1,12 @@
 -- What tests say where they hold, and what makes them hold.
-use Rattle.std.proofs.Common.{◌≡◌, ℕ, zero, suc, ◌+◌, ◌<◌, ◌≤◌, Bool, true, false, List, [], ◌∷◌, ◌++◌, refl, sym, ◌∙◌, ap, arith}
-use Rattle.std.specs.Prelude.{Result, Ok, Err, slice_index, ◌==◌, nat_lt, nat_le, if◌then◌else◌}
-use Rattle.std.proofs.lemmas.Bool.Decides.{nat_tests}
+use Rattle.std.proofs.Common.{◌≡◌, ℕ, zero, suc, ◌+◌, ◌<◌, Bool, true, false, List, [], ◌∷◌, ◌++◌, refl, sym, ◌∙◌, ap, arith}
+use Rattle.std.specs.Prelude.{Result, Ok, Err, slice_index, if◌then◌else◌}
+use Rattle.std.proofs.lemmas.Bool.{eqb-true, eq-eqb}
 use Rattle.rom_model.specs.declared.unfit.Rule.{Rule}
 use Rattle.rom_model.specs.declared.unfit.Break.{Break}
 use Rattle.rom_model.specs.Tests.{Test, tested, checked, is_word, are_zero}
 use Rattle.rom_model.proofs.Outcomes.{not_both}
 use Rattle.rom_model.proofs.InTurn.{first_holds}
-
-pub eq_of : (a b : ℕ) → (a == b) ≡ true → a ≡ b
-eq_of a b is = grind (arith, nat_tests)
-
-pub of_eq : (a b : ℕ) → a ≡ b → (a == b) ≡ true
-of_eq a b e = grind (arith, nat_tests)
-
-pub le_of : (a b : ℕ) → nat_le a b ≡ true → a ≤ b
-le_of a b is = grind (arith, nat_tests)
-
-pub of_le : (a b : ℕ) → a ≤ b → nat_le a b ≡ true
-of_le a b le = grind (arith, nat_tests)
-
-pub lt_of : (a b : ℕ) → nat_lt a b ≡ true → a < b
-lt_of a b is = grind (arith, nat_tests)
-
-pub of_lt : (a b : ℕ) → a < b → nat_lt a b ≡ true
-of_lt a b lt = grind (arith, nat_tests)
 
 -- the first holds, and the others
 pub record HoldsThen {A : Type 0} (t : Test) (ts : List Test) (a found : A) : Type 0 where
@@ -43,7 +25,7 @@ holds_more {A} t ts a here = ap (λ (b : Bool). let r : Result A Break = if b th
 
 -- one word after another
 pub word_holds : {A : Type 0} (w : List ℕ) (offset : ℕ) (rule : Rule) (x : ℕ) (ts : List Test) (a : A) → slice_index w offset ≡ x → tested (is_word w offset rule x ∷ ts) a ≡ tested ts a
-word_holds w offset rule x ts a is = holds_more (is_word w offset rule x) ts a (of_eq (slice_index w offset) x is)
+word_holds w offset rule x ts a is = holds_more (is_word w offset rule x) ts a (eq-eqb (slice_index w offset) x is)
 
 pub zeros_hold : (w : List ℕ) (offset many : ℕ) (rule : Rule) → ((k : ℕ) → k < many → slice_index w (offset + k) ≡ 0) → checked (are_zero w offset many rule) ≡ Ok tt
 zeros_hold w offset zero rule are = refl
@@ -56,7 +38,7 @@ pub held_zeros : (w : List ℕ) (offset many : ℕ) (rule : Rule) → checked (a
 held_zeros w offset zero rule hold k lt = absurd (omega arith)
 held_zeros w offset (suc many) rule hold zero lt =
     let both = all_hold (is_word w offset rule 0) (are_zero w (offset + 1) many rule) tt tt hold in
-    (let e : offset + 0 ≡ offset = omega arith in ap (λ i. slice_index w i) e) ∙ eq_of (slice_index w offset) 0 both.here
+    (let e : offset + 0 ≡ offset = omega arith in ap (λ i. slice_index w i) e) ∙ eqb-true (slice_index w offset) 0 both.here
 held_zeros w offset (suc many) rule hold (suc k) lt =
     let both = all_hold (is_word w offset rule 0) (are_zero w (offset + 1) many rule) tt tt hold in
     (let e : offset + suc k ≡ offset + 1 + k = omega arith in ap (λ i. slice_index w i) e) ∙ held_zeros w (offset + 1) many rule both.rest k (omega (arith, lt))

@@ -1,5 +1,5 @@
 use Rattle.std.proofs.Common.{◌≡◌, ℕ, ◌+◌, ◌<◌, ◌++◌, sym, subst, arith, append_assoc, length-append, List, length}
-use Rattle.std.specs.Prelude.{Result, Ok, Err, MatchResult}
+use Rattle.std.specs.Prelude.{Result, Err}
 use Rattle.std.proofs.lemmas.Grind.{common_steps}
 use Rattle.rom_model.specs.Region.{buckets}
 use Rattle.rom_model.proofs.Nodes.{pow_small}

@@ -1,5 +1,5 @@
-use Rattle.std.proofs.Common.{◌≡◌, ℕ, ◌-◌, ◌^◌, ◌<◌, ◌∷◌, ◌++◌, ◌∙◌, sym, ap, subst, arith, List, length}
-use Rattle.std.specs.Prelude.{Result, Ok, Err, MatchResult, slice_index}
+use Rattle.std.proofs.Common.{◌≡◌, ℕ, ◌-◌, ◌^◌, ◌<◌, ◌∷◌, ◌∙◌, sym, ap, subst, arith, length}
+use Rattle.std.specs.Prelude.{Result, Err, MatchResult, slice_index}
 use Rattle.std.proofs.lemmas.Grind.{common_steps}
 use Rattle.rom_model.specs.declared.unfit.Break.{Break}
 use Rattle.rom_inspect.specs.declared.walk.Reached.{Reached}
