@@ -42,44 +42,42 @@ fn broken(offset: u64, rule: Rule) -> Result<(), Unfit> {
 }
 
 #[test]
-fn well_formed_regions(rt: HostRuntime) -> Result<(), Fail> {
+fn regions_of_order_4(rt: HostRuntime) -> Result<(), Fail> {
     let alloc = rt.alloc();
-    assert_eq!(rt; inspect_with(alloc, false, &[]), Ok(()));
-    assert_eq!(rt; inspect_with(alloc, true, &[]), Ok(()));
-    // The words of free blocks may hold anything.
-    assert_eq!(rt; inspect_with(alloc, true, &[(56, 7), (111, 9)]), Ok(()));
     // The key 5 with the value 7, in the first bucket.
     let put = [(2, 1), (9, 1), (24, 0), (33, 0), (48, 52), (52, 5), (53, 7)];
-    assert_eq!(rt; inspect_with(alloc, false, put.as_slice()), Ok(()));
-    Ok(())
-}
-
-#[test]
-fn the_first_break(rt: HostRuntime) -> Result<(), Fail> {
-    let alloc = rt.alloc();
     let falling = [(6, 52), (52, 5), (53, 56), (56, 5)];
     let other_bucket = [(48, 52), (52, 1), (53, 7)];
     let twice = [(48, 52), (52, 5), (53, 7), (54, 56), (56, 5), (57, 8)];
-    // Whether the region has a value, the words that are changed, and the break.
-    let table: [(bool, &[(usize, u64)], u64, Rule); 13] = [
-        (false, &[(0, 2)], 0, Rule::Root),
-        (false, &[(2, 4_611_686_018_427_387_905)], 2, Rule::Root),
-        (false, &[(3, 53)], 3, Rule::Link),
-        (false, &[(3, 112)], 3, Rule::Link),
+    // Whether the region has a value in its queue, the words that are changed, and the answer.
+    let table: [(bool, &[(usize, u64)], Result<(), Unfit>); 17] = [
+        (false, &[], Ok(())),
+        (true, &[], Ok(())),
+        (false, put.as_slice(), Ok(())),
+        // The words of free blocks may hold anything.
+        (true, &[(56, 7), (111, 9)], Ok(())),
+        (false, &[(0, 2)], broken(0, Rule::Root)),
+        (
+            false,
+            &[(2, 4_611_686_018_427_387_905)],
+            broken(2, Rule::Root),
+        ),
+        (false, &[(3, 53)], broken(3, Rule::Link)),
+        (false, &[(3, 112)], broken(3, Rule::Link)),
         // A cycle, and a node with two owners.
-        (true, &[(53, 52)], 53, Rule::Link),
-        (true, &[(6, 52)], 6, Rule::Link),
-        (true, &[(54, 1)], 54, Rule::Pad),
-        (true, &[(4, 56)], 4, Rule::Ends),
-        (true, &[(5, 3)], 5, Rule::Count),
-        (false, falling.as_slice(), 56, Rule::Order),
-        (false, other_bucket.as_slice(), 52, Rule::Bucket),
-        (false, twice.as_slice(), 56, Rule::Repeat),
+        (true, &[(53, 52)], broken(53, Rule::Link)),
+        (true, &[(6, 52)], broken(6, Rule::Link)),
+        (true, &[(54, 1)], broken(54, Rule::Pad)),
+        (true, &[(4, 56)], broken(4, Rule::Ends)),
+        (true, &[(5, 3)], broken(5, Rule::Count)),
+        (false, falling.as_slice(), broken(56, Rule::Order)),
+        (false, other_bucket.as_slice(), broken(52, Rule::Bucket)),
+        (false, twice.as_slice(), broken(56, Rule::Repeat)),
         // A block that is taken and that nothing leads to.
-        (false, &[(24, 0), (33, 0)], 24, Rule::Tree),
+        (false, &[(24, 0), (33, 0)], broken(24, Rule::Tree)),
     ];
-    for (queued, changes, offset, rule) in table {
-        assert_eq!(rt; inspect_with(alloc, queued, changes), broken(offset, rule));
+    for (queued, changes, answer) in table {
+        assert_eq!(rt; inspect_with(alloc, queued, changes), answer);
     }
     Ok(())
 }
