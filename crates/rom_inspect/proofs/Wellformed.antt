@@ -140,7 +140,7 @@ same_taken n xs ys same i = ap (λ t. (i == 16) || (nat_le (2 ^ n) i && nat_lt 0
 -- the root words
 record Rooted (n : ℕ) (w : List ℕ) : Type 0 where
   root : IsRoot n w (slice_index w 2)
-  version : slice_index w 1 ≡ 1
+  number : slice_index w 1 ≡ 1
 
 rooted : (n : ℕ) (w : List ℕ) → checked (root_tests n w) ≡ Ok tt → Rooted n w
 rooted n w is =
@@ -160,7 +160,7 @@ rooted n w is =
         table = eqb-true (slice_index w 8) (block_of n 0) d.here;
         zeros = λ k lo hi. (let e : k ≡ 10 + (k - 10) = omega arith in ap (λ i. slice_index w i) e) ∙ held_zeros w 10 7 rule.Root d.rest (k - 10) (omega arith);
       };
-      version = eqb-true (slice_index w 1) 1 b.here;
+      number = eqb-true (slice_index w 1) 1 b.here;
     }
 
 module _ (n : ℕ) (w q s m : List ℕ) (long : length w ≡ region_len n) (p : HavePassed n w q s m) where
@@ -236,7 +236,7 @@ module _ (n : ℕ) (w q s m : List ℕ) (long : length w ≡ region_len n) (p : 
           tree = words_same n (taken_by n (m ++ (s ++ (q ++ [])))) (taken_by n (element_blocks n found)) w (same_taken n (m ++ (s ++ (q ++ []))) (element_blocks n found) (λ c. sym (counted c))) p.tree;
         };
         version = record {
-          version = root.version;
+          version = root.number;
           keys_differ = λ i key lt. bucket_differs n w i (walked.blocks i) (walked.each i lt) key;
           fourth = λ c some. let x = in_some walked.blocks (buckets n) c some in bucket_fourth n w x.0 (walked.blocks x.0) (walked.each x.0 x.1) c x.2;
         };
