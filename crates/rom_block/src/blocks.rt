@@ -2,10 +2,11 @@
 ghost use Rattle.std.specs.Prelude.{◌≡◌, ℕ, ◌+◌, ◌-◌, ◌*◌, ◌^◌, ◌≤◌, Bool, true, false, length, MatchOption, IfNone, slice_index};
 ghost use Rattle.rom_model.specs.Space.{Costs, Looks, HasRoom, IsSparing, ChangesOnly};
 ghost use Rattle.rom_model.specs.Blocks.{IsOrder, IsNode, AreWords, IsDisjoint, NoneFree, IsGreatest, nothing, giving, block_at, region_len};
+ghost use Rattle.rom_block.specs.Levels.{IsMarked};
 ghost use Rattle.rom_block.specs.Walk.{ChangesTree};
 ghost use Rattle.rom_block.specs.Taken.{Takes, IsSomeTree, IsTakenAt, among, AreBlocks, IsTreeAnswer};
 
-use crate::expected::{expected_words, first_difference};
+use crate::expected::{expected_words, first_difference, marked};
 use crate::fresh::fill_depth;
 use crate::node::{node_at, offset};
 use crate::tree::{find, replace};
@@ -116,7 +117,27 @@ impl Blocks {
         requires apart { IsDisjoint order (among order taken.now) }
         ensures { IsTreeAnswer order (among order taken.now) region.now result }
     {
-        let Ok(words) = expected_words(alloc, order, taken) else {
+        let Ok(marks) = marked(alloc, order, taken) else {
+            return Err(Unfit::OutOfMemory);
+        };
+        Blocks::inspect_marked(alloc, region, order, &marks)
+    }
+
+    /// The same for the taken blocks whose nodes are marked, by the numbers of the nodes, so that a
+    /// caller that has marked them needs no list of them. It takes memory for one entry a node.
+    pub fn inspect_marked(
+        alloc: Global,
+        region: &[u64],
+        order: u32,
+        marks: &[bool],
+    ) -> Result<(), Unfit>
+        requires order { IsOrder order }
+        requires sized { length region.now ≡ region_len order }
+        requires marks { length marks.now ≡ 2 * 2 ^ order }
+        ensures { (taken : ℕ → Bool) → IsMarked taken marks.now
+            → IsTreeAnswer order taken region.now result }
+    {
+        let Ok(words) = expected_words(alloc, order, marks) else {
             return Err(Unfit::OutOfMemory);
         };
         match first_difference(region, order, &words) {

@@ -69,18 +69,28 @@ fn fill_levels(order: u32, marks: &[bool], words: &mut [u64])
     }
 }
 
-/// The words of the tree for these taken blocks, by the numbers of the nodes.
-pub fn expected_words(alloc: Global, order: u32, taken: &[Taken]) -> Result<Vec<u64>, AllocError>
+/// Marks of the nodes of these taken blocks, by the numbers of the nodes.
+pub fn marked(alloc: Global, order: u32, taken: &[Taken]) -> Result<Vec<bool>, AllocError>
     requires most { order ≤ 16 }
     requires blocks { AreBlocks order taken.now }
-    ensures words { IfOk result (λ words. AreExpected order (among order taken.now) words.items) }
+    ensures marks { IfOk result (λ marks. IsMarked (among order taken.now) marks.items) }
+    ensures len { IfOk result (λ marks. length marks.items ≡ 2 * 2 ^ order) }
+{
+    let mut marks = vec![in alloc; false; 2 * power_of_two(order) as usize]?;
+    mark_nodes(order, taken, &mut marks);
+    Ok(marks)
+}
+
+/// The words of the tree for the taken blocks whose nodes are marked, by the numbers of the nodes.
+pub fn expected_words(alloc: Global, order: u32, marks: &[bool]) -> Result<Vec<u64>, AllocError>
+    requires most { order ≤ 16 }
+    requires marks { length marks.now ≡ 2 * 2 ^ order }
+    ensures words { (taken : ℕ → Bool) → IsMarked taken marks.now
+        → IfOk result (λ words. AreExpected order taken words.items) }
     ensures len { IfOk result (λ words. length words.items ≡ 2 * 2 ^ order) }
 {
-    let nodes = 2 * power_of_two(order) as usize;
-    let mut marks = vec![in alloc; false; nodes]?;
-    mark_nodes(order, taken, &mut marks);
-    let mut words = vec![in alloc; 0; nodes]?;
-    fill_levels(order, &marks, &mut words);
+    let mut words = vec![in alloc; 0; 2 * power_of_two(order) as usize]?;
+    fill_levels(order, marks, &mut words);
     Ok(words)
 }
 

@@ -8,7 +8,7 @@ ghost use Rattle.rom_model.specs.Region.{IsWellFormed, Contents};
 ghost use Rattle.rom_model.specs.declared.call.Call.TheVariants as call;
 ghost use Rattle.rom_heap.specs.Updates.{Does, DoesNext, most_stores};
 
-use rom_map::{Put, map_del, map_put};
+use rom_map::{Moved, Put, map_del, map_move, map_put};
 use rom_model::{COUNT, Call, Reply, Space};
 use rom_queue::{queue_pop, queue_push};
 use rom_set::{Inserted, set_insert, set_remove};
@@ -103,6 +103,20 @@ fn del<M: Space>(space: &mut M, order: u32, key: u64) -> Reply
     }
 }
 
+fn shift<M: Space>(space: &mut M, order: u32, from: u64, to: u64, amount: u64) -> Reply
+    requires order { IsOrder order }
+    requires region { IsWellFormed order (M.shown.image space.old) }
+    requires room { HasRoom M.shown 31 space.old }
+    ensures does { Does M.shown order (call.Move from to amount) result space.old space.new }
+{
+    match map_move(space, order, from, to, amount) {
+        Moved::Done => Reply::Moved,
+        Moved::Absent => Reply::Absent,
+        Moved::Short(value) => Reply::Short(value),
+        Moved::Over => Reply::Over,
+    }
+}
+
 /// Does an update that is counted already.
 fn update<M: Space>(space: &mut M, order: u32, call: &Call) -> Reply
     requires order { IsOrder order }
@@ -117,7 +131,7 @@ fn update<M: Space>(space: &mut M, order: u32, call: &Call) -> Reply
         Call::Rem(key) => rem(space, order, key),
         Call::Put(key, value) => put(space, order, key, value),
         Call::Del(key) => del(space, order, key),
-        Call::Move(_, _, _) => unreachable!(),
+        Call::Move(from, to, amount) => shift(space, order, from, to, amount),
     }
 }
 

@@ -2,16 +2,19 @@
 ghost use Rattle.rom_model.specs.State.{State};
 ghost use Rattle.rom_model.specs.Region.{Contents};
 ghost use Rattle.rom_model.specs.Trio.{trio};
+ghost use Rattle.rom_heap.specs.Parts.{FirstBreak};
 ghost use Rattle.rom_heap.specs.Laws.{one_contents, contents_within};
 ghost use Rattle.rom_model.proofs.Tags.{call_back, call_only, reply_back, reply_only};
 
 use crate::answer::answer;
 use crate::apply::apply;
 use crate::fresh::format_region;
+use crate::inspection::inspect;
 use rom_model::{
-    Answer, Args, Back, Call, Look, Object, Query, Reply, Space, call_words, reply_words,
+    Answer, Args, Back, Call, Look, Object, Query, Reply, Space, Unfit, call_words, reply_words,
     words_call, words_reply,
 };
+use std::alloc::Global;
 
 /// A queue, a set and a map of numbers.
 pub struct Trio;
@@ -39,6 +42,8 @@ impl Object for Trio {
 
     ghost Contents = { Contents };
 
+    ghost FirstBreak = { FirstBreak };
+
     fn call_words(call: &Call) -> Args {
         call_words(call)
     }
@@ -65,6 +70,10 @@ impl Object for Trio {
 
     fn answer<M: Look>(space: &mut M, order: u32, query: &Query) -> Answer {
         answer(space, order, query)
+    }
+
+    fn inspect(alloc: Global, region: &[u64], order: u32) -> Result<(), Unfit> {
+        inspect(alloc, region, order)
     }
 
     ghost call_back = { call_back };

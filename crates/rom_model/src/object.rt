@@ -1,13 +1,16 @@
 //! What a heap keeps: an object in the words of a region.
-ghost use Rattle.std.specs.Prelude.{◌≡◌, ℕ, ◌+◌, ◌<◌, ◌≤◌, List, length, Option, Some, IfOk, slice_index, false};
+ghost use Rattle.std.specs.Prelude.{◌≡◌, ℕ, ◌+◌, ◌<◌, ◌≤◌, List, length, Option, Some, IfOk, OnOk, Err, slice_index, false};
 ghost use Rattle.rom_model.specs.Space.{KeepsSpace, Looks, Stores, HasRoom};
 ghost use Rattle.rom_model.specs.VecSpace.{words_of};
 ghost use Rattle.rom_model.specs.Machine.{Machine};
 ghost use Rattle.rom_model.specs.History.{LAST_COUNT};
 ghost use Rattle.rom_model.specs.Blocks.{IsOrder, region_len};
+ghost use Rattle.rom_model.specs.declared.unfit.Break.{Break};
+ghost use Rattle.rom_model.specs.declared.unfit.Unfit.TheVariants.{Malformed};
 
 use crate::sizes::region_len;
 use crate::space::{Look, Space};
+use crate::unfit::{Break, Unfit};
 use crate::vec_space::VecSpace;
 use crate::words::{Args, Back};
 use std::alloc::{AllocError, Global};
@@ -49,6 +52,10 @@ pub trait Object {
 
     /// The words of a region of that order are well-formed, and stand for that state and that count.
     ghost Contents: { ℕ → List ℕ → State → ℕ → Type 0 };
+
+    /// The first break of the words of a region of that order: that word breaks that rule, and each test
+    /// before holds.
+    ghost FirstBreak: { ℕ → List ℕ → Break → Type 0 };
 
     /// The words of a call.
     fn call_words(call: &Self::Call) -> Args
@@ -92,6 +99,17 @@ pub trait Object {
             → result ≡ machine.tell s query.now }
         ensures looks { (s : State) (k : ℕ) → Contents order (M.shown.image space.old) s k
             → Looks M.shown (machine.cost order s query.now) space.old space.new };
+
+    /// Whether the words are a well-formed region. Else it tells the first break: the first test that
+    /// does not hold, by the word's offset from the region's start and the rule that it breaks.
+    /// `OutOfMemory` says that there was no memory, and then nothing is known of the words.
+    fn inspect(alloc: Global, region: &[u64], order: u32) -> Result<(), Unfit>
+        requires order { IsOrder order }
+        requires sized { length region.now ≡ region_len order }
+        ensures fit { OnOk result ((s : State) × (k : ℕ) × Contents order region.now s k) }
+        ensures first { (e : Break) → result ≡ Err (Malformed e.offset e.rule) → FirstBreak order region.now e }
+        ensures refused { (e : Break) → FirstBreak order region.now e → (s : State) (k : ℕ) → Contents order region.now s k → ⊥ }
+        ensures one { (e d : Break) → FirstBreak order region.now e → FirstBreak order region.now d → e ≡ d };
 
     /// The words of a call stand for it alone.
     ghost call_back: { (call : Self.Call) → machine.words_call (machine.call_words call) ≡ Some call };

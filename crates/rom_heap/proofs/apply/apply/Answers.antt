@@ -1,4 +1,4 @@
-use Rattle.std.proofs.Common.{◌≡◌, arith, sym, ◌∙◌}
+use Rattle.std.proofs.Common.{◌≡◌, ◌+◌, arith, sym, ◌∙◌}
 use Rattle.rom_heap.proofs.Steps.{raised}
 use Rattle.rom_heap.proofs.apply.apply.Goals as goal
 
