@@ -28,9 +28,6 @@ other : (x y : ℕ) → x ≢ y → (x == y) ≡ false
 other x y ne = grind (arith, nat_tests)
 
 module _ (s : State) (a b d : ℕ) where
-  pub no_source : map.get s.pairs a ≡ None → after_move s a b d ≡ (s, reply.Absent)
-  no_source none = λ i. transfer s a b d (none i) (map.get s.pairs b)
-
   module _ (u : ℕ) (source : map.get s.pairs a ≡ Some u) where
     pub no_target : map.get s.pairs b ≡ None → after_move s a b d ≡ (s, reply.Absent)
     no_target none = λ i. transfer s a b d (source i) (none i)

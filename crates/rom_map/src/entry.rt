@@ -16,6 +16,7 @@ use rom_model::Look;
 pub struct Entry {
     /// Where the node begins.
     pub node: u64,
+    /// The value that it has, or is to have.
     pub value: u64,
 }
 
