@@ -1,15 +1,16 @@
 -- What the calls on the structures answer and leave is what the step gives.
-use Rattle.std.proofs.Common.{◌≡◌, ℕ, ◌+◌, ◌<◌, ◌≤◌, false, true, Bool, cond, List, [], ◌∷◌, drop, sym, ap, subst, ◌∙◌, arith, lt-ltb, Some, None, Option}
+use Rattle.std.proofs.Common.{◌≡◌, ℕ, ◌+◌, ◌<◌, ◌≤◌, false, true, Bool, cond, List, [], ◌∷◌, drop, sym, ap, subst, ◌∙◌, arith, lt-ltb, Some, None}
 use Rattle.std.specs.Prelude.{slice_get, slice_index, nat_lt, if◌then◌else◌}
+use Rattle.std.specs.Prelude.{Result, Ok, Err, OnOk}
 use Rattle.std.specs.FinSet as set
 use Rattle.std.specs.FinMap as finite
 use Rattle.std.proofs.lemmas.Bool.{ltb-true}
-use Rattle.rom_model.specs.Space.{ShownSpace, ChangesOnly, Costs, Looks, Stores}
+use Rattle.rom_model.specs.Space.{ShownSpace, ChangesOnly, Costs, Looks}
 use Rattle.rom_model.specs.History.{LAST_COUNT}
-use Rattle.rom_model.specs.State.{State, live, cap, has_room, deq, put, del, step, first_of_queue}
+use Rattle.rom_model.specs.State.{State, live, cap, has_room, deq, put, step, first_of_queue}
 use Rattle.rom_model.specs.Region.{Contents}
 use Rattle.rom_model.specs.declared.call.Call.{Call}
-use Rattle.rom_model.specs.declared.call.Call.TheVariants.{Enq, Add, Rem, Put, Del}
+use Rattle.rom_model.specs.declared.call.Call.TheVariants.{Enq, Add, Rem, Put}
 use Rattle.rom_model.specs.declared.call.Reply.{Reply}
 use Rattle.rom_model.specs.declared.call.Reply.TheVariants as reply
 use Rattle.rom_model.specs.declared.call.Answer.TheVariants as answer
@@ -18,7 +19,9 @@ use Rattle.rom_model.proofs.Recounted.{recounted_contents}
 use Rattle.rom_queue.specs.Queue.{with_queue, with_last}
 use Rattle.rom_set.specs.Set.{with_members}
 use Rattle.rom_map.specs.Map.{with_pairs}
+use Rattle.rom_model.specs.declared.unfit.Unfit.{Unfit}
 use Rattle.rom_heap.specs.Updates.{Does, most_stores}
+use Rattle.rom_heap.specs.Parts.{IsInspected}
 
 -- a number is not below itself
 not_below : (n : ℕ) (b : Bool) → nat_lt n n ≡ b → b ≡ false
@@ -115,3 +118,8 @@ peek_some (x ∷ xs) v is = let same : Some v ≡ Some x = is in let here : x �
 pub peek_none : (q : List ℕ) → None ≡ slice_get q 0 → first_of_queue q ≡ answer.Empty
 peek_none [] is = λ i. answer.Empty
 peek_none (x ∷ xs) is = absurd (let never : None ≡ Some x = is in cc)
+
+-- a region that the inspection accepts has contents
+pub fit : (n : ℕ) (w : List ℕ) (result : Result (Unit {0}) Unfit) → IsInspected n w result → OnOk result ((s : State) × (k : ℕ) × Contents n w s k)
+fit n w (Ok done) is = (is.state, is.count, is.contents)
+fit n w (Err e) is = tt

@@ -105,12 +105,12 @@ pub fn map_move<M: Space>(space: &mut M, order: u32, from: u64, to: u64, amount:
     ensures others { (p : Chains) (s : State) (k : ℕ) → IsRegion order (M.shown.image space.old) p s k
         → MoveLeaves order (M.shown.image space.old) p s k from to amount result (M.shown.image space.new) }
     ensures costs { (s : State) (k : ℕ) → Contents order (M.shown.image space.old) s k
-        → Costs M.shown (6 + 2 * keys_beside order s.pairs from + 2 * keys_beside order s.pairs to) 2
+        → Costs M.shown (4 + 2 * keys_beside order s.pairs from + 2 * keys_beside order s.pairs to) 2
         space.old space.new }
     ensures alone { from ≡ to → (s : State) (k : ℕ) → Contents order (M.shown.image space.old) s k
-        → Looks M.shown (3 + 2 * keys_beside order s.pairs from) space.old space.new }
+        → Looks M.shown (1 + 2 * keys_beside order s.pairs from) space.old space.new }
     ensures kept { (s : State) (k : ℕ) → Contents order (M.shown.image space.old) s k
-        → KeepsUnlessMoved M.shown (6 + 2 * keys_beside order s.pairs from + 2 * keys_beside order s.pairs to)
+        → KeepsUnlessMoved M.shown (4 + 2 * keys_beside order s.pairs from + 2 * keys_beside order s.pairs to)
         amount result space.old space.new }
     ensures sparing { IsSparing M.shown space.old space.new }
 {

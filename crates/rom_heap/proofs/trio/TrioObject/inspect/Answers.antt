@@ -1,0 +1,8 @@
+use Rattle.rom_heap.proofs.Steps.{fit}
+use Rattle.rom_heap.proofs.trio.TrioObject.inspect.Goals as goal
+
+pub returns-clause-fit : goal.returns-clause-fit
+returns-clause-fit c = fit c.args.order c.args.region.now c.inspect.result c.inspect.ensures.answer
+
+pub returns-clause-refused : goal.returns-clause-refused
+returns-clause-refused c = λ e first s k held. c.inspect.ensures.refused e first (record { state = s; count = k; contents = held })
