@@ -3,6 +3,7 @@ pub mod Streams
 pub mod Limits
 pub mod Memory
 pub mod Adapts
+pub mod Phrases
 pub mod Lines
 pub mod Scripts
 pub mod Text

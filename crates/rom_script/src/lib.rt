@@ -11,6 +11,7 @@ mod gathered;
 mod line;
 mod memory;
 mod names;
+mod phrase;
 mod print;
 mod read;
 mod report;
