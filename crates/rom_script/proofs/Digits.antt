@@ -1,5 +1,5 @@
 -- Numbers in digits, as lines have them.
-use Rattle.std.specs.Prelude.{◌≡◌, ◌≢◌, ℕ, ◌+◌, ◌^◌, ◌<◌, ◌≤◌, List, length, slice_index, Option, Result, Ok, Err, IfSome, IfNone, decimal}
+use Rattle.std.specs.Prelude.{◌≡◌, ◌≢◌, ℕ, ◌^◌, ◌<◌, List, Result, Ok, Err, IfSome, IfNone, decimal}
 use Rattle.std.proofs.Common.{zero, suc, sym, subst, ap, ◌∙◌, arith}
 use Rattle.std.specs.Result.{result_ok}
 use Rattle.std.specs.Str.{IsUtf8}

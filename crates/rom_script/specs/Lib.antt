@@ -7,5 +7,6 @@ pub mod Phrases
 pub mod Lines
 pub mod Scripts
 pub mod Text
+pub mod Trio
 pub mod Runs
 pub mod Gathered

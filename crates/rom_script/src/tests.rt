@@ -17,6 +17,8 @@ const DEQ: Line = Line::Update(Call::Deq);
 
 const PEEK: Line = Line::Ask(Query::Peek);
 
+const UNREAD: LineResult<Reply, Answer> = LineResult::Unread;
+
 #[test]
 fn lines_are_read_or_unread(rt: HostRuntime) {
     let lines: [(&[u8], Line); 33] = [
@@ -315,7 +317,7 @@ fn texts_of_runs_leave_in_whole_blocks(rt: HostRuntime) -> Result<(), Fail> {
         (2000, &[4096, 4096, 4096, 1729]),
     ];
     for (lines, widths) in runs {
-        let results = vec![in alloc; LineResult::Unread; lines]?;
+        let results = vec![in alloc; UNREAD; lines]?;
         let mut out = Widths {
             widths: Vec::new(alloc),
             faults: 0,
@@ -325,12 +327,13 @@ fn texts_of_runs_leave_in_whole_blocks(rt: HostRuntime) -> Result<(), Fail> {
         assert!(rt; out.widths.as_slice() == widths, "at {lines} lines");
     }
 
-    let results = vec![in alloc; LineResult::Read(Answer::Empty, 0); 2000]?;
+    let mut results = vec![in alloc; UNREAD; 2000]?;
+    results.push(LineResult::Read(Answer::Empty, 0))?;
     let mut text = String::from_str(alloc, "caller 1\n")?;
     for _ in 0..2000 {
-        text.push_str("empty #0\n")?;
+        text.push_str("unread\n")?;
     }
-    text.push_str("count 0\n")?;
+    text.push_str("empty #0\ncount 0\n")?;
     let mut out = Collect::with_room(alloc, 100_000, 1000)?;
     print_run(&mut out, &results, 0)?;
     assert!(rt; out.bytes() == text.as_bytes());

@@ -1,6 +1,6 @@
-use Rattle.std.proofs.Common.{◌≡◌, ◌≢◌, ℕ, List, ◌≤◌, length, IfNone, sym, subst, ◌∙◌}
+use Rattle.std.proofs.Common.{◌≢◌, ℕ, List, ◌≤◌, length, IfNone, sym, subst}
 use Rattle.rom_script.specs.Phrases.{AreWords, line_words, phrase_words}
-use Rattle.rom_script.proofs.Words.{behind_space, no_number, one_more, too_many}
+use Rattle.rom_script.proofs.Words.{behind_space, no_number}
 use Rattle.rom_script.proofs.phrase.read_phrase.Goals as goal
 
 pub returns-in_err-number-clause-none : goal.returns-in_err-number-clause-none
