@@ -12,7 +12,8 @@ use Rattle.rom_model.specs.declared.call.Answer.TheVariants as answer
 use Rattle.rom_model.specs.declared.call.Updated.TheVariants.{Done, Spent, Failed, Doubt}
 use Rattle.rom_model.specs.declared.line.LineResult.{LineResult}
 use Rattle.rom_model.specs.declared.line.LineResult.TheVariants as outcome
-use Rattle.rom_script.specs.Text.{reply_text, answer_text, result_text, line_text, results_text, callers_text, ReplyFits, AnswerFits, ResultFits, AreOfType, TextDetermines, trio_texts}
+use Rattle.rom_script.specs.Text.{result_text, line_text, results_text, callers_text, ResultFits, AreOfType}
+use Rattle.rom_script.specs.Trio.{reply_text, answer_text, ReplyFits, AnswerFits, TextDetermines, trio_texts}
 use Rattle.rom_script.proofs.Reading.{is_word, AllAreWords, words_of, with_spaces, both, line_read, decimal_is_a_word, decimal_read, wide}
 
 -- the reply that a word and a number name
@@ -169,7 +170,7 @@ answer_read (answer.Sizes q s m) n rest fits lt = sizes_read q s m n rest fits l
 answer_read (answer.Total t) n rest fits lt = numbered (codes "total") t 35 n rest refl refl fits lt
 
 -- a result's line is read as the result
-result_read : (r : LineResult Reply Answer) (rest : List ℕ) → ResultFits r → read (line_text (result_text trio_texts r) ++ rest) ≡ with_result r (read rest)
+result_read : (r : LineResult Reply Answer) (rest : List ℕ) → ResultFits trio_texts r → read (line_text (result_text trio_texts r) ++ rest) ≡ with_result r (read rest)
 result_read outcome.Unread rest fits = result_line (codes "unread") [] rest refl tt
 result_read (outcome.Update (Done r n)) rest fits = update_read r n rest fits.0 fits.1
 result_read (outcome.Update Spent) rest fits = result_line (codes "spent") [] rest refl tt
@@ -178,7 +179,7 @@ result_read (outcome.Update Doubt) rest fits = result_line (codes "doubt") [] re
 result_read (outcome.Read a n) rest fits = answer_read a n rest fits.0 fits.1
 
 -- the lines of results are read as them, before those that were read
-results_read : (rs : List (LineResult Reply Answer)) (rest : List ℕ) (more : List (List (LineResult Reply Answer))) (n : ℕ) → AllByRecursion ResultFits rs →
+results_read : (rs : List (LineResult Reply Answer)) (rest : List ℕ) (more : List (List (LineResult Reply Answer))) (n : ℕ) → AllByRecursion (ResultFits trio_texts) rs →
     read rest ≡ ([], more, n) → read (results_text trio_texts rs ++ rest) ≡ (rs, more, n)
 results_read [] rest more n fit is = is
 results_read (r ∷ rs) rest more n fit is =
@@ -189,7 +190,7 @@ grouped : (a b c d : List ℕ) → a ++ b ++ c ++ d ≡ a ++ (b ++ (c ++ d))
 grouped a b c d = simp append_assoc refl
 
 -- a whole text is read as its results and its count
-text_read : (caller : ℕ) (rs : List (List (LineResult Reply Answer))) (n : ℕ) → AreOfType rs → n < 2 ^ 64 →
+text_read : (caller : ℕ) (rs : List (List (LineResult Reply Answer))) (n : ℕ) → AreOfType trio_texts rs → n < 2 ^ 64 →
     read (callers_text trio_texts caller rs ++ line_text (codes "count " ++ decimal n)) ≡ ([], rs, n)
 text_read caller [] n fit lt =
     ap read (sym (append-nil (line_text (codes "count " ++ decimal n))))

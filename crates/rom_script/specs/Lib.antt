@@ -3,8 +3,10 @@ pub mod Streams
 pub mod Limits
 pub mod Memory
 pub mod Adapts
+pub mod Phrases
 pub mod Lines
 pub mod Scripts
 pub mod Text
+pub mod Trio
 pub mod Runs
 pub mod Gathered

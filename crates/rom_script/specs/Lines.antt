@@ -46,28 +46,35 @@ query_line query.Peek = codes "peek"
 query_line query.Len = codes "len"
 query_line query.Total = codes "total"
 
--- the calls that scripts may have today, with numbers that are words
-abbrev pub IsCallRead : Call → Type 0
-IsCallRead (call.Enq v) = v < 2 ^ 64
-IsCallRead call.Deq = Unit {0}
-IsCallRead other = ⊥
+-- the numbers of a call are words
+abbrev pub CallFits : Call → Type 0
+CallFits (call.Enq v) = v < 2 ^ 64
+CallFits call.Deq = Unit {0}
+CallFits (call.Add k) = k < 2 ^ 64
+CallFits (call.Rem k) = k < 2 ^ 64
+CallFits (call.Put k v) = (k < 2 ^ 64) × (v < 2 ^ 64)
+CallFits (call.Del k) = k < 2 ^ 64
+CallFits (call.Move a b d) = (a < 2 ^ 64) × (b < 2 ^ 64) × (d < 2 ^ 64)
 
--- the queries that scripts may have today
-abbrev pub IsQueryRead : Query → Type 0
-IsQueryRead query.Peek = Unit {0}
-IsQueryRead other = ⊥
+-- the numbers of a query are words
+abbrev pub QueryFits : Query → Type 0
+QueryFits (query.Has k) = k < 2 ^ 64
+QueryFits (query.Get k) = k < 2 ^ 64
+QueryFits query.Peek = Unit {0}
+QueryFits query.Len = Unit {0}
+QueryFits query.Total = Unit {0}
 
--- the step is one that scripts may have today
-abbrev pub IsStepRead : Step Call Query → Type 0
-IsStepRead (Update call) = IsCallRead call
-IsStepRead (Ask query) = IsQueryRead query
-IsStepRead Unread = Unit {0}
+-- the numbers of a step are words
+abbrev pub StepFits : Step Call Query → Type 0
+StepFits (Update call) = CallFits call
+StepFits (Ask query) = QueryFits query
+StepFits Unread = Unit {0}
 
 -- The line is written as the step is, or as no step is.
 abbrev pub Reads : List ℕ → Step Call Query → Type 0
-Reads line (Update c) = IsCallRead c × (line ≡ call_line c)
-Reads line (Ask q) = IsQueryRead q × (line ≡ query_line q)
-Reads line Unread = ((c : Call) → IsCallRead c → line ≡ call_line c → ⊥) × ((q : Query) → IsQueryRead q → line ≡ query_line q → ⊥)
+Reads line (Update c) = CallFits c × (line ≡ call_line c)
+Reads line (Ask q) = QueryFits q × (line ≡ query_line q)
+Reads line Unread = ((c : Call) → CallFits c → line ≡ call_line c → ⊥) × ((q : Query) → QueryFits q → line ≡ query_line q → ⊥)
 
 -- each line is written as its step is
 abbrev pub AreRead : List (List ℕ) → List (Step Call Query) → Type 0

@@ -11,6 +11,7 @@ mod gathered;
 mod line;
 mod memory;
 mod names;
+mod phrase;
 mod print;
 mod read;
 mod report;
@@ -18,6 +19,8 @@ mod script;
 mod streams;
 #[cfg(test)]
 mod tests;
+mod told;
+mod trio;
 
 pub use adapt::Adapted;
 pub use line::{Line, line_end, read_line};
@@ -28,3 +31,4 @@ pub use read::{ReadRefused, read_bytes};
 pub use report::print_run;
 pub use script::{Script, read_script};
 pub use streams::{IoFailed, Sink, Source};
+pub use told::Told;

@@ -1,13 +1,14 @@
 //! Texts, written piece by piece. Nothing here takes memory. After `IoFailed` the sink has taken
 //! some of the text, from its front.
-ghost use Rattle.std.specs.Prelude.{◌≡◌, ◌++◌, codes, decimal};
+ghost use Rattle.std.specs.Prelude.{decimal, OnOk};
 ghost use Rattle.std.specs.List.{flat_map};
 ghost use Rattle.rom_script.specs.Streams.{Prints};
-ghost use Rattle.rom_script.specs.Text.{number_text, read_text, reply_text, trio_texts, update_text};
+ghost use Rattle.rom_script.specs.Text.{UpdateFits, read_text, update_text};
 
 use crate::streams::{IoFailed, Sink};
+use crate::told::Told;
 use itoa::Buffer;
-use rom_model::{Answer, Reply, Updated};
+use rom_model::Updated;
 
 /// Prints bytes.
 fn print_bytes<O: Sink>(out: &mut O, bytes: &[u8]) -> Result<(), IoFailed>
@@ -44,48 +45,15 @@ pub fn print_pieces<O: Sink>(out: &mut O, pieces: &[&str]) -> Result<(), IoFaile
     Ok(())
 }
 
-/// The words that begin a reply's text, and the number after them.
-fn spoken(reply: &Reply) -> (&'static str, Option<u64>)
-    ensures { reply_text reply.now ≡ result.0.now ++ number_text result.1 }
-{
-    match reply {
-        Reply::Queued => ("queued", None),
-        Reply::Full => ("full", None),
-        Reply::Head(v) => ("head ", Some(*v)),
-        Reply::Empty => ("empty", None),
-        Reply::Added => ("added", None),
-        Reply::Present => ("present", None),
-        Reply::Removed => ("removed", None),
-        Reply::Absent => ("absent", None),
-        Reply::NoPrior => ("none", None),
-        Reply::Was(v) => ("was ", Some(*v)),
-        Reply::Moved => ("moved", None),
-        Reply::Short(v) => ("short ", Some(*v)),
-        Reply::Over => ("over", None),
-    }
-}
-
-/// The digits of a number, where there is one.
-fn digits_of(buffer: &mut Buffer, number: Option<u64>) -> &str
-    ensures { result.now ≡ number_text number }
-{
-    match number {
-        Some(n) => buffer.format(n),
-        None => "",
-    }
-}
-
 /// Prints what an update was told, with its place where it was done.
-pub fn print_update<O: Sink>(out: &mut O, updated: &Updated<Reply>) -> Result<(), IoFailed>
-    ensures prints { Prints O.shown out.old out.new result (update_text trio_texts updated.now) }
+pub fn print_update<R: Told, O: Sink>(out: &mut O, updated: &Updated<R>) -> Result<(), IoFailed>
+    ensures prints { Prints O.shown out.old out.new result (update_text R.shown.text updated.now) }
+    ensures fits { OnOk result (UpdateFits R.shown.Fits updated.now) }
 {
     match updated {
         Updated::Done(reply, place) => {
-            let (words, number) = spoken(reply);
-            let mut digits = Buffer::new();
-            let mut at = Buffer::new();
-            let number = digits_of(&mut digits, number);
-            print_pieces(out, &[words, number, " @", at.format(*place)])
+            reply.print(out)?;
+            print_pieces(out, &[" @", Buffer::new().format(*place)])
         }
         Updated::Spent => print_text(out, "spent"),
         Updated::Failed => print_text(out, "fault"),
@@ -94,30 +62,10 @@ pub fn print_update<O: Sink>(out: &mut O, updated: &Updated<Reply>) -> Result<()
 }
 
 /// Prints what a query was told, with the front that it read.
-pub fn print_answer<O: Sink>(out: &mut O, answer: &Answer, front: u64) -> Result<(), IoFailed>
-    ensures prints { Prints O.shown out.old out.new result (read_text trio_texts answer.now front) }
+pub fn print_answer<A: Told, O: Sink>(out: &mut O, answer: &A, front: u64) -> Result<(), IoFailed>
+    ensures prints { Prints O.shown out.old out.new result (read_text A.shown.text answer.now front) }
+    ensures fits { OnOk result (A.shown.Fits answer.now) }
 {
-    let mut at = Buffer::new();
-    let at = at.format(front);
-    let mut digits = Buffer::new();
-    match answer {
-        Answer::Yes => print_pieces(out, &["yes #", at]),
-        Answer::No => print_pieces(out, &["no #", at]),
-        Answer::Value(v) => print_pieces(out, &["value ", digits.format(*v), " #", at]),
-        Answer::Missing => print_pieces(out, &["none #", at]),
-        Answer::Head(v) => print_pieces(out, &["head ", digits.format(*v), " #", at]),
-        Answer::Empty => print_pieces(out, &["empty #", at]),
-        Answer::Sizes { queue, set, map } => {
-            let mut of_set = Buffer::new();
-            let mut of_map = Buffer::new();
-            let queue = digits.format(*queue);
-            let set = of_set.format(*set);
-            let map = of_map.format(*map);
-            print_pieces(
-                out,
-                &["queue ", queue, " set ", set, " map ", map, " #", at],
-            )
-        }
-        Answer::Total(t) => print_pieces(out, &["total ", digits.format(*t), " #", at]),
-    }
+    answer.print(out)?;
+    print_pieces(out, &[" #", Buffer::new().format(front)])
 }

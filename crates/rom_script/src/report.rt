@@ -1,17 +1,24 @@
 //! The text of a run: what each line was told, and the count at closing.
-ghost use Rattle.std.specs.Prelude.{◌≡◌, [], ◌∷◌, drop};
+ghost use Rattle.std.specs.Prelude.{◌≡◌, [], ◌∷◌, drop, OnOk};
+ghost use Rattle.std.specs.List.{AllByRecursion};
 ghost use Rattle.rom_script.specs.Streams.{Prints};
-ghost use Rattle.rom_script.specs.Text.{line_text, result_text, results_text, text, trio_texts};
+ghost use Rattle.rom_script.specs.Text.{AreOfType, ResultFits, line_text, result_text, results_text, text, texts_of};
 
 use crate::gathered::Gathered;
 use crate::print::{print_answer, print_pieces, print_text, print_update};
 use crate::streams::{IoFailed, Sink};
+use crate::told::Told;
 use itoa::Buffer;
-use rom_model::{Answer, LineResult, Reply};
+use rom_model::LineResult;
 
 /// Prints what a line was told.
-fn print_result<O: Sink>(out: &mut O, told: &LineResult<Reply, Answer>) -> Result<(), IoFailed>
-    ensures prints { Prints O.shown out.old out.new result (result_text trio_texts told.now) }
+fn print_result<R: Told, A: Told, O: Sink>(
+    out: &mut O,
+    told: &LineResult<R, A>,
+) -> Result<(), IoFailed>
+    ensures prints { Prints O.shown out.old out.new result
+        (result_text (texts_of R.shown A.shown) told.now) }
+    ensures of_type { OnOk result (ResultFits (texts_of R.shown A.shown) told.now) }
 {
     match told {
         LineResult::Unread => print_text(out, "unread"),
@@ -21,19 +28,26 @@ fn print_result<O: Sink>(out: &mut O, told: &LineResult<Reply, Answer>) -> Resul
 }
 
 /// Prints the line of what a line was told.
-fn print_line<O: Sink>(out: &mut O, told: &LineResult<Reply, Answer>) -> Result<(), IoFailed>
-    ensures prints { Prints O.shown out.old out.new result (line_text (result_text trio_texts told.now)) }
+fn print_line<R: Told, A: Told, O: Sink>(
+    out: &mut O,
+    told: &LineResult<R, A>,
+) -> Result<(), IoFailed>
+    ensures prints { Prints O.shown out.old out.new result
+        (line_text (result_text (texts_of R.shown A.shown) told.now)) }
+    ensures of_type { OnOk result (ResultFits (texts_of R.shown A.shown) told.now) }
 {
     print_result(out, told)?;
     print_text(out, "\n")
 }
 
 /// Prints the lines of one caller's results.
-fn print_results<O: Sink>(
+fn print_results<R: Told, A: Told, O: Sink>(
     out: &mut O,
-    results: &[LineResult<Reply, Answer>],
+    results: &[LineResult<R, A>],
 ) -> Result<(), IoFailed>
-    ensures prints { Prints O.shown out.old out.new result (results_text trio_texts results.now) }
+    ensures prints { Prints O.shown out.old out.new result
+        (results_text (texts_of R.shown A.shown) results.now) }
+    ensures of_type { OnOk result (AllByRecursion (ResultFits (texts_of R.shown A.shown)) results.now) }
 {
     for told in results {
         print_line(out, told)?;
@@ -42,12 +56,14 @@ fn print_results<O: Sink>(
 }
 
 /// Prints the whole text, piece by piece.
-fn print_whole<O: Sink>(
+fn print_whole<R: Told, A: Told, O: Sink>(
     out: &mut O,
-    results: &[LineResult<Reply, Answer>],
+    results: &[LineResult<R, A>],
     count: u64,
 ) -> Result<(), IoFailed>
-    ensures prints { Prints O.shown out.old out.new result (text trio_texts (results.now ∷ []) count) }
+    ensures prints { Prints O.shown out.old out.new result
+        (text (texts_of R.shown A.shown) (results.now ∷ []) count) }
+    ensures of_type { OnOk result (AreOfType (texts_of R.shown A.shown) (results.now ∷ [])) }
 {
     print_text(out, "caller 1\n")?;
     print_results(out, results)?;
@@ -55,15 +71,16 @@ fn print_whole<O: Sink>(
 }
 
 /// Prints the whole text into a block, and hands the rest of it over.
-fn print_through<O: Sink>(
+fn print_through<R: Told, A: Told, O: Sink>(
     out: &mut Gathered<O>,
-    results: &[LineResult<Reply, Answer>],
+    results: &[LineResult<R, A>],
     count: u64,
 ) -> Result<(), IoFailed>
     requires none { drop out.old.handed out.old.block.items ≡ [] }
     requires opened { O.shown.taken out.old.opened.value ≡ O.shown.taken out.old.out.now }
     ensures prints { Prints O.shown out.old.out.now out.new.out.now result
-        (text trio_texts (results.now ∷ []) count) }
+        (text (texts_of R.shown A.shown) (results.now ∷ []) count) }
+    ensures of_type { OnOk result (AreOfType (texts_of R.shown A.shown) (results.now ∷ [])) }
     ensures same_sink { out.new.out.ghost_name ≡ out.old.out.ghost_name }
 {
     print_whole(out, results, count)?;
@@ -73,12 +90,14 @@ fn print_through<O: Sink>(
 /// Prints the text of a run of one caller: its results and the count at closing. It leaves in
 /// blocks of 4,096 bytes, and nothing of it waits after the call. It takes no memory. After
 /// `IoFailed` the sink has taken some of the text, from its front.
-pub fn print_run<O: Sink>(
+pub fn print_run<R: Told, A: Told, O: Sink>(
     out: &mut O,
-    results: &[LineResult<Reply, Answer>],
+    results: &[LineResult<R, A>],
     count: u64,
 ) -> Result<(), IoFailed>
-    ensures prints { Prints O.shown out.old out.new result (text trio_texts (results.now ∷ []) count) }
+    ensures prints { Prints O.shown out.old out.new result
+        (text (texts_of R.shown A.shown) (results.now ∷ []) count) }
+    ensures of_type { OnOk result (AreOfType (texts_of R.shown A.shown) (results.now ∷ [])) }
 {
     let mut gathered = Gathered::over(out);
     print_through(&mut gathered, results, count)

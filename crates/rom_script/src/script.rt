@@ -1,9 +1,8 @@
 //! Whole scripts: their lines in order.
 ghost use Rattle.std.specs.Prelude.{◌≡◌, ℕ, ◌+◌, ◌<◌, ◌≤◌, List, [], ◌∷◌, ◌++◌, length, vec_len, IfOk, IfSome, OnOk, slice_get};
-ghost use Rattle.std.specs.List.{AllByRecursion};
 ghost use Rattle.rom_script.specs.declared.read.TheConstants.{MAX_BYTES};
 ghost use Rattle.rom_script.specs.Limits.{EndsReading, FitsScript};
-ghost use Rattle.rom_script.specs.Lines.{AreRead, AreStepsOf, IsStepRead, lines_of};
+ghost use Rattle.rom_script.specs.Lines.{AreRead, AreStepsOf, lines_of};
 ghost use Rattle.rom_script.specs.Scripts.{steps_of};
 
 use crate::line::{Line, line_end, read_line};
@@ -44,7 +43,6 @@ impl Script {
 fn lines_in(alloc: Global, bytes: &[u8]) -> Result<Vec<Line>, AllocError>
     ensures read { IfOk result (λ lines. AreRead (lines_of bytes.now) lines.items) }
     ensures few { IfOk result (λ lines. vec_len lines ≤ length bytes.now) }
-    ensures today { IfOk result (λ lines. AllByRecursion IsStepRead lines.items) }
 {
     let mut lines = Vec::new(alloc);
     let mut start = 0;
@@ -59,7 +57,6 @@ fn lines_in(alloc: Global, bytes: &[u8]) -> Result<Vec<Line>, AllocError>
 /// Reads a script to the end of its source. What was taken is lost to the source after an `Err`.
 pub fn read_script<S: Source>(alloc: Global, source: &mut S) -> Result<Script, ReadRefused>
     ensures lines { IfOk result (λ script. AreStepsOf (S.shown.left source.old) (steps_of script)) }
-    ensures today { IfOk result (λ script. AllByRecursion IsStepRead (steps_of script)) }
     ensures few { IfOk result (λ script. length (steps_of script) ≤ MAX_BYTES) }
     ensures fits { OnOk result (IfSome (S.shown.left source.old) FitsScript) }
     ensures ends { EndsReading S.shown source.old source.new result }

@@ -17,45 +17,47 @@ const DEQ: Line = Line::Update(Call::Deq);
 
 const PEEK: Line = Line::Ask(Query::Peek);
 
+const UNREAD: LineResult<Reply, Answer> = LineResult::Unread;
+
 #[test]
 fn lines_are_read_or_unread(rt: HostRuntime) {
     let lines: [(&[u8], Line); 33] = [
-        (b"enq 0", Line::Update(Call::Enq(0))),
         (b"enq 7", ENQ_7),
-        (b"enq 10", Line::Update(Call::Enq(10))),
-        (
-            b"enq 18446744073709551615",
-            Line::Update(Call::Enq(u64::MAX)),
-        ),
         (b"deq", DEQ),
+        (b"add 10", Line::Update(Call::Add(10))),
+        (b"rem 0", Line::Update(Call::Rem(0))),
+        (b"put 5 8", Line::Update(Call::Put(5, 8))),
+        (b"del 1", Line::Update(Call::Del(1))),
+        (b"move 1 2 60", Line::Update(Call::Move(1, 2, 60))),
+        (b"has 3", Line::Ask(Query::Has(3))),
+        (
+            b"get 18446744073709551615",
+            Line::Ask(Query::Get(18446744073709551615)),
+        ),
         (b"peek", PEEK),
-        (b"enq 18446744073709551616", Line::Unread),
-        (b"enq 100000000000000000000", Line::Unread),
+        (b"len", Line::Ask(Query::Len)),
+        (b"total", Line::Ask(Query::Total)),
+        (b"put 18446744073709551616 1", Line::Unread),
+        (b"put 1 100000000000000000000", Line::Unread),
         (b"enq 007", Line::Unread),
         (b"enq 00", Line::Unread),
-        (b"enq -1", Line::Unread),
-        (b"enq -0", Line::Unread),
         (b"enq +1", Line::Unread),
-        (b"enq  1", Line::Unread),
-        (b"enq 1 ", Line::Unread),
-        (b" enq 1", Line::Unread),
-        (b"enq\t1", Line::Unread),
-        (b"enq 1 1", Line::Unread),
-        (b"enq 1\r", Line::Unread),
+        (b"enq -1", Line::Unread),
         (b"enq 0x1", Line::Unread),
-        (b"enq ", Line::Unread),
-        (b"enq", Line::Unread),
-        (b"enq1", Line::Unread),
-        (b"ENQ 1", Line::Unread),
-        (b"deq ", Line::Unread),
-        (b"deq 1", Line::Unread),
-        (b"Peek", Line::Unread),
-        (b"peek\0", Line::Unread),
-        (b"", Line::Unread),
-        (b"put 1 1", Line::Unread),
-        (b"\xff\xfe", Line::Unread),
-        (b"enq \xff", Line::Unread),
         (b"enq \xd9\xa1", Line::Unread),
+        (b"put  1 1", Line::Unread),
+        (b"put 1  1", Line::Unread),
+        (b"put 1 1 ", Line::Unread),
+        (b" put 1 1", Line::Unread),
+        (b"put\t1 1", Line::Unread),
+        (b"put 1\t1", Line::Unread),
+        (b"PUT 1 1", Line::Unread),
+        (b"put 1", Line::Unread),
+        (b"move 1 2 3 4", Line::Unread),
+        (b"total 1", Line::Unread),
+        (b"deq ", Line::Unread),
+        (b"len\r", Line::Unread),
+        (b"", Line::Unread),
     ];
     for (line, wanted) in lines {
         assert_eq!(rt; read_line(line), wanted, "at {line:?}");
@@ -315,7 +317,7 @@ fn texts_of_runs_leave_in_whole_blocks(rt: HostRuntime) -> Result<(), Fail> {
         (2000, &[4096, 4096, 4096, 1729]),
     ];
     for (lines, widths) in runs {
-        let results = vec![in alloc; LineResult::Unread; lines]?;
+        let results = vec![in alloc; UNREAD; lines]?;
         let mut out = Widths {
             widths: Vec::new(alloc),
             faults: 0,
@@ -325,12 +327,13 @@ fn texts_of_runs_leave_in_whole_blocks(rt: HostRuntime) -> Result<(), Fail> {
         assert!(rt; out.widths.as_slice() == widths, "at {lines} lines");
     }
 
-    let results = vec![in alloc; LineResult::Read(Answer::Empty, 0); 2000]?;
+    let mut results = vec![in alloc; UNREAD; 2000]?;
+    results.push(LineResult::Read(Answer::Empty, 0))?;
     let mut text = String::from_str(alloc, "caller 1\n")?;
     for _ in 0..2000 {
-        text.push_str("empty #0\n")?;
+        text.push_str("unread\n")?;
     }
-    text.push_str("count 0\n")?;
+    text.push_str("empty #0\ncount 0\n")?;
     let mut out = Collect::with_room(alloc, 100_000, 1000)?;
     print_run(&mut out, &results, 0)?;
     assert!(rt; out.bytes() == text.as_bytes());

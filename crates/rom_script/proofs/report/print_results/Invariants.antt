@@ -1,8 +1,12 @@
 use Rattle.std.proofs.Common.{take}
-use Rattle.rom_script.specs.Text.{results_text, trio_texts}
+use Rattle.std.specs.List.{AllByRecursion}
+use Rattle.rom_script.specs.Text.{ResultFits, results_text, texts_of}
 use Rattle.rom_script.proofs.Prints.{Printed}
 use Rattle.rom_script.proofs.report.print_results.Given as goal
 
--- the results so far are printed
+-- the results so far are printed, and their numbers are of their types
 abbrev pub invariant-loop-told : goal.invariant-loop-told
-invariant-loop-told g l = Printed g.O.Sink.shown l.fn.out l.out (results_text trio_texts (take l.told-index l.results))
+invariant-loop-told g l = record {
+  printed : Printed g.O.Sink.shown l.fn.out l.out (results_text (texts_of g.R.Told.shown g.A.Told.shown) (take l.told-index l.results));
+  of_type : AllByRecursion (ResultFits (texts_of g.R.Told.shown g.A.Told.shown)) (take l.told-index l.results);
+}
