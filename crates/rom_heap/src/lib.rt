@@ -28,4 +28,4 @@ mod walk;
 pub use trio::Trio;
 
 #[cfg(test)]
-mod inspect_tests;
+mod tests;
