@@ -6,6 +6,6 @@ pub mod Pieces
 pub mod Handing
 pub mod Steps
 pub mod Reading
-pub mod Words
+pub mod Phrases
 pub mod Determined
 pub mod RunText

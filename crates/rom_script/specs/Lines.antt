@@ -46,7 +46,7 @@ query_line query.Peek = codes "peek"
 query_line query.Len = codes "len"
 query_line query.Total = codes "total"
 
--- the numbers of a call are words
+-- each number of a call has at most 64 bits
 abbrev pub CallFits : Call → Type 0
 CallFits (call.Enq v) = v < 2 ^ 64
 CallFits call.Deq = Unit {0}
@@ -56,7 +56,7 @@ CallFits (call.Put k v) = (k < 2 ^ 64) × (v < 2 ^ 64)
 CallFits (call.Del k) = k < 2 ^ 64
 CallFits (call.Move a b d) = (a < 2 ^ 64) × (b < 2 ^ 64) × (d < 2 ^ 64)
 
--- the numbers of a query are words
+-- each number of a query has at most 64 bits
 abbrev pub QueryFits : Query → Type 0
 QueryFits (query.Has k) = k < 2 ^ 64
 QueryFits (query.Get k) = k < 2 ^ 64
@@ -64,7 +64,7 @@ QueryFits query.Peek = Unit {0}
 QueryFits query.Len = Unit {0}
 QueryFits query.Total = Unit {0}
 
--- the numbers of a step are words
+-- each number of a step has at most 64 bits
 abbrev pub StepFits : Step Call Query → Type 0
 StepFits (Update call) = CallFits call
 StepFits (Ask query) = QueryFits query

@@ -21,9 +21,9 @@ words_behind (b ∷ bs) = line_words bs
 abbrev pub phrase_words : List ℕ → List ℕ → List (List ℕ)
 phrase_words name numbers = name ∷ map decimal numbers
 
--- the numbers have 64 bits
-abbrev pub AreWords : List ℕ → Type 0
-AreWords numbers = AllByRecursion (λ n. n < 2 ^ 64) numbers
+-- each number has at most 64 bits
+abbrev pub NumbersFit : List ℕ → Type 0
+NumbersFit numbers = AllByRecursion (λ n. n < 2 ^ 64) numbers
 
 -- neither a plus nor a zero stands before other digits
 abbrev pub IsPlain : List ℕ → Type 0

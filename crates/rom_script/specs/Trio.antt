@@ -1,5 +1,5 @@
 -- What is printed of the replies and answers of a queue, a set and a map.
-use Rattle.std.specs.Prelude.{◌≡◌, ℕ, ◌^◌, ◌<◌, List, [], ◌++◌, codes, decimal, Option, Some, None}
+use Rattle.std.specs.Prelude.{◌≡◌, ℕ, ◌^◌, ◌<◌, List, ◌++◌, codes, decimal}
 use Rattle.rom_model.specs.declared.call.Reply.{Reply}
 use Rattle.rom_model.specs.declared.call.Reply.TheVariants as reply
 use Rattle.rom_model.specs.declared.call.Answer.{Answer}
@@ -56,11 +56,6 @@ shown_answer = record { text = answer_text; Fits = AnswerFits }
 
 abbrev pub trio_texts : Texts Reply Answer
 trio_texts = texts_of shown_reply shown_answer
-
--- a number in digits, where there is one
-abbrev pub number_text : Option ℕ → List ℕ
-number_text (Some n) = decimal n
-number_text None = []
 
 -- The printed lines determine their results: what has the same text are the same results with the same count.
 abbrev pub TextDetermines : Type 0

@@ -3,7 +3,9 @@
 //!
 //! The contracts promise that a script is exactly the lines of the bytes that its source had left,
 //! that each printing call writes exactly its text, or some of it from the front where the sink
-//! failed, and that a failure is answered only where the very object's count of faults rose.
+//! failed, that the numbers of what is printed whole are of their types, and that a failure is
+//! answered only where the very object's count of faults rose. What is printed of replies and
+//! answers is theirs to say (`Told`); those of a queue, a set and a map stand in `trio`.
 #![tactic(auto)]
 
 mod adapt;

@@ -1,6 +1,6 @@
 //! The words of a line: its name, and the numbers behind it.
-ghost use Rattle.std.specs.Prelude.{◌≡◌, ◌≢◌, ℕ, ◌^◌, ◌<◌, ◌≤◌, List, ◌∷◌, length, slice_index, decimal, false, IsTrue, IfSome, IfNone};
-ghost use Rattle.rom_script.specs.Phrases.{AreWords, IsPlain, line_words, phrase_words, words_behind};
+ghost use Rattle.std.specs.Prelude.{◌≡◌, ◌≢◌, ◌↔◌, ℕ, ◌^◌, ◌<◌, ◌≤◌, List, ◌∷◌, length, slice_index, decimal, IsTrue, IfSome, IfNone};
+ghost use Rattle.rom_script.specs.Phrases.{NumbersFit, IsPlain, line_words, phrase_words, words_behind};
 
 use arrayvec::ArrayVec;
 use memchr::memchr;
@@ -28,8 +28,7 @@ pub fn len_before(byte: u8, bytes: &[u8]) -> usize
 
 /// Whether neither a plus nor a zero stands before other digits.
 fn is_plain(digits: &[u8]) -> bool
-    ensures plain { IsTrue result → IsPlain digits.now }
-    ensures other { result ≡ false → IsPlain digits.now → ⊥ }
+    ensures { IsTrue result ↔ IsPlain digits.now }
 {
     !matches!(digits, [b'+', ..] | [b'0', _, ..])
 }
@@ -61,8 +60,8 @@ fn first_word(line: &[u8]) -> (&[u8], &[u8])
 /// three of these.
 pub fn read_phrase(line: &[u8]) -> Option<Phrase<'_>>
     ensures words { IfSome result (λ p. line_words line.now ≡ phrase_words p.name.now p.numbers.items) }
-    ensures fit { IfSome result (λ p. AreWords p.numbers.items) }
-    ensures none { IfNone result ((name numbers : List ℕ) → length numbers ≤ MAX_NUMBERS → AreWords numbers
+    ensures fit { IfSome result (λ p. NumbersFit p.numbers.items) }
+    ensures none { IfNone result ((name numbers : List ℕ) → length numbers ≤ MAX_NUMBERS → NumbersFit numbers
         → line_words line.now ≢ phrase_words name numbers) }
 {
     let (name, mut rest) = first_word(line);

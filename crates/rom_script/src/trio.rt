@@ -1,6 +1,5 @@
 //! The texts of what a queue, a set and a map tell.
-ghost use Rattle.std.specs.Prelude.{◌≡◌, ◌++◌};
-ghost use Rattle.rom_script.specs.Trio.{ReplyFits, number_text, reply_text, shown_answer, shown_reply};
+ghost use Rattle.rom_script.specs.Trio.{shown_answer, shown_reply};
 
 use crate::print::{print_pieces, print_text};
 use crate::streams::{IoFailed, Sink};
@@ -8,46 +7,26 @@ use crate::told::Told;
 use itoa::Buffer;
 use rom_model::{Answer, Reply};
 
-/// The words that begin a reply's text, and the number after them.
-fn spoken(reply: &Reply) -> (&'static str, Option<u64>)
-    ensures text { reply_text reply.now ≡ result.0.now ++ number_text result.1 }
-    ensures fits { ReplyFits reply.now }
-{
-    match reply {
-        Reply::Queued => ("queued", None),
-        Reply::Full => ("full", None),
-        Reply::Head(v) => ("head ", Some(*v)),
-        Reply::Empty => ("empty", None),
-        Reply::Added => ("added", None),
-        Reply::Present => ("present", None),
-        Reply::Removed => ("removed", None),
-        Reply::Absent => ("absent", None),
-        Reply::NoPrior => ("none", None),
-        Reply::Was(v) => ("was ", Some(*v)),
-        Reply::Moved => ("moved", None),
-        Reply::Short(v) => ("short ", Some(*v)),
-        Reply::Over => ("over", None),
-    }
-}
-
-/// The digits of a number, where there is one.
-fn digits_of(buffer: &mut Buffer, number: Option<u64>) -> &str
-    ensures { result.now ≡ number_text number }
-{
-    match number {
-        Some(n) => buffer.format(n),
-        None => "",
-    }
-}
-
 impl Told for Reply {
     ghost shown = { shown_reply };
 
     fn print<O: Sink>(&self, out: &mut O) -> Result<(), IoFailed> {
-        let (words, number) = spoken(self);
         let mut digits = Buffer::new();
-        let number = digits_of(&mut digits, number);
-        print_pieces(out, &[words, number])
+        match self {
+            Reply::Queued => print_text(out, "queued"),
+            Reply::Full => print_text(out, "full"),
+            Reply::Head(v) => print_pieces(out, &["head ", digits.format(*v)]),
+            Reply::Empty => print_text(out, "empty"),
+            Reply::Added => print_text(out, "added"),
+            Reply::Present => print_text(out, "present"),
+            Reply::Removed => print_text(out, "removed"),
+            Reply::Absent => print_text(out, "absent"),
+            Reply::NoPrior => print_text(out, "none"),
+            Reply::Was(v) => print_pieces(out, &["was ", digits.format(*v)]),
+            Reply::Moved => print_text(out, "moved"),
+            Reply::Short(v) => print_pieces(out, &["short ", digits.format(*v)]),
+            Reply::Over => print_text(out, "over"),
+        }
     }
 }
 

@@ -1,6 +1,6 @@
 use Rattle.std.proofs.Common.{sym, ◌∙◌, ◌∷◌}
 use Rattle.rom_script.specs.Phrases.{words_behind}
-use Rattle.rom_script.proofs.Words.{first_word_is}
+use Rattle.rom_script.proofs.Phrases.{first_word_is}
 use Rattle.rom_script.proofs.phrase.first_word.Goals as goal
 
 pub returns-clause-words : goal.returns-clause-words

@@ -1,12 +1,12 @@
 use Rattle.std.proofs.Common.{◌≡◌, ◌∷◌, ◌++◌, length, map, decimal}
-use Rattle.rom_script.specs.Phrases.{AreWords, line_words, words_behind}
+use Rattle.rom_script.specs.Phrases.{NumbersFit, line_words, words_behind}
 use Rattle.rom_script.proofs.phrase.read_phrase.Given as goal
 
 -- the numbers so far, and then the words of the rest, stand behind the first word
 abbrev pub invariant-loop-rest : goal.invariant-loop-rest
 invariant-loop-rest l = record {
   words : line_words l.line ≡ l.name ∷ (map decimal l.numbers.items ++ words_behind l.rest);
-  fit : AreWords l.numbers.items;
+  fit : NumbersFit l.numbers.items;
 }
 
 abbrev pub decreases-loop-rest : goal.decreases-loop-rest

@@ -12,7 +12,7 @@ use Rattle.rom_model.specs.declared.call.Query.TheVariants as query
 use Rattle.rom_model.specs.declared.line.Step.{Step}
 use Rattle.rom_model.specs.declared.line.Step.TheVariants.{Update, Ask, Unread}
 use Rattle.rom_script.specs.Lines.{CallFits, QueryFits, Reads, call_line, query_line}
-use Rattle.rom_script.specs.Phrases.{AreWords, Asks, call_phrase, line_words, phrase_words, query_phrase, words_behind}
+use Rattle.rom_script.specs.Phrases.{NumbersFit, Asks, call_phrase, line_words, phrase_words, query_phrase, words_behind}
 use Rattle.rom_script.proofs.Pieces.{rest_from}
 use Rattle.rom_script.proofs.Reading.{both, decimal_is_a_word, is_word}
 
@@ -89,8 +89,8 @@ call_words c = ap line_words (call_joined c) ∙ phrase_read (call_phrase c).0 (
 query_words : (q : Query) → line_words (query_line q) ≡ phrase_words (query_phrase q).0 (query_phrase q).1
 query_words q = ap line_words (query_joined q) ∙ phrase_read (query_phrase q).0 (query_phrase q).1 (query_named q)
 
--- the numbers of a call that fits are words, and the other way round
-call_fits : (c : Call) → CallFits c → AreWords (call_phrase c).1
+-- a call fits where its numbers do
+call_fits : (c : Call) → CallFits c → NumbersFit (call_phrase c).1
 call_fits (call.Enq v) fits = (fits, tt)
 call_fits call.Deq fits = tt
 call_fits (call.Add k) fits = (fits, tt)
@@ -99,7 +99,7 @@ call_fits (call.Put k v) fits = (fits.0, (fits.1, tt))
 call_fits (call.Del k) fits = (fits, tt)
 call_fits (call.Move a b d) fits = (fits.0, (fits.1, (fits.2, tt)))
 
-fits_call : (c : Call) → AreWords (call_phrase c).1 → CallFits c
+fits_call : (c : Call) → NumbersFit (call_phrase c).1 → CallFits c
 fits_call (call.Enq v) fit = fit.0
 fits_call call.Deq fit = tt
 fits_call (call.Add k) fit = fit.0
@@ -109,14 +109,14 @@ fits_call (call.Del k) fit = fit.0
 fits_call (call.Move a b d) fit = (fit.0, fit.1.0, fit.1.1.0)
 
 -- the same of a query
-query_fits : (q : Query) → QueryFits q → AreWords (query_phrase q).1
+query_fits : (q : Query) → QueryFits q → NumbersFit (query_phrase q).1
 query_fits (query.Has k) fits = (fits, tt)
 query_fits (query.Get k) fits = (fits, tt)
 query_fits query.Peek fits = tt
 query_fits query.Len fits = tt
 query_fits query.Total fits = tt
 
-fits_query : (q : Query) → AreWords (query_phrase q).1 → QueryFits q
+fits_query : (q : Query) → NumbersFit (query_phrase q).1 → QueryFits q
 fits_query (query.Has k) fit = fit.0
 fits_query (query.Get k) fit = fit.0
 fits_query query.Peek fit = tt
@@ -141,7 +141,7 @@ query_is_short query.Len = omega arith
 query_is_short query.Total = omega arith
 
 -- digits determine their numbers
-numbers_are : (xs ys : List ℕ) → AreWords xs → AreWords ys → map decimal xs ≡ map decimal ys → xs ≡ ys
+numbers_are : (xs ys : List ℕ) → NumbersFit xs → NumbersFit ys → map decimal xs ≡ map decimal ys → xs ≡ ys
 numbers_are [] [] fit_x fit_y same = refl
 numbers_are [] (y ∷ ys) fit_x fit_y same = absurd (search rules)
 numbers_are (x ∷ xs) [] fit_x fit_y same = absurd (search rules)
@@ -149,13 +149,13 @@ numbers_are (x ∷ xs) (y ∷ ys) fit_x fit_y same =
     (λ i. decimal_injective x y fit_x.0 fit_y.0 (search rules) i ∷ numbers_are xs ys fit_x.1 fit_y.1 (search rules) i)
 
 -- a line of these words asks for what the words ask for
-pub asked_reads : (line name numbers : List ℕ) (step : Step Call Query) → line_words line ≡ phrase_words name numbers → AreWords numbers → Asks name numbers step → Reads line step
+pub asked_reads : (line name numbers : List ℕ) (step : Step Call Query) → line_words line ≡ phrase_words name numbers → NumbersFit numbers → Asks name numbers step → Reads line step
 asked_reads line name numbers (Update c) words fit asks = (
-  fits_call c (subst AreWords (ap (λ p. p.1) asks) fit),
+  fits_call c (subst NumbersFit (ap (λ p. p.1) asks) fit),
   sym (join_with_byte-slice_split 32 line) ∙ ap (join_with_byte 32) words ∙ ap (λ p. join_with_byte 32 (phrase_words p.0 p.1)) asks ∙ sym (call_joined c),
 )
 asked_reads line name numbers (Ask q) words fit asks = (
-  fits_query q (subst AreWords (ap (λ p. p.1) asks) fit),
+  fits_query q (subst NumbersFit (ap (λ p. p.1) asks) fit),
   sym (join_with_byte-slice_split 32 line) ∙ ap (join_with_byte 32) words ∙ ap (λ p. join_with_byte 32 (phrase_words p.0 p.1)) asks ∙ sym (query_joined q),
 )
 asked_reads line name numbers Unread words fit asks = (
@@ -163,21 +163,21 @@ asked_reads line name numbers Unread words fit asks = (
   (λ q fits is. asks.1 q (phrase_is (query_phrase q) (query_fits q fits) (sym words ∙ ap line_words is ∙ query_words q))),
 )
   where
-    phrase_is : (p : List ℕ × List ℕ) → AreWords p.1 → phrase_words name numbers ≡ phrase_words p.0 p.1 → (name, numbers) ≡ p
+    phrase_is : (p : List ℕ × List ℕ) → NumbersFit p.1 → phrase_words name numbers ≡ phrase_words p.0 p.1 → (name, numbers) ≡ p
     phrase_is (w, ns) fit_ns same = λ i. (first_of same i, numbers_are numbers ns fit fit_ns (ap (drop 1) same) i)
       where
         first_of : name ∷ map decimal numbers ≡ w ∷ map decimal ns → name ≡ w
         first_of is = search rules
 
 -- a line that is no word with numbers behind it is unread
-pub no_phrase_reads : (line : List ℕ) → ((name numbers : List ℕ) → length numbers ≤ 3 → AreWords numbers → line_words line ≢ phrase_words name numbers) → Reads line Unread
+pub no_phrase_reads : (line : List ℕ) → ((name numbers : List ℕ) → length numbers ≤ 3 → NumbersFit numbers → line_words line ≢ phrase_words name numbers) → Reads line Unread
 no_phrase_reads line none = (
   (λ c fits is. none (call_phrase c).0 (call_phrase c).1 (call_is_short c) (call_fits c fits) (ap line_words is ∙ call_words c)),
   (λ q fits is. none (query_phrase q).0 (query_phrase q).1 (query_is_short q) (query_fits q fits) (ap line_words is ∙ query_words q)),
 )
 
 -- a word that is no number is none of numbers' digits
-not_among : (before after : List (List ℕ)) (word : List ℕ) (numbers : List ℕ) → ((n : ℕ) → n < 2 ^ 64 → word ≢ decimal n) → AreWords numbers → before ++ word ∷ after ≢ map decimal numbers
+not_among : (before after : List (List ℕ)) (word : List ℕ) (numbers : List ℕ) → ((n : ℕ) → n < 2 ^ 64 → word ≢ decimal n) → NumbersFit numbers → before ++ word ∷ after ≢ map decimal numbers
 not_among [] after word [] none fit same = absurd (search rules)
 not_among [] after word (n ∷ ns) none fit same = none n fit.0 (search rules)
 not_among (b ∷ bs) after word [] none fit same = absurd (search rules)
@@ -195,5 +195,5 @@ module _ (line name numbers word more : List ℕ) (behind : List (List ℕ)) (so
   words_are = so_far ∙ ap (λ ws. name ∷ (map decimal numbers ++ ws)) next
 
   -- the word is no number, so the line is no word with numbers behind it
-  pub no_number : ((n : ℕ) → n < 2 ^ 64 → word ≢ decimal n) → (w ns : List ℕ) → length ns ≤ 3 → AreWords ns → line_words line ≢ phrase_words w ns
+  pub no_number : ((n : ℕ) → n < 2 ^ 64 → word ≢ decimal n) → (w ns : List ℕ) → length ns ≤ 3 → NumbersFit ns → line_words line ≢ phrase_words w ns
   no_number none w ns few fit same = not_among (map decimal numbers) (words_behind more) word ns none fit (ap (drop 1) (sym words_are ∙ same))
