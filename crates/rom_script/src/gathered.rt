@@ -71,7 +71,9 @@ impl<'a, O: Sink> Gathered<'a, O> {
         }
     }
 
-    /// Hands all that waits over.
+    /// Hands all that waits over. It comes once a block, so it stays out of the way of the pieces.
+    #[cold]
+    #[inline(never)]
     pub fn hand_over(&mut self) -> Result<(), IoFailed>
         ensures hands { Hands O.shown self.old.out.now self.new.out.now
             (drop self.old.handed self.old.block.items) (drop self.new.handed self.new.block.items) result }
