@@ -1,5 +1,5 @@
 //! The command line.
-use crate::{map, set};
+use crate::calls::Calls;
 use rom_header::{Geometry, State};
 
 /// What is to be done with a file.
@@ -22,16 +22,8 @@ pub enum Action {
 pub enum Command {
     /// An action on the file of that name.
     OnFile(Action, String),
-    /// So many pushes, and then so many pops, on the queue of a new heap in memory.
-    Queue(u64, u64),
-    /// So many of these calls on the map of a heap in memory.
-    Map(map::Call, u64),
-    /// So many on the standard library's map.
-    StdMap(map::Call, u64),
-    /// So many of these calls on the set of a heap in memory.
-    Set(set::Call, u64),
-    /// So many on the standard library's set.
-    StdSet(set::Call, u64),
+    /// So many of these calls on a heap in memory.
+    Count(Calls, u64),
 }
 
 /// The action of that name with that number.
@@ -65,11 +57,7 @@ impl Command {
             return None;
         }
         match name.as_str() {
-            "queue" => Some(Command::Queue(number_of(&second)?, number?)),
-            "map" => Some(Command::Map(map::Call::of(second.as_str())?, number?)),
-            "std-map" => Some(Command::StdMap(map::Call::of(second.as_str())?, number?)),
-            "set" => Some(Command::Set(set::Call::of(second.as_str())?, number?)),
-            "std-set" => Some(Command::StdSet(set::Call::of(second.as_str())?, number?)),
+            "count" => Some(Command::Count(Calls::of(second.as_str())?, number?)),
             other => Some(Command::OnFile(action_of(other, number)?, second)),
         }
     }

@@ -1,19 +1,15 @@
 //! Times the opening and recovery of a heap in a file, beside a plain loop over the same file; and
-//! calls on the queue, the map and the set of a heap in memory, for their instructions to be counted
-//! beside those of the standard library's map and set.
+//! makes calls on a heap in memory, for their instructions to be counted.
 //!
 //! It stands apart from the program. Nothing is promised of its answers; it is proved that it
 //! does not panic and that it meets the conditions of what it calls.
 #![tactic(auto)]
 
+mod calls;
 mod command;
 mod heap;
-mod keys;
-mod map;
 mod plain;
-mod queue;
 mod rounds;
-mod set;
 
 use command::{Action, Command};
 use rom_header::State;
@@ -24,8 +20,9 @@ use std::{env, io};
 
 const USAGE: &str =
     "rom_bench make FILE ORDER | mark FILE STATE | open FILE | plain FILE | time FILE ROUNDS
-rom_bench queue PUSHES POPS | map CALL COUNT | set CALL COUNT | std-map CALL COUNT | std-set CALL COUNT
-the calls of a map are put, again, get and del, those of a set insert and has";
+rom_bench count CALL CALLS
+a CALL is enq, deq, add, add-middle, rem, rem-middle, put, again, del, move, has, has-middle, get, peek, len, total
+or nothing, and at most 1000 are made";
 
 /// Sees to it that the descriptors 0 to 2 are taken. One that was closed when the program began
 /// would be given to the heap's file, and what is printed would go into that heap. So `/dev/null`
@@ -85,19 +82,14 @@ fn done_on(rt: &HostRuntime, action: Action, path: &str) -> io::Result<bool> {
 
 /// Does what is asked for.
 fn done(rt: &HostRuntime, command: &Command) -> io::Result<bool> {
-    let alloc = rt.alloc();
     match command {
-        Command::OnFile(action, path) => return done_on(rt, *action, path.as_str()),
-        Command::Queue(pushes, pops) => {
-            let (pushed, sum) = queue::push_and_pop(alloc, *pushes, *pops)?;
-            println!(rt; "{pushed} pushed, sum {sum}")?;
+        Command::OnFile(action, path) => done_on(rt, *action, path.as_str()),
+        Command::Count(calls, count) => {
+            let done = calls::count(rt.alloc(), *calls, *count)?;
+            println!(rt; "{done} done")?;
+            Ok(true)
         }
-        Command::Map(call, count) => println!(rt; "sum {}", map::ours(alloc, *call, *count)?)?,
-        Command::StdMap(call, count) => println!(rt; "sum {}", map::others(alloc, *call, *count)?)?,
-        Command::Set(call, count) => println!(rt; "{} so", set::ours(alloc, *call, *count)?)?,
-        Command::StdSet(call, count) => println!(rt; "{} so", set::others(alloc, *call, *count)?)?,
     }
-    Ok(true)
 }
 
 fn main(rt: HostRuntime) -> io::Result<ExitCode> {
