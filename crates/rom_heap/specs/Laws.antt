@@ -9,5 +9,5 @@ use Rattle.rom_model.proofs.Contents as contents
 pub one_contents : (n : ℕ) (words : List ℕ) (s t : State) (j k : ℕ) → Contents n words s j → Contents n words t k → (s ≡ t) × (j ≡ k)
 one_contents n words s t j k one two = contents.one_contents one two
 
-pub contents_within : (n : ℕ) (words : List ℕ) (s : State) (k : ℕ) → Contents n words s k → (length words ≡ region_len n) × (slice_index words 2 ≡ k) × (k ≤ LAST_COUNT)
-contents_within n words s k is = contents.contents_within is
+pub contents_within : (n : ℕ) (words : List ℕ) (s : State) (k : ℕ) → Contents n words s k → (length words ≡ region_len n) × (slice_index words 2 ≡ k) × (k ≤ LAST_COUNT) × (slice_index words 0 ≡ 1)
+contents_within n words s k is = (is.1.shape.as_long, is.1.shape.root.count_is, is.1.shape.root.count_fits, is.1.shape.root.kind)

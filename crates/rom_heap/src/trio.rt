@@ -17,6 +17,7 @@ use rom_model::{
 use std::alloc::Global;
 
 /// A queue, a set and a map of numbers.
+#[derive(Clone, Copy, Debug)]
 pub struct Trio;
 
 impl Object for Trio {

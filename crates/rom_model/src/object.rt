@@ -15,8 +15,8 @@ use crate::vec_space::VecSpace;
 use crate::words::{Args, Back};
 use std::alloc::{AllocError, Global};
 
-/// An object that is kept in a region of words. What runs it, keeps it safe over a stop and prints it
-/// knows no more of it than this.
+/// An object that is kept in a region of words. What runs it and keeps it safe over a stop knows no
+/// more of it than this.
 ///
 /// A region of an order from 4 to 16 stands for a state and a count of updates. An update changes the
 /// words through any space, and a query looks at them through any view; neither takes memory.
@@ -124,8 +124,9 @@ pub trait Object {
     /// A region stands for one state and one count.
     ghost one_contents: { (order : ℕ) (words : List ℕ) (s t : State) (j k : ℕ) → Contents order words s j → Contents order words t k → (s ≡ t) × (j ≡ k) };
 
-    /// It has the words of its order, and the count is its word 2 and within the limit.
-    ghost contents_within: { (order : ℕ) (words : List ℕ) (s : State) (k : ℕ) → Contents order words s k → (length words ≡ region_len order) × (slice_index words 2 ≡ k) × (k ≤ LAST_COUNT) };
+    /// It has the words of its order, the count is its word 2 and within the limit, and its word 0 is
+    /// the number of the kind.
+    ghost contents_within: { (order : ℕ) (words : List ℕ) (s : State) (k : ℕ) → Contents order words s k → (length words ≡ region_len order) × (slice_index words 2 ≡ k) × (k ≤ LAST_COUNT) × (slice_index words 0 ≡ KIND) };
 }
 
 /// The words of a new region of that order in memory. There is no other error than want of memory.

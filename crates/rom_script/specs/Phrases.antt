@@ -25,7 +25,7 @@ phrase_words name numbers = name ∷ map decimal numbers
 abbrev pub NumbersFit : List ℕ → Type 0
 NumbersFit numbers = AllByRecursion (λ n. n < 2 ^ 64) numbers
 
--- neither a plus nor a zero stands before other digits
+-- they do not begin with a plus, nor with a zero before more bytes
 abbrev pub IsPlain : List ℕ → Type 0
 IsPlain digits = (slice_index digits 0 ≢ 43) × (slice_index digits 0 ≡ 48 → length digits ≤ 1)
 

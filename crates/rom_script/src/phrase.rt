@@ -26,7 +26,7 @@ pub fn len_before(byte: u8, bytes: &[u8]) -> usize
     memchr(byte, bytes).unwrap_or(bytes.len())
 }
 
-/// Whether neither a plus nor a zero stands before other digits.
+/// Whether they do not begin with a plus, nor with a zero before more bytes.
 fn is_plain(digits: &[u8]) -> bool
     ensures { IsTrue result ↔ IsPlain digits.now }
 {

@@ -36,8 +36,13 @@ fn print_line<R: Told, A: Told, O: Sink>(
         (line_text (result_text (texts_of R.shown A.shown) told.now)) }
     ensures of_type { OnOk result (ResultFits (texts_of R.shown A.shown) told.now) }
 {
-    print_result(out, told)?;
-    print_text(out, "\n")
+    match told {
+        LineResult::Unread => print_text(out, "unread\n"),
+        _ => {
+            print_result(out, told)?;
+            print_text(out, "\n")
+        }
+    }
 }
 
 /// Prints the lines of one caller's results.
