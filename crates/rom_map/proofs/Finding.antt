@@ -1,10 +1,10 @@
 -- What the search for a key tells of a well-formed region.
-use Rattle.std.proofs.Common.{◌≡◌, ℕ, ◌+◌, ◌*◌, ◌^◌, ◌<◌, ◌≤◌, ◌∷◌, length, ◌∙◌, ap, subst, arith, length-append}
+use Rattle.std.proofs.Common.{◌≡◌, ℕ, ◌+◌, ◌*◌, ◌^◌, ◌<◌, ◌≤◌, List, ◌∷◌, length, ◌∙◌, ap, subst, arith, length-append}
 use Rattle.std.specs.Prelude.{slice_index, None, Some}
 use Rattle.std.specs.FinMap as finite
 use Rattle.rom_model.specs.Space.{ShownSpace, Looks}
 use Rattle.rom_model.specs.State.{State}
-use Rattle.rom_model.specs.Blocks.{IsOrder}
+use Rattle.rom_model.specs.Blocks.{IsOrder, block_of}
 use Rattle.rom_model.specs.Chains.{times, each_word}
 use Rattle.rom_model.specs.Walks.{keys_beside}
 use Rattle.rom_model.specs.Region.{Chains, buckets, bucket_of, map_blocks, IsRegion}
@@ -19,6 +19,16 @@ use Rattle.rom_map.proofs.Places.{There, missing, get_missing, there, get_there,
 
 pub own_within : {n : ℕ} (key : ℕ) → IsOrder n → bucket_of n key < buckets n
 own_within {n} key o = bucket_within n key o.least o.most
+
+-- the block of a key, where the words stay
+abbrev pub same_block : {n key : ℕ} {w w' : List ℕ} {p : Chains} → w' ≡ w → KeyBlock n w p key → KeyBlock n w' p key
+same_block {n} same at = record {
+  front = at.front;
+  block = at.block;
+  back = at.back;
+  blocks = at.blocks;
+  holds = ap (λ (v : List ℕ). slice_index v (block_of n at.block + 0)) same ∙ at.holds;
+}
 
 module _ {M : Type 0} {shown : ShownSpace M} {n key : ℕ} {place : Place} {old mid : M} {p : Chains} {s : State} {k : ℕ} (o : IsOrder n) (region : IsRegion n (shown.image old) p s k) (finds : Finds shown n key place old mid) where
   pub found : IsPlace n (shown.image old) (p.bucket (bucket_of n key)) key place

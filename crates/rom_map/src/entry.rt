@@ -1,11 +1,12 @@
 //! A key's node with its value.
-ghost use Rattle.std.specs.Prelude.{◌≡◌, ℕ, ◌+◌, ◌*◌, None, Some, MatchOption};
+ghost use Rattle.std.specs.Prelude.{◌≡◌, ℕ, ◌+◌, ◌*◌, None, Some, MatchOption, length};
 ghost use Rattle.std.specs.FinMap as map;
 ghost use Rattle.rom_model.specs.Space.{Looks};
 ghost use Rattle.rom_model.specs.State.{State};
 ghost use Rattle.rom_model.specs.Walks.{keys_beside};
 ghost use Rattle.rom_model.specs.Blocks.{IsOrder};
 ghost use Rattle.rom_model.specs.Region.{Chains, IsRegion, IsWellFormed, Contents};
+ghost use Rattle.rom_map.specs.Map.{KeyBlock};
 ghost use Rattle.rom_map.specs.Shift.{HasNode};
 
 use crate::walk::find;
@@ -29,6 +30,9 @@ pub fn find_entry<M: Look>(space: &mut M, order: u32, key: u64) -> Option<Entry>
         × HasNode order (M.shown.image space.old) p key entry.node) }
     ensures looks { (s : State) (k : ℕ) → Contents order (M.shown.image space.old) s k
         → Looks M.shown (1 + 2 * keys_beside order s.pairs key) space.old space.new }
+    ensures sooner { (p : Chains) (s : State) (k : ℕ) → IsRegion order (M.shown.image space.old) p s k
+        → (at : KeyBlock order (M.shown.image space.old) p key)
+        → Looks M.shown (3 + 2 * length at.front) space.old space.new }
 {
     let node = find(space, order, key).node;
     if node == 0 {

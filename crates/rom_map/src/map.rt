@@ -8,6 +8,7 @@ ghost use Rattle.rom_model.specs.Blocks.{IsOrder};
 ghost use Rattle.rom_model.specs.Region.{Chains, IsRegion, IsWellFormed, Contents};
 ghost use Rattle.rom_map.specs.Map.{with_pairs, KeyBlock, IsPut, PutLeaves, PutCosts, AgainCosts, IsDeleted};
 
+use crate::entry::find_entry;
 use crate::link::{link_first, replace_value, unlink_node};
 use crate::walk::find;
 use rom_block::Blocks;
@@ -98,11 +99,7 @@ pub fn map_get<M: Look>(space: &mut M, order: u32, key: u64) -> Option<u64>
         → (at : KeyBlock order (M.shown.image space.old) p key)
         → Looks M.shown (3 + 2 * length at.front) space.old space.new }
 {
-    let place = find(space, order, key);
-    if place.node == 0 {
-        return None;
-    }
-    Some(space.load(place.node + 1))
+    find_entry(space, order, key).map(|entry| entry.value)
 }
 
 /// How many keys the map has.

@@ -5,6 +5,7 @@ ghost use Rattle.rom_model.specs.State.{State};
 ghost use Rattle.rom_model.specs.Walks.{keys_beside};
 ghost use Rattle.rom_model.specs.Blocks.{IsOrder};
 ghost use Rattle.rom_model.specs.Region.{Chains, IsRegion, IsWellFormed, Contents};
+ghost use Rattle.rom_map.specs.Map.{KeyBlock};
 ghost use Rattle.rom_map.specs.Shift.{IsMoved, MoveLeaves, KeepsUnlessMoved, IsPlan};
 
 use crate::entry::{Entry, find_entry};
@@ -44,6 +45,14 @@ fn plan_move<M: Look>(space: &mut M, order: u32, from: u64, to: u64, amount: u64
         space.old space.new }
     ensures alone { from ≡ to → (s : State) (k : ℕ) → Contents order (M.shown.image space.old) s k
         → Looks M.shown (1 + 2 * keys_beside order s.pairs from) space.old space.new }
+    ensures sooner { (p : Chains) (s : State) (k : ℕ) → IsRegion order (M.shown.image space.old) p s k
+        → (a : KeyBlock order (M.shown.image space.old) p from)
+        → (b : KeyBlock order (M.shown.image space.old) p to)
+        → Looks M.shown (6 + 2 * length a.front + 2 * length b.front) space.old space.new }
+    ensures alone_sooner { from ≡ to
+        → (p : Chains) (s : State) (k : ℕ) → IsRegion order (M.shown.image space.old) p s k
+        → (at : KeyBlock order (M.shown.image space.old) p from)
+        → Looks M.shown (3 + 2 * length at.front) space.old space.new }
 {
     let Some(source) = find_entry(space, order, from) else {
         return Plan::Stays(Moved::Absent);
@@ -109,6 +118,14 @@ pub fn map_move<M: Space>(space: &mut M, order: u32, from: u64, to: u64, amount:
         space.old space.new }
     ensures alone { from ≡ to → (s : State) (k : ℕ) → Contents order (M.shown.image space.old) s k
         → Looks M.shown (1 + 2 * keys_beside order s.pairs from) space.old space.new }
+    ensures sooner { (p : Chains) (s : State) (k : ℕ) → IsRegion order (M.shown.image space.old) p s k
+        → (a : KeyBlock order (M.shown.image space.old) p from)
+        → (b : KeyBlock order (M.shown.image space.old) p to)
+        → Costs M.shown (8 + 2 * length a.front + 2 * length b.front) 2 space.old space.new }
+    ensures alone_sooner { from ≡ to
+        → (p : Chains) (s : State) (k : ℕ) → IsRegion order (M.shown.image space.old) p s k
+        → (at : KeyBlock order (M.shown.image space.old) p from)
+        → Looks M.shown (3 + 2 * length at.front) space.old space.new }
     ensures kept { (s : State) (k : ℕ) → Contents order (M.shown.image space.old) s k
         → KeepsUnlessMoved M.shown (4 + 2 * keys_beside order s.pairs from + 2 * keys_beside order s.pairs to)
         amount result space.old space.new }

@@ -1,9 +1,9 @@
 use Rattle.std.proofs.Common.{List, ℕ, ◌+◌, arith, sym, ◌∙◌, ap}
 use Rattle.std.specs.Prelude.{Some, slice_index}
 use Rattle.rom_model.specs.Region.{bucket_of}
-use Rattle.rom_model.proofs.Looks.{looks_more}
+use Rattle.rom_model.proofs.Looks.{looks_most, looks_more}
 use Rattle.rom_map.proofs.Places.{holds_bucket}
-use Rattle.rom_map.proofs.Finding.{own_within, looked, image_same, no_value, sooner, node, value, inside, small}
+use Rattle.rom_map.proofs.Finding.{own_within, looked, image_same, no_value, passed, sooner, node, value, inside, small}
 use Rattle.rom_map.proofs.entry.find_entry.Goals as goal
 
 pub find-node-requires-clause-bucket : goal.find-node-requires-clause-bucket
@@ -15,6 +15,9 @@ returns-then-node-eq0-clause-is g c p s k is = no_value c.requires.order is c.fi
 
 pub returns-then-node-eq0-clause-looks : goal.returns-then-node-eq0-clause-looks
 returns-then-node-eq0-clause-looks g c s k held = looked c.requires.order held.1 c.find-node.ensures
+
+pub returns-then-node-eq0-clause-sooner : goal.returns-then-node-eq0-clause-sooner
+returns-then-node-eq0-clause-sooner g c p s k is at = looks_most g.M.Look.shown _ _ (omega arith) (passed c.requires.order is c.find-node.ensures at)
 
 -- the key is there
 pub overflow_add-node : goal.overflow_add-node
@@ -35,3 +38,6 @@ returns-clause-is g c p s k is =
 
 pub returns-clause-looks : goal.returns-clause-looks
 returns-clause-looks g c s k held = looks_more g.M.Look.shown _ _ (omega arith) (sooner c.requires.order held.1 c.find-node.ensures (λ e. absurd (omega arith))) c.load-value.ensures.image c.load-value.ensures.counts
+
+pub returns-clause-sooner : goal.returns-clause-sooner
+returns-clause-sooner g c p s k is at = looks_more g.M.Look.shown _ _ (omega arith) (passed c.requires.order is c.find-node.ensures at) c.load-value.ensures.image c.load-value.ensures.counts

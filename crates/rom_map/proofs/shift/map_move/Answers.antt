@@ -47,6 +47,12 @@ returns-in-Stays-clause-costs g c s k held = costs_most _ _ (omega arith) (omega
 pub returns-in-Stays-clause-alone : goal.returns-in-Stays-clause-alone
 returns-in-Stays-clause-alone g c one s k held = looks_most g.M.Look.shown _ _ (omega arith) (c.plan_move.ensures.alone one s k held)
 
+pub returns-in-Stays-clause-sooner : goal.returns-in-Stays-clause-sooner
+returns-in-Stays-clause-sooner g c p s k is a b = costs_most _ _ (omega arith) (omega arith) (c.plan_move.ensures.sooner p s k is a b).costs
+
+pub returns-in-Stays-clause-alone_sooner : goal.returns-in-Stays-clause-alone_sooner
+returns-in-Stays-clause-alone_sooner g c one p s k is at = c.plan_move.ensures.alone_sooner one p s k is at
+
 pub returns-in-Stays-clause-kept : goal.returns-in-Stays-clause-kept
 returns-in-Stays-clause-kept g c s k held = keeps g.M.Look.shown _ c.args.amount c.in-Stays.told _ _ (looks_most g.M.Look.shown _ _ (omega arith) (c.plan_move.ensures.looks s k held))
 
@@ -109,6 +115,12 @@ returns-in-Changes-clause-costs g c s k held = costs_then _ _ (omega arith) (ome
 
 pub returns-in-Changes-clause-alone : goal.returns-in-Changes-clause-alone
 returns-in-Changes-clause-alone g c one s k held = absurd ((c.in-Changes.ensures.is held.0 s k held.1).differ one)
+
+pub returns-in-Changes-clause-sooner : goal.returns-in-Changes-clause-sooner
+returns-in-Changes-clause-sooner g c p s k is a b = costs_then _ _ (omega arith) (omega arith) (c.plan_move.ensures.sooner p s k is a b).costs c.replace_both.ensures.costs
+
+pub returns-in-Changes-clause-alone_sooner : goal.returns-in-Changes-clause-alone_sooner
+returns-in-Changes-clause-alone_sooner g c one p s k is at = absurd ((c.in-Changes.ensures.is p s k is).differ one)
 
 pub returns-in-Changes-clause-kept : goal.returns-in-Changes-clause-kept
 returns-in-Changes-clause-kept g c s k held none =

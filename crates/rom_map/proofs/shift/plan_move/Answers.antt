@@ -6,12 +6,19 @@ use Rattle.rom_model.proofs.Looks.{looks_most, looks_then}
 use Rattle.rom_model.specs.declared.call.Reply.TheVariants as reply
 use Rattle.rom_map.specs.Map.{with_pairs, KeyBlock}
 use Rattle.rom_map.specs.Shift.{HasNode}
+use Rattle.rom_map.proofs.Finding.{same_block}
 use Rattle.rom_map.proofs.Moves.{no_target, short, alone, over, moved}
 use Rattle.rom_map.proofs.shift.plan_move.Goals as goal
 
 -- the first key is not there
 pub returns-in_default-clause-looks : goal.returns-in_default-clause-looks
 returns-in_default-clause-looks g c s k held = looks_most g.M.Look.shown _ _ (omega arith) (c.find_entry.ensures.looks s k held)
+
+pub returns-in_default-clause-sooner : goal.returns-in_default-clause-sooner
+returns-in_default-clause-sooner g c p s k is a b = looks_most g.M.Look.shown _ _ (omega arith) (c.find_entry.ensures.sooner p s k is a)
+
+pub returns-in_default-clause-alone_sooner : goal.returns-in_default-clause-alone_sooner
+returns-in_default-clause-alone_sooner g c same p s k is at = looks_most g.M.Look.shown _ _ (omega arith) (c.find_entry.ensures.sooner p s k is at)
 
 -- they are one key
 pub returns-then-source-amount-clause-is : goal.returns-then-source-amount-clause-is
@@ -22,6 +29,12 @@ returns-then-source-amount-clause-is g c p s k is =
 
 pub returns-then-source-amount-clause-looks : goal.returns-then-source-amount-clause-looks
 returns-then-source-amount-clause-looks g c s k held = looks_most g.M.Look.shown _ _ (omega arith) (c.find_entry.ensures.looks s k held)
+
+pub returns-then-source-amount-clause-sooner : goal.returns-then-source-amount-clause-sooner
+returns-then-source-amount-clause-sooner g c p s k is a b = looks_most g.M.Look.shown _ _ (omega arith) (c.find_entry.ensures.sooner p s k is a)
+
+pub returns-then-source-amount-clause-alone_sooner : goal.returns-then-source-amount-clause-alone_sooner
+returns-then-source-amount-clause-alone_sooner g c same p s k is at = looks_most g.M.Look.shown _ _ (omega arith) (c.find_entry.ensures.sooner p s k is at)
 
 pub returns-then-from-to-clause-is : goal.returns-then-from-to-clause-is
 returns-then-from-to-clause-is g c p s k is =
@@ -38,6 +51,12 @@ returns-then-from-to-clause-is g c p s k is =
 
 pub returns-then-from-to-clause-looks : goal.returns-then-from-to-clause-looks
 returns-then-from-to-clause-looks g c s k held = looks_most g.M.Look.shown _ _ (omega arith) (c.find_entry.ensures.looks s k held)
+
+pub returns-then-from-to-clause-sooner : goal.returns-then-from-to-clause-sooner
+returns-then-from-to-clause-sooner g c p s k is a b = looks_most g.M.Look.shown _ _ (omega arith) (c.find_entry.ensures.sooner p s k is a)
+
+pub returns-then-from-to-clause-alone_sooner : goal.returns-then-from-to-clause-alone_sooner
+returns-then-from-to-clause-alone_sooner g c same p s k is at = looks_most g.M.Look.shown _ _ (omega arith) (c.find_entry.ensures.sooner p s k is at)
 
 -- they are two keys
 pub find_entry-requires-2-clause-region : goal.find_entry-requires-2-clause-region
@@ -56,6 +75,11 @@ returns-in_default-find_entry-clause-looks g c s k held =
     let one = c.find_entry.ensures.looks s k held in
     looks_then _ (omega arith) one (c.find_entry-2.ensures.looks s k (subst (λ v. Contents c.args.order v s k) (sym one.image) held))
 
+pub returns-in_default-find_entry-clause-sooner : goal.returns-in_default-find_entry-clause-sooner
+returns-in_default-find_entry-clause-sooner g c p s k is a b =
+    let one = c.find_entry.ensures.sooner p s k is a in
+    looks_then _ (omega arith) one (c.find_entry-2.ensures.sooner p s k (subst (λ v. IsRegion c.args.order v p s k) (sym one.image) is) (same_block one.image b))
+
 pub returns-then-source-amount-2-clause-is : goal.returns-then-source-amount-2-clause-is
 returns-then-source-amount-2-clause-is g c p s k is =
     let same = (c.find_entry.ensures.looks s k (p, is)).image in
@@ -67,6 +91,11 @@ returns-then-source-amount-2-clause-looks g c s k held =
     let one = c.find_entry.ensures.looks s k held in
     looks_then _ (omega arith) one (c.find_entry-2.ensures.looks s k (subst (λ v. Contents c.args.order v s k) (sym one.image) held))
 
+pub returns-then-source-amount-2-clause-sooner : goal.returns-then-source-amount-2-clause-sooner
+returns-then-source-amount-2-clause-sooner g c p s k is a b =
+    let one = c.find_entry.ensures.sooner p s k is a in
+    looks_then _ (omega arith) one (c.find_entry-2.ensures.sooner p s k (subst (λ v. IsRegion c.args.order v p s k) (sym one.image) is) (same_block one.image b))
+
 pub returns-in_default-checked_add-clause-is : goal.returns-in_default-checked_add-clause-is
 returns-in_default-checked_add-clause-is g c p s k is =
     let same = (c.find_entry.ensures.looks s k (p, is)).image in
@@ -77,6 +106,11 @@ pub returns-in_default-checked_add-clause-looks : goal.returns-in_default-checke
 returns-in_default-checked_add-clause-looks g c s k held =
     let one = c.find_entry.ensures.looks s k held in
     looks_then _ (omega arith) one (c.find_entry-2.ensures.looks s k (subst (λ v. Contents c.args.order v s k) (sym one.image) held))
+
+pub returns-in_default-checked_add-clause-sooner : goal.returns-in_default-checked_add-clause-sooner
+returns-in_default-checked_add-clause-sooner g c p s k is a b =
+    let one = c.find_entry.ensures.sooner p s k is a in
+    looks_then _ (omega arith) one (c.find_entry-2.ensures.sooner p s k (subst (λ v. IsRegion c.args.order v p s k) (sym one.image) is) (same_block one.image b))
 
 pub returns-clause-is : goal.returns-clause-is
 returns-clause-is g c p s k is =
@@ -99,3 +133,8 @@ pub returns-clause-looks : goal.returns-clause-looks
 returns-clause-looks g c s k held =
     let one = c.find_entry.ensures.looks s k held in
     looks_then _ (omega arith) one (c.find_entry-2.ensures.looks s k (subst (λ v. Contents c.args.order v s k) (sym one.image) held))
+
+pub returns-clause-sooner : goal.returns-clause-sooner
+returns-clause-sooner g c p s k is a b =
+    let one = c.find_entry.ensures.sooner p s k is a in
+    looks_then _ (omega arith) one (c.find_entry-2.ensures.sooner p s k (subst (λ v. IsRegion c.args.order v p s k) (sym one.image) is) (same_block one.image b))
