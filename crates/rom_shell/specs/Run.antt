@@ -57,8 +57,8 @@ module _ {S O : Type 0} (source : ShownSource S) (sink : ShownSink O) where
   AreRun (Some (Try names)) sources scripts = AreScripts source sources scripts
   AreRun None sources scripts = ⊥
 
-  -- What it prints of its session and its results: the text, and then the results' numbers are of their types, or
-  -- some of it where the sink failed.
+  -- What it prints of its session and its results: the whole text, and their numbers are of their types; or some of
+  -- it, where the sink failed.
   abbrev pub IsPrinted : Option Command → Story State → List (List (LineResult Reply Answer)) → O → O → ℕ → Type 0
   IsPrinted (Some (Try scripts)) story results old new status =
       ((status ≡ status_of results) × AreOfType trio_texts results × IsWritten sink old new (text trio_texts results (count story)))

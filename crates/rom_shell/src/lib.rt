@@ -2,7 +2,8 @@
 //!
 //! `run` does all that the program does, and its contract carries the promise of the whole: each
 //! printed reply is what one queue, set and map give at its printed place in one history, each
-//! update once and in its caller's order, each read from one committed state.
+//! update once and in its caller's order, each read from one committed state. Scripts are played on
+//! an object in the words of a region, of which the playing knows no more than the trait says.
 #![tactic(auto)]
 
 mod play;
