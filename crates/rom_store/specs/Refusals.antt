@@ -1,5 +1,5 @@
 -- Which words are refused, and why.
-use Rattle.std.specs.Prelude.{◌≡◌, ℕ, List, slice_index, Err}
+use Rattle.std.specs.Prelude.{◌≡◌, ◌⊎◌, ℕ, List, slice_index, Err}
 use Rattle.rom_model.specs.declared.unfit.Break.{Break}
 use Rattle.rom_model.specs.declared.unfit.Unfit.{Unfit}
 use Rattle.rom_model.specs.declared.unfit.Unfit.TheVariants as unfit
@@ -34,10 +34,6 @@ of_inspection unfit.OutOfMemory = OutOfMemory
 abbrev pub named_order : List ℕ → ℕ
 named_order words = slice_index words 2
 
--- Header and regions are accepted, so that some region counts.
-abbrev pub IsAccepted : List ℕ → Type 0
-IsAccepted words = (region : List ℕ) × IsCurrentRegion (named_order words) words region
-
 -- Before the region that counts is looked at, the words are refused by the header, or else by the first difference of the regions under IDLE. A device that fails may answer so in place of either.
 abbrev pub IsUnready : List ℕ → Why → Type 0
 IsUnready words NotAHeap = IsAnswer words (Err header.NotAHeap)
@@ -67,9 +63,13 @@ pub record IsMalformed {S : Type 0} (Contents : ℕ → List ℕ → S → ℕ �
   pub only : (other : Break) → FirstBreak order region other → other ≡ broken
   pub none : (state : S) (count : ℕ) → Contents order region state count → ⊥
 
--- The refusal of these words, of which the object says what a region stands for and what breaks one first. The region that counts is looked at where header and regions are accepted. Want of memory may be answered in place of what is found in it.
+-- The refusal of a region: it is not well-formed, or there was no memory to see.
+abbrev pub IsUnfit : {S : Type 0} → (ℕ → List ℕ → S → ℕ → Type 0) → (ℕ → List ℕ → Break → Type 0) → ℕ → List ℕ → Why → Type 0
+IsUnfit Contents FirstBreak order region (Malformed offset rule) = IsMalformed Contents FirstBreak order region (record { offset = offset; rule = rule })
+IsUnfit Contents FirstBreak order region OutOfMemory = Unit {0}
+IsUnfit Contents FirstBreak order region other = ⊥
+
+-- The refusal of these words, of which the object says what a region stands for and what breaks one first. Header and regions are refused; or else they are accepted, and the region that counts is refused.
 abbrev pub IsRefusal : {S : Type 0} → (ℕ → List ℕ → S → ℕ → Type 0) → (ℕ → List ℕ → Break → Type 0) → List ℕ → Why → Type 0
-IsRefusal Contents FirstBreak words (Malformed offset rule) =
-    (region : List ℕ) × IsCurrentRegion (named_order words) words region × IsMalformed Contents FirstBreak (named_order words) region (record { offset = offset; rule = rule })
-IsRefusal Contents FirstBreak words OutOfMemory = IsAccepted words
-IsRefusal Contents FirstBreak words other = IsUnready words other
+IsRefusal Contents FirstBreak words why =
+    IsUnready words why ⊎ ((region : List ℕ) × IsCurrentRegion (named_order words) words region × IsUnfit Contents FirstBreak (named_order words) region why)

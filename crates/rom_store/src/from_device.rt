@@ -13,7 +13,7 @@ ghost use Rattle.rom_store.specs.Opening.{IsOpeningAnswer, MendsNamed, device_of
 ghost use Rattle.rom_store.specs.Refusals.{IsRefusal, NamesTooFew, named_order};
 ghost use Rattle.rom_store.specs.declared.reasons.Why.TheVariants.{TooSmall};
 
-use crate::image::read_image;
+use crate::image::{inspect_image, read_image};
 use crate::ready::make_ready;
 use crate::reasons::Why;
 use rom_device::Device;
@@ -77,7 +77,7 @@ fn accept<D: Device, O: Object>(alloc: Global, device: &mut D) -> Result<Accepte
 {
     let geometry = make_ready(device)?;
     let image = read_image(alloc, device, geometry)?;
-    O::inspect(alloc, image.as_slice(), geometry.order())?;
+    inspect_image::<O>(alloc, image.as_slice(), geometry)?;
     Ok(Accepted { geometry, image })
 }
 

@@ -1,15 +1,16 @@
-//! The region of a heap, read into memory.
-ghost use Rattle.std.specs.Prelude.{◌≡◌, ◌≤◌, IfOk, IfErr, OnOk, IsTrue, length};
+//! The region of a heap, read into memory and inspected.
+ghost use Rattle.std.specs.Prelude.{◌≡◌, ◌≤◌, IfOk, IfErr, OnOk, IsTrue, ℕ, length};
 ghost use Rattle.rom_model.specs.Blocks.{region_len};
 ghost use Rattle.rom_model.specs.Faults.{Adds, AtMost};
 ghost use Rattle.rom_device.specs.Device.{OnlyReads};
 ghost use Rattle.rom_header.specs.Layout.{main_of, words_needed};
 ghost use Rattle.rom_store.specs.Calls.{HasFaults};
-ghost use Rattle.rom_store.specs.Refusals.{IsUnread};
+ghost use Rattle.rom_store.specs.Refusals.{IsUnfit, IsUnread};
 
 use crate::reasons::Why;
 use rom_device::Device;
 use rom_header::Geometry;
+use rom_model::Object;
 use std::alloc::Global;
 
 /// The words of main, each of which is read once. Want of memory is answered before the device is
@@ -36,4 +37,14 @@ pub fn read_image<D: Device>(
         return Err(Why::Device);
     }
     Ok(image)
+}
+
+/// Inspects a region of words.
+pub fn inspect_image<O: Object>(alloc: Global, image: &[u64], geometry: Geometry) -> Result<(), Why>
+    requires { length image.now ≡ region_len geometry }
+    ensures fit { OnOk result ((s : O.State) × (k : ℕ) × O.Contents geometry image.now s k) }
+    ensures refused { IfErr result (IsUnfit O.Contents O.FirstBreak geometry image.now) }
+{
+    O::inspect(alloc, image, geometry.order())?;
+    Ok(())
 }
