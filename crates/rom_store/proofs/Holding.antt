@@ -1,7 +1,7 @@
--- Words hold one order, one state and one count.
-use Rattle.std.proofs.Common.{◌≡◌, ◌⊎◌, inl, inr, ℕ, List, get_or, refl, sym, ◌∙◌, subst, arith}
-use Rattle.rom_header.specs.Regions.{IsCounted, IsCurrentRegion}
-use Rattle.rom_store.specs.Held.{Holds, HoldsOne}
+-- Words hold one order, one state and one count, and so do all in which the same region counts.
+use Rattle.std.proofs.Common.{◌≡◌, inl, inr, ℕ, List, sym, ◌∙◌, subst, arith}
+use Rattle.rom_header.specs.Regions.{IsCounted, IsCurrentRegion, SameRegion}
+use Rattle.rom_store.specs.Held.{HoldsOne}
 
 -- one region counts
 counted_one : (n : ℕ) (x p q : List ℕ) → IsCounted n x p → IsCounted n x q → p ≡ q
@@ -14,6 +14,14 @@ counted_one n x p q (inr (inl back)) (inr (inr main)) = absurd (omega (arith, ba
 counted_one n x p q (inr (inr busy)) (inl idle) = absurd (omega (arith, idle.0, busy.0))
 counted_one n x p q (inr (inr main)) (inr (inl back)) = absurd (omega (arith, back.0, main.0))
 counted_one n x p q (inr (inr main)) (inr (inr also)) = sym main.1 ∙ also.1
+
+-- so that it counts in the other words too
+pub same_current : (n : ℕ) (x i region : List ℕ) → IsCurrentRegion n x region → SameRegion x i → IsCurrentRegion n i region
+same_current n x i region current same =
+    let order : same.order ≡ n = sym same.words_are.heap.header.order_is ∙ current.heap.header.order_is in
+    let counts : IsCounted n x same.region = subst (λ (m : ℕ). IsCounted m x same.region) order same.words_are.counts in
+    let is : same.region ≡ region = counted_one n x same.region region counts current.counts in
+    subst (λ (l : List ℕ). IsCurrentRegion n i l) is (subst (λ (m : ℕ). IsCurrentRegion m i same.region) order same.image_is)
 
 module _ {S : Type 0} (Contents : ℕ → List ℕ → S → ℕ → Type 0)
     (one : (order : ℕ) (words : List ℕ) (s t : S) (j k : ℕ) → Contents order words s j → Contents order words t k → (s ≡ t) × (j ≡ k)) where

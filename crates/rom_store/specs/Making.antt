@@ -1,5 +1,5 @@
 -- What the making of a heap answers and leaves.
-use Rattle.std.specs.Prelude.{◌≡◌, ◌≢◌, ◌⊎◌, ℕ, List, slice_index, Result, Ok, Err}
+use Rattle.std.specs.Prelude.{◌≢◌, ◌⊎◌, ℕ, List, slice_index, Result, Ok, Err}
 use Rattle.rom_header.specs.Fresh.{IsNew, HasTooFewFor}
 use Rattle.rom_header.specs.Layout.{MAGIC}
 use Rattle.rom_header.specs.declared.fresh.FormatRefused.{FormatRefused}

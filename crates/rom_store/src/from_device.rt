@@ -114,11 +114,15 @@ pub fn open_device<D: Device, O: Object>(alloc: Global, device: D) -> Result<Ope
         IsDone (named_order (D.shown.words device)) (D.shown.words device) (D.shown.words (device_of result)) }
     ensures certain { IsTrue (is_recovered (refusal_of result)) → IsSynced D.shown (device_of result) }
 
-    // Whatever the answer, the region that counts stays, and under IDLE every word does.
+    // Whatever the answer, the region that counts stays, and under IDLE every word does. So what the
+    // device held stays wherever a stop is.
     ensures left { Alters D.shown MendsNamed device (device_of result) }
     ensures images { IsTrue D.shown.tells_images →
         Leaves D.shown (Mended (named_order (D.shown.words device)) (D.shown.words device))
         device (device_of result) }
+    ensures held_images { IsTrue D.shown.tells_images → IfOk result (λ opened.
+        (s : O.State) (k : ℕ) → O.Contents opened.geometry opened.image.items s k →
+        Leaves D.shown (λ i. Holds O.Contents opened.geometry i s k) device opened.device) }
     ensures idle { IsTrue D.shown.tells_words →
         IsIdle (D.shown.words device) → Does D.shown Stays device (device_of result) }
 
@@ -130,10 +134,10 @@ pub fn open_device<D: Device, O: Object>(alloc: Global, device: D) -> Result<Ope
 {
     let mut device = device;
     match accept::<D, O>(alloc, &mut device) {
-        Ok(Accepted { geometry, image }) => Ok(Opened {
+        Ok(accepted) => Ok(Opened {
             device,
-            geometry,
-            image,
+            geometry: accepted.geometry,
+            image: accepted.image,
         }),
         Err(why) => Err(Refused { device, why }),
     }
