@@ -32,14 +32,16 @@ pub struct Opened<D> {
     pub image: Vec<u64>,
 }
 
-/// A device that was not opened.
+/// A device that was not opened. Its words are as they were where the header or the regions were
+/// refused. It has been recovered where the region that counts was refused, or there was no memory.
+/// Where it failed either may hold, or it is recovered in part; then it can be opened again.
 #[derive(Drop)]
 pub struct Refused<D> {
     pub device: D,
     pub why: Why,
 }
 
-/// An accepted heap, beside its device.
+/// A heap that was accepted, without its device.
 #[derive(Drop)]
 struct Accepted {
     geometry: Geometry,
