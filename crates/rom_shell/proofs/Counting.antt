@@ -1,20 +1,22 @@
 -- How many of a list's first elements pass a test.
-use Rattle.std.proofs.Common.{◌≡◌, ℕ, ◌+◌, ◌<◌, ◌≤◌, Bool, true, false, cond, List, length, take, get_or, count_by, refl, arith}
+use Rattle.std.proofs.Common.{◌≡◌, ℕ, ◌+◌, ◌<◌, ◌≤◌, Bool, true, false, cond, List, length, take, get_or, count_by, refl, ap, sym, ◌∙◌, arith}
 use Rattle.std.proofs.lemmas.List.Sums.{count_by_more_yes, count_by_more_no, sum_by-take-le}
 
--- no more of the first elements pass than of all
-pub of_first : {X : Type 0} (p : X → Bool) (xs : List X) (i : ℕ) → count_by p (take i xs) ≤ count_by p xs
-of_first p xs i = sum_by-take-le (λ x. cond (p x) 1 0) xs i
+module _ {X : Type 0} (p : X → Bool) (xs : List X) (i : ℕ) where
+  -- no more of the first elements pass than of all
+  of_first : count_by p (take i xs) ≤ count_by p xs
+  of_first = sum_by-take-le (λ x. cond (p x) 1 0) xs i
 
--- there is room for the next, if it passes
-pub room_for : {X : Type 0} (p : X → Bool) (xs : List X) (i : ℕ) (d : X) (n most : ℕ) → i < length xs → n ≤ count_by p (take i xs) → count_by p xs ≤ most → p (get_or xs i d) ≡ true → n < most
-room_for p xs i d n most lt few room passes = omega (arith, count_by_more_yes p xs i d lt passes, of_first p xs (i + 1))
+-- Of the element x, which stands at the index i:
+module _ {X : Type 0} (p : X → Bool) (xs : List X) (i : ℕ) (x : X) (lt : i < length xs) (is : x ≡ get_or xs i x) where
+  -- there is room for it, if it passes
+  pub room_for : (n most : ℕ) → n ≤ count_by p (take i xs) → count_by p xs ≤ most → p x ≡ true → n < most
+  room_for n most few room passes = omega (arith, count_by_more_yes p xs i x lt (ap p (sym is) ∙ passes), of_first p xs (i + 1))
 
--- one more is counted, if it passes
-pub one_counted : {X : Type 0} (p : X → Bool) (xs : List X) (i : ℕ) (d : X) (n m : ℕ) → i < length xs → n ≤ count_by p (take i xs) →
-    (p (get_or xs i d) ≡ true → m ≡ n + 1) → (p (get_or xs i d) ≡ false → m ≡ n) → m ≤ count_by p (take (i + 1) xs)
-one_counted p xs i d n m lt few passes fails = by (p (get_or xs i d)) refl
-  where
-    by : (b : Bool) → p (get_or xs i d) ≡ b → m ≤ count_by p (take (i + 1) xs)
-    by true is = omega (arith, passes is, count_by_more_yes p xs i d lt is)
-    by false is = omega (arith, fails is, count_by_more_no p xs i d lt is)
+  -- one more is counted, if it passes
+  pub one_counted : (n m : ℕ) → n ≤ count_by p (take i xs) → (p x ≡ true → m ≡ n + 1) → (p x ≡ false → m ≡ n) → m ≤ count_by p (take (i + 1) xs)
+  one_counted n m few passes fails = by (p x) refl
+    where
+      by : (b : Bool) → p x ≡ b → m ≤ count_by p (take (i + 1) xs)
+      by true one = omega (arith, passes one, count_by_more_yes p xs i x lt (ap p (sym is) ∙ one))
+      by false one = omega (arith, fails one, count_by_more_no p xs i x lt (ap p (sym is) ∙ one))

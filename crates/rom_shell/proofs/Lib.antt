@@ -1,5 +1,4 @@
--- Lemmas on the queue and on scripts.
+-- Lemmas on scripts, on what a run of one says, and on counting.
 pub mod Playing
-pub mod QueueSteps
 pub mod Replies
 pub mod Counting

@@ -5,6 +5,7 @@ use Rattle.std.proofs.lemmas.Fmt.{decimal_digit}
 use Rattle.std.specs.Io.KnownBytes.{IsAtEnd}
 use Rattle.rom_model.specs.State.{State}
 use Rattle.rom_model.specs.Story.{Story, count}
+use Rattle.rom_model.specs.Trio.{trio}
 use Rattle.rom_model.specs.declared.call.Call.{Call}
 use Rattle.rom_model.specs.declared.call.Query.{Query}
 use Rattle.rom_model.specs.declared.call.Reply.{Reply}
@@ -12,7 +13,8 @@ use Rattle.rom_model.specs.declared.call.Answer.{Answer}
 use Rattle.rom_model.specs.declared.line.Step.{Step}
 use Rattle.rom_model.specs.declared.line.LineResult.{LineResult}
 use Rattle.rom_script.specs.Lines.{AreStepsOf}
-use Rattle.rom_script.specs.Text.{status_of, text, trio_texts}
+use Rattle.rom_script.specs.Text.{AreOfType, status_of, text}
+use Rattle.rom_script.specs.Trio.{trio_texts}
 use Rattle.rom_shell.specs.Began.{began}
 use Rattle.rom_script.specs.Limits.{FitsScript}
 use Rattle.rom_script.specs.Runs.{AreAskedOnce, AreAtEnd, AreWithin, IsCutShort, IsTold, IsWritten, SourceFailed, SourceTooLong}
@@ -83,16 +85,17 @@ module _ {S O : Type 0} (source : ShownSource S) (sink : ShownSink O) where
   -- the text of these results and of this count is printed, or cut short
   abbrev pub IsText : List (LineResult Reply Answer) → ℕ → O → O → ℕ → Type 0
   IsText results n old new status =
-      ((status ≡ status_of (results ∷ [])) × IsWritten sink old new (text trio_texts (results ∷ []) n))
+      ((status ≡ status_of (results ∷ [])) × AreOfType trio_texts (results ∷ []) × IsWritten sink old new (text trio_texts (results ∷ []) n))
       ⊎ ((status ≡ 5) × IsCutShort sink old new (text trio_texts (results ∷ []) n))
 
   -- what a printing of the text says
   pub printed_whole : {T E : Type 0} (results shown : List (LineResult Reply Answer)) (n m status : ℕ) (old new : O) (v : T) →
-      status ≡ status_of (results ∷ []) → shown ≡ results → n ≡ m →
+      status ≡ status_of (results ∷ []) → shown ≡ results → n ≡ m → AreOfType trio_texts (shown ∷ []) →
       (let r : Result T E = Ok v in Prints sink old new r (text trio_texts (shown ∷ []) n)) → IsText results m old new status
-  printed_whole results shown n m status old new v status_is shown_is n_is p =
+  printed_whole results shown n m status old new v status_is shown_is n_is of_type p =
       inl (
         status_is,
+        subst (λ qs. AreOfType trio_texts (qs ∷ [])) shown_is of_type,
         subst (λ qs. IsWritten sink old new (text trio_texts (qs ∷ []) m)) shown_is
             (subst (λ k. IsWritten sink old new (text trio_texts (shown ∷ []) k)) n_is (p.bytes, p.cause.none)),
       )
@@ -109,14 +112,14 @@ module _ {S O : Type 0} (source : ShownSource S) (sink : ShownSink O) where
 
   -- a script that was read, played and printed
   pub tried : (story : Story State) (s : S) (steps lines : List (Step Call Query)) (results : List (LineResult Reply Answer)) (old new : O) (status : ℕ) →
-      story ≡ began 4 0 story.history → AreStepsOf (source.left s) steps → lines ≡ steps → AreAnswered story (lines ∷ []) (results ∷ []) →
+      story ≡ began trio 4 0 story.history → AreStepsOf (source.left s) steps → lines ≡ steps → AreAnswered trio story (lines ∷ []) (results ∷ []) →
       IsText results (count story) old new status → HasTried source sink story (s ∷ []) old new status
   tried story s steps lines results old new status is read lines_are answered printed = λ names words. record {
     opening = (ap (λ s. s.order) is, ap (λ s. s.opening) is, ap (λ s. s.opening_count) is);
     scripts = steps ∷ [];
     results = results ∷ [];
     read = (read, tt);
-    answered = subst (λ ls. AreAnswered story (ls ∷ []) (results ∷ [])) lines_are answered;
+    answered = subst (λ ls. AreAnswered trio story (ls ∷ []) (results ∷ [])) lines_are answered;
     printed = printed;
   }
 

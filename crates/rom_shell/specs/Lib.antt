@@ -1,7 +1,6 @@
 -- What the commands promise.
 pub mod Words
 pub mod Wanted
-pub mod Queue
 pub mod Began
 pub mod Sessions
 pub mod Playing

@@ -9,6 +9,7 @@ use Rattle.rom_model.specs.declared.line.Step.{Step}
 use Rattle.rom_model.specs.declared.line.LineResult.{LineResult}
 use Rattle.rom_model.specs.State.{State, empty}
 use Rattle.rom_model.specs.History.{LAST_COUNT}
+use Rattle.rom_model.specs.Machine.{Machine}
 use Rattle.rom_model.specs.Story.{Story, count}
 use Rattle.rom_model.specs.Lawful.{IsLawful}
 use Rattle.rom_model.specs.Singly.{each_alone, IsDone}
@@ -16,7 +17,8 @@ use Rattle.rom_model.specs.Trio.{trio}
 use Rattle.rom_script.specs.Limits.{FailedEarly, IsTooLong}
 use Rattle.rom_script.specs.Runs.{AreScripts, IsCutShort, IsTold, IsWritten}
 use Rattle.rom_script.specs.Streams.{ShownSink, ShownSource}
-use Rattle.rom_script.specs.Text.{AreOfType, status_of, text, trio_texts}
+use Rattle.rom_script.specs.Text.{AreOfType, status_of, text}
+use Rattle.rom_script.specs.Trio.{trio_texts}
 use Rattle.rom_shell.specs.declared.status.Status.{Status}
 use Rattle.rom_shell.specs.declared.status.Status.TheVariants.{ScriptFailed, NoMemory, ScriptTooLong}
 use Rattle.rom_shell.specs.Words.{Command, Try}
@@ -41,14 +43,13 @@ abbrev pub IsOpening : Option Command → Option (List ℕ) → Story State → 
 IsOpening (Some (Try scripts)) words story = (story.order ≡ 4) × (story.opening ≡ empty) × (story.opening_count ≡ 0)
 IsOpening None words story = ⊥
 
--- The results of these scripts are those of one history, which is the story's.
-pub record AreAnswered (story : Story State) (scripts : List (List (Step Call Query))) (results : List (List (LineResult Reply Answer))) : Type 0 where
-  -- each update was done by a pass of its own
-  pub lawful : IsLawful trio (each_alone story) scripts results
-  pub each_done : AllByRecursion (λ rs. AllByRecursion IsDone rs) results
-  -- their numbers are words, and so is the count
-  pub of_type : AreOfType results
-  pub within : count story ≤ LAST_COUNT
+module _ {S C Q R A : Type 0} (machine : Machine S C Q R A) where
+  -- The results of these scripts are those of one history, which is the story's.
+  pub record AreAnswered (story : Story S) (scripts : List (List (Step C Q))) (results : List (List (LineResult R A))) : Type 0 where
+    -- each update was done by a pass of its own
+    pub lawful : IsLawful machine (each_alone story) scripts results
+    pub each_done : AllByRecursion (λ rs. AllByRecursion IsDone rs) results
+    pub within : count story ≤ LAST_COUNT
 
 module _ {S O : Type 0} (source : ShownSource S) (sink : ShownSink O) where
   -- the scripts that it runs, which are those of its sources
@@ -56,10 +57,11 @@ module _ {S O : Type 0} (source : ShownSource S) (sink : ShownSink O) where
   AreRun (Some (Try names)) sources scripts = AreScripts source sources scripts
   AreRun None sources scripts = ⊥
 
-  -- What it prints of its session and its results: the text, or some of it where the sink failed.
+  -- What it prints of its session and its results: the text, and then the results' numbers are of their types, or
+  -- some of it where the sink failed.
   abbrev pub IsPrinted : Option Command → Story State → List (List (LineResult Reply Answer)) → O → O → ℕ → Type 0
   IsPrinted (Some (Try scripts)) story results old new status =
-      ((status ≡ status_of results) × IsWritten sink old new (text trio_texts results (count story)))
+      ((status ≡ status_of results) × AreOfType trio_texts results × IsWritten sink old new (text trio_texts results (count story)))
       ⊎ ((status ≡ 5) × IsCutShort sink old new (text trio_texts results (count story)))
   IsPrinted None story results old new status = ⊥
 
@@ -69,7 +71,7 @@ module _ {S O : Type 0} (source : ShownSource S) (sink : ShownSink O) where
     pub scripts : List (List (Step Call Query))
     pub results : List (List (LineResult Reply Answer))
     pub read : AreRun asked sources scripts
-    pub answered : AreAnswered story scripts results
+    pub answered : AreAnswered trio story scripts results
     pub printed : IsPrinted asked story results old new status
 
   -- so for each command that tries scripts, whatever their names are and whatever the device tells

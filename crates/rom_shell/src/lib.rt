@@ -7,7 +7,6 @@
 
 mod play;
 mod program;
-mod queue;
 mod session;
 mod status;
 mod words;

@@ -3,11 +3,12 @@ ghost use Rattle.std.specs.Prelude.{◌≡◌, ◌≢◌, ◌↔◌, ◌⊎◌, 
 ghost use Rattle.std.specs.List.{list_any};
 ghost use Rattle.std.specs.Io.KnownBytes.{IsAtEnd};
 ghost use Rattle.rom_device.specs.Device.{told_words};
+ghost use Rattle.rom_model.specs.Trio.{trio};
 ghost use Rattle.rom_script.specs.Limits.{FitsScript};
 ghost use Rattle.rom_script.specs.Runs.{AreAskedOnce, AreAtEnd, AreWithin, IsTold, SourceFailed, SourceTooLong};
 ghost use Rattle.rom_script.specs.Streams.{IsAskedOnce, StopsWriting, WriteFailed};
-ghost use Rattle.rom_script.specs.Text.{TextDetermines};
 ghost use Rattle.rom_script.specs.Text as texts;
+ghost use Rattle.rom_script.specs.Trio.{TextDetermines};
 ghost use Rattle.rom_shell.specs.Run.{HasNotRun, HasReplies, HasRun, HasTried, IsRefused, IsStatus};
 ghost use Rattle.rom_shell.specs.Sessions.{EachStory, HasStory};
 ghost use Rattle.rom_shell.specs.Statuses.{number_of};
@@ -18,9 +19,13 @@ use crate::session::Session;
 use crate::status::Status;
 use crate::words::is_command;
 use rom_device::Device;
+use rom_heap::Trio;
 use rom_model::{Answer, LineResult, Reply};
 use rom_script::{Names, ReadRefused, Sink, Source, print_pieces, print_run, read_script};
 use std::alloc::Global;
+
+/// The order of the heap of a `try`.
+const TRY_ORDER: u32 = 4;
 
 /// How a run ended, with all that it was handed.
 #[derive(Drop)]
@@ -72,8 +77,8 @@ fn run_script<S: Source, O: Sink>(
     script: &mut S,
     out: &mut O,
 ) -> Result<(Status, Session), Status>
-    ensures story { IfOk result (λ ran. HasStory ran.1) }
-    ensures replies { IfOk result (λ ran. EachStory ran.1 (λ story.
+    ensures story { IfOk result (λ ran. HasStory trio ran.1) }
+    ensures replies { IfOk result (λ ran. EachStory trio ran.1 (λ story.
         HasTried S.shown O.shown story (script.old ∷ []) out.old out.new (number_of ran.0))) }
     ensures statuses { IfOk result (λ ran.
         (ran.0 ≡ Status.Done) ⊎ (ran.0 ≡ Status.Unread) ⊎ (ran.0 ≡ Status.SinkFailed)) }
@@ -104,7 +109,7 @@ fn run_script<S: Source, O: Sink>(
             return Err(Status::NoMemory);
         }
     };
-    let Ok(played) = play(alloc, script.lines()) else {
+    let Ok(played) = play::<Trio>(alloc, TRY_ORDER, script.lines()) else {
         tell(out, "no memory");
         return Err(Status::NoMemory);
     };
@@ -140,8 +145,8 @@ pub fn run<D: Device + Send, S: Source, O: Sink>(
     ensures no_session { HasNotRun (command words.now) result.status → IsNone result.session }
 
     // Where the scripts were run, the results of one history are printed.
-    ensures story { IfSome result.session HasStory }
-    ensures replies { IfSome result.session (λ session. EachStory session (λ story.
+    ensures story { IfSome result.session (HasStory trio) }
+    ensures replies { IfSome result.session (λ session. EachStory trio session (λ story.
         HasReplies S.shown O.shown (command words.now) (told_words D.shown device) story
         scripts.items out.old out.new result.status)) }
     ensures fit { IsSome result.session → AreWithin S.shown scripts.items }

@@ -2,8 +2,9 @@
 ghost use Rattle.std.specs.Prelude.{◌≡◌, ◌+◌, ◌≤◌, vec_len};
 ghost use Rattle.rom_model.specs.History.{LAST_COUNT};
 ghost use Rattle.rom_model.specs.Story.{count};
+ghost use Rattle.rom_model.specs.Trio.{trio};
 
-use rom_model::Entry;
+use rom_model::{Entry, Object};
 
 /// A heap that began empty, and the updates that were done on it. A contract sees its
 /// stories.
@@ -19,11 +20,13 @@ impl Session {
     ghost use Rattle.rom_shell.specs.Began.{began};
     ghost use Rattle.rom_shell.specs.Sessions.{EachStory, HasStory};
 
-    /// The session of these updates on a heap of this order, which had counted so many before.
-    pub(crate) fn of(order: u32, opening_count: u64, entries: Vec<Entry>) -> Self
+    /// The session of these updates of an object on a heap of this order, which had counted so many
+    /// before.
+    pub(crate) fn of<O: Object>(order: u32, opening_count: u64, entries: Vec<Entry>) -> Self
         requires { opening_count + vec_len entries ≤ LAST_COUNT }
-        ensures story { HasStory result }
-        ensures began { EachStory result (λ story. story ≡ began order opening_count entries.items) }
+        ensures story { HasStory O.machine result }
+        ensures began { EachStory O.machine result (λ story.
+            story ≡ began O.machine order opening_count entries.items) }
     {
         Session {
             order,
@@ -34,7 +37,7 @@ impl Session {
 
     /// The count of updates at closing.
     pub fn count(&self) -> u64
-        ensures count { EachStory self.now (λ story. result ≡ count story) }
+        ensures count { EachStory trio self.now (λ story. result ≡ count story) }
         ensures within { result ≤ LAST_COUNT }
     {
         self.opening_count + self.entries.len() as u64

@@ -2,10 +2,10 @@
 ghost use Rattle.std.specs.Prelude.{◌<◌};
 
 use crate::play::play;
-use crate::queue::Queue;
 use crate::words::is_command;
 use crate::{DeviceWant, Ended, files_of, run};
 use rom_device::Ram;
+use rom_heap::Trio;
 use rom_model::{Answer, Call, LineResult, Query, Reply, Step, Updated};
 use rom_script::{Bytes, Collect, Names};
 use std::alloc::{AllocError, Global};
@@ -17,12 +17,34 @@ const AMPLE: u64 = 1024;
 /// The greatest number of bytes in a script.
 const MOST: usize = 1_048_576;
 
-/// Sixteen updates fill the queue and find it full; one leaves it, and one more has room.
+/// Fifteen elements fill the heap, and the sixteenth finds it full; one leaves it, and one more has
+/// room.
 const FILL: &str =
     "enq 1\nenq 2\nenq 3\nenq 4\nenq 5\nenq 6\nenq 7\nenq 8\nenq 9\nenq 10\nenq 11\nenq 12\nenq 13\nenq 14\nenq 15\nenq 16\ndeq\nenq 1\n";
 
 const FILLED: &str =
     "caller 1\nqueued @0\nqueued @1\nqueued @2\nqueued @3\nqueued @4\nqueued @5\nqueued @6\nqueued @7\nqueued @8\nqueued @9\nqueued @10\nqueued @11\nqueued @12\nqueued @13\nqueued @14\nfull @15\nhead 1 @16\nqueued @17\ncount 18\n";
+
+/// Fourteen elements in the queue, and the fifteenth in the map: its value can change, and another
+/// key finds the heap full.
+const SHARED: &str =
+    "enq 1\nenq 1\nenq 1\nenq 1\nenq 1\nenq 1\nenq 1\nenq 1\nenq 1\nenq 1\nenq 1\nenq 1\nenq 1\nenq 1\nput 1 1\nput 1 2\nput 2 2\n";
+
+const SHARED_TOLD: &str =
+    "caller 1\nqueued @0\nqueued @1\nqueued @2\nqueued @3\nqueued @4\nqueued @5\nqueued @6\nqueued @7\nqueued @8\nqueued @9\nqueued @10\nqueued @11\nqueued @12\nqueued @13\nnone @14\nwas 1 @15\nfull @16\ncount 17\n";
+
+/// Amounts that go from one key to another, or do not.
+const MOVED: &str =
+    "put 1 100\nput 2 0\nmove 1 2 60\nmove 1 2 60\nmove 1 3 1\nmove 1 1 40\ntotal\n";
+
+const MOVED_TOLD: &str =
+    "caller 1\nnone @0\nnone @1\nmoved @2\nshort 40 @3\nabsent @4\nmoved @5\ntotal 100 #6\ncount 6\n";
+
+/// A sum of values that is greater than a value can be.
+const GREAT: &str = "put 0 18446744073709551615\nput 1 18446744073709551615\ntotal\nmove 0 1 1\n";
+
+const GREAT_TOLD: &str =
+    "caller 1\nnone @0\nnone @1\ntotal 36893488147419103230 #2\nover @2\ncount 3\n";
 
 /// Tries a script that comes in pieces of this length.
 fn tried(
@@ -57,18 +79,42 @@ fn told(
 
 #[test]
 fn scripts_are_told_their_replies(rt: HostRuntime) -> Result<(), Fail> {
-    let rows: [(&str, &str, u8); 4] = [
+    let rows: [(&str, &str, u8); 11] = [
         ("", "caller 1\ncount 0\n", 0),
         (
             "enq 9\ndeq\ndeq\n",
             "caller 1\nqueued @0\nhead 9 @1\nempty @2\ncount 3\n",
             0,
         ),
-        (FILL, FILLED, 0),
         (
-            "peek\nenq 18446744073709551615\npeek\nPUT 1 1",
-            "caller 1\nempty #0\nqueued @0\nhead 18446744073709551615 #1\nunread\ncount 1\n",
+            "put 5 7\nget 5\nput 5 8\ndel 5\nget 5\n",
+            "caller 1\nnone @0\nvalue 7 #1\nwas 7 @1\nwas 8 @2\nnone #3\ncount 3\n",
+            0,
+        ),
+        (FILL, FILLED, 0),
+        (SHARED, SHARED_TOLD, 0),
+        (
+            "add 3\nadd 3\nrem 3\nrem 3\nhas 3\n",
+            "caller 1\nadded @0\npresent @1\nremoved @2\nabsent @3\nno #4\ncount 4\n",
+            0,
+        ),
+        (MOVED, MOVED_TOLD, 0),
+        (GREAT, GREAT_TOLD, 0),
+        (
+            "put 18446744073709551616 1\n\nPUT 1 1\nenq 007\n",
+            "caller 1\nunread\nunread\nunread\nunread\ncount 0\n",
             1,
+        ),
+        // Both keys are in one bucket.
+        (
+            "put 0 1\nput 5 2\ndel 0\nget 5\n",
+            "caller 1\nnone @0\nnone @1\nwas 1 @2\nvalue 2 #3\ncount 3\n",
+            0,
+        ),
+        (
+            "peek\nlen\ndel 1\nhas 0",
+            "caller 1\nempty #0\nqueue 0 set 0 map 0 #0\nnone @0\nno #1\ncount 1\n",
+            0,
         ),
     ];
     for (script, text, status) in rows {
@@ -233,19 +279,17 @@ fn a_longer_script_is_refused(rt: HostRuntime) -> Result<(), Fail> {
 
 #[test]
 fn lines_are_played_in_order(rt: HostRuntime) -> Result<(), Fail> {
-    let queue = Queue::new(rt.alloc())?;
-    assert_eq!(rt; queue.answer(&Query::Peek), Answer::Empty);
     let lines = [
-        Step::Update(Call::Enq(9)),
+        Step::Update(Call::Add(9)),
         Step::Unread,
-        Step::Ask(Query::Peek),
+        Step::Ask(Query::Has(9)),
     ];
-    let played = play(rt.alloc(), &lines)?;
+    let played = play::<Trio>(rt.alloc(), 5, &lines)?;
     assert_eq!(rt; played.session.count(), 1);
     let told = [
-        LineResult::Update(Updated::Done(Reply::Queued, 0)),
+        LineResult::Update(Updated::Done(Reply::Added, 0)),
         LineResult::Unread,
-        LineResult::Read(Answer::Head(9), 1),
+        LineResult::Read(Answer::Yes, 1),
     ];
     assert!(rt; played.results.as_slice() == told.as_slice());
     Ok(())

@@ -15,7 +15,7 @@ returns-clause-replies g c = λ story is.
       | in-Err w ↦ printed_short source sink played.results.items _ _ (count story) _ c.args.out.now c.print_run.new.out _ (ap number_of w.status-is) c.deref.ensures.value (c.count.ensures.count story is) w.in-Err.ensures.prints
       | in-Ok-print_run w ↦ printed_whole source sink played.results.items _ _ (count story) _ c.args.out.now c.print_run.new.out _
           (ap number_of w.status-is ∙ w.status_of-status.ensures ∙ ap (λ qs. status_of (qs ∷ [])) w.deref-in-Ok-print_run.ensures.value)
-          c.deref.ensures.value (c.count.ensures.count story is) w.in-Ok-print_run.ensures.prints
+          c.deref.ensures.value (c.count.ensures.count story is) w.in-Ok-print_run.ensures.of_type w.in-Ok-print_run.ensures.prints
     ] in
     tried source sink story c.args.script.now _ _ played.results.items c.args.out.now c.print_run.new.out _ (c.in-Ok-play.ensures.began story is) c.in-Ok.ensures.lines c.lines.ensures
     (c.in-Ok-play.ensures.answered story is) printed
