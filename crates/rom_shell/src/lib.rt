@@ -5,10 +5,14 @@
 //! update once and in its caller's order, each read from one committed state.
 #![tactic(auto)]
 
+mod format;
 mod play;
 mod program;
+mod refusals;
 mod session;
+mod stat;
 mod status;
+mod tell;
 mod words;
 
 pub use program::{Ended, run};
