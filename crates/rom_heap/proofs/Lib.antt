@@ -11,4 +11,5 @@ pub mod Marking
 pub mod Earlier
 pub mod BucketNode
 pub mod Ending
+pub mod Room
 pub mod Whole

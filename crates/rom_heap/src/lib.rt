@@ -4,7 +4,7 @@
 //! answer, the words of calls and replies, and the inspection of a region. Its contracts promise of
 //! every well-formed region that an update leaves what one queue, set and map give, with the reply that
 //! they give, that each update is counted, that one is refused for want of room exactly where the heap
-//! is full, and how many loads and stores there are at most.
+//! is full, and how many loads and stores there are at most. `free_elements` says how much room is left.
 //!
 //! The inspection takes any words and says whether they are a well-formed region, and if not, which
 //! word first breaks which rule. The root words come first, then the chains of the queue, of the set
@@ -18,6 +18,7 @@
 mod answer;
 mod apply;
 mod follow;
+mod free;
 mod fresh;
 mod inspection;
 mod keys;
@@ -25,6 +26,7 @@ mod parts;
 mod trio;
 mod walk;
 
+pub use free::free_elements;
 pub use trio::Trio;
 
 #[cfg(test)]

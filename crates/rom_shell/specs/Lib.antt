@@ -5,4 +5,7 @@ pub mod Began
 pub mod Sessions
 pub mod Playing
 pub mod Statuses
+pub mod Refusing
+pub mod Stat
+pub mod Devices
 pub mod Run

@@ -1,5 +1,5 @@
 -- What a run answers and prints.
-use Rattle.std.specs.Prelude.{◌≡◌, ℕ, ◌≤◌, ◌⊎◌, List, codes, Option, Some, None}
+use Rattle.std.specs.Prelude.{◌≡◌, ℕ, ◌≤◌, ◌⊎◌, List, [], codes, Option, Some, None, IfSome}
 use Rattle.std.specs.List.{AllByRecursion}
 use Rattle.rom_model.specs.declared.call.Call.{Call}
 use Rattle.rom_model.specs.declared.call.Query.{Query}
@@ -21,26 +21,36 @@ use Rattle.rom_script.specs.Text.{AreOfType, status_of, text}
 use Rattle.rom_script.specs.Trio.{trio_texts}
 use Rattle.rom_shell.specs.declared.status.Status.{Status}
 use Rattle.rom_shell.specs.declared.status.Status.TheVariants.{ScriptFailed, NoMemory, ScriptTooLong}
-use Rattle.rom_shell.specs.Words.{Command, Try}
+use Rattle.rom_shell.specs.Devices.{IsOpenedFrom, IsPut}
+use Rattle.rom_shell.specs.Stat.{stat_text}
+use Rattle.rom_shell.specs.Words.{Command, Try, Format, Stat}
 
 -- the statuses with which a command may end
 abbrev pub IsStatus : Option Command → ℕ → Type 0
 IsStatus (Some (Try scripts)) status = (status ≡ 0) ⊎ (status ≡ 1) ⊎ (status ≡ 4) ⊎ (status ≡ 5) ⊎ (status ≡ 6) ⊎ (status ≡ 8)
+IsStatus (Some (Format file order)) status = (status ≡ 0) ⊎ (status ≡ 3) ⊎ (status ≡ 6) ⊎ (status ≡ 7)
+IsStatus (Some (Stat file)) status = (status ≡ 0) ⊎ (status ≡ 3) ⊎ (status ≡ 6) ⊎ (status ≡ 7)
 IsStatus None status = status ≡ 2
 
--- With these statuses a command has run its scripts, and leaves a session.
+-- With these statuses a command has run its scripts, or looked at its heap, and leaves a session.
 abbrev pub HasRun : Option Command → ℕ → Type 0
 HasRun (Some (Try scripts)) status = (status ≡ 0) ⊎ (status ≡ 1) ⊎ (status ≡ 5)
+HasRun (Some (Format file order)) status = ⊥
+HasRun (Some (Stat file)) status = status ≡ 0
 HasRun None status = ⊥
 
 -- With these it has run nothing, and leaves none.
 abbrev pub HasNotRun : Option Command → ℕ → Type 0
 HasNotRun (Some (Try scripts)) status = (status ≡ 4) ⊎ (status ≡ 6) ⊎ (status ≡ 8)
+HasNotRun (Some (Format file order)) status = Unit {0}
+HasNotRun (Some (Stat file)) status = (status ≡ 3) ⊎ (status ≡ 6) ⊎ (status ≡ 7)
 HasNotRun None status = Unit {0}
 
 -- The heap that its session begins with, on a device of which these words are told, if any.
 abbrev pub IsOpening : Option Command → Option (List ℕ) → Story State → Type 0
 IsOpening (Some (Try scripts)) words story = (story.order ≡ 4) × (story.opening ≡ empty) × (story.opening_count ≡ 0)
+IsOpening (Some (Format file order)) words story = ⊥
+IsOpening (Some (Stat file)) words story = IfSome words (λ told. IsOpenedFrom told story)
 IsOpening None words story = ⊥
 
 module _ {S C Q R A : Type 0} (machine : Machine S C Q R A) where
@@ -55,6 +65,8 @@ module _ {S O : Type 0} (source : ShownSource S) (sink : ShownSink O) where
   -- the scripts that it runs, which are those of its sources
   abbrev pub AreRun : Option Command → List S → List (List (Step Call Query)) → Type 0
   AreRun (Some (Try names)) sources scripts = AreScripts source sources scripts
+  AreRun (Some (Format file order)) sources scripts = ⊥
+  AreRun (Some (Stat file)) sources scripts = (sources ≡ []) × (scripts ≡ [])
   AreRun None sources scripts = ⊥
 
   -- What it prints of its session and its results: the whole text, and their numbers are of their types; or some of
@@ -63,6 +75,9 @@ module _ {S O : Type 0} (source : ShownSource S) (sink : ShownSink O) where
   IsPrinted (Some (Try scripts)) story results old new status =
       ((status ≡ status_of results) × AreOfType trio_texts results × IsWritten sink old new (text trio_texts results (count story)))
       ⊎ ((status ≡ 5) × IsCutShort sink old new (text trio_texts results (count story)))
+  IsPrinted (Some (Format file order)) story results old new status = ⊥
+  IsPrinted (Some (Stat file)) story results old new status =
+      (status ≡ 0) × (results ≡ []) × IsPut sink old new (stat_text story.order story.opening story.opening_count)
   IsPrinted None story results old new status = ⊥
 
   -- What was printed are the results of one history, which is the story's.

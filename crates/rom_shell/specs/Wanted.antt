@@ -1,10 +1,22 @@
--- The device that a command works on.
-use Rattle.std.specs.Prelude.{◌≡◌, Option, Some, None}
+-- What the code reads of the words, and the device that a command works on.
+use Rattle.std.specs.Prelude.{◌≡◌, [], ◌∷◌, Option, Some, None}
+use Rattle.rom_header.specs.Layout.{words_needed}
+use Rattle.rom_shell.specs.declared.words.Asked.{Asked}
+use Rattle.rom_shell.specs.declared.words.Asked.TheVariants as asked
 use Rattle.rom_shell.specs.declared.words.DeviceWant.{DeviceWant}
-use Rattle.rom_shell.specs.declared.words.DeviceWant.TheVariants.{Nothing, Fresh}
-use Rattle.rom_shell.specs.Words.{Command, Try}
+use Rattle.rom_shell.specs.declared.words.DeviceWant.TheVariants.{Nothing, Fresh, Old, Made}
+use Rattle.rom_shell.specs.Words.{Command, Try, Format, Stat}
 
--- `try` asks for the words of a heap of order 4
+-- the command that was read, if one was
+abbrev pub named : Option Asked → Option Command
+named (Some (asked.Try script)) = Some (Try (script.now ∷ []))
+named (Some (asked.Format file geometry)) = Some (Format file.now geometry)
+named (Some (asked.Stat file)) = Some (Stat file.now)
+named None = None
+
+-- `try` asks for the words of a heap of order 4, `format` for a file that is lengthened to those of its order, and `stat` for a file that is there
 abbrev pub IsWanted : Option Command → DeviceWant → Type 0
 IsWanted (Some (Try scripts)) device = device ≡ Fresh 232
+IsWanted (Some (Format file order)) device = device ≡ Made file (words_needed order)
+IsWanted (Some (Stat file)) device = device ≡ Old file
 IsWanted None device = device ≡ Nothing

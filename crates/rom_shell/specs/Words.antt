@@ -1,11 +1,15 @@
 -- The words of the command line.
-use Rattle.std.specs.Prelude.{ℕ, ◌==◌, ◌&&◌, Bool, true, false, not, List, [], ◌∷◌, codes, Option, Some, None, if◌then◌else◌}
+use Rattle.std.specs.Prelude.{ℕ, ◌==◌, ◌&&◌, Bool, true, false, not, List, [], ◌∷◌, codes, Option, Some, None, option_map, if◌then◌else◌}
 use Rattle.std.specs.Str.{bytes_eq}
 
 -- what the words ask for
 pub data Command : Type 0 where
   -- run the scripts on a new heap
   Try : List (List ℕ) → Command
+  -- make a new heap of this order in the file
+  Format : List ℕ → ℕ → Command
+  -- print the sizes of the heap in the file
+  Stat : List ℕ → Command
 
 -- a plain word: it isn't empty, and it begins with a dash only where it is one
 abbrev pub is_plain : List ℕ → Bool
@@ -13,12 +17,28 @@ is_plain [] = false
 is_plain (b ∷ []) = true
 is_plain (b ∷ bs) = not (b == 45)
 
+-- the first of these numbers and texts whose text is the word
+abbrev pub spelt : List (ℕ × List ℕ) → List ℕ → Option ℕ
+spelt [] word = None
+spelt (pair ∷ pairs) word = if bytes_eq word pair.1 then Some pair.0 else spelt pairs word
+
+-- the orders of a heap as they are spelt
+abbrev pub orders : List (ℕ × List ℕ)
+orders =
+    (4, codes "4") ∷ (5, codes "5") ∷ (6, codes "6") ∷ (7, codes "7") ∷ (8, codes "8") ∷ (9, codes "9") ∷ (10, codes "10") ∷ (11, codes "11") ∷ (12, codes "12") ∷ (13, codes "13") ∷ (14, codes "14") ∷ (15, codes "15") ∷ (16, codes "16") ∷ []
+
 -- the command that the words are, if they are one
 abbrev pub command : List (List ℕ) → Option Command
-command (name ∷ script ∷ []) = if bytes_eq name (codes "try") && is_plain script then Some (Try (script ∷ [])) else None
+command (name ∷ word ∷ []) =
+    if bytes_eq name (codes "try") && is_plain word then Some (Try (word ∷ [])) else
+    if bytes_eq name (codes "stat") && is_plain word then Some (Stat word) else None
+command (name ∷ file ∷ option ∷ value ∷ []) =
+    if bytes_eq name (codes "format") && is_plain file && bytes_eq option (codes "--order") then option_map (Format file) (spelt orders value) else None
 command words = None
 
 -- the scripts that a command names
 abbrev pub scripts_of : Option Command → List (List ℕ)
 scripts_of (Some (Try scripts)) = scripts
+scripts_of (Some (Format file order)) = []
+scripts_of (Some (Stat file)) = []
 scripts_of None = []

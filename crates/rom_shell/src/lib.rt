@@ -6,10 +6,14 @@
 //! an object in the words of a region, of which the playing knows no more than the trait says.
 #![tactic(auto)]
 
+mod format;
 mod play;
 mod program;
+mod refusals;
 mod session;
+mod stat;
 mod status;
+mod tell;
 mod words;
 
 pub use program::{Ended, run};

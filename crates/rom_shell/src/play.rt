@@ -12,6 +12,7 @@ ghost use Rattle.rom_shell.specs.Sessions.{EachStory, HasStory};
 use crate::session::Session;
 use rom_model::{Entry, LineResult, Object, Step, Updated, VecSpace, new_region};
 use std::alloc::{AllocError, Global};
+use std::snapshot::Snapshot;
 
 /// What a run did, and what the lines of its script were told.
 #[derive(Drop)]
@@ -77,13 +78,14 @@ pub(crate) fn play<O: Object>(
 ) -> Result<Played<O::Reply, O::Answer>, AllocError>
     requires order { IsOrder order }
     requires few { length lines.now ≤ LAST_COUNT }
-    ensures story { IfOk result (λ played. HasStory O.machine played.session) }
-    ensures began { IfOk result (λ played. EachStory O.machine played.session (λ story.
+    ensures story { IfOk result (λ played. HasStory O.Contents played.session) }
+    ensures began { IfOk result (λ played. EachStory O.Contents played.session (λ story.
         story ≡ began O.machine order 0 story.history)) }
-    ensures answered { IfOk result (λ played. EachStory O.machine played.session (λ story.
+    ensures answered { IfOk result (λ played. EachStory O.Contents played.session (λ story.
         AreAnswered O.machine story (lines.now ∷ []) (played.results.items ∷ []))) }
 {
     let mut space = new_region::<O>(alloc, order)?;
+    let opening = Snapshot::of(&space);
     let mut entries = Vec::with_capacity(alloc, count_updates(lines))?;
     let mut results = Vec::with_capacity(alloc, lines.len())?;
     for line in lines {
@@ -91,7 +93,7 @@ pub(crate) fn play<O: Object>(
         results.push_reserved(told);
     }
     Ok(Played {
-        session: Session::of::<O>(order, 0, entries),
+        session: Session::of::<O>(order, opening, 0, entries),
         results,
     })
 }

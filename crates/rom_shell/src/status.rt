@@ -11,12 +11,16 @@ pub enum Status {
     Unread = 1,
     /// The words are no command.
     NotACommand = 2,
+    /// The device is refused by name.
+    HeapRefused = 3,
     /// A script could not be opened or read.
     ScriptFailed = 4,
     /// The text could not be written.
     SinkFailed = 5,
     /// There was no memory, before any update.
     NoMemory = 6,
+    /// The device failed.
+    DeviceFailed = 7,
     /// A script has more bytes than it may.
     ScriptTooLong = 8,
 }

@@ -2,7 +2,7 @@
 ghost use Rattle.std.specs.Prelude.{◌<◌};
 
 use crate::play::play;
-use crate::words::is_command;
+use crate::words::read_command;
 use crate::{DeviceWant, Ended, files_of, run};
 use rom_device::Ram;
 use rom_heap::Trio;
@@ -157,7 +157,7 @@ fn other_words_are_no_command(rt: HostRuntime) -> Result<(), Fail> {
         for word in row {
             words.push(alloc, word)?;
         }
-        assert!(rt; !is_command(&words), "at {row:?}");
+        assert!(rt; read_command(&words).is_none(), "at {row:?}");
         let wanted = files_of(alloc, &words)?;
         assert!(rt; matches!(wanted.device, DeviceWant::Nothing), "at {row:?}");
         assert_eq!(rt; wanted.scripts.len(), 0, "at {row:?}");

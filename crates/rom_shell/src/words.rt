@@ -1,8 +1,10 @@
 //! The words of the command line.
-ghost use Rattle.std.specs.Prelude.{◌≡◌, ◌↔◌, IsTrue, IsSome, IfOk};
-ghost use Rattle.rom_shell.specs.Wanted.{IsWanted};
-ghost use Rattle.rom_shell.specs.Words.{command, is_plain, scripts_of};
+ghost use Rattle.std.specs.Prelude.{◌≡◌, [], ◌∷◌, IfOk, IfSome};
+ghost use Rattle.rom_model.specs.Blocks.{IsOrder};
+ghost use Rattle.rom_shell.specs.Wanted.{IsWanted, named};
+ghost use Rattle.rom_shell.specs.Words.{command, is_plain, orders, scripts_of, spelt};
 
+use rom_header::Geometry;
 use rom_script::{Name, Names};
 use std::alloc::{AllocError, Global};
 
@@ -29,6 +31,17 @@ pub struct Wanted {
     pub scripts: Names,
 }
 
+/// What words that are a command ask for.
+#[derive(Clone, Copy)]
+pub(crate) enum Asked<'a> {
+    /// To run this script on a new heap.
+    Try(&'a str),
+    /// To make a new heap of this order in this file.
+    Format { file: &'a str, geometry: Geometry },
+    /// To print the sizes of the heap in this file.
+    Stat(&'a str),
+}
+
 fn is_plain_word(word: &str) -> bool
     ensures { result ≡ is_plain word.now }
 {
@@ -39,15 +52,81 @@ fn is_plain_word(word: &str) -> bool
     }
 }
 
-/// Whether the words are a command. Today they are one where they are `try` and one more word
-/// that is not empty, and that begins with a dash only where it is a dash alone.
-pub(crate) fn is_command(words: &Names) -> bool
-    ensures { IsTrue result ↔ IsSome (command words.now) }
+/// The order that a word spells, 4 to 16.
+fn read_order(word: &str) -> Option<u64>
+    ensures order { result ≡ spelt orders word.now }
+    ensures fits { IfSome result IsOrder }
 {
-    let (Some(name), Some(script)) = (words.at(0), words.at(1)) else {
-        return false;
-    };
-    words.len() == 2 && name == "try" && is_plain_word(script)
+    match word {
+        "4" => Some(4),
+        "5" => Some(5),
+        "6" => Some(6),
+        "7" => Some(7),
+        "8" => Some(8),
+        "9" => Some(9),
+        "10" => Some(10),
+        "11" => Some(11),
+        "12" => Some(12),
+        "13" => Some(13),
+        "14" => Some(14),
+        "15" => Some(15),
+        "16" => Some(16),
+        _ => None,
+    }
+}
+
+/// A command of two words.
+fn read_two<'a>(name: &str, word: &'a str) -> Option<Asked<'a>>
+    ensures { named result ≡ command (name.now ∷ word.now ∷ []) }
+{
+    if !is_plain_word(word) {
+        return None;
+    }
+    match name {
+        "try" => Some(Asked::Try(word)),
+        "stat" => Some(Asked::Stat(word)),
+        _ => None,
+    }
+}
+
+/// A command of four words.
+fn read_four<'a>(name: &str, file: &'a str, option: &str, value: &str) -> Option<Asked<'a>>
+    ensures { named result ≡ command (name.now ∷ file.now ∷ option.now ∷ value.now ∷ []) }
+{
+    if name != "format" || !is_plain_word(file) || option != "--order" {
+        return None;
+    }
+    let geometry = Geometry::of(read_order(value)?)?;
+    Some(Asked::Format { file, geometry })
+}
+
+/// The command that the words are. A file or a script is a word that is not empty, and that begins
+/// with a dash only where it is a dash alone.
+pub(crate) fn read_command(words: &Names) -> Option<Asked<'_>>
+    ensures { named result ≡ command words.now }
+{
+    match (words.at(0), words.at(1), words.at(2), words.at(3)) {
+        (Some(name), Some(word), None, _) => read_two(name, word),
+        (Some(name), Some(file), Some(option), Some(value)) if words.len() == 4 => {
+            read_four(name, file, option, value)
+        }
+        _ => None,
+    }
+}
+
+/// The device that a command works on.
+fn device_of(alloc: Global, asked: Option<Asked<'_>>) -> Result<DeviceWant, AllocError>
+    ensures { IfOk result (IsWanted (named asked)) }
+{
+    match asked {
+        None => Ok(DeviceWant::Nothing),
+        Some(Asked::Try(_)) => Ok(DeviceWant::Fresh(TRY_WORDS)),
+        Some(Asked::Format { file, geometry }) => {
+            let file = Name::of(alloc, file)?;
+            Ok(DeviceWant::Made(file, geometry.need()))
+        }
+        Some(Asked::Stat(file)) => Ok(DeviceWant::Old(Name::of(alloc, file)?)),
+    }
 }
 
 /// What the words ask `main` to hand to `run`: a device, and the scripts in order.
@@ -55,18 +134,11 @@ pub fn files_of(alloc: Global, words: &Names) -> Result<Wanted, AllocError>
     ensures device { IfOk result (λ wanted. IsWanted (command words.now) wanted.device) }
     ensures scripts { IfOk result (λ wanted. wanted.scripts ≡ scripts_of (command words.now)) }
 {
+    let asked = read_command(words);
+    let device = device_of(alloc, asked)?;
     let mut scripts = Names::new(alloc);
-    if !is_command(words) {
-        return Ok(Wanted {
-            device: DeviceWant::Nothing,
-            scripts,
-        });
-    }
-    if let Some(script) = words.at(1) {
+    if let Some(Asked::Try(script)) = asked {
         scripts.push(alloc, script)?;
     }
-    Ok(Wanted {
-        device: DeviceWant::Fresh(TRY_WORDS),
-        scripts,
-    })
+    Ok(Wanted { device, scripts })
 }

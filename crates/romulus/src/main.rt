@@ -1,13 +1,14 @@
-//! Runs scripts on a heap: makes the device and the streams that the words name, and calls `run`.
+//! Runs a command on a heap: makes the device and the streams that the words name, and calls `run`.
 #![tactic(auto)]
 
 ghost use Rattle.std.specs.Prelude.{◌≡◌, length, IfOk};
+ghost use Rattle.rom_shell.specs.Words.{command, scripts_of};
 
-use rom_device::Ram;
+use rom_device::{Device, FileDevice, Ram};
 use rom_script::{Adapted, Names};
 use rom_shell::{DeviceWant, Status, files_of, run};
 use std::alloc::AllocError;
-use std::fs::File;
+use std::fs::{File, OpenFile, OpenOptions};
 use std::io::ErrorKind;
 use std::os::fd::{AsRawFd, IntoRawFd};
 use std::process::ExitCode;
@@ -66,19 +67,68 @@ fn sources_of(rt: &HostRuntime, names: &Names) -> Result<Vec<Adapted<File>>, All
     Ok(sources)
 }
 
+/// The words of a file that is there.
+fn open_old(rt: &HostRuntime, name: &str) -> io::Result<FileDevice> {
+    let file = OpenOptions::new().read(true).write(true).open(rt, name)?;
+    let bytes = file.metadata()?.len();
+    Ok(FileDevice::new(file, bytes))
+}
+
+/// The words of a file that is made if need be, and lengthened with zeros to so many. It is never
+/// shortened.
+fn open_made(rt: &HostRuntime, name: &str, words: u64) -> io::Result<FileDevice> {
+    let file = OpenOptions::new()
+        .read(true)
+        .write(true)
+        .create(true)
+        .open(rt, name)?;
+    let bytes = file.metadata()?.len();
+    let wanted = words.saturating_mul(8);
+    if bytes < wanted {
+        file.set_len(wanted)?;
+    }
+    Ok(FileDevice::new(file, bytes.max(wanted)))
+}
+
+/// A file that could not be opened or lengthened is a device whose every call fails.
+fn file_or_missing(opened: io::Result<FileDevice>) -> FileDevice {
+    match opened {
+        Ok(device) => device,
+        Err(_) => FileDevice::missing(),
+    }
+}
+
+/// Runs the command on this device, prints to the standard output, and gives the status.
+fn run_on<D: Device + Send + Drop>(
+    rt: &HostRuntime,
+    words: &Names,
+    device: D,
+    sources: Vec<Adapted<File>>,
+) -> u8
+    requires { length sources.items ≡ length (scripts_of (command words.now)) }
+{
+    let mut out = Adapted::new(io::writer(rt));
+    run(rt.alloc(), words, device, sources, &mut out).status
+}
+
 /// Runs the command that the words are, and gives its status.
 fn start(rt: &HostRuntime) -> Result<u8, AllocError> {
     let words = words_of(rt)?;
     let wanted = files_of(rt.alloc(), &words)?;
-    let len = match wanted.device {
-        DeviceWant::Fresh(len) => len,
-        DeviceWant::Nothing | DeviceWant::Old(_) | DeviceWant::Made(..) => 0,
-    };
-    let device = Ram::zeroed(rt.alloc(), len)?;
     let sources = sources_of(rt, &wanted.scripts)?;
-    let mut out = Adapted::new(io::writer(rt));
-    let ended = run(rt.alloc(), &words, device, sources, &mut out);
-    Ok(ended.status)
+    let file = match wanted.device {
+        DeviceWant::Nothing => {
+            let device = Ram::zeroed(rt.alloc(), 0)?;
+            return Ok(run_on(rt, &words, device, sources));
+        }
+        DeviceWant::Fresh(len) => {
+            let device = Ram::zeroed(rt.alloc(), len)?;
+            return Ok(run_on(rt, &words, device, sources));
+        }
+        DeviceWant::Old(name) => open_old(rt, name.as_str()),
+        DeviceWant::Made(name, len) => open_made(rt, name.as_str(), len),
+    };
+    Ok(run_on(rt, &words, file_or_missing(file), sources))
 }
 
 /// Nothing has been done, and nothing can be.

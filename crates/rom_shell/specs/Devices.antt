@@ -1,0 +1,94 @@
+-- What becomes of the device that a command works on, and why there is no heap to work on.
+use Rattle.std.specs.Prelude.{◌≡◌, ◌≢◌, ◌⊎◌, ℕ, List, ◌++◌, IsTrue, codes, decimal, Option, Some, None, Err}
+use Rattle.rom_model.specs.Faults.{FailedLast}
+use Rattle.rom_model.specs.Region.{Contents}
+use Rattle.rom_model.specs.State.{State, empty}
+use Rattle.rom_model.specs.Story.{Story}
+use Rattle.rom_device.specs.Device.{ShownDevice, Does, Leaves, Stays}
+use Rattle.rom_header.specs.Fresh.{IsFormatAnswer, HasTooFewFor, IsRefused}
+use Rattle.rom_header.specs.declared.fresh.FormatRefused.{FormatRefused}
+use Rattle.rom_header.specs.declared.fresh.FormatRefused.TheVariants as format
+use Rattle.rom_heap.specs.Parts.{FirstBreak}
+use Rattle.rom_recover.specs.Recovered.{Mended}
+use Rattle.rom_script.specs.Runs.{IsTold, IsCutShort, IsWritten}
+use Rattle.rom_script.specs.Streams.{ShownSink}
+use Rattle.rom_store.specs.Calls.{HasFaults}
+use Rattle.rom_store.specs.Held.{Holds}
+use Rattle.rom_store.specs.Making.{NoneOrHolds}
+use Rattle.rom_store.specs.Refusals.{IsRefusal, NamesTooFew, named_order}
+use Rattle.rom_store.specs.declared.new_heap.NotFormatted.TheVariants.{Refused}
+use Rattle.rom_store.specs.declared.reasons.Why.{Why}
+use Rattle.rom_shell.specs.Refusing.{refusal_line, refusal_status, unmade_line, unmade_status}
+use Rattle.rom_shell.specs.declared.status.Status.TheVariants.{HeapRefused}
+use Rattle.rom_shell.specs.Words.{Command, Try, Format, Stat}
+
+-- the words hold what the story begins with
+abbrev pub IsOpenedFrom : List ℕ → Story State → Type 0
+IsOpenedFrom words story = Holds Contents story.order words story.opening story.opening_count
+
+module _ {D : Type 0} (shown : ShownDevice D) where
+  -- `try` leaves its device alone, and the other commands keep its length.
+  abbrev pub IsHandedBack : Option Command → D → D → Type 0
+  IsHandedBack (Some (Try scripts)) was now = now ≡ was
+  IsHandedBack (Some (Format file order)) was now = shown.size now ≡ shown.size was
+  IsHandedBack (Some (Stat file)) was now = shown.size now ≡ shown.size was
+  IsHandedBack None was now = now ≡ was
+
+  -- What a stop at the end may leave holds what the story begins with, which `stat` doesn't change. A `try` keeps its heap in memory.
+  abbrev pub IsHeldNow : Option Command → D → Story State → Type 0
+  IsHeldNow (Some (Stat file)) now story = (i : List ℕ) → shown.leaves now i → IsOpenedFrom i story
+  IsHeldNow (Some (Format file order)) now story = ⊥
+  IsHeldNow (Some (Try scripts)) now story = Unit {0}
+  IsHeldNow None now story = ⊥
+
+  -- What a stop at any moment of it may leave. In a heap that is opened the same region counts as before. Where a heap can be made, none stands there, or it holds the empty state and the count 0; where it can't, nothing changes.
+  abbrev pub IsLeft : Option Command → D → D → Type 0
+  IsLeft (Some (Stat file)) was now = Leaves shown (Mended (named_order (shown.words was)) (shown.words was)) was now
+  IsLeft (Some (Format file order)) was now = Leaves shown (NoneOrHolds Contents order empty) was now × (IsRefused order (shown.words was) → Does shown Stays was now)
+  IsLeft (Some (Try scripts)) was now = now ≡ was
+  IsLeft None was now = now ≡ was
+
+module _ {D O : Type 0} (shown : ShownDevice D) (sink : ShownSink O) where
+  -- A heap of this order is made: the device holds the empty state and the count 0, and so does whatever a stop leaves of it.
+  pub record IsMade (order : ℕ) (now : D) (old new : O) : Type 0 where
+    pub held : IsTrue shown.tells_words → Holds Contents order (shown.words now) empty 0
+    pub images : IsTrue shown.tells_images → (i : List ℕ) → shown.leaves now i → Holds Contents order i empty 0
+    pub told : IsTold sink old new (codes "formatted order " ++ decimal order)
+
+  -- what is made by a command that is done
+  abbrev pub HasMade : Option Command → D → O → O → Type 0
+  HasMade (Some (Format file order)) now old new = IsMade order now old new
+  HasMade other now old new = Unit {0}
+
+  -- The heap isn't opened, for this reason: the words and the length are refused so, and the line names it.
+  pub record IsUnopened (was now : D) (old new : O) : Type 0 where
+    pub why : Why
+    pub by_name : refusal_status why ≡ HeapRefused
+    pub refused : IsTrue shown.tells_words → IsRefusal Contents FirstBreak (shown.words was) why
+    pub sizes : NamesTooFew (shown.size was) why
+    pub faults : HasFaults {T = Unit {0}} (Err why) (shown.faults was) (shown.faults now) (shown.failing now)
+    pub told : IsTold sink old new (refusal_line why)
+
+  -- The heap isn't made, likewise.
+  pub record IsUnmade (order : ℕ) (was now : D) (old new : O) : Type 0 where
+    pub why : FormatRefused
+    pub by_name : unmade_status (Refused why) ≡ HeapRefused
+    pub refused : IsTrue shown.tells_words → IsFormatAnswer order (shown.words was) (Err why)
+    pub sizes : HasTooFewFor order (shown.size was) why
+    pub faults : shown.faults now ≡ shown.faults was
+    pub told : IsTold sink old new (unmade_line (Refused why))
+
+  -- why a device is refused by name
+  abbrev pub IsHeapRefused : Option Command → D → D → O → O → Type 0
+  IsHeapRefused (Some (Stat file)) was now old new = IsUnopened was now old new
+  IsHeapRefused (Some (Format file order)) was now old new = IsUnmade order was now old new
+  IsHeapRefused other was now old new = ⊥
+
+  -- Of the device's calls the last one failed, and no other, and the line says so.
+  pub record HasDeviceFailed (was now : D) (old new : O) : Type 0 where
+    pub failed : FailedLast (shown.faults was) (shown.faults now) (shown.failing now)
+    pub told : IsTold sink old new (codes "device failed")
+
+-- the text is written, or some of it from its front where the sink failed
+abbrev pub IsPut : {O : Type 0} → ShownSink O → O → O → List ℕ → Type 0
+IsPut sink old new text = IsWritten sink old new text ⊎ IsCutShort sink old new text
