@@ -1,5 +1,5 @@
 //! The words of the command line.
-ghost use Rattle.std.specs.Prelude.{◌≡◌, [], ◌∷◌, IfOk, IfSome};
+ghost use Rattle.std.specs.Prelude.{◌≡◌, [], ◌∷◌, IfOk, IfSome, Some};
 ghost use Rattle.rom_model.specs.Blocks.{IsOrder};
 ghost use Rattle.rom_shell.specs.Wanted.{IsWanted, named};
 ghost use Rattle.rom_shell.specs.Words.{command, is_plain, orders, scripts_of, spelt};
@@ -115,18 +115,28 @@ pub(crate) fn read_command(words: &Names) -> Option<Asked<'_>>
 }
 
 /// The device that a command works on.
-fn device_of(alloc: Global, asked: Option<Asked<'_>>) -> Result<DeviceWant, AllocError>
-    ensures { IfOk result (IsWanted (named asked)) }
+fn device_of(alloc: Global, asked: &Asked<'_>) -> Result<DeviceWant, AllocError>
+    ensures { IfOk result (IsWanted (named (Some asked.now))) }
 {
     match asked {
-        None => Ok(DeviceWant::Nothing),
-        Some(Asked::Try(_)) => Ok(DeviceWant::Fresh(TRY_WORDS)),
-        Some(Asked::Format { file, geometry }) => {
+        Asked::Try(_) => Ok(DeviceWant::Fresh(TRY_WORDS)),
+        Asked::Format { file, geometry } => {
             let file = Name::of(alloc, file)?;
             Ok(DeviceWant::Made(file, geometry.need()))
         }
-        Some(Asked::Stat(file)) => Ok(DeviceWant::Old(Name::of(alloc, file)?)),
+        Asked::Stat(file) => Ok(DeviceWant::Old(Name::of(alloc, file)?)),
     }
+}
+
+/// The scripts that a command names.
+fn named_scripts(alloc: Global, asked: &Asked<'_>) -> Result<Names, AllocError>
+    ensures { IfOk result (λ scripts. scripts ≡ scripts_of (named (Some asked.now))) }
+{
+    let mut scripts = Names::new(alloc);
+    if let Asked::Try(script) = asked {
+        scripts.push(alloc, script)?;
+    }
+    Ok(scripts)
 }
 
 /// What the words ask `main` to hand to `run`: a device, and the scripts in order.
@@ -134,11 +144,14 @@ pub fn files_of(alloc: Global, words: &Names) -> Result<Wanted, AllocError>
     ensures device { IfOk result (λ wanted. IsWanted (command words.now) wanted.device) }
     ensures scripts { IfOk result (λ wanted. wanted.scripts ≡ scripts_of (command words.now)) }
 {
-    let asked = read_command(words);
-    let device = device_of(alloc, asked)?;
-    let mut scripts = Names::new(alloc);
-    if let Some(Asked::Try(script)) = asked {
-        scripts.push(alloc, script)?;
-    }
-    Ok(Wanted { device, scripts })
+    let Some(asked) = read_command(words) else {
+        return Ok(Wanted {
+            device: DeviceWant::Nothing,
+            scripts: Names::new(alloc),
+        });
+    };
+    Ok(Wanted {
+        device: device_of(alloc, &asked)?,
+        scripts: named_scripts(alloc, &asked)?,
+    })
 }
