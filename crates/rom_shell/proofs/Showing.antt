@@ -1,8 +1,9 @@
 -- What is shown of a heap that was opened, and why none was.
-use Rattle.std.specs.Prelude.{◌≡◌, ◌⊎◌, ℕ, ◌+◌, ◌≤◌, Bool, true, false, IsTrue, List, [], ◌∷◌, ◌++◌, codes, decimal, if◌then◌else◌, Option, Some, None, IfSome, Result, Ok, Err}
+use Rattle.std.specs.Prelude.{◌≡◌, ◌≢◌, ◌⊎◌, ℕ, zero, suc, IsNone, ◌+◌, ◌≤◌, Bool, true, false, IsTrue, List, [], ◌∷◌, ◌++◌, codes, decimal, if◌then◌else◌, Option, Some, None, IfSome, Result, Ok, Err}
 use Rattle.std.proofs.Common.{refl, inl, inr, subst, sym, arith, append-nil}
 use Rattle.std.proofs.lemmas.List.{append_assoc}
 use Rattle.rom_model.specs.History.{LAST_COUNT}
+use Rattle.rom_model.specs.Region.{Contents}
 use Rattle.rom_model.specs.State.{State}
 use Rattle.rom_model.specs.Story.{Story}
 use Rattle.rom_model.specs.Trio.{trio}
@@ -11,7 +12,7 @@ use Rattle.rom_header.specs.Calls.{format_fault}
 use Rattle.rom_header.specs.declared.fresh.FormatRefused.{FormatRefused}
 use Rattle.rom_header.specs.declared.fresh.FormatRefused.TheVariants as format
 use Rattle.rom_script.specs.Runs.{IsTold}
-use Rattle.rom_script.specs.Streams.{ShownSink, Prints}
+use Rattle.rom_script.specs.Streams.{ShownSink, ShownSource, Prints, StopsWriting}
 use Rattle.rom_script.specs.Text.{line_text}
 use Rattle.rom_store.specs.Calls.{HasFaults}
 use Rattle.rom_store.specs.Making.{IfMade}
@@ -19,10 +20,14 @@ use Rattle.rom_store.specs.declared.new_heap.NotFormatted.{NotFormatted}
 use Rattle.rom_store.specs.declared.new_heap.NotFormatted.TheVariants as unmade
 use Rattle.rom_store.specs.declared.reasons.Why.{Why}
 use Rattle.rom_store.specs.declared.reasons.Why.TheVariants.{Device}
-use Rattle.rom_shell.specs.Devices.{HasDeviceFailed, IsPut}
+use Rattle.rom_shell.specs.Devices.{HasDeviceFailed, IsOpenedFrom, IsPut}
 use Rattle.rom_shell.specs.Refusing.{refusal_line, refusal_status, unmade_line, unmade_status}
-use Rattle.rom_shell.specs.Run.{AreAnswered}
+use Rattle.rom_shell.specs.Run.{AreAnswered, HasReplies}
+use Rattle.rom_shell.specs.Sessions.{EachStory}
+use Rattle.rom_shell.specs.Stat.{stat_text}
 use Rattle.rom_shell.specs.Statuses.{number_of}
+use Rattle.rom_shell.specs.Words.{Stat}
+use Rattle.rom_shell.specs.declared.session.Session.{Session}
 
 -- five lines as pieces, of which each begins with a name
 named_lines : (a order b count sizes f free total lf : List ℕ) →
@@ -62,6 +67,11 @@ module _ {O : Type 0} (sink : ShownSink O) where
   put old new (Ok v) text p = inl (p.bytes, p.cause.none)
   put old new (Err e) text p = inr (p.bytes, p.cause.failed)
 
+  -- so its writing stopped at a fault, if there was one
+  pub put_stops : (old new : O) (text : List ℕ) → IsPut sink old new text → StopsWriting sink old new
+  put_stops old new text (inl written) = inl written.1
+  put_stops old new text (inr short) = inr short.1
+
 module _ {D O : Type 0} (shown : ShownDevice D) (sink : ShownSink O) (was now : D) (old new : O) where
   -- a device that failed while its heap was opened
   pub opening_failed : (why : Why) (n : ℕ) → n ≡ number_of (refusal_status why) → n ≡ 7 →
@@ -74,3 +84,22 @@ module _ {D O : Type 0} (shown : ShownDevice D) (sink : ShownSink O) (was now : 
       IfMade (Err why) (λ made. Makes shown (reads made) (writes made) (syncs made) was now (format_fault made)) → IsTold sink old new (unmade_line why) → HasDeviceFailed shown sink was now old new
   making_failed (unmade.Refused format.Device) n order reads writes syncs is seven made told = record { failed = made.cause.failed; told = told }
   making_failed other n order reads writes syncs is seven made told = absurd (omega arith)
+
+module _ {S O : Type 0} (source : ShownSource S) (sink : ShownSink O) (old new : O) where
+  -- what is said of a heap that was shown, if it was
+  pub shown_replies : (session : Option Session) (file : List ℕ) (words : Option (List ℕ)) (status : ℕ) → (status ≢ 0 → IsNone session) →
+      IfSome session (λ s. EachStory Contents s (λ story. IfSome words (λ told. IsOpenedFrom told story))) →
+      IfSome session (λ s. EachStory Contents s (λ story. AreAnswered trio story [] [])) →
+      IfSome session (λ s. EachStory Contents s (λ story. IsPut sink old new (stat_text story.order story.opening story.opening_count))) →
+      IfSome session (λ s. EachStory Contents s (λ story. HasReplies source sink (Some (Stat file)) words story [] old new status))
+  shown_replies None file words status none opening answered printed = tt
+  shown_replies (Some s) file words zero none opening answered printed = λ story is. record {
+    opening = opening story is;
+    scripts = [];
+    results = [];
+    read = (refl, refl);
+    answered = answered story is;
+    printed = (refl, refl, printed story is);
+  }
+  shown_replies (Some s) file words (suc n) none opening answered printed =
+      let some : IsNone (Some s) = none (λ is. absurd (omega (arith, is))) in absurd (let no : ⊥ = cc in no)

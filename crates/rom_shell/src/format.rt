@@ -35,7 +35,7 @@ pub(crate) fn make_heap<D: Device, O: Sink>(
         IsMade D.shown O.shown order device.new out.old out.new }
     ensures images { IsTrue D.shown.tells_images →
         Leaves D.shown (NoneOrHolds Contents order empty) device.old device.new }
-    ensures refused { IsTrue D.shown.tells_words →
+    ensures refused { IsTrue D.shown.tells_images →
         IsRefused order (D.shown.words device.old) → Does D.shown Stays device.old device.new }
     ensures heap_refused { number_of result ≡ 3 →
         IsUnmade D.shown O.shown order device.old device.new out.old out.new }

@@ -2,7 +2,9 @@
 //!
 //! `run` does all that the program does, and its contract carries the promise of the whole: each
 //! printed reply is what one queue, set and map give at its printed place in one history, each
-//! update once and in its caller's order, each read from one committed state.
+//! update once and in its caller's order, each read from one committed state. A heap that is made
+//! holds the empty state whatever a stop leaves of it, one that is shown holds what it held, and
+//! what is refused is told by the very refusal of the device's words.
 #![tactic(auto)]
 
 mod format;
@@ -20,5 +22,7 @@ pub use session::Session;
 pub use status::Status;
 pub use words::{DeviceWant, Wanted, files_of};
 
+#[cfg(test)]
+mod heap_tests;
 #[cfg(test)]
 mod tests;

@@ -209,9 +209,9 @@ pub fn run<D: Device + Send, S: Source, O: Sink>(
             Ok((status, session)) => Ended::of(status, device, scripts, Some(session)),
             Err(status) => Ended::of(status, device, scripts, None),
         },
-        Some(Asked::Format { file: _, geometry }) => {
+        Some(Asked::Format { file: _, order }) => {
             let mut device = device;
-            let status = make_heap(alloc, &mut device, geometry.order(), out);
+            let status = make_heap(alloc, &mut device, order, out);
             Ended::of(status, device, scripts, None)
         }
         Some(Asked::Stat(_)) => {

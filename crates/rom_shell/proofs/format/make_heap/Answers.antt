@@ -14,6 +14,12 @@ returns-in-Ok-clause-made g c = λ done. record {
       (two_pieces (codes "formatted order ") c.format.result.now ∙ ap (λ digits. codes "formatted order " ++ digits) c.format.ensures.text) c.tell.ensures.told;
 }
 
+pub returns-in-Ok-clause-refused : goal.returns-in-Ok-clause-refused
+returns-in-Ok-clause-refused g c = λ images. c.in-Ok.ensures.refused (g.met.D.Device.tells_both images)
+
+pub returns-in-Err-clause-refused : goal.returns-in-Err-clause-refused
+returns-in-Err-clause-refused g c = λ images. c.in-Err.ensures.refused (g.met.D.Device.tells_both images)
+
 pub returns-in-Err-clause-device_failed : goal.returns-in-Err-clause-device_failed
 returns-in-Err-clause-device_failed g c = λ seven.
     making_failed g.D.Device.shown g.O.Sink.shown c.args.device.now c.format_device.new.device c.args.out.now c.tell_unmade.new.out c.in-Err.why _ c.args.order format_reads (format_writes c.args.order) format_syncs

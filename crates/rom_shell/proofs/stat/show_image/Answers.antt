@@ -5,7 +5,7 @@ use Rattle.rom_model.specs.State.{State}
 use Rattle.rom_model.specs.VecSpace.{words_of}
 use Rattle.rom_shell.specs.Devices.{IsPut}
 use Rattle.rom_shell.specs.Stat.{stat_lines, stat_text}
-use Rattle.rom_shell.proofs.Showing.{put}
+use Rattle.rom_shell.proofs.Showing.{put, put_stops}
 use Rattle.rom_shell.proofs.stat.show_image.Goals as goal
 
 pub of-sizes-requires-clause-region : goal.of-sizes-requires-clause-region
@@ -42,3 +42,6 @@ returns-clause-printed g c = λ story is.
     let sizes = c.of-sizes.ensures.sizes story.opening story.opening_count held in
     let text = ap (λ z. stat_lines z.order z.count z.sizes z.free z.total) sizes ∙ ap (λ n. stat_text n story.opening story.opening_count) (sym opened.order_is) in
     subst (λ t. IsPut o c.args.out.now c.print.new.out t) text (put o _ _ _ _ c.print.ensures.prints)
+
+pub returns-clause-writing : goal.returns-clause-writing
+returns-clause-writing g c = put_stops g.O.Sink.shown _ _ _ (put g.O.Sink.shown _ _ _ _ c.print.ensures.prints)
