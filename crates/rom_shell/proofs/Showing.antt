@@ -103,3 +103,10 @@ module _ {S O : Type 0} (source : ShownSource S) (sink : ShownSink O) (old new :
   }
   shown_replies (Some s) file words (suc n) none opening answered printed =
       let some : IsNone (Some s) = none (λ is. absurd (omega (arith, is))) in absurd (let no : ⊥ = cc in no)
+
+-- with the status 6 there was no memory
+pub want_of_memory : (result : Result (Unit {0}) NotFormatted) (why : NotFormatted) (status : ℕ) → result ≡ Err why → status ≡ number_of (unmade_status why) → status ≡ 6 → result ≡ Err unmade.OutOfMemory
+want_of_memory result unmade.OutOfMemory status is told six = is
+want_of_memory result (unmade.Refused format.AlreadyAHeap) status is told six = absurd (omega (arith, told, six))
+want_of_memory result (unmade.Refused (format.TooSmall need have)) status is told six = absurd (omega (arith, told, six))
+want_of_memory result (unmade.Refused format.Device) status is told six = absurd (omega (arith, told, six))

@@ -136,6 +136,8 @@ pub(crate) fn show_heap<D: Device, O: Sink>(alloc: Global, device: D, out: &mut 
         AreAnswered trio story [] [])) }
     ensures printed { IfSome result.session (λ session. EachStory Contents session (λ story.
         IsPut O.shown out.old out.new (stat_text story.order story.opening story.opening_count))) }
+    ensures held { IsTrue D.shown.tells_words → IfSome result.session (λ session.
+        EachStory Contents session (λ story. IsOpenedFrom (D.shown.words result.device) story)) }
     ensures now { IsTrue D.shown.tells_images → IfSome result.session (λ session.
         EachStory Contents session (λ story.
         (i : List ℕ) → D.shown.leaves result.device i → IsOpenedFrom i story)) }

@@ -3,7 +3,7 @@ use Rattle.rom_device.specs.Device.{told_words}
 use Rattle.rom_model.specs.Region.{Contents}
 use Rattle.rom_script.specs.Runs.{AreAskedOnce, SourceFailed, SourceTooLong, IsTold}
 use Rattle.rom_script.proofs.Determined.{text_determines}
-use Rattle.rom_shell.specs.Devices.{IsHeldNow, IsLeft}
+use Rattle.rom_shell.specs.Devices.{IsHeld, IsHeldNow, IsLeft, IsSpared}
 use Rattle.rom_shell.specs.Run.{HasReplies}
 use Rattle.rom_shell.specs.Sessions.{EachStory}
 use Rattle.rom_shell.specs.Statuses.{number_of}
@@ -69,7 +69,7 @@ returns-in-Some-Format-clause-images g c = λ images.
     let is : Some (Format c.in-Some-Format.field-0-0.now c.in-Some-Format.order) ≡ command c.args.words.now = search rules in
     let made = c.make_heap-status.ensures in
     subst (λ e. IsLeft g.D.Device.shown (command c.args.words.now) c.args.device e.device) (sym c.of-in-Some-Format.ensures)
-    (subst (λ asked. IsLeft g.D.Device.shown asked c.args.device c.make_heap-status.new.device) is (made.images images, made.refused images))
+    (subst (λ asked. IsLeft g.D.Device.shown asked c.args.device c.make_heap-status.new.device) is (made.images images))
 
 pub returns-in-Some-Stat-clause-replies : goal.returns-in-Some-Stat-clause-replies
 returns-in-Some-Stat-clause-replies g c =
@@ -91,3 +91,17 @@ returns-in-Some-Stat-clause-now g c = λ images.
     let shown = g.D.Device.shown in
     subst (λ e. IfSome e.session (λ session. EachStory Contents session (λ story. IsHeldNow shown (command c.args.words.now) e.device story))) (sym c.of-in-Some-Stat.ensures)
     (subst (λ asked. IfSome c.show_heap-device.result.session (λ session. EachStory Contents session (λ story. IsHeldNow shown asked c.show_heap-device.result.device story))) is (c.show_heap-device.ensures.now images))
+
+pub returns-in-Some-Format-clause-spared : goal.returns-in-Some-Format-clause-spared
+returns-in-Some-Format-clause-spared g c =
+    let is : Some (Format c.in-Some-Format.field-0-0.now c.in-Some-Format.order) ≡ command c.args.words.now = search rules in
+    let made = c.make_heap-status.ensures in
+    subst (λ e. IsSpared g.D.Device.shown (command c.args.words.now) c.args.device e.device e.status) (sym c.of-in-Some-Format.ensures)
+    (subst (λ asked. IsSpared g.D.Device.shown asked c.args.device c.make_heap-status.new.device (number_of c.make_heap-status.result)) is (made.uncalled, made.refused))
+
+pub returns-in-Some-Stat-clause-held : goal.returns-in-Some-Stat-clause-held
+returns-in-Some-Stat-clause-held g c = λ told.
+    let is : Some (Stat c.in-Some-Stat.field-0-0.now) ≡ command c.args.words.now = search rules in
+    let shown = g.D.Device.shown in
+    subst (λ e. IfSome e.session (λ session. EachStory Contents session (λ story. IsHeld shown (command c.args.words.now) e.device story))) (sym c.of-in-Some-Stat.ensures)
+    (subst (λ asked. IfSome c.show_heap-device.result.session (λ session. EachStory Contents session (λ story. IsHeld shown asked c.show_heap-device.result.device story))) is (c.show_heap-device.ensures.held told))

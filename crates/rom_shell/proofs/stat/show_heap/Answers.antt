@@ -1,4 +1,4 @@
-use Rattle.std.proofs.Common.{◌≡◌, ℕ, List, [], refl, ap, arith, rules, sym, ◌∙◌, subst}
+use Rattle.std.proofs.Common.{◌≡◌, ℕ, refl, ap, sym, ◌∙◌, subst}
 use Rattle.rom_heap.specs.Laws.{contents_within}
 use Rattle.rom_model.specs.Region.{Contents}
 use Rattle.rom_model.specs.State.{State}
@@ -24,6 +24,13 @@ pub returns-in-Ok-clause-answered : goal.returns-in-Ok-clause-answered
 returns-in-Ok-clause-answered g c = λ story is.
     let opened = c.show_image.ensures.opened story is in
     nothing_done story opened.history opened.in_doubt (contents_within c.order.result c.in-Ok.field-0.image.items story.opening story.opening_count opened.opening).2
+
+pub returns-in-Ok-clause-held : goal.returns-in-Ok-clause-held
+returns-in-Ok-clause-held g c = λ told story is.
+    let opened = c.show_image.ensures.opened story is in
+    let order : story.order ≡ c.in-Ok.field-0.geometry = opened.order_is ∙ c.order.ensures.order in
+    let held : Contents c.in-Ok.field-0.geometry c.in-Ok.field-0.image.items story.opening story.opening_count = subst (λ n. Contents n c.in-Ok.field-0.image.items story.opening story.opening_count) c.order.ensures.order opened.opening in
+    subst (λ n. Holds Contents n (g.D.Device.shown.words c.in-Ok.field-0.device) story.opening story.opening_count) (sym order) (c.in-Ok.ensures.holds told story.opening story.opening_count held)
 
 pub returns-in-Ok-clause-now : goal.returns-in-Ok-clause-now
 returns-in-Ok-clause-now g c = λ images story is i left.
