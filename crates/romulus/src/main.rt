@@ -98,6 +98,25 @@ fn file_or_missing(opened: io::Result<FileDevice>) -> FileDevice {
     }
 }
 
+/// The device of a command that works on a file.
+fn file_of(rt: &HostRuntime, wanted: &DeviceWant) -> Option<FileDevice> {
+    match wanted {
+        DeviceWant::Nothing | DeviceWant::Fresh(_) => None,
+        DeviceWant::Old(name) => Some(file_or_missing(open_old(rt, name.as_str()))),
+        DeviceWant::Made(name, words) => {
+            Some(file_or_missing(open_made(rt, name.as_str(), *words)))
+        }
+    }
+}
+
+/// How many words of memory a command works on.
+fn memory_of(wanted: &DeviceWant) -> u64 {
+    match wanted {
+        DeviceWant::Fresh(words) => *words,
+        _ => 0,
+    }
+}
+
 /// Runs the command on this device, prints to the standard output, and gives the status.
 fn run_on<D: Device + Send + Drop>(
     rt: &HostRuntime,
@@ -116,19 +135,11 @@ fn start(rt: &HostRuntime) -> Result<u8, AllocError> {
     let words = words_of(rt)?;
     let wanted = files_of(rt.alloc(), &words)?;
     let sources = sources_of(rt, &wanted.scripts)?;
-    let file = match wanted.device {
-        DeviceWant::Nothing => {
-            let device = Ram::zeroed(rt.alloc(), 0)?;
-            return Ok(run_on(rt, &words, device, sources));
-        }
-        DeviceWant::Fresh(len) => {
-            let device = Ram::zeroed(rt.alloc(), len)?;
-            return Ok(run_on(rt, &words, device, sources));
-        }
-        DeviceWant::Old(name) => open_old(rt, name.as_str()),
-        DeviceWant::Made(name, len) => open_made(rt, name.as_str(), len),
-    };
-    Ok(run_on(rt, &words, file_or_missing(file), sources))
+    if let Some(device) = file_of(rt, &wanted.device) {
+        return Ok(run_on(rt, &words, device, sources));
+    }
+    let device = Ram::zeroed(rt.alloc(), memory_of(&wanted.device))?;
+    Ok(run_on(rt, &words, device, sources))
 }
 
 /// Nothing has been done, and nothing can be.
