@@ -22,19 +22,8 @@ use Rattle.rom_script.specs.Streams.{ShownSink, ShownSource, IsAskedOnce, Prints
 use Rattle.rom_shell.specs.Statuses.{number_of}
 use Rattle.rom_shell.specs.declared.status.Status.{Status}
 use Rattle.rom_shell.specs.declared.status.Status.TheVariants.{ScriptFailed, NoMemory, ScriptTooLong}
-use Rattle.rom_shell.specs.Words.{Command, Try, command, scripts_of}
+use Rattle.rom_shell.specs.Words.{Command, Try, scripts_of}
 use Rattle.rom_shell.specs.Run.{AreAnswered, HasReplies, HasTried, IsRefused}
-
-one_where : (b : Bool) (script : List ℕ) → let asked = cond b (Some (Try (script ∷ []))) None in IsSome asked → length (scripts_of asked) ≡ 1
-one_where true script some = refl
-one_where false script some = absurd (let no : ⊥ = cc in no)
-
--- a command names one script
-one_script : (words : List (List ℕ)) → IsSome (command words) → length (scripts_of (command words)) ≡ 1
-one_script [] some = absurd (let no : ⊥ = cc in no)
-one_script (name ∷ []) some = absurd (let no : ⊥ = cc in no)
-one_script (name ∷ script ∷ []) some = one_where _ script some
-one_script (name ∷ script ∷ word ∷ words) some = absurd (let no : ⊥ = cc in no)
 
 -- a list of one
 only : {S : Type 0} (xs : List S) (s : S) → length xs ≡ 1 → s ≡ get_or xs 0 s → xs ≡ s ∷ []
@@ -42,45 +31,31 @@ only [] s one is = absurd (omega arith)
 only (x ∷ []) s one is = ap (λ y. y ∷ []) (sym is)
 only (x ∷ y ∷ xs) s one is = absurd (omega arith)
 
--- the first of a command's sources is the only one
-pub only_script : {S : Type 0} (words : List (List ℕ)) (xs : List S) (s : S) → IsSome (command words) →
-    length xs ≡ length (scripts_of (command words)) → s ≡ get_or xs 0 s → xs ≡ s ∷ []
-only_script words xs s some as_many is = only xs s (as_many ∙ one_script words some) is
+-- the first source of a command with one script is the only one
+pub only_script : {S : Type 0} (asked : Option Command) (script : List ℕ) (xs : List S) (s : S) → Some (Try (script ∷ [])) ≡ asked →
+    length xs ≡ length (scripts_of asked) → s ≡ get_or xs 0 s → xs ≡ s ∷ []
+only_script asked script xs s is as_many first = only xs s (as_many ∙ ap (λ a. length (scripts_of a)) (sym is)) first
 
--- a status that isn't 4 is of no script that failed
-pub no_four : {T : Type 0} (status : Status) (n : ℕ) → n ≡ number_of status → n ≢ 4 → (let r : Result T Status = Err status in r ≢ Err ScriptFailed)
-no_four status n is not_four = λ failed. not_four (is ∙ ap number_of (let same : status ≡ ScriptFailed = cc in same))
-
--- what is the same of the one element is the same of all
-pub same_of_one : {S : Type 0} (f : S → ℕ) (xs : List S) (s after : S) → xs ≡ s ∷ [] → f after ≡ f s → map f (slice_set xs 0 after) ≡ map f xs
-same_of_one f xs s after one same = subst (λ ys. map f (slice_set ys 0 after) ≡ map f ys) (sym one) (ap (λ n. n ∷ []) same)
+-- a command with no script has no source
+pub no_source : {S : Type 0} (xs : List S) → length xs ≡ 0 → xs ≡ []
+no_source [] none = refl
+no_source (x ∷ xs) none = absurd (omega arith)
 
 digit_one : decimal (0 + 1) ≡ 49 ∷ []
 digit_one = decimal_digit 1 (omega arith)
 
 module _ {S : Type 0} (source : ShownSource S) where
-  pub all_fit : (xs : List S) (s : S) → xs ≡ s ∷ [] → IfSome (source.left s) FitsScript → AreWithin source xs
-  all_fit xs s is fits = subst (λ ys. AreWithin source ys) (sym is) (fits, tt)
-
-  pub all_read : (xs : List S) (s after : S) → xs ≡ s ∷ [] → IsAtEnd (source.left after) → AreAtEnd source (slice_set xs 0 after)
-  all_read xs s after is end = subst (λ ys. AreAtEnd source (slice_set ys 0 after)) (sym is) (end, tt)
-
-  -- none was asked at all
-  pub unasked : (xs : List S) → AreAskedOnce source xs xs
-  unasked [] = tt
-  unasked (s ∷ xs) = (record { idle = inl refl; faults = inl refl }, unasked xs)
-
   -- the one script was asked
   pub one_asked : (xs : List S) (s after : S) → xs ≡ s ∷ [] → IsAskedOnce source s after → AreAskedOnce source xs (slice_set xs 0 after)
   one_asked xs s after is once = subst (λ ys. AreAskedOnce source ys (slice_set ys 0 after)) (sym is) (once, tt)
 
 module _ {S O : Type 0} (source : ShownSource S) (sink : ShownSink O) where
   -- the results of a run of one script
-  pub has_replies : (asked : Option Command) (words : Option (List ℕ)) (story : Story State) (xs : List S) (s : S) (old new : O) (status : ℕ) →
-      IsSome asked → xs ≡ s ∷ [] → HasTried source sink story (s ∷ []) old new status → HasReplies source sink asked words story xs old new status
-  has_replies (Some (Try names)) words story xs s old new status some is tried =
-      subst (λ ys. HasReplies source sink (Some (Try names)) words story ys old new status) (sym is) (tried names words)
-  has_replies None words story xs s old new status some is tried = absurd (let no : ⊥ = cc in no)
+  pub has_replies : (asked : Option Command) (script : List ℕ) (words : Option (List ℕ)) (story : Story State) (xs : List S) (s : S) (old new : O) (status : ℕ) →
+      Some (Try (script ∷ [])) ≡ asked → xs ≡ s ∷ [] → HasTried source sink story (s ∷ []) old new status → HasReplies source sink asked words story xs old new status
+  has_replies asked script words story xs s old new status is one tried =
+      subst (λ a. HasReplies source sink a words story xs old new status) is
+      (subst (λ ys. HasReplies source sink (Some (Try (script ∷ []))) words story ys old new status) (sym one) (tried (script ∷ []) words))
 
   -- the text of these results and of this count is printed, or cut short
   abbrev pub IsText : List (LineResult Reply Answer) → ℕ → O → O → ℕ → Type 0

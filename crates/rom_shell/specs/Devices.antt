@@ -1,11 +1,12 @@
 -- What becomes of the device that a command works on, and why there is no heap to work on.
-use Rattle.std.specs.Prelude.{◌≡◌, ◌≢◌, ◌⊎◌, ℕ, List, ◌++◌, IsTrue, codes, decimal, Option, Some, None, Err}
+use Rattle.std.specs.Prelude.{◌≡◌, ◌≢◌, ◌≤◌, ◌⊎◌, ℕ, List, ◌++◌, IsTrue, codes, decimal, Option, Some, None, Ok, Err}
 use Rattle.rom_model.specs.Faults.{FailedLast}
 use Rattle.rom_model.specs.Region.{Contents}
 use Rattle.rom_model.specs.State.{State, empty}
 use Rattle.rom_model.specs.Story.{Story}
 use Rattle.rom_device.specs.Device.{ShownDevice, Does, Leaves, Stays}
 use Rattle.rom_header.specs.Fresh.{IsFormatAnswer, HasTooFewFor, IsRefused}
+use Rattle.rom_header.specs.Layout.{words_needed}
 use Rattle.rom_header.specs.declared.fresh.FormatRefused.{FormatRefused}
 use Rattle.rom_header.specs.declared.fresh.FormatRefused.TheVariants as format
 use Rattle.rom_heap.specs.Parts.{FirstBreak}
@@ -34,31 +35,45 @@ module _ {D : Type 0} (shown : ShownDevice D) where
   IsHandedBack (Some (Stat file)) was now = shown.size now ≡ shown.size was
   IsHandedBack None was now = now ≡ was
 
-  -- What a stop at the end may leave holds what the story begins with, which `stat` doesn't change. A `try` keeps its heap in memory.
+  -- The device holds what the story begins with, which `stat` doesn't change. A `try` keeps its heap in memory.
+  abbrev pub IsHeld : Option Command → D → Story State → Type 0
+  IsHeld (Some (Stat file)) now story = IsOpenedFrom (shown.words now) story
+  IsHeld (Some (Format file order)) now story = ⊥
+  IsHeld (Some (Try scripts)) now story = Unit {0}
+  IsHeld None now story = ⊥
+
+  -- So does whatever a stop at the end may leave of it.
   abbrev pub IsHeldNow : Option Command → D → Story State → Type 0
   IsHeldNow (Some (Stat file)) now story = (i : List ℕ) → shown.leaves now i → IsOpenedFrom i story
   IsHeldNow (Some (Format file order)) now story = ⊥
   IsHeldNow (Some (Try scripts)) now story = Unit {0}
   IsHeldNow None now story = ⊥
 
-  -- What a stop at any moment of it may leave. In a heap that is opened the same region counts as before. Where a heap can be made, none stands there, or it holds the empty state and the count 0; where it can't, nothing changes.
+  -- What a stop at any moment of it may leave. In a heap that is opened the same region counts as before. Where a heap is made, none stands there, or it holds the empty state and the count 0.
   abbrev pub IsLeft : Option Command → D → D → Type 0
   IsLeft (Some (Stat file)) was now = Leaves shown (Mended (named_order (shown.words was)) (shown.words was)) was now
-  IsLeft (Some (Format file order)) was now = Leaves shown (NoneOrHolds Contents order empty) was now × (IsRefused order (shown.words was) → Does shown Stays was now)
+  IsLeft (Some (Format file order)) was now = Leaves shown (NoneOrHolds Contents order empty) was now
   IsLeft (Some (Try scripts)) was now = now ≡ was
   IsLeft None was now = now ≡ was
 
+  -- Where a heap is to be made, but there is no memory, the device isn't called; and nothing changes where a heap stands already, or there are too few words.
+  abbrev pub IsSpared : Option Command → D → D → ℕ → Type 0
+  IsSpared (Some (Format file order)) was now status = (status ≡ 6 → now ≡ was) × (IsTrue shown.tells_words → IsRefused order (shown.words was) → Does shown Stays was now)
+  IsSpared other was now status = Unit {0}
+
 module _ {D O : Type 0} (shown : ShownDevice D) (sink : ShownSink O) where
-  -- A heap of this order is made: the device holds the empty state and the count 0, and so does whatever a stop leaves of it.
-  pub record IsMade (order : ℕ) (now : D) (old new : O) : Type 0 where
+  -- A heap of this order is made where none stood and there are words enough: the device holds the empty state and the count 0, and so does whatever a stop leaves of it.
+  pub record IsMade (order : ℕ) (was now : D) (old new : O) : Type 0 where
+    pub accepted : IsTrue shown.tells_words → IsFormatAnswer order (shown.words was) (Ok tt)
+    pub fits : words_needed order ≤ shown.size was
     pub held : IsTrue shown.tells_words → Holds Contents order (shown.words now) empty 0
     pub images : IsTrue shown.tells_images → (i : List ℕ) → shown.leaves now i → Holds Contents order i empty 0
     pub told : IsTold sink old new (codes "formatted order " ++ decimal order)
 
   -- what is made by a command that is done
-  abbrev pub HasMade : Option Command → D → O → O → Type 0
-  HasMade (Some (Format file order)) now old new = IsMade order now old new
-  HasMade other now old new = Unit {0}
+  abbrev pub HasMade : Option Command → D → D → O → O → Type 0
+  HasMade (Some (Format file order)) was now old new = IsMade order was now old new
+  HasMade other was now old new = Unit {0}
 
   -- The heap isn't opened, for this reason: the words and the length are refused so, and the line names it.
   pub record IsUnopened (was now : D) (old new : O) : Type 0 where

@@ -1,5 +1,6 @@
 -- What the code reads of the words, and the device that a command works on.
 use Rattle.std.specs.Prelude.{◌≡◌, [], ◌∷◌, Option, Some, None}
+use Rattle.rom_model.specs.Blocks.{IsOrder}
 use Rattle.rom_header.specs.Layout.{words_needed}
 use Rattle.rom_shell.specs.declared.words.Asked.{Asked}
 use Rattle.rom_shell.specs.declared.words.Asked.TheVariants as asked
@@ -10,9 +11,14 @@ use Rattle.rom_shell.specs.Words.{Command, Try, Format, Stat}
 -- the command that was read, if one was
 abbrev pub named : Option Asked → Option Command
 named (Some (asked.Try script)) = Some (Try (script.now ∷ []))
-named (Some (asked.Format file geometry)) = Some (Format file.now geometry)
+named (Some (asked.Format file order)) = Some (Format file.now order)
 named (Some (asked.Stat file)) = Some (Stat file.now)
 named None = None
+
+-- an order that is asked for is one that there is
+abbrev pub AsksForOrder : Asked → Type 0
+AsksForOrder (asked.Format file order) = IsOrder order
+AsksForOrder other = Unit {0}
 
 -- `try` asks for the words of a heap of order 4, `format` for a file that is lengthened to those of its order, and `stat` for a file that is there
 abbrev pub IsWanted : Option Command → DeviceWant → Type 0

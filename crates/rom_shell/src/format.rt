@@ -32,7 +32,7 @@ pub(crate) fn make_heap<D: Device, O: Sink>(
     ensures statuses { (number_of result ≡ 0) ⊎ (number_of result ≡ 3)
         ⊎ (number_of result ≡ 6) ⊎ (number_of result ≡ 7) }
     ensures made { number_of result ≡ 0 →
-        IsMade D.shown O.shown order device.new out.old out.new }
+        IsMade D.shown O.shown order device.old device.new out.old out.new }
     ensures images { IsTrue D.shown.tells_images →
         Leaves D.shown (NoneOrHolds Contents order empty) device.old device.new }
     ensures refused { IsTrue D.shown.tells_words →
@@ -44,6 +44,7 @@ pub(crate) fn make_heap<D: Device, O: Sink>(
     ensures unfailed { number_of result ≢ 7 →
         D.shown.faults device.new ≡ D.shown.faults device.old }
     ensures no_memory { number_of result ≡ 6 → IsTold O.shown out.old out.new (codes "no memory") }
+    ensures uncalled { number_of result ≡ 6 → device.new ≡ device.old }
     ensures rest { O.shown.rest out.new ≡ O.shown.rest out.old }
 {
     match format_device::<D, Trio>(alloc, device, order) {

@@ -2,8 +2,10 @@
 //!
 //! `run` does all that the program does, and its contract carries the promise of the whole: each
 //! printed reply is what one queue, set and map give at its printed place in one history, each
-//! update once and in its caller's order, each read from one committed state. Scripts are played on
-//! an object in the words of a region, of which the playing knows no more than the trait says.
+//! update once and in its caller's order, each read from one committed state. A heap that is made
+//! holds the empty state whatever a stop leaves of it, one that is shown holds what it held, and
+//! what is refused is told by the very refusal of the device's words. Scripts are played on an object
+//! in the words of a region, of which the playing knows no more than the trait says.
 #![tactic(auto)]
 
 mod format;
@@ -21,5 +23,7 @@ pub use session::Session;
 pub use status::Status;
 pub use words::{DeviceWant, Wanted, files_of};
 
+#[cfg(test)]
+mod heap_tests;
 #[cfg(test)]
 mod tests;

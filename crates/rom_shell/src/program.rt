@@ -10,7 +10,7 @@ ghost use Rattle.rom_script.specs.Runs.{AreAskedOnce, AreAtEnd, AreWithin, IsTol
 ghost use Rattle.rom_script.specs.Streams.{IsAskedOnce, StopsWriting, WriteFailed};
 ghost use Rattle.rom_script.specs.Text as texts;
 ghost use Rattle.rom_script.specs.Trio.{TextDetermines};
-ghost use Rattle.rom_shell.specs.Devices.{HasDeviceFailed, HasMade, IsHandedBack, IsHeapRefused, IsHeldNow, IsLeft};
+ghost use Rattle.rom_shell.specs.Devices.{HasDeviceFailed, HasMade, IsHandedBack, IsHeapRefused, IsHeld, IsHeldNow, IsLeft, IsSpared};
 ghost use Rattle.rom_shell.specs.Run.{HasNotRun, HasReplies, HasRun, HasTried, IsRefused, IsStatus};
 ghost use Rattle.rom_shell.specs.Sessions.{EachStory, HasStory};
 ghost use Rattle.rom_shell.specs.Statuses.{number_of};
@@ -140,8 +140,8 @@ fn run_script<S: Source, O: Sink>(
 /// scripts that are handed in, and prints to the sink. `main` hands in what `files_of` of the same
 /// words names.
 ///
-/// All memory is taken before the first update. The device is handed back, and no command but that
-/// which works on it has called it.
+/// All memory is taken before the first update. The device is handed back whatever comes; a `try`, and
+/// words that are no command, make no call of it.
 pub fn run<D: Device + Send, S: Source, O: Sink>(
     alloc: Global,
     words: &Names,
@@ -169,9 +169,14 @@ pub fn run<D: Device + Send, S: Source, O: Sink>(
     ensures read { IsSome result.session → AreAtEnd S.shown result.scripts.items }
     ensures sink_failed { result.status ≡ 5 → WriteFailed O.shown out.old out.new }
 
-    // A stop leaves the heap that was made or opened, or what it might have left before.
+    // The device holds the heap that was made or opened, and a stop leaves this, or what it might have
+    // left before, or no heap.
     ensures made { result.status ≡ 0 →
-        HasMade D.shown O.shown (command words.now) result.device out.old out.new }
+        HasMade D.shown O.shown (command words.now) device result.device out.old out.new }
+    ensures spared { IsSpared D.shown (command words.now) device result.device result.status }
+    ensures held { IsTrue D.shown.tells_words → IfSome result.session (λ session.
+        EachStory Contents session (λ story.
+        IsHeld D.shown (command words.now) result.device story)) }
     ensures now { IsTrue D.shown.tells_images → IfSome result.session (λ session.
         EachStory Contents session (λ story.
         IsHeldNow D.shown (command words.now) result.device story)) }
@@ -209,9 +214,9 @@ pub fn run<D: Device + Send, S: Source, O: Sink>(
             Ok((status, session)) => Ended::of(status, device, scripts, Some(session)),
             Err(status) => Ended::of(status, device, scripts, None),
         },
-        Some(Asked::Format { file: _, geometry }) => {
+        Some(Asked::Format { file: _, order }) => {
             let mut device = device;
-            let status = make_heap(alloc, &mut device, geometry.order(), out);
+            let status = make_heap(alloc, &mut device, order, out);
             Ended::of(status, device, scripts, None)
         }
         Some(Asked::Stat(_)) => {

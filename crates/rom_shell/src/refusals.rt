@@ -3,6 +3,7 @@ ghost use Rattle.std.specs.Prelude.{◌≡◌, ◌++◌, codes, decimal};
 ghost use Rattle.rom_script.specs.Runs.{IsTold};
 ghost use Rattle.rom_shell.specs.Refusing.{refusal_line, refusal_status, too_small_line, unmade_line, unmade_status};
 ghost use Rattle.rom_shell.specs.Refusing as refusing;
+ghost use Rattle.rom_store.specs.declared.new_heap.NotFormatted.TheVariants.{Refused};
 ghost use Rattle.rom_store.specs.declared.reasons.Why.TheVariants.{Malformed, Twins};
 
 use crate::status::Status;
@@ -112,19 +113,24 @@ pub(crate) fn refusal_status(why: Why) -> Status
     }
 }
 
+fn tell_format_refusal<O: Sink>(out: &mut O, refused: FormatRefused)
+    ensures told { IsTold O.shown out.old out.new (unmade_line (Refused refused)) }
+    ensures rest { O.shown.rest out.new ≡ O.shown.rest out.old }
+{
+    match refused {
+        FormatRefused::AlreadyAHeap => tell(out, &["refused: already a heap"]),
+        FormatRefused::TooSmall { need, have } => tell_too_small(out, need, have),
+        FormatRefused::Device => tell(out, &["device failed"]),
+    }
+}
+
 /// Says why no heap is made.
 pub(crate) fn tell_unmade<O: Sink>(out: &mut O, why: NotFormatted)
     ensures told { IsTold O.shown out.old out.new (unmade_line why) }
     ensures rest { O.shown.rest out.new ≡ O.shown.rest out.old }
 {
     match why {
-        NotFormatted::Refused(FormatRefused::AlreadyAHeap) => {
-            tell(out, &["refused: already a heap"])
-        }
-        NotFormatted::Refused(FormatRefused::TooSmall { need, have }) => {
-            tell_too_small(out, need, have)
-        }
-        NotFormatted::Refused(FormatRefused::Device) => tell(out, &["device failed"]),
+        NotFormatted::Refused(refused) => tell_format_refusal(out, refused),
         NotFormatted::OutOfMemory => tell(out, &["no memory"]),
     }
 }

@@ -19,7 +19,6 @@ pub struct Session {
 }
 
 impl Session {
-    ghost use Rattle.std.specs.Prelude.{◌×◌};
     ghost use Rattle.rom_model.specs.VecSpace.{words_of};
     ghost use Rattle.rom_shell.specs.Sessions.{EachStory, HasStory, IsStory};
 

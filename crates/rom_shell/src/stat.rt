@@ -11,7 +11,7 @@ ghost use Rattle.rom_model.specs.VecSpace.{words_of};
 ghost use Rattle.rom_model.specs.declared.call.Query.TheVariants.{Len, Total};
 ghost use Rattle.rom_recover.specs.Recovered.{Mended};
 ghost use Rattle.rom_script.specs.Runs.{IsTold};
-ghost use Rattle.rom_script.specs.Streams.{Prints};
+ghost use Rattle.rom_script.specs.Streams.{Prints, StopsWriting};
 ghost use Rattle.rom_script.specs.Text.{line_text};
 ghost use Rattle.rom_script.specs.Trio.{answer_text};
 ghost use Rattle.rom_shell.specs.Devices.{HasDeviceFailed, IsOpenedFrom, IsPut, IsUnopened};
@@ -105,6 +105,7 @@ fn show_image<O: Sink>(alloc: Global, order: u32, image: Vec<u64>, out: &mut O) 
         IsStory Contents order image.items story.opening_count [] story) }
     ensures printed { EachStory Contents result (λ story.
         IsPut O.shown out.old out.new (stat_text story.order story.opening story.opening_count)) }
+    ensures writing { StopsWriting O.shown out.old out.new }
     ensures rest { O.shown.rest out.new ≡ O.shown.rest out.old }
 {
     let mut space = VecSpace::of(image);
@@ -135,6 +136,8 @@ pub(crate) fn show_heap<D: Device, O: Sink>(alloc: Global, device: D, out: &mut 
         AreAnswered trio story [] [])) }
     ensures printed { IfSome result.session (λ session. EachStory Contents session (λ story.
         IsPut O.shown out.old out.new (stat_text story.order story.opening story.opening_count))) }
+    ensures held { IsTrue D.shown.tells_words → IfSome result.session (λ session.
+        EachStory Contents session (λ story. IsOpenedFrom (D.shown.words result.device) story)) }
     ensures now { IsTrue D.shown.tells_images → IfSome result.session (λ session.
         EachStory Contents session (λ story.
         (i : List ℕ) → D.shown.leaves result.device i → IsOpenedFrom i story)) }
@@ -149,6 +152,7 @@ pub(crate) fn show_heap<D: Device, O: Sink>(alloc: Global, device: D, out: &mut 
         D.shown.faults result.device ≡ D.shown.faults device }
     ensures no_memory { number_of result.status ≡ 6 →
         IsTold O.shown out.old out.new (codes "no memory") }
+    ensures writing { StopsWriting O.shown out.old out.new }
     ensures rest { O.shown.rest out.new ≡ O.shown.rest out.old }
 {
     match open_device::<D, Trio>(alloc, device) {

@@ -1,7 +1,8 @@
 //! The words of the command line.
-ghost use Rattle.std.specs.Prelude.{◌≡◌, [], ◌∷◌, IfOk, IfSome};
+ghost use Rattle.std.specs.Prelude.{◌≡◌, [], ◌∷◌, IfOk, IfSome, Some};
 ghost use Rattle.rom_model.specs.Blocks.{IsOrder};
-ghost use Rattle.rom_shell.specs.Wanted.{IsWanted, named};
+ghost use Rattle.rom_header.specs.Layout.{words_needed};
+ghost use Rattle.rom_shell.specs.Wanted.{AsksForOrder, IsWanted, named};
 ghost use Rattle.rom_shell.specs.Words.{command, is_plain, orders, scripts_of, spelt};
 
 use rom_header::Geometry;
@@ -31,13 +32,13 @@ pub struct Wanted {
     pub scripts: Names,
 }
 
-/// What words that are a command ask for.
+/// What words that are a command ask for. An order is 4 to 16.
 #[derive(Clone, Copy)]
 pub(crate) enum Asked<'a> {
     /// To run this script on a new heap.
     Try(&'a str),
     /// To make a new heap of this order in this file.
-    Format { file: &'a str, geometry: Geometry },
+    Format { file: &'a str, order: u32 },
     /// To print the sizes of the heap in this file.
     Stat(&'a str),
 }
@@ -53,7 +54,7 @@ fn is_plain_word(word: &str) -> bool
 }
 
 /// The order that a word spells, 4 to 16.
-fn read_order(word: &str) -> Option<u64>
+fn read_order(word: &str) -> Option<u32>
     ensures order { result ≡ spelt orders word.now }
     ensures fits { IfSome result IsOrder }
 {
@@ -77,7 +78,8 @@ fn read_order(word: &str) -> Option<u64>
 
 /// A command of two words.
 fn read_two<'a>(name: &str, word: &'a str) -> Option<Asked<'a>>
-    ensures { named result ≡ command (name.now ∷ word.now ∷ []) }
+    ensures named { named result ≡ command (name.now ∷ word.now ∷ []) }
+    ensures order { IfSome result AsksForOrder }
 {
     if !is_plain_word(word) {
         return None;
@@ -91,19 +93,21 @@ fn read_two<'a>(name: &str, word: &'a str) -> Option<Asked<'a>>
 
 /// A command of four words.
 fn read_four<'a>(name: &str, file: &'a str, option: &str, value: &str) -> Option<Asked<'a>>
-    ensures { named result ≡ command (name.now ∷ file.now ∷ option.now ∷ value.now ∷ []) }
+    ensures named { named result ≡ command (name.now ∷ file.now ∷ option.now ∷ value.now ∷ []) }
+    ensures order { IfSome result AsksForOrder }
 {
     if name != "format" || !is_plain_word(file) || option != "--order" {
         return None;
     }
-    let geometry = Geometry::of(read_order(value)?)?;
-    Some(Asked::Format { file, geometry })
+    let order = read_order(value)?;
+    Some(Asked::Format { file, order })
 }
 
 /// The command that the words are. A file or a script is a word that is not empty, and that begins
 /// with a dash only where it is a dash alone.
 pub(crate) fn read_command(words: &Names) -> Option<Asked<'_>>
-    ensures { named result ≡ command words.now }
+    ensures named { named result ≡ command words.now }
+    ensures order { IfSome result AsksForOrder }
 {
     match (words.at(0), words.at(1), words.at(2), words.at(3)) {
         (Some(name), Some(word), None, _) => read_two(name, word),
@@ -114,19 +118,41 @@ pub(crate) fn read_command(words: &Names) -> Option<Asked<'_>>
     }
 }
 
+/// How many words a heap of this order has on a device.
+fn words_of_heap(order: u32) -> u64
+    requires { IsOrder order }
+    ensures { result ≡ words_needed order }
+{
+    let Some(geometry) = Geometry::of(u64::from(order)) else {
+        unreachable!()
+    };
+    geometry.need()
+}
+
 /// The device that a command works on.
-fn device_of(alloc: Global, asked: Option<Asked<'_>>) -> Result<DeviceWant, AllocError>
-    ensures { IfOk result (IsWanted (named asked)) }
+fn device_of(alloc: Global, asked: &Asked<'_>) -> Result<DeviceWant, AllocError>
+    requires { AsksForOrder asked.now }
+    ensures { IfOk result (IsWanted (named (Some asked.now))) }
 {
     match asked {
-        None => Ok(DeviceWant::Nothing),
-        Some(Asked::Try(_)) => Ok(DeviceWant::Fresh(TRY_WORDS)),
-        Some(Asked::Format { file, geometry }) => {
+        Asked::Try(_) => Ok(DeviceWant::Fresh(TRY_WORDS)),
+        Asked::Format { file, order } => {
             let file = Name::of(alloc, file)?;
-            Ok(DeviceWant::Made(file, geometry.need()))
+            Ok(DeviceWant::Made(file, words_of_heap(*order)))
         }
-        Some(Asked::Stat(file)) => Ok(DeviceWant::Old(Name::of(alloc, file)?)),
+        Asked::Stat(file) => Ok(DeviceWant::Old(Name::of(alloc, file)?)),
     }
+}
+
+/// The scripts that a command names.
+fn named_scripts(alloc: Global, asked: &Asked<'_>) -> Result<Names, AllocError>
+    ensures { IfOk result (λ scripts. scripts ≡ scripts_of (named (Some asked.now))) }
+{
+    let mut scripts = Names::new(alloc);
+    if let Asked::Try(script) = asked {
+        scripts.push(alloc, script)?;
+    }
+    Ok(scripts)
 }
 
 /// What the words ask `main` to hand to `run`: a device, and the scripts in order.
@@ -134,11 +160,14 @@ pub fn files_of(alloc: Global, words: &Names) -> Result<Wanted, AllocError>
     ensures device { IfOk result (λ wanted. IsWanted (command words.now) wanted.device) }
     ensures scripts { IfOk result (λ wanted. wanted.scripts ≡ scripts_of (command words.now)) }
 {
-    let asked = read_command(words);
-    let device = device_of(alloc, asked)?;
-    let mut scripts = Names::new(alloc);
-    if let Some(Asked::Try(script)) = asked {
-        scripts.push(alloc, script)?;
-    }
-    Ok(Wanted { device, scripts })
+    let Some(asked) = read_command(words) else {
+        return Ok(Wanted {
+            device: DeviceWant::Nothing,
+            scripts: Names::new(alloc),
+        });
+    };
+    Ok(Wanted {
+        device: device_of(alloc, &asked)?,
+        scripts: named_scripts(alloc, &asked)?,
+    })
 }

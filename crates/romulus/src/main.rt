@@ -91,10 +91,11 @@ fn open_made(rt: &HostRuntime, name: &str, words: u64) -> io::Result<FileDevice>
 }
 
 /// A file that could not be opened or lengthened is a device whose every call fails.
-fn file_or_missing(opened: io::Result<FileDevice>) -> FileDevice {
+fn file_or_missing(opened: io::Result<FileDevice>) -> Result<FileDevice, AllocError> {
     match opened {
-        Ok(device) => device,
-        Err(_) => FileDevice::missing(),
+        Ok(device) => Ok(device),
+        Err(error) if error.kind() == ErrorKind::OutOfMemory => Err(AllocError),
+        Err(_) => Ok(FileDevice::missing()),
     }
 }
 
@@ -116,19 +117,11 @@ fn start(rt: &HostRuntime) -> Result<u8, AllocError> {
     let words = words_of(rt)?;
     let wanted = files_of(rt.alloc(), &words)?;
     let sources = sources_of(rt, &wanted.scripts)?;
-    let file = match wanted.device {
-        DeviceWant::Nothing => {
-            let device = Ram::zeroed(rt.alloc(), 0)?;
-            return Ok(run_on(rt, &words, device, sources));
-        }
-        DeviceWant::Fresh(len) => {
-            let device = Ram::zeroed(rt.alloc(), len)?;
-            return Ok(run_on(rt, &words, device, sources));
-        }
-        DeviceWant::Old(name) => open_old(rt, name.as_str()),
-        DeviceWant::Made(name, len) => open_made(rt, name.as_str(), len),
-    };
-    Ok(run_on(rt, &words, file_or_missing(file), sources))
+    if let Some(device) = file_of(rt, &wanted.device) {
+        return Ok(run_on(rt, &words, device, sources));
+    }
+    let device = Ram::zeroed(rt.alloc(), memory_of(&wanted.device))?;
+    Ok(run_on(rt, &words, device, sources))
 }
 
 /// Nothing has been done, and nothing can be.

@@ -1,4 +1,4 @@
-use Rattle.std.proofs.Common.{arith, subst, length, take, vec_len, vec_capacity, ◌≤◌, ◌≡◌}
+use Rattle.std.proofs.Common.{arith, rules, subst, length, take, vec_len, vec_capacity, ◌≤◌, ◌≡◌}
 use Rattle.std.proofs.lemmas.List.{take_all, length-take}
 use Rattle.std.proofs.lemmas.List.Sums.{count_by-le-length}
 use Rattle.rom_model.specs.History.{LAST_COUNT}
@@ -6,6 +6,7 @@ use Rattle.rom_model.specs.VecSpace.{words_of}
 use Rattle.rom_shell.specs.Playing.{is_update}
 use Rattle.rom_shell.proofs.Counting.{room_for, one_counted}
 use Rattle.rom_shell.proofs.Playing.{Progress, answered_by, began_again, goes_on_at, left_by_line, state_after}
+use Rattle.rom_shell.proofs.Stories.{began_as}
 use Rattle.rom_shell.proofs.play.play.Goals as goal
 
 pub loop-line-preserved : goal.loop-line-preserved
@@ -27,16 +28,23 @@ loop-line-preserved g c =
     }
 
 pub returns-clause-began : goal.returns-clause-began
-returns-clause-began g c = λ story is. began_again g.O.Object.machine c.args.order story _ (c.of.ensures.began story is)
+returns-clause-began g c = λ story is.
+    let m = g.O.Object.machine in
+    let Contents = g.O.Object.Contents in
+    let empty : Contents c.args.order (words_of c.of-opening.result.value) m.empty 0 = search rules in
+    began_again m c.args.order story _ (began_as m Contents g.met.O.Object.one_contents c.args.order 0 _ _ story empty (c.of.ensures.opened story is))
 
 pub returns-clause-answered : goal.returns-clause-answered
 returns-clause-answered g c = λ story is.
     let m = g.O.Object.machine in
+    let Contents = g.O.Object.Contents in
     let loop = c.loop-line in
+    let empty : Contents c.args.order (words_of c.of-opening.result.value) m.empty 0 = search rules in
+    let begins = began_as m Contents g.met.O.Object.one_contents c.args.order 0 _ _ story empty (c.of.ensures.opened story is) in
     let whole : take loop.line-index c.args.lines.now ≡ c.args.lines.now = take_all loop.line-index c.args.lines.now (omega (arith, c.loop-line-test.false)) in
     let all : Progress m c.args.order loop.entries.items c.args.lines.now loop.results.items = subst (λ ls. Progress m c.args.order loop.entries.items ls loop.results.items) whole loop.invariant.told in
     let few : length loop.entries.items ≤ LAST_COUNT = omega (arith, loop.invariant.entries, count_by-le-length is_update (take loop.line-index c.args.lines.now), length-take loop.line-index c.args.lines.now, c.loop-line-test.false, c.requires.few, loop.entries.ok, loop.auto.line-index-end) in
-    answered_by m c.args.order story loop.entries.items c.args.lines.now loop.results.items (c.of.ensures.began story is) all few
+    answered_by m c.args.order story loop.entries.items c.args.lines.now loop.results.items begins all few
 
 pub take_line-told-requires-clause-room : goal.take_line-told-requires-clause-room
 take_line-told-requires-clause-room g c = λ is.

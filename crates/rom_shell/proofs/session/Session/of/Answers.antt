@@ -1,6 +1,8 @@
-use Rattle.std.proofs.Common.{refl}
-use Rattle.rom_shell.specs.Began.{began}
+use Rattle.std.proofs.Common.{[], None, refl}
 use Rattle.rom_shell.proofs.session.Session.of.Goals as goal
 
 pub returns-clause-story : goal.returns-clause-story
-returns-clause-story g c = (began g.O.Object.machine c.args.order c.args.opening_count c.args.entries.items, refl)
+returns-clause-story g c = (
+  record { order = c.args.order; opening = c.requires.region.0; opening_count = c.args.opening_count; opening_faults = 0; history = c.args.entries.items; records = []; in_doubt = None },
+  record { order_is = refl; opening = c.requires.region.1; count_is = refl; faults = refl; history = refl; records = refl; in_doubt = refl },
+)

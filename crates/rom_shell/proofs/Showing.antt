@@ -1,0 +1,112 @@
+-- What is shown of a heap that was opened, and why none was.
+use Rattle.std.specs.Prelude.{◌≡◌, ◌≢◌, ◌⊎◌, ℕ, zero, suc, IsNone, ◌+◌, ◌≤◌, Bool, true, false, IsTrue, List, [], ◌∷◌, ◌++◌, codes, decimal, if◌then◌else◌, Option, Some, None, IfSome, Result, Ok, Err}
+use Rattle.std.proofs.Common.{refl, inl, inr, subst, sym, arith, append-nil}
+use Rattle.std.proofs.lemmas.List.{append_assoc}
+use Rattle.rom_model.specs.History.{LAST_COUNT}
+use Rattle.rom_model.specs.Region.{Contents}
+use Rattle.rom_model.specs.State.{State}
+use Rattle.rom_model.specs.Story.{Story}
+use Rattle.rom_model.specs.Trio.{trio}
+use Rattle.rom_device.specs.Device.{ShownDevice, Makes}
+use Rattle.rom_header.specs.Calls.{format_fault}
+use Rattle.rom_header.specs.declared.fresh.FormatRefused.{FormatRefused}
+use Rattle.rom_header.specs.declared.fresh.FormatRefused.TheVariants as format
+use Rattle.rom_script.specs.Runs.{IsTold}
+use Rattle.rom_script.specs.Streams.{ShownSink, ShownSource, Prints, StopsWriting}
+use Rattle.rom_script.specs.Text.{line_text}
+use Rattle.rom_store.specs.Calls.{HasFaults}
+use Rattle.rom_store.specs.Making.{IfMade}
+use Rattle.rom_store.specs.declared.new_heap.NotFormatted.{NotFormatted}
+use Rattle.rom_store.specs.declared.new_heap.NotFormatted.TheVariants as unmade
+use Rattle.rom_store.specs.declared.reasons.Why.{Why}
+use Rattle.rom_store.specs.declared.reasons.Why.TheVariants.{Device}
+use Rattle.rom_shell.specs.Devices.{HasDeviceFailed, IsOpenedFrom, IsPut}
+use Rattle.rom_shell.specs.Refusing.{refusal_line, refusal_status, unmade_line, unmade_status}
+use Rattle.rom_shell.specs.Run.{AreAnswered, HasReplies}
+use Rattle.rom_shell.specs.Sessions.{EachStory}
+use Rattle.rom_shell.specs.Stat.{stat_text}
+use Rattle.rom_shell.specs.Statuses.{number_of}
+use Rattle.rom_shell.specs.Words.{Stat}
+use Rattle.rom_shell.specs.declared.session.Session.{Session}
+
+-- five lines as pieces, of which each begins with a name
+named_lines : (a order b count sizes f free total lf : List ℕ) →
+    (a ++ (order ++ ((lf ++ b) ++ (count ++ (lf ++ []))))) ++ (sizes ++ lf) ++ ((f ++ (free ++ (lf ++ []))) ++ (total ++ lf))
+    ≡ ((a ++ order) ++ lf) ++ ((b ++ count) ++ lf) ++ (sizes ++ lf) ++ ((f ++ free) ++ lf) ++ (total ++ lf)
+named_lines a order b count sizes f free total lf = simp (append_assoc, append-nil) refl
+
+pub five_lines : (order count sizes free total : List ℕ) →
+    (codes "order " ++ (order ++ (codes "\ncount " ++ (count ++ (codes "\n" ++ []))))) ++ line_text sizes ++ ((codes "free " ++ (free ++ (codes "\n" ++ []))) ++ line_text total)
+    ≡ line_text (codes "order " ++ order) ++ line_text (codes "count " ++ count) ++ line_text sizes ++ line_text (codes "free " ++ free) ++ line_text total
+five_lines order count sizes free total = named_lines (codes "order ") order (codes "count ") count sizes (codes "free ") free total (10 ∷ [])
+
+-- what is told of some words, if they are
+pub if_told : (b : Bool) (words : List ℕ) (P : List ℕ → Type 0) → (IsTrue b → P words) → IfSome (if b then Some words else None) P
+if_told true words P told = told refl
+if_told false words P told = tt
+
+-- of a heap on which nothing was done
+pub nothing_done : (story : Story State) → story.history ≡ [] → story.in_doubt ≡ None → story.opening_count ≤ LAST_COUNT → AreAnswered trio story [] []
+nothing_done story none certain few =
+    let bare : Story State = record story { history = []; in_doubt = None } in
+    let is : story ≡ bare = λ i. record { order = story.order; opening = story.opening; opening_count = story.opening_count; opening_faults = story.opening_faults; history = none i; records = story.records; in_doubt = certain i } in
+    subst (λ s. AreAnswered trio s [] []) (sym is) (record {
+      lawful = record {
+        served = tt;
+        legal = tt;
+        recorded = record { calls = tt; made = refl; in_order = tt; in_doubt = tt };
+        known = tt;
+      };
+      each_done = tt;
+      within = omega (arith, few);
+    })
+
+module _ {O : Type 0} (sink : ShownSink O) where
+  -- a text that was printed, whatever became of it
+  pub put : {T E : Type 0} (old new : O) (r : Result T E) (text : List ℕ) → Prints sink old new r text → IsPut sink old new text
+  put old new (Ok v) text p = inl (p.bytes, p.cause.none)
+  put old new (Err e) text p = inr (p.bytes, p.cause.failed)
+
+  -- so its writing stopped at a fault, if there was one
+  pub put_stops : (old new : O) (text : List ℕ) → IsPut sink old new text → StopsWriting sink old new
+  put_stops old new text (inl written) = inl written.1
+  put_stops old new text (inr short) = inr short.1
+
+module _ {D O : Type 0} (shown : ShownDevice D) (sink : ShownSink O) (was now : D) (old new : O) where
+  -- a device that failed while its heap was opened
+  pub opening_failed : (why : Why) (n : ℕ) → n ≡ number_of (refusal_status why) → n ≡ 7 →
+      HasFaults {T = Unit {0}} (Err why) (shown.faults was) (shown.faults now) (shown.failing now) → IsTold sink old new (refusal_line why) → HasDeviceFailed shown sink was now old new
+  opening_failed Device n is seven failed told = record { failed = failed; told = told }
+  opening_failed other n is seven failed told = absurd (omega arith)
+
+  -- or while a heap was made
+  pub making_failed : (why : NotFormatted) (n order : ℕ) (reads writes syncs : Result (Unit {0}) FormatRefused → ℕ) → n ≡ number_of (unmade_status why) → n ≡ 7 →
+      IfMade (Err why) (λ made. Makes shown (reads made) (writes made) (syncs made) was now (format_fault made)) → IsTold sink old new (unmade_line why) → HasDeviceFailed shown sink was now old new
+  making_failed (unmade.Refused format.Device) n order reads writes syncs is seven made told = record { failed = made.cause.failed; told = told }
+  making_failed other n order reads writes syncs is seven made told = absurd (omega arith)
+
+module _ {S O : Type 0} (source : ShownSource S) (sink : ShownSink O) (old new : O) where
+  -- what is said of a heap that was shown, if it was
+  pub shown_replies : (session : Option Session) (file : List ℕ) (words : Option (List ℕ)) (status : ℕ) → (status ≢ 0 → IsNone session) →
+      IfSome session (λ s. EachStory Contents s (λ story. IfSome words (λ told. IsOpenedFrom told story))) →
+      IfSome session (λ s. EachStory Contents s (λ story. AreAnswered trio story [] [])) →
+      IfSome session (λ s. EachStory Contents s (λ story. IsPut sink old new (stat_text story.order story.opening story.opening_count))) →
+      IfSome session (λ s. EachStory Contents s (λ story. HasReplies source sink (Some (Stat file)) words story [] old new status))
+  shown_replies None file words status none opening answered printed = tt
+  shown_replies (Some s) file words zero none opening answered printed = λ story is. record {
+    opening = opening story is;
+    scripts = [];
+    results = [];
+    read = (refl, refl);
+    answered = answered story is;
+    printed = (refl, refl, printed story is);
+  }
+  shown_replies (Some s) file words (suc n) none opening answered printed =
+      let some : IsNone (Some s) = none (λ is. absurd (omega (arith, is))) in absurd (let no : ⊥ = cc in no)
+
+-- with the status 6 there was no memory
+pub want_of_memory : (result : Result (Unit {0}) NotFormatted) (why : NotFormatted) (status : ℕ) → result ≡ Err why → status ≡ number_of (unmade_status why) → status ≡ 6 → result ≡ Err unmade.OutOfMemory
+want_of_memory result unmade.OutOfMemory status is told six = is
+want_of_memory result (unmade.Refused format.AlreadyAHeap) status is told six = absurd (omega (arith, told, six))
+want_of_memory result (unmade.Refused (format.TooSmall need have)) status is told six = absurd (omega (arith, told, six))
+want_of_memory result (unmade.Refused format.Device) status is told six = absurd (omega (arith, told, six))

@@ -1,0 +1,176 @@
+//! Heaps that are made and shown, to the byte, on devices in memory.
+use crate::run;
+use rom_device::{CallKind, Memory, Trip};
+use rom_script::{Bytes, Collect, Names};
+use std::alloc::{AllocError, Global};
+use std::test::Fail;
+
+/// Room for all calls of a test, and for all that is printed.
+const AMPLE: u64 = 1024;
+
+const HEADER: [u64; 8] = [0x524F_4D55_4C55_5331, 1, 4, 0, 0, 0, 0, 0];
+
+/// A new region up to its blocks, whose words are 0: the root, and then the tree.
+const ROOT_AND_TREE: [u64; 48] = [
+    1, 1, 0, 0, 0, 0, 0, 0, 48, 0, 0, 0, 0, 0, 0, 0, 0, 4, 3, 4, 2, 3, 3, 3, 1, 2, 2, 2, 2, 2, 2,
+    2, 0, 1, 1, 1, 1, 1, 1, 1, 1, 1, 1, 1, 1, 1, 1, 1,
+];
+
+const SHOWN: &str = "order 4\ncount 0\nqueue 0 set 0 map 0\nfree 15\ntotal 0\n";
+
+/// The words of a new heap of order 4, with these changes.
+fn heap(alloc: Global, changes: &[(usize, u64)]) -> Result<Vec<u64>, AllocError> {
+    let mut words = HEADER.to_vec(alloc)?;
+    for _ in 0..2 {
+        words.extend_from_slice(&ROOT_AND_TREE)?;
+        words.extend_from_slice(&[0; 64])?;
+    }
+    for (at, word) in changes {
+        if let Some(place) = words.get_mut(*at) {
+            *place = *word;
+        }
+    }
+    Ok(words)
+}
+
+fn device(alloc: Global, words: Vec<u64>, trips: &[Trip]) -> Result<Memory, AllocError> {
+    Memory::new(alloc, words, AMPLE, trips.to_vec(alloc)?)
+}
+
+/// Makes a heap of order 4. It gives the status, the printed bytes and the device.
+fn format(alloc: Global, device: Memory, room: u64) -> Result<(u8, Vec<u8>, Memory), AllocError> {
+    let mut words = Names::new(alloc);
+    words.push(alloc, "format")?;
+    words.push(alloc, "file")?;
+    words.push(alloc, "--order")?;
+    words.push(alloc, "4")?;
+    let scripts: Vec<Bytes> = Vec::new(alloc);
+    let mut out = Collect::with_room(alloc, room, 5)?;
+    let ended = run(alloc, &words, device, scripts, &mut out);
+    Ok((ended.status, out.bytes().to_vec(alloc)?, ended.device))
+}
+
+/// Shows a heap, likewise.
+fn stat(alloc: Global, device: Memory, room: u64) -> Result<(u8, Vec<u8>, Memory), AllocError> {
+    let mut words = Names::new(alloc);
+    words.push(alloc, "stat")?;
+    words.push(alloc, "file")?;
+    let scripts: Vec<Bytes> = Vec::new(alloc);
+    let mut out = Collect::with_room(alloc, room, 5)?;
+    let ended = run(alloc, &words, device, scripts, &mut out);
+    Ok((ended.status, out.bytes().to_vec(alloc)?, ended.device))
+}
+
+#[test]
+fn a_heap_is_made_once_and_shown(rt: HostRuntime) -> Result<(), Fail> {
+    let alloc = rt.alloc();
+    let zeros = device(alloc, vec![in alloc; 0u64; 232]?, &[])?;
+    let (status, bytes, made) = format(alloc, zeros, AMPLE)?;
+    assert_eq!(rt; status, 0);
+    assert!(rt; bytes.as_slice() == b"formatted order 4\n".as_slice());
+    assert_eq!(rt; made.words(), heap(alloc, &[])?.as_slice());
+    let (status, bytes, made) = format(alloc, made, AMPLE)?;
+    assert_eq!(rt; status, 3);
+    assert!(rt; bytes.as_slice() == b"refused: already a heap\n".as_slice());
+    let (status, bytes, _) = stat(alloc, made, AMPLE)?;
+    assert_eq!(rt; status, 0);
+    assert!(rt; bytes.as_slice() == SHOWN.as_bytes());
+    let short = device(alloc, vec![in alloc; 0u64; 231]?, &[])?;
+    let (status, bytes, _) = format(alloc, short, AMPLE)?;
+    assert_eq!(rt; status, 3);
+    assert!(rt; bytes.as_slice() == b"refused: too small, need 232, have 231\n".as_slice());
+    Ok(())
+}
+
+#[test]
+fn a_torn_heap_is_recovered_and_shown(rt: HostRuntime) -> Result<(), Fail> {
+    let alloc = rt.alloc();
+    let mut words = heap(alloc, &[(3, 1)])?;
+    for at in 8..120 {
+        words[at] = 77;
+    }
+    let (status, bytes, after) = stat(alloc, device(alloc, words, &[])?, AMPLE)?;
+    assert_eq!(rt; status, 0);
+    assert!(rt; bytes.as_slice() == SHOWN.as_bytes());
+    assert_eq!(rt; after.words(), heap(alloc, &[])?.as_slice());
+    Ok(())
+}
+
+#[test]
+fn a_refusal_is_told_by_its_line(rt: HostRuntime) -> Result<(), Fail> {
+    let alloc = rt.alloc();
+    // What differs from a new heap, and the line.
+    let rows: [(&[(usize, u64)], &str); 8] = [
+        (
+            &[(10, 5), (122, 4)],
+            "refused: twins differ at 2, main 5, back 4\n",
+        ),
+        (&[(3, 3)], "refused: state 3\n"),
+        (&[(0, 0)], "refused: not a heap\n"),
+        (&[(1, 2)], "refused: version 2\n"),
+        (&[(2, 17)], "refused: order 17\n"),
+        (&[(2, 5)], "refused: too small, need 424, have 232\n"),
+        (
+            &[(25, 5), (137, 5)],
+            "refused: malformed at 17, rule tree\n",
+        ),
+        (
+            &[(11, 48), (123, 48)],
+            "refused: malformed at 3, rule link\n",
+        ),
+    ];
+    for (changes, line) in rows {
+        let words = heap(alloc, changes)?;
+        for room in [AMPLE, 0, 7] {
+            let was = device(alloc, words.clone()?, &[])?;
+            let (status, bytes, _) = stat(alloc, was, room)?;
+            assert_eq!(rt; status, 3, "at {line}");
+            let taken = line.len().min(room as usize);
+            assert!(rt; bytes.as_slice() == &line.as_bytes()[..taken], "at {line}");
+        }
+    }
+    let five = device(alloc, vec![in alloc; 0u64; 5]?, &[])?;
+    let (status, bytes, _) = stat(alloc, five, AMPLE)?;
+    assert_eq!(rt; status, 3);
+    assert!(rt; bytes.as_slice() == b"refused: too small, need 8, have 5\n".as_slice());
+    Ok(())
+}
+
+#[test]
+fn a_device_that_fails_is_told(rt: HostRuntime) -> Result<(), Fail> {
+    let alloc = rt.alloc();
+    let line = b"device failed\n".as_slice();
+    let sync = Trip {
+        call: CallKind::Sync,
+        from: 0,
+        to: 0,
+        nth: 1,
+        keeps_new: false,
+    };
+    let (status, bytes, _) = stat(alloc, device(alloc, heap(alloc, &[])?, &[sync])?, AMPLE)?;
+    assert_eq!(rt; status, 7);
+    assert!(rt; bytes.as_slice() == line);
+    let zeros = device(alloc, vec![in alloc; 0u64; 232]?, &[sync])?;
+    let (status, bytes, _) = format(alloc, zeros, AMPLE)?;
+    assert_eq!(rt; status, 7);
+    assert!(rt; bytes.as_slice() == line);
+    Ok(())
+}
+
+#[test]
+fn a_full_sink_leaves_the_status(rt: HostRuntime) -> Result<(), Fail> {
+    let alloc = rt.alloc();
+    for room in [0, 8, 30] {
+        let (status, bytes, _) = stat(alloc, device(alloc, heap(alloc, &[])?, &[])?, room)?;
+        assert_eq!(rt; status, 0, "at {room}");
+        assert!(rt;
+            bytes.as_slice() == &SHOWN.as_bytes()[..room as usize],
+            "at {room}"
+        );
+    }
+    let zeros = device(alloc, vec![in alloc; 0u64; 232]?, &[])?;
+    let (status, bytes, _) = format(alloc, zeros, 9)?;
+    assert_eq!(rt; status, 0);
+    assert!(rt; bytes.as_slice() == b"formatted".as_slice());
+    Ok(())
+}
