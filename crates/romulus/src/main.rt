@@ -99,6 +99,24 @@ fn file_or_missing(opened: io::Result<FileDevice>) -> Result<FileDevice, AllocEr
     }
 }
 
+/// The device of a command that works on a file.
+fn file_of(rt: &HostRuntime, wanted: &DeviceWant) -> Result<Option<FileDevice>, AllocError> {
+    let opened = match wanted {
+        DeviceWant::Nothing | DeviceWant::Fresh(_) => return Ok(None),
+        DeviceWant::Old(name) => open_old(rt, name.as_str()),
+        DeviceWant::Made(name, words) => open_made(rt, name.as_str(), *words),
+    };
+    Ok(Some(file_or_missing(opened)?))
+}
+
+/// How many words of memory a command works on.
+fn memory_of(wanted: &DeviceWant) -> u64 {
+    match wanted {
+        DeviceWant::Fresh(words) => *words,
+        _ => 0,
+    }
+}
+
 /// Runs the command on this device, prints to the standard output, and gives the status.
 fn run_on<D: Device + Send + Drop>(
     rt: &HostRuntime,
@@ -117,7 +135,7 @@ fn start(rt: &HostRuntime) -> Result<u8, AllocError> {
     let words = words_of(rt)?;
     let wanted = files_of(rt.alloc(), &words)?;
     let sources = sources_of(rt, &wanted.scripts)?;
-    if let Some(device) = file_of(rt, &wanted.device) {
+    if let Some(device) = file_of(rt, &wanted.device)? {
         return Ok(run_on(rt, &words, device, sources));
     }
     let device = Ram::zeroed(rt.alloc(), memory_of(&wanted.device))?;
