@@ -1,4 +1,4 @@
-use Rattle.std.proofs.Common.{◌≡◌, ℕ, List, sym, ◌∙◌, subst}
+use Rattle.std.proofs.Common.{◌≡◌, ℕ, sym, ◌∙◌, subst}
 use Rattle.rom_heap.specs.Laws.{contents_within}
 use Rattle.rom_model.specs.Region.{Contents}
 use Rattle.rom_model.specs.State.{State}
