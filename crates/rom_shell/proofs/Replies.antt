@@ -1,8 +1,7 @@
 -- What a run of one script leaves to be said of it.
-use Rattle.std.specs.Prelude.{◌≡◌, ◌≢◌, ◌⊎◌, ℕ, ◌+◌, Bool, true, false, cond, List, [], ◌∷◌, ◌++◌, length, map, codes, decimal, IfSome, IsSome, slice_set, Option, Some, None, Result, Ok, Err}
+use Rattle.std.specs.Prelude.{◌≡◌, ◌⊎◌, ℕ, ◌+◌, List, [], ◌∷◌, ◌++◌, length, codes, decimal, slice_set, Option, Some, Result, Ok, Err}
 use Rattle.std.proofs.Common.{refl, sym, ap, subst, ◌∙◌, get_or, arith, inl, inr}
 use Rattle.std.proofs.lemmas.Fmt.{decimal_digit}
-use Rattle.std.specs.Io.KnownBytes.{IsAtEnd}
 use Rattle.rom_model.specs.State.{State}
 use Rattle.rom_model.specs.Story.{Story, count}
 use Rattle.rom_model.specs.Trio.{trio}
@@ -16,8 +15,7 @@ use Rattle.rom_script.specs.Lines.{AreStepsOf}
 use Rattle.rom_script.specs.Text.{AreOfType, status_of, text}
 use Rattle.rom_script.specs.Trio.{trio_texts}
 use Rattle.rom_shell.specs.Began.{began}
-use Rattle.rom_script.specs.Limits.{FitsScript}
-use Rattle.rom_script.specs.Runs.{AreAskedOnce, AreAtEnd, AreWithin, IsCutShort, IsTold, IsWritten, SourceFailed, SourceTooLong}
+use Rattle.rom_script.specs.Runs.{AreAskedOnce, IsCutShort, IsTold, IsWritten, SourceFailed, SourceTooLong}
 use Rattle.rom_script.specs.Streams.{ShownSink, ShownSource, IsAskedOnce, Prints}
 use Rattle.rom_shell.specs.Statuses.{number_of}
 use Rattle.rom_shell.specs.declared.status.Status.{Status}

@@ -1,5 +1,5 @@
 -- What becomes of the device that a command works on, and why there is no heap to work on.
-use Rattle.std.specs.Prelude.{◌≡◌, ◌≢◌, ◌≤◌, ◌⊎◌, ℕ, List, ◌++◌, IsTrue, codes, decimal, Option, Some, None, Ok, Err}
+use Rattle.std.specs.Prelude.{◌≡◌, ◌≤◌, ◌⊎◌, ℕ, List, ◌++◌, IsTrue, codes, decimal, Option, Some, None, Ok, Err}
 use Rattle.rom_model.specs.Faults.{FailedLast}
 use Rattle.rom_model.specs.Region.{Contents}
 use Rattle.rom_model.specs.State.{State, empty}
@@ -8,7 +8,6 @@ use Rattle.rom_device.specs.Device.{ShownDevice, Does, Leaves, Stays}
 use Rattle.rom_header.specs.Fresh.{IsFormatAnswer, HasTooFewFor, IsRefused}
 use Rattle.rom_header.specs.Layout.{words_needed}
 use Rattle.rom_header.specs.declared.fresh.FormatRefused.{FormatRefused}
-use Rattle.rom_header.specs.declared.fresh.FormatRefused.TheVariants as format
 use Rattle.rom_heap.specs.Parts.{FirstBreak}
 use Rattle.rom_recover.specs.Recovered.{Mended}
 use Rattle.rom_script.specs.Runs.{IsTold, IsCutShort, IsWritten}

@@ -2,7 +2,6 @@
 use Rattle.std.specs.Prelude.{ℕ, List, ◌++◌, codes, decimal}
 use Rattle.rom_model.specs.declared.unfit.Rule.{Rule}
 use Rattle.rom_model.specs.declared.unfit.Rule.TheVariants.{Root, Link, Pad, Ends, Count, Order, Bucket, Repeat, Tree}
-use Rattle.rom_header.specs.declared.fresh.FormatRefused.{FormatRefused}
 use Rattle.rom_header.specs.declared.fresh.FormatRefused.TheVariants as format
 use Rattle.rom_store.specs.declared.reasons.Why.{Why}
 use Rattle.rom_store.specs.declared.reasons.Why.TheVariants.{NotAHeap, BadVersion, BadOrder, BadState, TooSmall, Twins, Malformed, Device, OutOfMemory}

@@ -87,7 +87,9 @@ fn a_torn_heap_is_recovered_and_shown(rt: HostRuntime) -> Result<(), Fail> {
     let alloc = rt.alloc();
     let mut words = heap(alloc, &[(3, 1)])?;
     for at in 8..120 {
-        words[at] = 77;
+        if let Some(word) = words.get_mut(at) {
+            *word = 77;
+        }
     }
     let (status, bytes, after) = stat(alloc, device(alloc, words, &[])?, AMPLE)?;
     assert_eq!(rt; status, 0);

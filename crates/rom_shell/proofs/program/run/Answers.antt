@@ -1,4 +1,4 @@
-use Rattle.std.proofs.Common.{◌≡◌, codes, [], ◌∷◌, map, Some, IfSome, refl, rules, sym, subst}
+use Rattle.std.proofs.Common.{◌≡◌, codes, [], ◌∷◌, Some, IfSome, refl, rules, sym, subst}
 use Rattle.rom_device.specs.Device.{told_words}
 use Rattle.rom_model.specs.Region.{Contents}
 use Rattle.rom_script.specs.Runs.{AreAskedOnce, SourceFailed, SourceTooLong, IsTold}
