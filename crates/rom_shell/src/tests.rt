@@ -141,7 +141,17 @@ fn the_session_counts_its_updates(rt: HostRuntime) -> Result<(), Fail> {
 #[test]
 fn other_words_are_no_command(rt: HostRuntime) -> Result<(), Fail> {
     let alloc = rt.alloc();
-    let rows: [&[&str]; 8] = [
+    let rows: [&[&str]; 18] = [
+        &["format", "F"],
+        &["format", "F", "--order", "3"],
+        &["format", "F", "--order", "17"],
+        &["format", "F", "--order", "04"],
+        &["format", "F", "--order=4"],
+        &["format", "--order", "4", "F"],
+        &["format", "F", "--order", "4", "--order", "4"],
+        &["stat"],
+        &["stat", "F", "G"],
+        &["stat", "-x"],
         &[],
         &["try"],
         &["try", "-x"],
@@ -187,6 +197,34 @@ fn try_names_one_script(rt: HostRuntime) -> Result<(), Fail> {
         );
         assert_eq!(rt; wanted.scripts.len(), 1, "at {script}");
         assert!(rt; wanted.scripts.at(0) == Some(script), "at {script}");
+    }
+    Ok(())
+}
+
+#[test]
+fn format_and_stat_name_a_file(rt: HostRuntime) -> Result<(), Fail> {
+    let alloc = rt.alloc();
+    let rows: [(&[&str], Option<u64>); 4] = [
+        (&["format", "F", "--order", "4"], Some(232)),
+        (&["format", "F", "--order", "16"], Some(786_472)),
+        (&["format", "-", "--order", "5"], Some(424)),
+        (&["stat", "F"], None),
+    ];
+    for (row, made) in rows {
+        let mut words = Names::new(alloc);
+        for word in row {
+            words.push(alloc, word)?;
+        }
+        let wanted = files_of(alloc, &words)?;
+        assert_eq!(rt; wanted.scripts.len(), 0, "at {row:?}");
+        let named = match &wanted.device {
+            DeviceWant::Old(name) => made.is_none() && words.at(1) == Some(name.as_str()),
+            DeviceWant::Made(name, len) => {
+                made == Some(*len) && words.at(1) == Some(name.as_str())
+            }
+            _ => false,
+        };
+        assert!(rt; named, "at {row:?}");
     }
     Ok(())
 }
