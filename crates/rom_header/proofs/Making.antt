@@ -1,14 +1,13 @@
 -- A new heap while it is made.
-use Rattle.std.proofs.Common.{◌≡◌, ◌≢◌, inl, inr, ℕ, ◌+◌, ◌*◌, ◌<◌, ◌≤◌, List, length, get_or, set, drop, refl, sym, ◌∙◌, subst, arith, length-set, get_or-set_other, get_or-set_same, length-drop}
-use Rattle.std.proofs.lemmas.List.{get_or-take, get_or-drop, length-take}
-use Rattle.std.proofs.lemmas.Grind.{same_number_lists}
+use Rattle.std.proofs.Common.{◌≡◌, ◌≢◌, inl, inr, ℕ, ◌+◌, ◌*◌, ◌<◌, ◌≤◌, List, length, get_or, set, refl, sym, ◌∙◌, subst, arith, length-set, get_or-set_other, get_or-set_same}
 use Rattle.rom_model.specs.Space.{ChangesOnly}
 use Rattle.rom_model.specs.Blocks.{IsOrder, region_len}
 use Rattle.rom_model.proofs.Changes.{changes_joins, changes_wider}
 use Rattle.rom_device.specs.Device.{ShownDevice, Does, Writes, WritesMany}
 use Rattle.rom_device.proofs.Going.{does_by, does_on}
 use Rattle.rom_header.specs.Fresh.{IsNew, NoneOrNew, UnreadAreZero, IsLaid}
-use Rattle.rom_header.specs.Layout.{part, back_at, words_needed, MAGIC, MAIN}
+use Rattle.rom_header.specs.Layout.{back_at, words_needed, MAGIC, MAIN}
+use Rattle.rom_header.proofs.Parts.{part_is}
 
 -- the three runs of writes lay a heap out
 pub laid : (order : ℕ) (image x y z : List ℕ) → length image ≡ region_len order →
@@ -23,13 +22,6 @@ laid order image x y z size first at_back second at_head version order_is idle u
   main = λ k h. at_head.behind (8 + k) (omega arith) ∙ at_back.before (8 + k) (omega arith) ∙ first k (omega arith);
   back = λ k h. at_head.behind (back_at order + k) (omega arith) ∙ second k (omega arith);
 }
-
--- a part whose words are those of the image is the image
-part_is : (at len : ℕ) (m y : List ℕ) → length m ≡ len → at + len ≤ length y → ((k : ℕ) → k < len → get_or y (at + k) 0 ≡ get_or m k 0) → part at len y ≡ m
-part_is at len m y long room same =
-    let size : length (part at len y) ≡ len = omega (arith, length-take len (drop at y), length-drop at y) in
-    same_number_lists (part at len y) m (omega (arith, size, long))
-    (λ k h. let lt : k < len = omega (arith, size) in get_or-take len (drop at y) k 0 lt ∙ get_or-drop at y k 0 ∙ same k lt)
 
 -- the magic makes it a heap
 pub made : (order : ℕ) (m y : List ℕ) → IsLaid order m y → length m ≡ region_len order → words_needed order ≤ length y → IsOrder order → IsNew order m (set y 0 MAGIC)

@@ -1,5 +1,5 @@
 -- What a copy of the region that counts leaves.
-use Rattle.std.proofs.Common.{◌≡◌, ◌≢◌, ◌⊎◌, inl, inr, ℕ, ◌+◌, ◌<◌, List, length, get_or, set, refl, sym, ◌∙◌, subst, arith, get_or-set_other, get_or-set_same}
+use Rattle.std.proofs.Common.{◌≡◌, ◌≢◌, ◌⊎◌, inl, inr, ℕ, ◌+◌, ◌<◌, ◌≤◌, List, get_or, set, refl, sym, ◌∙◌, subst, arith, get_or-set_other}
 use Rattle.rom_model.specs.Blocks.{region_len}
 use Rattle.rom_model.specs.Space.{ChangesOnly}
 use Rattle.rom_model.proofs.Changes.{changes_set}
@@ -7,11 +7,11 @@ use Rattle.rom_device.specs.Device.{Writes}
 use Rattle.rom_header.specs.Headers.{state_word}
 use Rattle.rom_header.specs.Layout.{main_of, back_of, back_at}
 use Rattle.rom_header.specs.Regions.{IsHeap, SameRegion, IsCounted}
+use Rattle.rom_header.proofs.Parts.{part_moved, part_before, part_behind, heap_within, state_set}
 use Rattle.rom_header.specs.declared.header.State.{State}
 use Rattle.rom_header.specs.declared.header.State.TheVariants.{Idle, Mutating, Copying}
 use Rattle.rom_recover.specs.Copied.{Copied, CopiesSome}
 use Rattle.rom_recover.specs.Recovered.{IsDone, IsWay, TakesTwins, Mended}
-use Rattle.rom_recover.proofs.Parts.{part_moved, part_before, part_behind, heap_within}
 
 -- both regions are the one that counted
 record Both (n : ℕ) (x y : List ℕ) : Type 0 where
@@ -24,25 +24,14 @@ record Both (n : ℕ) (x y : List ℕ) : Type 0 where
 -- the state is written
 state_idle : (n : ℕ) (x y : List ℕ) → Both n x y → IsDone n x (set y 3 0)
 state_idle n x y done =
-    let long : 3 < length y = omega (arith, done.heap.long) in
-    let within : ChangesOnly 3 1 y (set y 3 0) = changes_set 3 1 y 3 0 (omega arith) (omega arith) in
-    let state : get_or (set y 3 0) 3 0 ≡ 0 = rw get_or-set_same refl in
+    let there = state_set n 0 y (let le : 0 ≤ 2 = omega arith in le) done.heap in
     record {
-      heap = record {
-        header = record {
-          magic = within.before 0 (omega arith) ∙ done.heap.header.magic;
-          version = within.before 1 (omega arith) ∙ done.heap.header.version;
-          order_is = within.before 2 (omega arith) ∙ done.heap.header.order_is;
-          fits = done.heap.header.fits;
-        };
-        long = omega (arith, within.as_long, done.heap.long);
-        state = omega (arith, state);
-      };
-      idle = state;
+      heap = there.heap;
+      idle = there.state_is;
       region = done.region;
       counted = done.counts;
-      main_is = part_behind 8 (region_len n) 3 1 y (set y 3 0) within (omega (arith, done.heap.long)) (omega arith) ∙ done.main_is;
-      back_is = part_behind (back_at n) (region_len n) 3 1 y (set y 3 0) within (omega (arith, done.heap.long)) (omega arith) ∙ done.back_is;
+      main_is = there.main_is ∙ done.main_is;
+      back_is = there.back_is ∙ done.back_is;
     }
 
 -- what a copy in this state leaves, in its midst and at its end

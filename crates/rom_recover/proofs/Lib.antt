@@ -1,5 +1,4 @@
 -- Lemmas on copies, on comparisons and on the region that counts.
-pub mod Parts
 pub mod CopyBack
 mod Restoring
 mod Pieces
