@@ -1,0 +1,22 @@
+-- Which offsets some ranges hold, and how many.
+use Rattle.std.specs.Prelude.{◌⊎◌, ℕ, ◌+◌, ◌-◌, ◌<◌, ◌≤◌, List, [], ◌∷◌}
+use Rattle.rom_ranges.specs.declared.range.Range.{Range}
+
+-- the offset is in the range
+abbrev pub IsIn : Range → ℕ → Type 0
+IsIn range k = (range.start ≤ k) × (k < range.end)
+
+-- the offset is in one of the ranges
+abbrev pub IsHeld : List Range → ℕ → Type 0
+IsHeld [] k = ⊥
+IsHeld (range ∷ ranges) k = IsIn range k ⊎ IsHeld ranges k
+
+-- each range ends at this length or before
+abbrev pub AreWithin : ℕ → List Range → Type 0
+AreWithin len [] = Unit {0}
+AreWithin len (range ∷ ranges) = (range.end ≤ len) × AreWithin len ranges
+
+-- the sum of the ranges' lengths, which is how many offsets they hold where they are disjoint
+abbrev pub held_count : List Range → ℕ
+held_count [] = 0
+held_count (range ∷ ranges) = range.end - range.start + held_count ranges

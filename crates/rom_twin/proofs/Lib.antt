@@ -1,0 +1,7 @@
+-- Lemmas on runs of calls, on ranges that are written, on phases and on the calls of a batch.
+pub mod Since
+mod Written
+pub mod Phases
+mod Calls
+mod Repairs
+pub mod Counting

@@ -1,0 +1,62 @@
+use Rattle.std.proofs.Common.{◌∙◌, ap, length, sym, subst, arith}
+use Rattle.rom_model.specs.Blocks.{region_len}
+use Rattle.rom_model.specs.Space.{ChangesOnly}
+use Rattle.rom_device.specs.Device.{Becomes, Does, Runs}
+use Rattle.rom_header.specs.Layout.{back_at}
+use Rattle.rom_twin.specs.Images.{HasMain}
+use Rattle.rom_twin.specs.Ranges.{SameBut}
+use Rattle.rom_twin.specs.Seen.{committed, main_now}
+use Rattle.rom_twin.proofs.Calls.{copy_since, copy_kept, copy_failed, copy_done}
+use Rattle.rom_twin.proofs.twin.Twin.copy.Goals as goal
+
+pub invariant_of-self : goal.invariant_of-self
+invariant_of-self g c = record {
+  fits = omega (arith, c.self.invariant.fits, c.put_ranges.ensures.does.size);
+  images = λ told. copy_failed g.D.Device.shown g.met.D.Device.reads_image g.met.D.Device.tells_both told _ (c.self.invariant.images told) c.put_ranges.new.device (ap (λ s. s.phase) c.self.view_is ∙ c.requires.phase) c.args.ranges.now (g.M.Look.shown.image c.args.image.now) c.back.result c.back.ensures (c.requires.image ∙ ap (λ s. region_len s.order) (sym c.self.view_is)) (ap (main_now g.D.Device.shown) c.self.view_is ∙ c.requires.main told) c.put_ranges.ensures.does;
+}
+
+pub returns-in_err-put_ranges-clause-images : goal.returns-in_err-put_ranges-clause-images
+returns-in_err-put_ranges-clause-images g c told =
+    copy_failed g.D.Device.shown g.met.D.Device.reads_image g.met.D.Device.tells_both told _ (c.self.invariant.images told) c.put_ranges.new.device (ap (λ s. s.phase) c.self.view_is ∙ c.requires.phase) c.args.ranges.now (g.M.Look.shown.image c.args.image.now) c.back.result c.back.ensures (c.requires.image ∙ ap (λ s. region_len s.order) (sym c.self.view_is)) (ap (main_now g.D.Device.shown) c.self.view_is ∙ c.requires.main told) c.put_ranges.ensures.does
+
+pub invariant_of-self-2 : goal.invariant_of-self-2
+invariant_of-self-2 g c = record {
+  fits = omega (arith, c.self.invariant.fits, c.put_ranges.ensures.does.size);
+  images = λ told. copy_done g.D.Device.shown g.met.D.Device.reads_image g.met.D.Device.tells_both told _ (c.self.invariant.images told) c.put_ranges.new.device (ap (λ s. s.phase) c.self.view_is ∙ c.requires.phase) c.args.ranges.now (g.M.Look.shown.image c.args.image.now) c.back.result c.back.ensures (c.requires.image ∙ ap (λ s. region_len s.order) (sym c.self.view_is)) (ap (main_now g.D.Device.shown) c.self.view_is ∙ c.requires.main told) c.put_ranges.ensures.does
+      (subst (λ s. SameBut c.args.ranges.now (committed g.D.Device.shown s) (g.M.Look.shown.image c.args.image.now)) (sym c.self.view_is) (c.requires.but told)) (c.in_ok-put_ranges.ensures.written (g.met.D.Device.tells_both told)) c.in_ok-put_ranges.ensures.certain;
+}
+
+pub returns-clause-images : goal.returns-clause-images
+returns-clause-images g c told =
+    copy_done g.D.Device.shown g.met.D.Device.reads_image g.met.D.Device.tells_both told _ (c.self.invariant.images told) c.put_ranges.new.device (ap (λ s. s.phase) c.self.view_is ∙ c.requires.phase) c.args.ranges.now (g.M.Look.shown.image c.args.image.now) c.back.result c.back.ensures (c.requires.image ∙ ap (λ s. region_len s.order) (sym c.self.view_is)) (ap (main_now g.D.Device.shown) c.self.view_is ∙ c.requires.main told) c.put_ranges.ensures.does
+    (subst (λ s. SameBut c.args.ranges.now (committed g.D.Device.shown s) (g.M.Look.shown.image c.args.image.now)) (sym c.self.view_is) (c.requires.but told)) (c.in_ok-put_ranges.ensures.written (g.met.D.Device.tells_both told)) c.in_ok-put_ranges.ensures.certain
+
+pub returns-in_err-put_ranges-clause-since : goal.returns-in_err-put_ranges-clause-since
+returns-in_err-put_ranges-clause-since g c told =
+    subst (λ s. Runs g.D.Device.shown (Becomes (HasMain s.order (g.M.Look.shown.image c.args.image.now))) s.device c.put_ranges.new.device) c.self.view_is
+    (copy_since g.D.Device.shown g.met.D.Device.reads_image g.met.D.Device.tells_both told _ (c.self.invariant.images told) c.put_ranges.new.device (ap (λ s. s.phase) c.self.view_is ∙ c.requires.phase) c.args.ranges.now (g.M.Look.shown.image c.args.image.now) c.back.result c.back.ensures (c.requires.image ∙ ap (λ s. region_len s.order) (sym c.self.view_is)) (ap (main_now g.D.Device.shown) c.self.view_is ∙ c.requires.main told) c.put_ranges.ensures.does)
+
+pub returns-in_err-put_ranges-clause-committed : goal.returns-in_err-put_ranges-clause-committed
+returns-in_err-put_ranges-clause-committed g c told =
+    copy_kept g.D.Device.shown g.met.D.Device.reads_image g.met.D.Device.tells_both told _ (c.self.invariant.images told) c.put_ranges.new.device (ap (λ s. s.phase) c.self.view_is ∙ c.requires.phase) c.args.ranges.now (g.M.Look.shown.image c.args.image.now) c.back.result c.back.ensures (c.requires.image ∙ ap (λ s. region_len s.order) (sym c.self.view_is)) (ap (main_now g.D.Device.shown) c.self.view_is ∙ c.requires.main told) c.put_ranges.ensures.does
+
+pub returns-in_err-put_ranges-clause-does : goal.returns-in_err-put_ranges-clause-does
+returns-in_err-put_ranges-clause-does g c =
+    subst (λ s. Does g.D.Device.shown (ChangesOnly (back_at s.order) (region_len s.order)) s.device c.put_ranges.new.device) c.self.view_is
+    (subst (λ k. Does g.D.Device.shown (ChangesOnly (back_at c.self.inside.geometry) k) c.self.inside.device c.put_ranges.new.device) (c.requires.image ∙ ap (λ s. region_len s.order) (sym c.self.view_is))
+    (subst (λ k. Does g.D.Device.shown (ChangesOnly k (length (g.M.Look.shown.image c.args.image.now))) c.self.inside.device c.put_ranges.new.device) c.back.ensures c.put_ranges.ensures.does))
+
+pub returns-clause-since : goal.returns-clause-since
+returns-clause-since g c told =
+    subst (λ s. Runs g.D.Device.shown (Becomes (HasMain s.order (g.M.Look.shown.image c.args.image.now))) s.device c.put_ranges.new.device) c.self.view_is
+    (copy_since g.D.Device.shown g.met.D.Device.reads_image g.met.D.Device.tells_both told _ (c.self.invariant.images told) c.put_ranges.new.device (ap (λ s. s.phase) c.self.view_is ∙ c.requires.phase) c.args.ranges.now (g.M.Look.shown.image c.args.image.now) c.back.result c.back.ensures (c.requires.image ∙ ap (λ s. region_len s.order) (sym c.self.view_is)) (ap (main_now g.D.Device.shown) c.self.view_is ∙ c.requires.main told) c.put_ranges.ensures.does)
+
+pub returns-clause-committed : goal.returns-clause-committed
+returns-clause-committed g c told =
+    copy_kept g.D.Device.shown g.met.D.Device.reads_image g.met.D.Device.tells_both told _ (c.self.invariant.images told) c.put_ranges.new.device (ap (λ s. s.phase) c.self.view_is ∙ c.requires.phase) c.args.ranges.now (g.M.Look.shown.image c.args.image.now) c.back.result c.back.ensures (c.requires.image ∙ ap (λ s. region_len s.order) (sym c.self.view_is)) (ap (main_now g.D.Device.shown) c.self.view_is ∙ c.requires.main told) c.put_ranges.ensures.does
+
+pub returns-clause-does : goal.returns-clause-does
+returns-clause-does g c =
+    subst (λ s. Does g.D.Device.shown (ChangesOnly (back_at s.order) (region_len s.order)) s.device c.put_ranges.new.device) c.self.view_is
+    (subst (λ k. Does g.D.Device.shown (ChangesOnly (back_at c.self.inside.geometry) k) c.self.inside.device c.put_ranges.new.device) (c.requires.image ∙ ap (λ s. region_len s.order) (sym c.self.view_is))
+    (subst (λ k. Does g.D.Device.shown (ChangesOnly k (length (g.M.Look.shown.image c.args.image.now))) c.self.inside.device c.put_ranges.new.device) c.back.ensures c.put_ranges.ensures.does))

@@ -1,0 +1,266 @@
+//! The device with its two regions, and the calls of a batch.
+ghost use Rattle.std.specs.Prelude.{◌≡◌, ◌≤◌, OnOk, OnErr, IsTrue, length};
+ghost use Rattle.rom_model.specs.Blocks.{region_len};
+ghost use Rattle.rom_model.specs.Faults.{Adds, AtMost, FailedLast, StopsAtFault, counted};
+ghost use Rattle.rom_model.specs.Space.{ChangesOnly, Looks};
+ghost use Rattle.rom_device.specs.Device.{Becomes, Counts, Does, IsSynced, Makes, Runs, Writes};
+ghost use Rattle.rom_header.specs.Headers.{state_word};
+ghost use Rattle.rom_header.specs.Layout.{MAIN, STATE, back_at, words_needed, main_of, back_of};
+ghost use Rattle.rom_header.specs.Regions.{IsHeap};
+ghost use Rattle.rom_header.specs.Writing.{StateOrWithin};
+ghost use Rattle.rom_ranges.specs.Ranges.{AreWithin, held_count};
+ghost use Rattle.rom_twin.specs.Calls.{rewritten_at, rewriting_writes, repair_writes, repair_syncs};
+ghost use Rattle.rom_twin.specs.Images.{Twins, HasBack, HasMain, Committing, Repairing};
+ghost use Rattle.rom_twin.specs.Ranges.{SameBut};
+ghost use Rattle.rom_twin.specs.Seen.{InPhase, NeedsRepair, committed, main_now};
+
+use crate::phase::Phase;
+use crate::ranges::put_ranges;
+use crate::restore::restore;
+use crate::state::{set_state, write_state};
+use rom_device::{Device, Failed};
+use rom_header::{Geometry, State};
+use rom_model::Look;
+use rom_ranges::Range;
+use std::marker::Model;
+
+/// A device with a heap, and how far a batch has come on it.
+///
+/// A batch is `begin`, `persist`, `commit`, `copy`, `finish`, in this order. Where one of these
+/// fails, the phase names the repair that must come before the next batch. No call takes memory,
+/// reads the device, or makes another call of it after one that failed.
+#[derive(Drop)]
+pub struct Twin<D: Device> {
+    device: D,
+    geometry: Geometry,
+    phase: Phase,
+}
+
+impl<D: Device> Model for Twin<D> {
+    ghost use Rattle.rom_twin.specs.Seen.{Seen, IsTwin};
+
+    ghost Value = { Seen D };
+
+    ghost view = { λ t. record { device = t.device; order = t.geometry; phase = t.phase } };
+
+    // Where images are told, each that a stop may leave is of the phase.
+    ghost invariant = { λ t. IsTwin D.shown record { device = t.device; order = t.geometry; phase = t.phase } };
+}
+
+impl<D: Device> Twin<D> {
+    /// A device on which a heap was made or recovered, and nothing was written since.
+    pub fn new(device: D, geometry: Geometry) -> Twin<D>
+        requires fits { words_needed geometry ≤ D.shown.size device }
+        requires heap { IsTrue D.shown.tells_images → IsHeap geometry (D.shown.words device) }
+        requires twins { IsTrue D.shown.tells_images →
+            main_of geometry (D.shown.words device) ≡ back_of geometry (D.shown.words device) }
+        requires certain { IsSynced D.shown device }
+        ensures device { result.device ≡ device }
+        ensures order { result.order ≡ geometry }
+        ensures phase { result.phase ≡ Phase.Clean }
+        ensures images { IsTrue D.shown.tells_images → InPhase D.shown result }
+    {
+        Twin {
+            device,
+            geometry,
+            phase: Phase::Clean,
+        }
+    }
+
+    /// How far a batch has come. What a stop may leave now is an image of that phase.
+    pub fn phase(&self) -> Phase
+        ensures phase { result ≡ self.now.phase }
+        ensures images { IsTrue D.shown.tells_images → InPhase D.shown self.now }
+    {
+        self.phase
+    }
+
+    /// The sizes and places of the heap.
+    pub fn geometry(&self) -> Geometry
+        ensures { result ≡ self.now.order }
+    {
+        self.geometry
+    }
+
+    /// How often the device has failed.
+    pub fn fault_count(&self) -> u64
+        ensures { result ≡ D.shown.faults self.now.device }
+    {
+        self.device.fault_count()
+    }
+
+    /// The device as it stands.
+    pub fn into_device(self) -> D
+        ensures { result ≡ self.device }
+    {
+        let Twin {
+            device,
+            geometry: _,
+            phase: _,
+        } = self;
+        device
+    }
+
+    /// Makes MUTATING certain: from now on back counts. After `Failed` both regions are as before,
+    /// and the state may be either.
+    pub fn begin(&mut self) -> Result<(), Failed>
+        requires phase { self.old.phase ≡ Phase.Clean }
+        ensures ok { OnOk result (self.new.phase ≡ Phase.Begun) }
+        ensures failed { OnErr result (self.new.phase ≡ Phase.Undo) }
+        ensures order { self.new.order ≡ self.old.order }
+        ensures committed { IsTrue D.shown.tells_images → committed D.shown self.new ≡ committed D.shown self.old }
+        ensures images { IsTrue D.shown.tells_images → InPhase D.shown self.new }
+        ensures since { IsTrue D.shown.tells_images →
+            Runs D.shown (Becomes (Twins self.old.order (committed D.shown self.old))) self.old.device self.new.device }
+        ensures size { D.shown.size self.new.device ≡ D.shown.size self.old.device }
+        ensures does { Does D.shown (Writes STATE (state_word State.Mutating)) self.old.device self.new.device }
+        ensures writes { D.shown.writes self.new.device ≡ counted (D.shown.writes self.old.device) }
+        ensures makes { Makes D.shown 0 1 1 self.old.device self.new.device result }
+    {
+        self.phase = Phase::Undo;
+        set_state(&mut self.device, State::Mutating)?;
+        self.phase = Phase::Begun;
+        Ok(())
+    }
+
+    /// Writes the ranges of the new image to main, and makes them certain. After `Failed` main may
+    /// be any mix of both images.
+    pub fn persist<M: Look>(&mut self, ranges: &[Range], image: &mut M) -> Result<(), Failed>
+        requires phase { self.old.phase ≡ Phase.Begun }
+        requires image { length (M.shown.image image.old) ≡ region_len self.old.order }
+        requires within { AreWithin (region_len self.old.order) ranges.now }
+        requires but { IsTrue D.shown.tells_images →
+            SameBut ranges.now (main_now D.shown self.old) (M.shown.image image.old) }
+        ensures ok { OnOk result (self.new.phase ≡ Phase.Persisted) }
+        ensures failed { OnErr result (self.new.phase ≡ Phase.Undo) }
+        ensures order { self.new.order ≡ self.old.order }
+        ensures committed { IsTrue D.shown.tells_images → committed D.shown self.new ≡ committed D.shown self.old }
+        ensures main { IsTrue D.shown.tells_images →
+            OnOk result (main_now D.shown self.new ≡ M.shown.image image.old) }
+        ensures images { IsTrue D.shown.tells_images → InPhase D.shown self.new }
+        ensures since { IsTrue D.shown.tells_images →
+            Runs D.shown (Becomes (HasBack self.old.order (committed D.shown self.old))) self.old.device self.new.device }
+        ensures looks { Looks M.shown (held_count ranges.now) image.old image.new }
+        ensures size { D.shown.size self.new.device ≡ D.shown.size self.old.device }
+        ensures does { Does D.shown (ChangesOnly MAIN (region_len self.old.order)) self.old.device self.new.device }
+        ensures makes { Makes D.shown 0 (held_count ranges.now) 1 self.old.device self.new.device result }
+    {
+        self.phase = Phase::Undo;
+        put_ranges(&mut self.device, image, self.geometry.main(), ranges)?;
+        self.phase = Phase::Persisted;
+        Ok(())
+    }
+
+    /// Makes COPYING certain: from now on main counts. After `Failed` a stop may leave either
+    /// image.
+    pub fn commit(&mut self) -> Result<(), Failed>
+        requires phase { self.old.phase ≡ Phase.Persisted }
+        ensures ok { OnOk result (self.new.phase ≡ Phase.Committed) }
+        ensures failed { OnErr result (self.new.phase ≡ Phase.Doubt) }
+        ensures order { self.new.order ≡ self.old.order }
+        ensures committed { IsTrue D.shown.tells_images → committed D.shown self.new ≡ committed D.shown self.old }
+        ensures main { IsTrue D.shown.tells_images → main_now D.shown self.new ≡ main_now D.shown self.old }
+        ensures images { IsTrue D.shown.tells_images → InPhase D.shown self.new }
+        ensures since { IsTrue D.shown.tells_images →
+            Runs D.shown (Becomes (Committing self.old.order (committed D.shown self.old) (main_now D.shown self.old)))
+                self.old.device self.new.device }
+        ensures size { D.shown.size self.new.device ≡ D.shown.size self.old.device }
+        ensures does { Does D.shown (Writes STATE (state_word State.Copying)) self.old.device self.new.device }
+        ensures writes { D.shown.writes self.new.device ≡ counted (D.shown.writes self.old.device) }
+        ensures makes { Makes D.shown 0 1 1 self.old.device self.new.device result }
+    {
+        self.phase = Phase::Doubt;
+        set_state(&mut self.device, State::Copying)?;
+        self.phase = Phase::Committed;
+        Ok(())
+    }
+
+    /// Writes the ranges of the new image to back, and makes them certain. Whatever it answers, the
+    /// new image is the committed one. After `Failed` back may be any mix of both images.
+    pub fn copy<M: Look>(&mut self, ranges: &[Range], image: &mut M) -> Result<(), Failed>
+        requires phase { self.old.phase ≡ Phase.Committed }
+        requires image { length (M.shown.image image.old) ≡ region_len self.old.order }
+        requires within { AreWithin (region_len self.old.order) ranges.now }
+        requires main { IsTrue D.shown.tells_images → main_now D.shown self.old ≡ M.shown.image image.old }
+        requires but { IsTrue D.shown.tells_images →
+            SameBut ranges.now (committed D.shown self.old) (M.shown.image image.old) }
+        ensures ok { OnOk result (self.new.phase ≡ Phase.Copied) }
+        ensures failed { OnErr result (self.new.phase ≡ Phase.Redo) }
+        ensures order { self.new.order ≡ self.old.order }
+        ensures committed { IsTrue D.shown.tells_images → committed D.shown self.new ≡ M.shown.image image.old }
+        ensures images { IsTrue D.shown.tells_images → InPhase D.shown self.new }
+        ensures since { IsTrue D.shown.tells_images →
+            Runs D.shown (Becomes (HasMain self.old.order (M.shown.image image.old))) self.old.device self.new.device }
+        ensures looks { Looks M.shown (held_count ranges.now) image.old image.new }
+        ensures size { D.shown.size self.new.device ≡ D.shown.size self.old.device }
+        ensures does { Does D.shown (ChangesOnly (back_at self.old.order) (region_len self.old.order))
+            self.old.device self.new.device }
+        ensures makes { Makes D.shown 0 (held_count ranges.now) 1 self.old.device self.new.device result }
+    {
+        self.phase = Phase::Redo;
+        put_ranges(&mut self.device, image, self.geometry.back(), ranges)?;
+        self.phase = Phase::Copied;
+        Ok(())
+    }
+
+    /// Writes IDLE, and does not sync: the state may stay COPYING, under which the same image
+    /// counts. So where it fails the batch has come to its end all the same.
+    pub fn finish(&mut self) -> Result<(), Failed>
+        requires phase { self.old.phase ≡ Phase.Copied }
+        ensures phase { self.new.phase ≡ Phase.Clean }
+        ensures order { self.new.order ≡ self.old.order }
+        ensures committed { IsTrue D.shown.tells_images → committed D.shown self.new ≡ committed D.shown self.old }
+        ensures images { IsTrue D.shown.tells_images → InPhase D.shown self.new }
+        ensures since { IsTrue D.shown.tells_images →
+            Runs D.shown (Becomes (Twins self.old.order (committed D.shown self.old))) self.old.device self.new.device }
+        ensures size { D.shown.size self.new.device ≡ D.shown.size self.old.device }
+        ensures does { Does D.shown (Writes STATE (state_word State.Idle)) self.old.device self.new.device }
+        ensures counts { Counts D.shown 0 1 0 self.old.device self.new.device result }
+    {
+        self.phase = Phase::Clean;
+        write_state(&mut self.device, State::Idle)
+    }
+
+    /// Makes both regions the committed image again. After `Failed` the phase is as before, and the
+    /// repair may be tried again; a fault at the last write, of IDLE, is answered `Ok`, since a
+    /// stop then leaves the same image in either state.
+    pub fn repair<M: Look>(&mut self, image: &mut M) -> Result<(), Failed>
+        requires phase { NeedsRepair self.old.phase }
+        requires image { length (M.shown.image image.old) ≡ region_len self.old.order }
+        requires committed { IsTrue D.shown.tells_images → committed D.shown self.old ≡ M.shown.image image.old }
+        ensures ok { OnOk result (self.new.phase ≡ Phase.Clean) }
+        ensures failed { OnErr result (self.new.phase ≡ self.old.phase) }
+        ensures order { self.new.order ≡ self.old.order }
+        ensures committed { IsTrue D.shown.tells_images → committed D.shown self.new ≡ committed D.shown self.old }
+        ensures images { IsTrue D.shown.tells_images → InPhase D.shown self.new }
+        ensures since { IsTrue D.shown.tells_images →
+            Runs D.shown (Becomes (Repairing self.old.phase self.old.order (committed D.shown self.old)))
+                self.old.device self.new.device }
+        ensures looks { Looks M.shown (region_len self.old.order) image.old image.new }
+        ensures size { D.shown.size self.new.device ≡ D.shown.size self.old.device }
+        ensures does { Does D.shown (StateOrWithin (rewritten_at self.old.phase self.old.order) (region_len self.old.order))
+            self.old.device self.new.device }
+        ensures reads { D.shown.reads self.new.device ≡ D.shown.reads self.old.device }
+        ensures writes { OnOk result (Adds (repair_writes self.old.phase self.old.order)
+            (D.shown.writes self.old.device) (D.shown.writes self.new.device)) }
+        ensures syncs { OnOk result (Adds (repair_syncs self.old.phase)
+            (D.shown.syncs self.old.device) (D.shown.syncs self.new.device)) }
+        ensures most_writes { AtMost (repair_writes self.old.phase self.old.order)
+            (D.shown.writes self.old.device) (D.shown.writes self.new.device) }
+        ensures most_syncs { AtMost (repair_syncs self.old.phase)
+            (D.shown.syncs self.old.device) (D.shown.syncs self.new.device) }
+
+        // Where it fails, it did so before its last write.
+        ensures before_last { OnErr result (AtMost (rewriting_writes self.old.phase self.old.order)
+            (D.shown.writes self.old.device) (D.shown.writes self.new.device)) }
+        ensures cause { OnErr result (FailedLast (D.shown.faults self.old.device) (D.shown.faults self.new.device)
+            (D.shown.failing self.new.device)) }
+        ensures mended { OnOk result (StopsAtFault (D.shown.faults self.old.device) (D.shown.faults self.new.device)
+            (D.shown.failing self.new.device)) }
+    {
+        restore(&mut self.device, self.geometry, self.phase, image)?;
+        self.phase = Phase::Clean;
+        let _ = write_state(&mut self.device, State::Idle);
+        Ok(())
+    }
+}
