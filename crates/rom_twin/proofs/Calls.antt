@@ -128,7 +128,7 @@ module _ {D : Type 0} (shown : ShownDevice D) (reads : (d : D) → IsTrue shown.
     copy_done but written certain =
         let in_back : SameBut ranges (back_of t.order (shown.words t.device)) m = subst (λ (p : Phase). SameBut ranges (committed_in p t.order (shown.words t.device)) m) is but in
         let there : Stands t.order Copying m m (shown.words b) = copied t.order base m m (shown.words t.device) (shown.words b) at long (copy_start (shown.words t.device) (reads t.device told)) (does.words (both told))
-            (written (but_part (back_at t.order) base t.order ranges m (shown.words t.device) at long in_back)) in
+        (written (but_part (back_at t.order) base t.order ranges m (shown.words t.device) at long in_back)) in
         in_phase shown (after Copied) m m (reads b told) (λ i left. subst (λ (l : List ℕ). Stands t.order Copying m m l) (sym (certain told i left)) there)
 
   module _ (is : t.phase ≡ Copied) (does : Does shown (Writes STATE (state_word Idle)) t.device b) where

@@ -141,3 +141,7 @@ module _ {D : Type 0} (shown : ShownDevice D) where
   -- each image of the named phase
   pub each_of : (t : Seen D) (phase : Phase) → t.phase ≡ phase → (known : InPhase shown t) → (i : List ℕ) → shown.leaves t.device i → ImageOf phase t.order (committed shown t) known.new i
   each_of t phase is known i left = subst (λ (p : Phase). ImageOf p t.order (committed shown t) known.new i) is (known.each i left)
+
+  -- main is the committed image still
+  pub begun_main : (t : Seen D) → t.phase ≡ Begun → shown.leaves t.device (shown.words t.device) → InPhase shown t → main_of t.order (shown.words t.device) ≡ committed shown t
+  begun_main t is reads known = (each_of t Begun is known (shown.words t.device) reads).main_is

@@ -15,3 +15,5 @@ mod twin;
 pub use phase::Phase;
 pub use twin::Twin;
 
+#[cfg(test)]
+mod tests;

@@ -163,7 +163,7 @@ impl<D: Device> Twin<D> {
         ensures images { IsTrue D.shown.tells_images → InPhase D.shown self.new }
         ensures since { IsTrue D.shown.tells_images →
             Runs D.shown (Becomes (Committing self.old.order (committed D.shown self.old) (main_now D.shown self.old)))
-                self.old.device self.new.device }
+            self.old.device self.new.device }
         ensures size { D.shown.size self.new.device ≡ D.shown.size self.old.device }
         ensures does { Does D.shown (Writes STATE (state_word State.Copying)) self.old.device self.new.device }
         ensures writes { D.shown.writes self.new.device ≡ counted (D.shown.writes self.old.device) }
@@ -235,7 +235,7 @@ impl<D: Device> Twin<D> {
         ensures images { IsTrue D.shown.tells_images → InPhase D.shown self.new }
         ensures since { IsTrue D.shown.tells_images →
             Runs D.shown (Becomes (Repairing self.old.phase self.old.order (committed D.shown self.old)))
-                self.old.device self.new.device }
+            self.old.device self.new.device }
         ensures looks { Looks M.shown (region_len self.old.order) image.old image.new }
         ensures size { D.shown.size self.new.device ≡ D.shown.size self.old.device }
         ensures does { Does D.shown (StateOrWithin (rewritten_at self.old.phase self.old.order) (region_len self.old.order))
