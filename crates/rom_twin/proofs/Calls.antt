@@ -1,14 +1,13 @@
 -- What each call of a batch leaves, by the phase that it began in.
 use Rattle.std.proofs.Common.{◌≡◌, inl, inr, IsTrue, ℕ, List, [], length, set, sym, ◌∙◌, ap, subst}
 use Rattle.rom_model.specs.Blocks.{region_len}
-use Rattle.rom_model.specs.Space.{ChangesOnly}
 use Rattle.rom_device.specs.Device.{ShownDevice, Becomes, Does, IsSynced, Runs, Writes}
 use Rattle.rom_header.specs.Headers.{state_word}
 use Rattle.rom_header.specs.Layout.{MAIN, STATE, back_at, main_of, back_of}
 use Rattle.rom_header.specs.declared.header.State.TheVariants.{Idle, Mutating, Copying}
 use Rattle.rom_ranges.specs.declared.range.Range.{Range}
 use Rattle.rom_twin.specs.Images.{Twins, Stands, HasBack, HasMain, Committing}
-use Rattle.rom_twin.specs.Ranges.{SameBut, IsBut}
+use Rattle.rom_twin.specs.Ranges.{SameBut, IsBut, WritesRanges}
 use Rattle.rom_twin.specs.Seen.{Seen, InPhase, committed, committed_in, main_now}
 use Rattle.rom_twin.specs.declared.phase.Phase.{Phase}
 use Rattle.rom_twin.specs.declared.phase.Phase.TheVariants.{Clean, Begun, Persisted, Committed, Copied, Undo, Doubt, Redo}
@@ -44,18 +43,18 @@ module _ {D : Type 0} (shown : ShownDevice D) (reads : (d : D) → IsTrue shown.
     begin_done certain put = in_phase shown (after Begun) old [] (reads b told)
         (λ i left. subst (λ (l : List ℕ). Stands t.order Mutating old old l) (sym (certain told i left ∙ put (both told))) (twins_set t.order Mutating old (shown.words t.device) (begin_start (shown.words t.device) (reads t.device told))))
 
-  module _ (is : t.phase ≡ Begun) (ranges : List Range) (m : List ℕ) (base : ℕ) (at : base ≡ MAIN) (long : length m ≡ region_len t.order) (does : Does shown (ChangesOnly base (length m)) t.device b) where
+  module _ (is : t.phase ≡ Begun) (ranges : List Range) (m : List ℕ) (base : ℕ) (at : base ≡ MAIN) (long : length m ≡ region_len t.order) (does : Does shown (WritesRanges ranges base m) t.device b) where
     persist_start : (i : List ℕ) → shown.leaves t.device i → HasBack t.order old i
     persist_start i left = stands_back t.order old old i (each_of shown t Begun is known i left)
 
-    persist_by : (v w : List ℕ) → HasBack t.order old v → ChangesOnly base (length m) v w → HasBack t.order old w
-    persist_by v w was by = persisting t.order base (length m) old v w at long was by
+    persist_by : (v w : List ℕ) → HasBack t.order old v → WritesRanges ranges base m v w → HasBack t.order old w
+    persist_by v w was by = persisting t.order base (length m) old v w at long was by.only
 
     persist_now : (i : List ℕ) → shown.leaves b i → HasBack t.order old i
-    persist_now = now_by shown (ChangesOnly base (length m)) (HasBack t.order old) t.device b (HasBack t.order old) (does.images told) persist_start persist_by
+    persist_now = now_by shown (WritesRanges ranges base m) (HasBack t.order old) t.device b (HasBack t.order old) (does.images told) persist_start persist_by
 
     pub persist_since : Runs shown (Becomes (HasBack t.order old)) t.device b
-    persist_since = since_by shown (ChangesOnly base (length m)) (HasBack t.order old) t.device b (HasBack t.order old) (does.images told) persist_start persist_by
+    persist_since = since_by shown (WritesRanges ranges base m) (HasBack t.order old) t.device b (HasBack t.order old) (does.images told) persist_start persist_by
 
     pub persist_failed : InPhase shown (after Undo)
     persist_failed = in_phase shown (after Undo) old [] (reads b told) (λ i left. inl (persist_now i left))
@@ -65,7 +64,7 @@ module _ {D : Type 0} (shown : ShownDevice D) (reads : (d : D) → IsTrue shown.
 
     module _ (but : SameBut ranges (main_now shown t) m) (written : IsBut ranges base m (shown.words t.device) → IsBut [] base m (shown.words b)) where
       persist_there : Stands t.order Mutating m old (shown.words b)
-      persist_there = persisted t.order base old m (shown.words t.device) (shown.words b) at long (persist_start (shown.words t.device) (reads t.device told)) (does.words (both told))
+      persist_there = persisted t.order base old m (shown.words t.device) (shown.words b) at long (persist_start (shown.words t.device) (reads t.device told)) (does.words (both told)).only
           (written (but_part MAIN base t.order ranges m (shown.words t.device) at long but))
 
       pub persist_main : main_of t.order (shown.words b) ≡ m
@@ -103,20 +102,20 @@ module _ {D : Type 0} (shown : ShownDevice D) (reads : (d : D) → IsTrue shown.
         (λ i left. subst (λ (l : List ℕ). Stands t.order Copying new old l) (sym (certain told i left ∙ put (both told))) (stands_set t.order Mutating Copying new old (shown.words t.device) (commit_start (shown.words t.device) (reads t.device told))))
 
   module _ (is : t.phase ≡ Committed) (ranges : List Range) (m : List ℕ) (base : ℕ) (at : base ≡ back_at t.order) (long : length m ≡ region_len t.order) (main : main_now shown t ≡ m)
-      (does : Does shown (ChangesOnly base (length m)) t.device b) where
+      (does : Does shown (WritesRanges ranges base m) t.device b) where
     copy_start : (i : List ℕ) → shown.leaves t.device i → HasMain t.order m i
     copy_start i left =
         let all = each_of shown t Committed is known in
         stands_main t.order m old i (subst (λ (l : List ℕ). Stands t.order Copying l old i) (sym (all (shown.words t.device) (reads t.device told)).main_is ∙ main) (all i left))
 
-    copy_by : (v w : List ℕ) → HasMain t.order m v → ChangesOnly base (length m) v w → HasMain t.order m w
-    copy_by v w was by = copying t.order base (length m) m v w at long was by
+    copy_by : (v w : List ℕ) → HasMain t.order m v → WritesRanges ranges base m v w → HasMain t.order m w
+    copy_by v w was by = copying t.order base (length m) m v w at long was by.only
 
     copy_now : (i : List ℕ) → shown.leaves b i → HasMain t.order m i
-    copy_now = now_by shown (ChangesOnly base (length m)) (HasMain t.order m) t.device b (HasMain t.order m) (does.images told) copy_start copy_by
+    copy_now = now_by shown (WritesRanges ranges base m) (HasMain t.order m) t.device b (HasMain t.order m) (does.images told) copy_start copy_by
 
     pub copy_since : Runs shown (Becomes (HasMain t.order m)) t.device b
-    copy_since = since_by shown (ChangesOnly base (length m)) (HasMain t.order m) t.device b (HasMain t.order m) (does.images told) copy_start copy_by
+    copy_since = since_by shown (WritesRanges ranges base m) (HasMain t.order m) t.device b (HasMain t.order m) (does.images told) copy_start copy_by
 
     pub copy_failed : InPhase shown (after Redo)
     copy_failed = in_phase shown (after Redo) m m (reads b told) copy_now
@@ -127,7 +126,7 @@ module _ {D : Type 0} (shown : ShownDevice D) (reads : (d : D) → IsTrue shown.
     pub copy_done : SameBut ranges old m → (IsBut ranges base m (shown.words t.device) → IsBut [] base m (shown.words b)) → IsSynced shown b → InPhase shown (after Copied)
     copy_done but written certain =
         let in_back : SameBut ranges (back_of t.order (shown.words t.device)) m = subst (λ (p : Phase). SameBut ranges (committed_in p t.order (shown.words t.device)) m) is but in
-        let there : Stands t.order Copying m m (shown.words b) = copied t.order base m m (shown.words t.device) (shown.words b) at long (copy_start (shown.words t.device) (reads t.device told)) (does.words (both told))
+        let there : Stands t.order Copying m m (shown.words b) = copied t.order base m m (shown.words t.device) (shown.words b) at long (copy_start (shown.words t.device) (reads t.device told)) (does.words (both told)).only
         (written (but_part (back_at t.order) base t.order ranges m (shown.words t.device) at long in_back)) in
         in_phase shown (after Copied) m m (reads b told) (λ i left. subst (λ (l : List ℕ). Stands t.order Copying m m l) (sym (certain told i left)) there)
 

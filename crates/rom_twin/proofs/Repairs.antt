@@ -1,15 +1,17 @@
 -- What a repair leaves, by the phase that it began in.
-use Rattle.std.proofs.Common.{◌≡◌, ◌≢◌, ◌⊎◌, inl, inr, ⊎_elim, IsTrue, ℕ, ◌+◌, ◌≤◌, List, [], get_or, set, refl, sym, ◌∙◌, subst, arith, length-set, get_or-set_other}
+use Rattle.std.proofs.Common.{◌≡◌, ◌≢◌, inl, inr, ⊎_elim, IsTrue, ℕ, ◌+◌, ◌≤◌, List, [], length, set, refl, sym, ◌∙◌, subst, arith, length-set, get_or-set_other}
 use Rattle.rom_model.specs.Blocks.{region_len}
 use Rattle.rom_model.specs.Space.{ChangesOnly}
 use Rattle.rom_device.specs.Device.{ShownDevice, Becomes, Does, Runs, Writes}
 use Rattle.rom_device.proofs.Going.{becomes_by, does_by, does_on}
 use Rattle.rom_header.specs.Headers.{state_word}
-use Rattle.rom_header.specs.Layout.{MAIN, STATE, back_at, back_of}
+use Rattle.rom_header.specs.Layout.{MAIN, STATE, back_of}
 use Rattle.rom_header.specs.Writing.{StateOrWithin}
 use Rattle.rom_header.specs.declared.header.State.TheVariants.{Idle}
 use Rattle.rom_twin.specs.Calls.{rewritten_at, rewriting_writes, repair_syncs}
 use Rattle.rom_twin.specs.Images.{ImageOf, Twins, HasBack, HasMain, KeepsBack, Rewriting, Repairing, Repairable}
+use Rattle.rom_ranges.specs.declared.range.Range.{Range}
+use Rattle.rom_twin.specs.Ranges.{WritesRanges}
 use Rattle.rom_twin.specs.Seen.{Seen, InPhase, NeedsRepair, committed}
 use Rattle.rom_twin.specs.declared.phase.Phase.{Phase}
 use Rattle.rom_twin.specs.declared.phase.Phase.TheVariants.{Clean, Begun, Persisted, Committed, Copied, Undo, Doubt, Redo}
@@ -97,8 +99,8 @@ module _ {D : Type 0} (shown : ShownDevice D) (at len : ℕ) where
   pub does_state : (v : ℕ) → 4 ≤ at → (a b : D) → Does shown (Writes STATE v) a b → Does shown (StateOrWithin at len) a b
   does_state v late = does_by shown (Writes STATE v) (StateOrWithin at len) (state_or_writes at len v late)
 
-  pub does_region : (from count : ℕ) → from ≡ at → count ≡ len → (a b : D) → Does shown (ChangesOnly from count) a b → Does shown (StateOrWithin at len) a b
-  does_region from count there long = does_by shown (ChangesOnly from count) (StateOrWithin at len) (state_or_within at len from count (sym there) (sym long))
+  pub does_region : (rs : List Range) (from : ℕ) (m : List ℕ) → from ≡ at → length m ≡ len → (a b : D) → Does shown (WritesRanges rs from m) a b → Does shown (StateOrWithin at len) a b
+  does_region rs from m there long = does_by shown (WritesRanges rs from m) (StateOrWithin at len) (λ x y writes. state_or_within at len from (length m) (sym there) (sym long) x y writes.only)
 
   pub does_both : (a b c : D) → Does shown (StateOrWithin at len) a b → Does shown (StateOrWithin at len) b c → Does shown (StateOrWithin at len) a c
   does_both = does_on shown (StateOrWithin at len) (state_or_joins at len)

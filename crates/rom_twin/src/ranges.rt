@@ -1,9 +1,9 @@
 //! Ranges of an image, written to a region of the device.
 ghost use Rattle.std.specs.Prelude.{◌≡◌, ◌+◌, ◌-◌, ◌<◌, ◌≤◌, ◌^◌, ℕ, [], OnOk, IsTrue, length, slice_index};
-ghost use Rattle.rom_model.specs.Space.{ChangesOnly, Looks};
+ghost use Rattle.rom_model.specs.Space.{Looks};
 ghost use Rattle.rom_device.specs.Device.{Does, IsSynced, Makes};
 ghost use Rattle.rom_ranges.specs.Ranges.{AreWithin, held_count};
-ghost use Rattle.rom_twin.specs.Ranges.{IsBut};
+ghost use Rattle.rom_twin.specs.Ranges.{IsBut, WritesPart, WritesRanges};
 
 use rom_device::{Device, Failed};
 use rom_model::Look;
@@ -41,7 +41,7 @@ fn write_piece<D: Device, M: Look>(
     ensures looks { Looks M.shown count image.old image.new }
     ensures written { IsTrue D.shown.tells_words → OnOk result ((k : ℕ) → k < count →
         slice_index (D.shown.words device.new) (base + from + k) ≡ slice_index (M.shown.image image.old) (from + k)) }
-    ensures does { Does D.shown (ChangesOnly (base + from) count) device.old device.new }
+    ensures does { Does D.shown (WritesPart base from count (M.shown.image image.old)) device.old device.new }
     ensures makes { Makes D.shown 0 count 0 device.old device.new result }
 {
     load_piece(image, from, &mut piece[..count]);
@@ -61,7 +61,8 @@ fn write_range<D: Device, M: Look>(
     ensures looks { Looks M.shown (range.end - range.start) image.old image.new }
     ensures written { IsTrue D.shown.tells_words → OnOk result ((k : ℕ) → range.start ≤ k → k < range.end →
         slice_index (D.shown.words device.new) (base + k) ≡ slice_index (M.shown.image image.old) k) }
-    ensures does { Does D.shown (ChangesOnly (base + range.start) (range.end - range.start)) device.old device.new }
+    ensures does { Does D.shown (WritesPart base range.start (range.end - range.start) (M.shown.image image.old))
+        device.old device.new }
     ensures makes { Makes D.shown 0 (range.end - range.start) 0 device.old device.new result }
 {
     let mut at = range.start;
@@ -86,7 +87,7 @@ fn write_ranges<D: Device, M: Look>(
     ensures written { IsTrue D.shown.tells_words →
         IsBut ranges.now base (M.shown.image image.old) (D.shown.words device.old) →
         OnOk result (IsBut [] base (M.shown.image image.old) (D.shown.words device.new)) }
-    ensures does { Does D.shown (ChangesOnly base (length (M.shown.image image.old))) device.old device.new }
+    ensures does { Does D.shown (WritesRanges ranges.now base (M.shown.image image.old)) device.old device.new }
     ensures makes { Makes D.shown 0 (held_count ranges.now) 0 device.old device.new result }
 {
     let mut piece = [0; PIECE];
@@ -111,7 +112,7 @@ pub fn put_ranges<D: Device, M: Look>(
         IsBut ranges.now base (M.shown.image image.old) (D.shown.words device.old) →
         OnOk result (IsBut [] base (M.shown.image image.old) (D.shown.words device.new)) }
     ensures certain { OnOk result (IsSynced D.shown device.new) }
-    ensures does { Does D.shown (ChangesOnly base (length (M.shown.image image.old))) device.old device.new }
+    ensures does { Does D.shown (WritesRanges ranges.now base (M.shown.image image.old)) device.old device.new }
     ensures makes { Makes D.shown 0 (held_count ranges.now) 1 device.old device.new result }
 {
     write_ranges(device, image, base, ranges)?;

@@ -2,7 +2,7 @@
 ghost use Rattle.std.specs.Prelude.{◌≡◌, ◌≤◌, OnOk, OnErr, IsTrue, length};
 ghost use Rattle.rom_model.specs.Blocks.{region_len};
 ghost use Rattle.rom_model.specs.Faults.{Adds, AtMost, FailedLast, StopsAtFault, counted};
-ghost use Rattle.rom_model.specs.Space.{ChangesOnly, Looks};
+ghost use Rattle.rom_model.specs.Space.{Looks};
 ghost use Rattle.rom_device.specs.Device.{Becomes, Counts, Does, IsSynced, Makes, Runs, Writes};
 ghost use Rattle.rom_header.specs.Headers.{state_word};
 ghost use Rattle.rom_header.specs.Layout.{MAIN, STATE, back_at, words_needed, main_of, back_of};
@@ -11,7 +11,7 @@ ghost use Rattle.rom_header.specs.Writing.{StateOrWithin};
 ghost use Rattle.rom_ranges.specs.Ranges.{AreWithin, held_count};
 ghost use Rattle.rom_twin.specs.Calls.{rewritten_at, rewriting_writes, repair_writes, repair_syncs};
 ghost use Rattle.rom_twin.specs.Images.{Twins, HasBack, HasMain, Committing, Repairing};
-ghost use Rattle.rom_twin.specs.Ranges.{SameBut};
+ghost use Rattle.rom_twin.specs.Ranges.{SameBut, WritesRanges};
 ghost use Rattle.rom_twin.specs.Seen.{InPhase, NeedsRepair, committed, main_now};
 
 use crate::phase::Phase;
@@ -123,8 +123,8 @@ impl<D: Device> Twin<D> {
         Ok(())
     }
 
-    /// Writes the ranges of the new image to main, and makes them certain. After `Failed` main may
-    /// be any mix of both images.
+    /// Writes the ranges of the new image to main, and makes them certain. After `Failed` each
+    /// word of main that a range holds is as before or the new one.
     pub fn persist<M: Look>(&mut self, ranges: &[Range], image: &mut M) -> Result<(), Failed>
         requires phase { self.old.phase ≡ Phase.Begun }
         requires image { length (M.shown.image image.old) ≡ region_len self.old.order }
@@ -142,7 +142,8 @@ impl<D: Device> Twin<D> {
             Runs D.shown (Becomes (HasBack self.old.order (committed D.shown self.old))) self.old.device self.new.device }
         ensures looks { Looks M.shown (held_count ranges.now) image.old image.new }
         ensures size { D.shown.size self.new.device ≡ D.shown.size self.old.device }
-        ensures does { Does D.shown (ChangesOnly MAIN (region_len self.old.order)) self.old.device self.new.device }
+        ensures does { Does D.shown (WritesRanges ranges.now MAIN (M.shown.image image.old))
+            self.old.device self.new.device }
         ensures makes { Makes D.shown 0 (held_count ranges.now) 1 self.old.device self.new.device result }
     {
         self.phase = Phase::Undo;
@@ -176,7 +177,8 @@ impl<D: Device> Twin<D> {
     }
 
     /// Writes the ranges of the new image to back, and makes them certain. Whatever it answers, the
-    /// new image is the committed one. After `Failed` back may be any mix of both images.
+    /// new image is the committed one. After `Failed` each word of back that a
+    /// range holds is as before or the new one.
     pub fn copy<M: Look>(&mut self, ranges: &[Range], image: &mut M) -> Result<(), Failed>
         requires phase { self.old.phase ≡ Phase.Committed }
         requires image { length (M.shown.image image.old) ≡ region_len self.old.order }
@@ -193,7 +195,7 @@ impl<D: Device> Twin<D> {
             Runs D.shown (Becomes (HasMain self.old.order (M.shown.image image.old))) self.old.device self.new.device }
         ensures looks { Looks M.shown (held_count ranges.now) image.old image.new }
         ensures size { D.shown.size self.new.device ≡ D.shown.size self.old.device }
-        ensures does { Does D.shown (ChangesOnly (back_at self.old.order) (region_len self.old.order))
+        ensures does { Does D.shown (WritesRanges ranges.now (back_at self.old.order) (M.shown.image image.old))
             self.old.device self.new.device }
         ensures makes { Makes D.shown 0 (held_count ranges.now) 1 self.old.device self.new.device result }
     {

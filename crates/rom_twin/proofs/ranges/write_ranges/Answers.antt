@@ -1,13 +1,10 @@
-use Rattle.std.proofs.Common.{rules, ◌≡◌, ℕ, ◌+◌, ◌-◌, List, ◌∷◌, length, get_or, drop, arith, subst}
+use Rattle.std.proofs.Common.{rules, ◌≡◌, ℕ, ◌+◌, List, ◌∷◌, length, get_or, drop, arith, subst}
 use Rattle.std.proofs.lemmas.List.{drop_more}
-use Rattle.rom_device.proofs.Going.{does_by, does_on}
-use Rattle.rom_model.specs.Space.{ChangesOnly}
-use Rattle.rom_model.proofs.Changes.{changes_joins}
 use Rattle.rom_model.proofs.Looks.{looks_then}
 use Rattle.rom_ranges.specs.Ranges.{AreWithin, held_count}
 use Rattle.rom_ranges.specs.declared.range.Range.{Range}
 use Rattle.rom_twin.specs.Ranges.{IsBut}
-use Rattle.rom_twin.proofs.Written.{but_step, held_more, range_wider}
+use Rattle.rom_twin.proofs.Written.{but_step, held_more, ranges_on}
 use Rattle.rom_twin.proofs.ranges.write_ranges.Goals as goal
 
 pub returns-in_err-write_range-clause-looks : goal.returns-in_err-write_range-clause-looks
@@ -37,11 +34,11 @@ returns-in_err-write_range-clause-does g c =
     let rs = c.args.ranges.now in
     let r : Range = get_or rs i record { start = 0; end = 0 } in
     let base : ℕ = c.args.base in
-    let len : ℕ = length (g.M.Look.shown.image c.args.image.now) in
+    let m : List ℕ = g.M.Look.shown.image c.args.image.now in
+    let len : ℕ = length m in
     let split : drop i rs ≡ r ∷ drop (i + 1) rs = drop_more rs i record { start = 0; end = 0 } (omega arith) in
     let fits : AreWithin len (r ∷ drop (i + 1) rs) = subst (λ (l : List Range). AreWithin len l) split c.loop-range.invariant.within in
-    does_on g.D.Device.shown (ChangesOnly base len) (changes_joins base len) c.args.device.now c.loop-range.device c.write_range.new.device c.loop-range.invariant.does
-    (does_by g.D.Device.shown (ChangesOnly (base + r.start) (r.end - r.start)) (ChangesOnly base len) (range_wider base len r fits.0) c.loop-range.device c.write_range.new.device c.write_range.ensures.does)
+    ranges_on g.D.Device.shown base m _ c.loop-range.invariant.looks.image c.args.device.now c.loop-range.device c.write_range.new.device rs i (omega arith) fits.0 c.loop-range.invariant.does c.write_range.ensures.does
 
 pub loop-range-preserved : goal.loop-range-preserved
 loop-range-preserved g c =
@@ -61,9 +58,8 @@ loop-range-preserved g c =
       within = fits.1;
       looks = looks_then _ (omega (arith, more.0)) c.loop-range.invariant.looks c.write_range.ensures.looks;
       written = λ tells but. let so_far = subst (λ (l : List Range). IsBut l base m mid) split (c.loop-range.invariant.written tells but) in
-          but_step r (drop (i + 1) rs) base m mid new so_far (c.write_range.ensures.does.words tells) (rw image_is at (c.in_ok-write_range.ensures.written tells));
-      does = does_on g.D.Device.shown (ChangesOnly base len) (changes_joins base len) c.args.device.now c.loop-range.device c.write_range.new.device c.loop-range.invariant.does
-          (does_by g.D.Device.shown (ChangesOnly (base + r.start) (r.end - r.start)) (ChangesOnly base len) (range_wider base len r fits.0) c.loop-range.device c.write_range.new.device c.write_range.ensures.does);
+          but_step r (drop (i + 1) rs) base m mid new so_far (c.write_range.ensures.does.words tells).only (rw image_is at (c.in_ok-write_range.ensures.written tells));
+      does = ranges_on g.D.Device.shown base m _ c.loop-range.invariant.looks.image c.args.device.now c.loop-range.device c.write_range.new.device rs i (omega arith) fits.0 c.loop-range.invariant.does c.write_range.ensures.does;
       reads = search rules;
       writes_made = omega (arith, c.in_ok-write_range.ensures.makes.writes_made, c.loop-range.invariant.writes_made, more.0);
       syncs = search rules;

@@ -1,4 +1,4 @@
-use Rattle.std.proofs.Common.{◌≡◌, ℕ, ◌+◌, subst, sym, rules}
+use Rattle.std.proofs.Common.{ℕ, ◌+◌, subst, sym, rules}
 use Rattle.rom_device.specs.Device.{Does, Makes}
 use Rattle.rom_device.proofs.Going.{becomes_by}
 use Rattle.rom_header.specs.Writing.{StateOrWithin}

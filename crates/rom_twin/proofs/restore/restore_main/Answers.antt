@@ -23,7 +23,7 @@ returns-in_err-set_state-clause-does g c = does_state g.D.Device.shown MAIN (reg
 pub returns-clause-does : goal.returns-clause-does
 returns-clause-does g c =
     does_both g.D.Device.shown MAIN (region_len c.args.geometry) _ _ _ (does_state g.D.Device.shown MAIN (region_len c.args.geometry) _ (omega arith) _ _ c.set_state.ensures.does)
-    (does_region g.D.Device.shown MAIN (region_len c.args.geometry) _ _ c.main.ensures c.requires.image _ _ c.put_ranges.ensures.does)
+    (does_region g.D.Device.shown MAIN (region_len c.args.geometry) _ _ _ c.main.ensures c.requires.image _ _ c.put_ranges.ensures.does)
 
 pub returns-clause-now : goal.returns-clause-now
 returns-clause-now g c told all =
@@ -36,7 +36,7 @@ returns-clause-now g c told all =
     let z = shown.words c.put_ranges.new.device in
     let marked : HasBack n m y = subst (λ (l : List ℕ). HasBack n m l) (sym (c.in_ok-set_state.ensures.written words)) (back_set n m x (all x (g.met.D.Device.reads_image c.args.device.now told))) in
     both_ok c.put_ranges.result
-    (λ certain whole i left. subst (λ (l : List ℕ). Twins n m l) (sym (certain told i left)) (stands_twins n Mutating m z (persisted n c.main.result m m y z c.main.ensures c.requires.image marked (c.put_ranges.ensures.does.words words) whole)))
+    (λ certain whole i left. subst (λ (l : List ℕ). Twins n m l) (sym (certain told i left)) (stands_twins n Mutating m z (persisted n c.main.result m m y z c.main.ensures c.requires.image marked (c.put_ranges.ensures.does.words words).only whole)))
     c.put_ranges.ensures.certain (c.put_ranges.ensures.written words (whole_but c.main.result (region_len n) _ m _ c.requires.image c.whole.ensures.start c.whole.ensures.end))
 
 pub returns-clause-since : goal.returns-clause-since
@@ -52,4 +52,4 @@ returns-clause-since g c told all =
     becomes_then shown (HasBack n m) c.args.device.now c.set_state.new.device c.put_ranges.new.device first
     (since_by shown _ (HasBack n m) c.set_state.new.device c.put_ranges.new.device (HasBack n m) (c.put_ranges.ensures.does.images told)
     (λ y was. subst (λ (l : List ℕ). HasBack n m l) (sym (c.in_ok-set_state.ensures.certain told y was)) marked)
-    (λ y z was by. persisting n c.main.result _ m y z c.main.ensures c.requires.image was by))
+    (λ y z was by. persisting n c.main.result _ m y z c.main.ensures c.requires.image was by.only))

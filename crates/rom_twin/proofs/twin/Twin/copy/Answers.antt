@@ -1,10 +1,9 @@
-use Rattle.std.proofs.Common.{◌∙◌, ap, length, sym, subst, arith}
+use Rattle.std.proofs.Common.{◌∙◌, ap, sym, subst, arith}
 use Rattle.rom_model.specs.Blocks.{region_len}
-use Rattle.rom_model.specs.Space.{ChangesOnly}
 use Rattle.rom_device.specs.Device.{Becomes, Does, Runs}
 use Rattle.rom_header.specs.Layout.{back_at}
 use Rattle.rom_twin.specs.Images.{HasMain}
-use Rattle.rom_twin.specs.Ranges.{SameBut}
+use Rattle.rom_twin.specs.Ranges.{SameBut, WritesRanges}
 use Rattle.rom_twin.specs.Seen.{committed, main_now}
 use Rattle.rom_twin.proofs.Calls.{copy_since, copy_kept, copy_failed, copy_done}
 use Rattle.rom_twin.proofs.twin.Twin.copy.Goals as goal
@@ -42,9 +41,8 @@ returns-in_err-put_ranges-clause-committed g c told =
 
 pub returns-in_err-put_ranges-clause-does : goal.returns-in_err-put_ranges-clause-does
 returns-in_err-put_ranges-clause-does g c =
-    subst (λ s. Does g.D.Device.shown (ChangesOnly (back_at s.order) (region_len s.order)) s.device c.put_ranges.new.device) c.self.view_is
-    (subst (λ k. Does g.D.Device.shown (ChangesOnly (back_at c.self.inside.geometry) k) c.self.inside.device c.put_ranges.new.device) (c.requires.image ∙ ap (λ s. region_len s.order) (sym c.self.view_is))
-    (subst (λ k. Does g.D.Device.shown (ChangesOnly k (length (g.M.Look.shown.image c.args.image.now))) c.self.inside.device c.put_ranges.new.device) c.back.ensures c.put_ranges.ensures.does))
+    subst (λ s. Does g.D.Device.shown (WritesRanges c.args.ranges.now (back_at s.order) (g.M.Look.shown.image c.args.image.now)) s.device c.put_ranges.new.device) c.self.view_is
+    (subst (λ k. Does g.D.Device.shown (WritesRanges c.args.ranges.now k (g.M.Look.shown.image c.args.image.now)) c.self.inside.device c.put_ranges.new.device) c.back.ensures c.put_ranges.ensures.does)
 
 pub returns-clause-since : goal.returns-clause-since
 returns-clause-since g c told =
@@ -57,6 +55,5 @@ returns-clause-committed g c told =
 
 pub returns-clause-does : goal.returns-clause-does
 returns-clause-does g c =
-    subst (λ s. Does g.D.Device.shown (ChangesOnly (back_at s.order) (region_len s.order)) s.device c.put_ranges.new.device) c.self.view_is
-    (subst (λ k. Does g.D.Device.shown (ChangesOnly (back_at c.self.inside.geometry) k) c.self.inside.device c.put_ranges.new.device) (c.requires.image ∙ ap (λ s. region_len s.order) (sym c.self.view_is))
-    (subst (λ k. Does g.D.Device.shown (ChangesOnly k (length (g.M.Look.shown.image c.args.image.now))) c.self.inside.device c.put_ranges.new.device) c.back.ensures c.put_ranges.ensures.does))
+    subst (λ s. Does g.D.Device.shown (WritesRanges c.args.ranges.now (back_at s.order) (g.M.Look.shown.image c.args.image.now)) s.device c.put_ranges.new.device) c.self.view_is
+    (subst (λ k. Does g.D.Device.shown (WritesRanges c.args.ranges.now k (g.M.Look.shown.image c.args.image.now)) c.self.inside.device c.put_ranges.new.device) c.back.ensures c.put_ranges.ensures.does)

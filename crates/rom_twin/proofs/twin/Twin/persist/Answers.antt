@@ -1,10 +1,9 @@
-use Rattle.std.proofs.Common.{◌∙◌, ap, length, sym, subst, arith}
+use Rattle.std.proofs.Common.{◌∙◌, ap, sym, subst, arith}
 use Rattle.rom_model.specs.Blocks.{region_len}
-use Rattle.rom_model.specs.Space.{ChangesOnly}
 use Rattle.rom_device.specs.Device.{Becomes, Does, Runs}
 use Rattle.rom_header.specs.Layout.{MAIN}
 use Rattle.rom_twin.specs.Images.{HasBack}
-use Rattle.rom_twin.specs.Ranges.{SameBut}
+use Rattle.rom_twin.specs.Ranges.{SameBut, WritesRanges}
 use Rattle.rom_twin.specs.Seen.{committed, main_now}
 use Rattle.rom_twin.proofs.Calls.{persist_since, persist_kept, persist_failed, persist_done, persist_main}
 use Rattle.rom_twin.proofs.twin.Twin.persist.Goals as goal
@@ -42,9 +41,8 @@ returns-in_err-put_ranges-clause-committed g c told =
 
 pub returns-in_err-put_ranges-clause-does : goal.returns-in_err-put_ranges-clause-does
 returns-in_err-put_ranges-clause-does g c =
-    subst (λ s. Does g.D.Device.shown (ChangesOnly MAIN (region_len s.order)) s.device c.put_ranges.new.device) c.self.view_is
-    (subst (λ k. Does g.D.Device.shown (ChangesOnly MAIN k) c.self.inside.device c.put_ranges.new.device) (c.requires.image ∙ ap (λ s. region_len s.order) (sym c.self.view_is))
-    (subst (λ k. Does g.D.Device.shown (ChangesOnly k (length (g.M.Look.shown.image c.args.image.now))) c.self.inside.device c.put_ranges.new.device) c.main.ensures c.put_ranges.ensures.does))
+    subst (λ s. Does g.D.Device.shown (WritesRanges c.args.ranges.now MAIN (g.M.Look.shown.image c.args.image.now)) s.device c.put_ranges.new.device) c.self.view_is
+    (subst (λ k. Does g.D.Device.shown (WritesRanges c.args.ranges.now k (g.M.Look.shown.image c.args.image.now)) c.self.inside.device c.put_ranges.new.device) c.main.ensures c.put_ranges.ensures.does)
 
 pub returns-clause-since : goal.returns-clause-since
 returns-clause-since g c told =
@@ -57,9 +55,8 @@ returns-clause-committed g c told =
 
 pub returns-clause-does : goal.returns-clause-does
 returns-clause-does g c =
-    subst (λ s. Does g.D.Device.shown (ChangesOnly MAIN (region_len s.order)) s.device c.put_ranges.new.device) c.self.view_is
-    (subst (λ k. Does g.D.Device.shown (ChangesOnly MAIN k) c.self.inside.device c.put_ranges.new.device) (c.requires.image ∙ ap (λ s. region_len s.order) (sym c.self.view_is))
-    (subst (λ k. Does g.D.Device.shown (ChangesOnly k (length (g.M.Look.shown.image c.args.image.now))) c.self.inside.device c.put_ranges.new.device) c.main.ensures c.put_ranges.ensures.does))
+    subst (λ s. Does g.D.Device.shown (WritesRanges c.args.ranges.now MAIN (g.M.Look.shown.image c.args.image.now)) s.device c.put_ranges.new.device) c.self.view_is
+    (subst (λ k. Does g.D.Device.shown (WritesRanges c.args.ranges.now k (g.M.Look.shown.image c.args.image.now)) c.self.inside.device c.put_ranges.new.device) c.main.ensures c.put_ranges.ensures.does)
 
 pub returns-clause-main : goal.returns-clause-main
 returns-clause-main g c told =
