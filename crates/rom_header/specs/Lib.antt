@@ -2,6 +2,7 @@
 pub mod Layout
 pub mod Writing
 pub mod Regions
+pub mod Held
 pub mod Headers
 pub mod Fresh
 pub mod Calls

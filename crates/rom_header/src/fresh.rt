@@ -84,17 +84,6 @@ fn is_heap<D: Device>(device: &mut D) -> Result<bool, Failed>
     Ok(magic == MAGIC)
 }
 
-/// The geometry of an order that there is.
-fn geometry_of(order: u32) -> Geometry
-    requires order { IsOrder order }
-    ensures { result ≡ order }
-{
-    let Some(geometry) = Geometry::of(u64::from(order)) else {
-        unreachable!()
-    };
-    geometry
-}
-
 /// Makes a new heap of this order with this image as its region, unless a heap stands there. The
 /// region is read by nobody here; it is to be that of a new heap.
 ///
@@ -124,7 +113,7 @@ pub fn write_new<D: Device>(device: &mut D, order: u32, image: &[u64]) -> Result
         device.old device.new (format_fault result) }
 {
     let have = device.len();
-    let geometry = geometry_of(order);
+    let geometry = Geometry::of_order(order);
     let need = geometry.need();
     if have == 0 {
         return Err(FormatRefused::TooSmall { need, have });

@@ -50,6 +50,14 @@ impl Geometry {
         })
     }
 
+    /// That of an order that there is.
+    pub fn of_order(order: u32) -> Geometry
+        requires { IsOrder order }
+        ensures { result ≡ order }
+    {
+        Geometry { order }
+    }
+
     /// The order.
     pub fn order(&self) -> u32
         ensures order { result ≡ self.now }

@@ -1,6 +1,6 @@
 -- What is printed of results, as bytes.
-use Rattle.std.specs.Prelude.{ℕ, ◌+◌, ◌^◌, ◌<◌, Bool, true, false, if◌then◌else◌, List, [], ◌∷◌, ◌++◌, codes, decimal}
-use Rattle.std.specs.List.{flat_map, list_any, AllByRecursion}
+use Rattle.std.specs.Prelude.{ℕ, ◌+◌, ◌^◌, ◌<◌, List, [], ◌∷◌, ◌++◌, codes, decimal}
+use Rattle.std.specs.List.{flat_map, AllByRecursion}
 use Rattle.rom_model.specs.declared.call.Updated.{Updated}
 use Rattle.rom_model.specs.declared.call.Updated.TheVariants.{Done, Spent, Failed, Doubt}
 use Rattle.rom_model.specs.declared.line.LineResult.{LineResult}
@@ -73,11 +73,3 @@ module _ {R A : Type 0} (texts : Texts R A) where
   -- the numbers of all results are of their types
   abbrev pub AreOfType : List (List (LineResult R A)) → Type 0
   AreOfType results = AllByRecursion (λ rs. AllByRecursion ResultFits rs) results
-
-abbrev pub is_unread : {R A : Type 0} → LineResult R A → Bool
-is_unread outcome.Unread = true
-is_unread other = false
-
--- the status of results that are all printed: 1 where a line is unread, and else 0
-abbrev pub status_of : {R A : Type 0} → List (List (LineResult R A)) → ℕ
-status_of results = if list_any (λ rs. list_any is_unread rs) results then 1 else 0

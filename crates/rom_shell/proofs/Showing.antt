@@ -1,14 +1,17 @@
 -- What is shown of a heap that was opened, and why none was.
 use Rattle.std.specs.Prelude.{◌≡◌, ◌≢◌, ℕ, zero, suc, IsNone, ◌≤◌, Bool, true, false, IsTrue, List, [], ◌∷◌, ◌++◌, codes, if◌then◌else◌, Option, Some, None, IfSome, Result, Ok, Err}
-use Rattle.std.proofs.Common.{refl, inl, inr, subst, sym, arith, append-nil}
+use Rattle.std.proofs.Common.{refl, inl, inr, subst, sym, ap, ◌∙◌, arith, append-nil}
 use Rattle.std.proofs.lemmas.List.{append_assoc}
 use Rattle.rom_model.specs.History.{LAST_COUNT}
+use Rattle.rom_model.specs.Machine.{Machine, on_words}
+use Rattle.rom_model.specs.Passes.{history_of}
 use Rattle.rom_model.specs.Region.{Contents}
 use Rattle.rom_model.specs.State.{State}
 use Rattle.rom_model.specs.Story.{Story}
 use Rattle.rom_model.specs.Trio.{trio}
 use Rattle.rom_device.specs.Device.{ShownDevice, Makes}
 use Rattle.rom_header.specs.Calls.{format_fault}
+use Rattle.rom_header.specs.Fresh.{HasTooFewFor, IsFormatAnswer}
 use Rattle.rom_header.specs.declared.fresh.FormatRefused.{FormatRefused}
 use Rattle.rom_header.specs.declared.fresh.FormatRefused.TheVariants as format
 use Rattle.rom_script.specs.Runs.{IsTold}
@@ -20,10 +23,12 @@ use Rattle.rom_store.specs.declared.new_heap.NotFormatted.{NotFormatted}
 use Rattle.rom_store.specs.declared.new_heap.NotFormatted.TheVariants as unmade
 use Rattle.rom_store.specs.declared.reasons.Why.{Why}
 use Rattle.rom_store.specs.declared.reasons.Why.TheVariants.{Device}
-use Rattle.rom_shell.specs.Devices.{HasDeviceFailed, IsOpenedFrom, IsPut}
+use Rattle.rom_shell.specs.Devices.{HasDeviceFailed, IsOpenedFrom, IsPut, IsUnmade}
+use Rattle.rom_shell.specs.Opening.{HasFaultsUnmade}
 use Rattle.rom_shell.specs.Refusing.{refusal_line, refusal_status, unmade_line, unmade_status}
 use Rattle.rom_shell.specs.Run.{AreAnswered, HasReplies}
-use Rattle.rom_shell.specs.Sessions.{EachStory}
+use Rattle.rom_shell.specs.Sessions.{EachStory, IsStory}
+use Rattle.rom_twin.specs.declared.phase.Phase.TheVariants.{Clean}
 use Rattle.rom_shell.specs.Stat.{stat_text}
 use Rattle.rom_shell.specs.Statuses.{number_of}
 use Rattle.rom_shell.specs.Words.{Stat}
@@ -46,10 +51,10 @@ if_told true words P told = told refl
 if_told false words P told = tt
 
 -- of a heap on which nothing was done
-pub nothing_done : (story : Story State) → story.history ≡ [] → story.in_doubt ≡ None → story.opening_count ≤ LAST_COUNT → AreAnswered trio story [] []
-nothing_done story none certain few =
-    let bare : Story State = record story { history = []; in_doubt = None } in
-    let is : story ≡ bare = λ i. record { order = story.order; opening = story.opening; opening_count = story.opening_count; opening_faults = story.opening_faults; history = none i; records = story.records; in_doubt = certain i } in
+pub nothing_done : (story : Story State) → story.history ≡ [] → story.records ≡ [] → story.in_doubt ≡ None → story.opening_count ≤ LAST_COUNT → AreAnswered trio story [] []
+nothing_done story none unrecorded certain few =
+    let bare : Story State = record story { history = []; records = []; in_doubt = None } in
+    let is : story ≡ bare = λ i. record { order = story.order; opening = story.opening; opening_count = story.opening_count; opening_faults = story.opening_faults; history = none i; records = unrecorded i; in_doubt = certain i } in
     subst (λ s. AreAnswered trio s [] []) (sym is) (record {
       lawful = record {
         served = tt;
@@ -57,9 +62,12 @@ nothing_done story none certain few =
         recorded = record { calls = tt; made = refl; in_order = tt; in_doubt = tt };
         known = tt;
       };
-      each_done = tt;
       within = omega (arith, few);
     })
+
+-- a session without passes has no history
+pub undone : {S C Q R A : Type 0} (m : Machine S C Q R A) (Contents : ℕ → List ℕ → S → ℕ → Type 0) (order : ℕ) (image : List ℕ) (faults : ℕ) (story : Story S) → IsStory m Contents order image faults [] Clean story → story.history ≡ []
+undone m Contents order image faults story is = is.history ∙ ap (history_of (on_words m) story.order story.opening story.opening_count) is.records
 
 module _ {O : Type 0} (sink : ShownSink O) where
   -- a text that was printed, whatever became of it
@@ -88,10 +96,10 @@ module _ {D O : Type 0} (shown : ShownDevice D) (sink : ShownSink O) (was now : 
 module _ {S O : Type 0} (source : ShownSource S) (sink : ShownSink O) (old new : O) where
   -- what is said of a heap that was shown, if it was
   pub shown_replies : (session : Option Session) (file : List ℕ) (words : Option (List ℕ)) (status : ℕ) → (status ≢ 0 → IsNone session) →
-      IfSome session (λ s. EachStory Contents s (λ story. IfSome words (λ told. IsOpenedFrom told story))) →
-      IfSome session (λ s. EachStory Contents s (λ story. AreAnswered trio story [] [])) →
-      IfSome session (λ s. EachStory Contents s (λ story. IsPut sink old new (stat_text story.order story.opening story.opening_count))) →
-      IfSome session (λ s. EachStory Contents s (λ story. HasReplies source sink (Some (Stat file)) words story [] old new status))
+      IfSome session (λ s. EachStory trio Contents s (λ story. IfSome words (λ told. IsOpenedFrom told story))) →
+      IfSome session (λ s. EachStory trio Contents s (λ story. AreAnswered trio story [] [])) →
+      IfSome session (λ s. EachStory trio Contents s (λ story. IsPut sink old new (stat_text story.order story.opening story.opening_count))) →
+      IfSome session (λ s. EachStory trio Contents s (λ story. HasReplies source sink (Some (Stat file)) words story [] old new status))
   shown_replies None file words status none opening answered printed = tt
   shown_replies (Some s) file words zero none opening answered printed = λ story is. record {
     opening = opening story is;
@@ -103,6 +111,30 @@ module _ {S O : Type 0} (source : ShownSource S) (sink : ShownSink O) (old new :
   }
   shown_replies (Some s) file words (suc n) none opening answered printed =
       let some : IsNone (Some s) = none (λ is. absurd (omega (arith, is))) in absurd (let no : ⊥ = cc in no)
+
+module _ {D O : Type 0} (shown : ShownDevice D) (sink : ShownSink O) (was now : D) (old new : O) (order : ℕ) where
+  -- a heap that was not made for a script, as it is told
+  pub refused_unmade : (why : NotFormatted) (n : ℕ) → n ≡ number_of (unmade_status why) → n ≡ 3 →
+      (IsTrue shown.tells_words → (w : FormatRefused) → why ≡ unmade.Refused w → IsFormatAnswer order (shown.words was) (Err w)) → ((w : FormatRefused) → why ≡ unmade.Refused w → HasTooFewFor order (shown.size was) w) →
+      HasFaultsUnmade why (shown.faults was) (shown.faults now) (shown.failing now) → IsTold sink old new (unmade_line why) → IsUnmade shown sink order was now old new
+  refused_unmade (unmade.Refused format.AlreadyAHeap) n is three answer sizes faults told = record { why = format.AlreadyAHeap; by_name = refl; refused = λ tells. answer tells format.AlreadyAHeap refl; sizes = tt; faults = faults; told = told }
+  refused_unmade (unmade.Refused (format.TooSmall need have)) n is three answer sizes faults told = record {
+    why = format.TooSmall need have;
+    by_name = refl;
+    refused = λ tells. answer tells (format.TooSmall need have) refl;
+    sizes = sizes (format.TooSmall need have) refl;
+    faults = faults;
+    told = told;
+  }
+  refused_unmade (unmade.Refused format.Device) n is three answer sizes faults told = absurd (omega arith)
+  refused_unmade unmade.OutOfMemory n is three answer sizes faults told = absurd (omega arith)
+
+  -- or because the device failed
+  pub failed_unmade : (why : NotFormatted) (n : ℕ) → n ≡ number_of (unmade_status why) → n ≡ 7 → HasFaultsUnmade why (shown.faults was) (shown.faults now) (shown.failing now) → IsTold sink old new (unmade_line why) → HasDeviceFailed shown sink was now old new
+  failed_unmade (unmade.Refused format.Device) n is seven failed told = record { failed = failed; told = told }
+  failed_unmade (unmade.Refused format.AlreadyAHeap) n is seven failed told = absurd (omega arith)
+  failed_unmade (unmade.Refused (format.TooSmall need have)) n is seven failed told = absurd (omega arith)
+  failed_unmade unmade.OutOfMemory n is seven failed told = absurd (omega arith)
 
 -- with the status 6 there was no memory
 pub want_of_memory : (result : Result (Unit {0}) NotFormatted) (why : NotFormatted) (status : ℕ) → result ≡ Err why → status ≡ number_of (unmade_status why) → status ≡ 6 → result ≡ Err unmade.OutOfMemory

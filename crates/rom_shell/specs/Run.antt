@@ -1,6 +1,5 @@
 -- What a run answers and prints.
-use Rattle.std.specs.Prelude.{◌≡◌, ℕ, ◌≤◌, ◌⊎◌, List, [], codes, Option, Some, None, IfSome}
-use Rattle.std.specs.List.{AllByRecursion}
+use Rattle.std.specs.Prelude.{◌≡◌, ℕ, ◌≤◌, ◌⊎◌, List, [], codes, Option, Some, None, IfSome, Ok}
 use Rattle.rom_model.specs.declared.call.Call.{Call}
 use Rattle.rom_model.specs.declared.call.Query.{Query}
 use Rattle.rom_model.specs.declared.call.Reply.{Reply}
@@ -12,43 +11,60 @@ use Rattle.rom_model.specs.History.{LAST_COUNT}
 use Rattle.rom_model.specs.Machine.{Machine}
 use Rattle.rom_model.specs.Story.{Story, count}
 use Rattle.rom_model.specs.Lawful.{IsLawful}
-use Rattle.rom_model.specs.Singly.{each_alone, IsDone}
 use Rattle.rom_model.specs.Trio.{trio}
+use Rattle.rom_header.specs.Fresh.{IsFormatAnswer}
 use Rattle.rom_script.specs.Limits.{FailedEarly, IsTooLong}
 use Rattle.rom_script.specs.Runs.{AreScripts, IsCutShort, IsTold, IsWritten}
 use Rattle.rom_script.specs.Streams.{ShownSink, ShownSource}
-use Rattle.rom_script.specs.Text.{AreOfType, status_of, text}
+use Rattle.rom_script.specs.Text.{AreOfType, text}
 use Rattle.rom_script.specs.Trio.{trio_texts}
 use Rattle.rom_shell.specs.declared.status.Status.{Status}
 use Rattle.rom_shell.specs.declared.status.Status.TheVariants.{ScriptFailed, NoMemory, ScriptTooLong}
 use Rattle.rom_shell.specs.Devices.{IsOpenedFrom, IsPut}
 use Rattle.rom_shell.specs.Stat.{stat_text}
-use Rattle.rom_shell.specs.Words.{Command, Try, Format, Stat}
+use Rattle.rom_shell.specs.Statuses.{status_of}
+use Rattle.rom_shell.specs.Words.{Command, Try, Run, Format, Stat}
 
 -- the statuses with which a command may end
 abbrev pub IsStatus : Option Command → ℕ → Type 0
-IsStatus (Some (Try scripts)) status = (status ≡ 0) ⊎ (status ≡ 1) ⊎ (status ≡ 4) ⊎ (status ≡ 5) ⊎ (status ≡ 6) ⊎ (status ≡ 8)
+IsStatus (Some (Try scripts)) status = (status ≡ 0) ⊎ (status ≡ 1) ⊎ (status ≡ 3) ⊎ (status ≡ 4) ⊎ (status ≡ 5) ⊎ (status ≡ 6) ⊎ (status ≡ 7) ⊎ (status ≡ 8)
+IsStatus (Some (Run file scripts)) status = (status ≡ 0) ⊎ (status ≡ 1) ⊎ (status ≡ 3) ⊎ (status ≡ 4) ⊎ (status ≡ 5) ⊎ (status ≡ 6) ⊎ (status ≡ 7) ⊎ (status ≡ 8)
 IsStatus (Some (Format file order)) status = (status ≡ 0) ⊎ (status ≡ 3) ⊎ (status ≡ 6) ⊎ (status ≡ 7)
 IsStatus (Some (Stat file)) status = (status ≡ 0) ⊎ (status ≡ 3) ⊎ (status ≡ 6) ⊎ (status ≡ 7)
 IsStatus None status = status ≡ 2
 
--- With these statuses a command has run its scripts, or looked at its heap, and leaves a session.
+-- With these statuses a command has run its scripts, or looked at its heap, and leaves a session. With 7 it may leave one: then an update was told that the device failed.
 abbrev pub HasRun : Option Command → ℕ → Type 0
 HasRun (Some (Try scripts)) status = (status ≡ 0) ⊎ (status ≡ 1) ⊎ (status ≡ 5)
+HasRun (Some (Run file scripts)) status = (status ≡ 0) ⊎ (status ≡ 1) ⊎ (status ≡ 5)
 HasRun (Some (Format file order)) status = ⊥
 HasRun (Some (Stat file)) status = status ≡ 0
 HasRun None status = ⊥
 
 -- With these it has run nothing, and leaves none.
 abbrev pub HasNotRun : Option Command → ℕ → Type 0
-HasNotRun (Some (Try scripts)) status = (status ≡ 4) ⊎ (status ≡ 6) ⊎ (status ≡ 8)
+HasNotRun (Some (Try scripts)) status = (status ≡ 3) ⊎ (status ≡ 4) ⊎ (status ≡ 6) ⊎ (status ≡ 8)
+HasNotRun (Some (Run file scripts)) status = (status ≡ 3) ⊎ (status ≡ 4) ⊎ (status ≡ 6) ⊎ (status ≡ 8)
 HasNotRun (Some (Format file order)) status = Unit {0}
 HasNotRun (Some (Stat file)) status = (status ≡ 3) ⊎ (status ≡ 6) ⊎ (status ≡ 7)
 HasNotRun None status = Unit {0}
 
--- The heap that its session begins with, on a device of which these words are told, if any.
+-- With these no call of the device has failed.
+abbrev pub HasNotFailed : Option Command → ℕ → Type 0
+HasNotFailed (Some (Try scripts)) status = (status ≡ 4) ⊎ (status ≡ 6) ⊎ (status ≡ 8)
+HasNotFailed (Some (Run file scripts)) status = (status ≡ 4) ⊎ (status ≡ 6) ⊎ (status ≡ 8)
+HasNotFailed (Some (Format file order)) status = (status ≡ 0) ⊎ (status ≡ 6)
+HasNotFailed (Some (Stat file)) status = (status ≡ 0) ⊎ (status ≡ 6)
+HasNotFailed None status = Unit {0}
+
+-- the heap of a `try`, on a device of which these words are told, if any: a new one, where none stood and there are words enough
+abbrev pub IsNewHeap : Option (List ℕ) → Story State → Type 0
+IsNewHeap words story = IfSome words (λ told. IsFormatAnswer 4 told (Ok tt)) × (story.order ≡ 4) × (story.opening ≡ empty) × (story.opening_count ≡ 0)
+
+-- The heap that its session begins with: a new one, or the one that stands.
 abbrev pub IsOpening : Option Command → Option (List ℕ) → Story State → Type 0
-IsOpening (Some (Try scripts)) words story = (story.order ≡ 4) × (story.opening ≡ empty) × (story.opening_count ≡ 0)
+IsOpening (Some (Try scripts)) words story = IsNewHeap words story
+IsOpening (Some (Run file scripts)) words story = IfSome words (λ told. IsOpenedFrom told story)
 IsOpening (Some (Format file order)) words story = ⊥
 IsOpening (Some (Stat file)) words story = IfSome words (λ told. IsOpenedFrom told story)
 IsOpening None words story = ⊥
@@ -56,29 +72,39 @@ IsOpening None words story = ⊥
 module _ {S C Q R A : Type 0} (machine : Machine S C Q R A) where
   -- The results of these scripts are those of one history, which is the story's.
   pub record AreAnswered (story : Story S) (scripts : List (List (Step C Q))) (results : List (List (LineResult R A))) : Type 0 where
-    -- each update was done by a pass of its own
-    pub lawful : IsLawful machine (each_alone story) scripts results
-    pub each_done : AllByRecursion (λ rs. AllByRecursion IsDone rs) results
+    pub lawful : IsLawful machine story scripts results
     pub within : count story ≤ LAST_COUNT
+
+-- What is printed of a run's results and its count: the whole text, and their numbers are of their types, and the status is theirs; or some of it, where the sink failed.
+abbrev pub IsRunText : {O : Type 0} → ShownSink O → List (List (LineResult Reply Answer)) → ℕ → O → O → ℕ → Type 0
+IsRunText sink results n old new status =
+    ((status ≡ status_of results) × AreOfType trio_texts results × IsWritten sink old new (text trio_texts results n))
+    ⊎ ((status ≡ 5) × IsCutShort sink old new (text trio_texts results n))
+
+module _ {O : Type 0} (sink : ShownSink O) where
+  -- What it prints of its session and its results.
+  abbrev pub IsPrinted : Option Command → Story State → List (List (LineResult Reply Answer)) → O → O → ℕ → Type 0
+  IsPrinted (Some (Try scripts)) story results old new status = IsRunText sink results (count story) old new status
+  IsPrinted (Some (Run file scripts)) story results old new status = IsRunText sink results (count story) old new status
+  IsPrinted (Some (Format file order)) story results old new status = ⊥
+  IsPrinted (Some (Stat file)) story results old new status =
+      (status ≡ 0) × (results ≡ []) × IsPut sink old new (stat_text story.order story.opening story.opening_count)
+  IsPrinted None story results old new status = ⊥
+
+  -- Results of these scripts are those of one history, which is the story's, and are printed.
+  pub record HavePlayed (story : Story State) (scripts : List (List (Step Call Query))) (old new : O) (status : ℕ) : Type 0 where
+    pub results : List (List (LineResult Reply Answer))
+    pub answered : AreAnswered trio story scripts results
+    pub printed : IsRunText sink results (count story) old new status
 
 module _ {S O : Type 0} (source : ShownSource S) (sink : ShownSink O) where
   -- the scripts that it runs, which are those of its sources
   abbrev pub AreRun : Option Command → List S → List (List (Step Call Query)) → Type 0
   AreRun (Some (Try names)) sources scripts = AreScripts source sources scripts
+  AreRun (Some (Run file names)) sources scripts = AreScripts source sources scripts
   AreRun (Some (Format file order)) sources scripts = ⊥
   AreRun (Some (Stat file)) sources scripts = (sources ≡ []) × (scripts ≡ [])
   AreRun None sources scripts = ⊥
-
-  -- What it prints of its session and its results: the whole text, and their numbers are of their types; or some of
-  -- it, where the sink failed.
-  abbrev pub IsPrinted : Option Command → Story State → List (List (LineResult Reply Answer)) → O → O → ℕ → Type 0
-  IsPrinted (Some (Try scripts)) story results old new status =
-      ((status ≡ status_of results) × AreOfType trio_texts results × IsWritten sink old new (text trio_texts results (count story)))
-      ⊎ ((status ≡ 5) × IsCutShort sink old new (text trio_texts results (count story)))
-  IsPrinted (Some (Format file order)) story results old new status = ⊥
-  IsPrinted (Some (Stat file)) story results old new status =
-      (status ≡ 0) × (results ≡ []) × IsPut sink old new (stat_text story.order story.opening story.opening_count)
-  IsPrinted None story results old new status = ⊥
 
   -- What was printed are the results of one history, which is the story's.
   pub record HasReplies (asked : Option Command) (words : Option (List ℕ)) (story : Story State) (sources : List S) (old new : O) (status : ℕ) : Type 0 where
@@ -87,16 +113,11 @@ module _ {S O : Type 0} (source : ShownSource S) (sink : ShownSink O) where
     pub results : List (List (LineResult Reply Answer))
     pub read : AreRun asked sources scripts
     pub answered : AreAnswered trio story scripts results
-    pub printed : IsPrinted asked story results old new status
-
-  -- so for each command that tries scripts, whatever their names are and whatever the device tells
-  abbrev pub HasTried : Story State → List S → O → O → ℕ → Type 0
-  HasTried story sources old new status =
-      (names : List (List ℕ)) (words : Option (List ℕ)) → HasReplies (Some (Try names)) words story sources old new status
+    pub printed : IsPrinted sink asked story results old new status
 
   -- A script that isn't run, and the line that says why: the status is its cause.
-  abbrev pub IsRefused : Status → S → S → O → O → Type 0
-  IsRefused ScriptFailed was now old new = FailedEarly source was now × IsTold sink old new (codes "script 1 failed")
-  IsRefused ScriptTooLong was now old new = IsTooLong source was now × IsTold sink old new (codes "script 1 too long")
-  IsRefused NoMemory was now old new = IsTold sink old new (codes "no memory")
-  IsRefused other was now old new = ⊥
+  abbrev pub IsUnread : Status → S → S → O → O → Type 0
+  IsUnread ScriptFailed was now old new = FailedEarly source was now × IsTold sink old new (codes "script 1 failed")
+  IsUnread ScriptTooLong was now old new = IsTooLong source was now × IsTold sink old new (codes "script 1 too long")
+  IsUnread NoMemory was now old new = IsTold sink old new (codes "no memory")
+  IsUnread other was now old new = ⊥

@@ -6,11 +6,12 @@ use Rattle.rom_shell.specs.declared.words.Asked.{Asked}
 use Rattle.rom_shell.specs.declared.words.Asked.TheVariants as asked
 use Rattle.rom_shell.specs.declared.words.DeviceWant.{DeviceWant}
 use Rattle.rom_shell.specs.declared.words.DeviceWant.TheVariants.{Nothing, Fresh, Old, Made}
-use Rattle.rom_shell.specs.Words.{Command, Try, Format, Stat}
+use Rattle.rom_shell.specs.Words.{Command, Try, Run, Format, Stat}
 
 -- the command that was read, if one was
 abbrev pub named : Option Asked → Option Command
 named (Some (asked.Try script)) = Some (Try (script.now ∷ []))
+named (Some (asked.Run file script)) = Some (Run file.now (script.now ∷ []))
 named (Some (asked.Format file order)) = Some (Format file.now order)
 named (Some (asked.Stat file)) = Some (Stat file.now)
 named None = None
@@ -20,9 +21,10 @@ abbrev pub AsksForOrder : Asked → Type 0
 AsksForOrder (asked.Format file order) = IsOrder order
 AsksForOrder other = Unit {0}
 
--- `try` asks for the words of a heap of order 4, `format` for a file that is lengthened to those of its order, and `stat` for a file that is there
+-- `try` asks for the words of a heap of order 4, `format` for a file that is lengthened to those of its order, and `run` and `stat` for a file that is there
 abbrev pub IsWanted : Option Command → DeviceWant → Type 0
 IsWanted (Some (Try scripts)) device = device ≡ Fresh 232
+IsWanted (Some (Run file scripts)) device = device ≡ Old file
 IsWanted (Some (Format file order)) device = device ≡ Made file (words_needed order)
 IsWanted (Some (Stat file)) device = device ≡ Old file
 IsWanted None device = device ≡ Nothing

@@ -6,6 +6,8 @@ use Rattle.std.specs.Str.{bytes_eq}
 pub data Command : Type 0 where
   -- run the scripts on a new heap
   Try : List (List ℕ) → Command
+  -- run the scripts on the heap in the file
+  Run : List ℕ → List (List ℕ) → Command
   -- make a new heap of this order in the file
   Format : List ℕ → ℕ → Command
   -- print the sizes of the heap in the file
@@ -32,6 +34,7 @@ abbrev pub command : List (List ℕ) → Option Command
 command (name ∷ word ∷ []) =
     if bytes_eq name (codes "try") && is_plain word then Some (Try (word ∷ [])) else
     if bytes_eq name (codes "stat") && is_plain word then Some (Stat word) else None
+command (name ∷ file ∷ script ∷ []) = if bytes_eq name (codes "run") && is_plain file && is_plain script then Some (Run file (script ∷ [])) else None
 command (name ∷ file ∷ option ∷ value ∷ []) =
     if bytes_eq name (codes "format") && is_plain file && bytes_eq option (codes "--order") then option_map (Format file) (spelt orders value) else None
 command words = None
@@ -39,6 +42,7 @@ command words = None
 -- the scripts that a command names
 abbrev pub scripts_of : Option Command → List (List ℕ)
 scripts_of (Some (Try scripts)) = scripts
+scripts_of (Some (Run file scripts)) = scripts
 scripts_of (Some (Format file order)) = []
 scripts_of (Some (Stat file)) = []
 scripts_of None = []

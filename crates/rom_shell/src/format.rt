@@ -2,7 +2,9 @@
 ghost use Rattle.std.specs.Prelude.{◌≡◌, ◌≢◌, ◌⊎◌, IsTrue, codes};
 ghost use Rattle.rom_device.specs.Device.{Does, Leaves, Stays};
 ghost use Rattle.rom_header.specs.Fresh.{IsRefused};
+ghost use Rattle.rom_header.specs.Layout.{words_needed};
 ghost use Rattle.rom_model.specs.Blocks.{IsOrder};
+ghost use Rattle.rom_model.specs.Space.{ChangesOnly};
 ghost use Rattle.rom_model.specs.Region.{Contents};
 ghost use Rattle.rom_model.specs.State.{empty};
 ghost use Rattle.rom_script.specs.Runs.{IsTold};
@@ -29,6 +31,8 @@ pub(crate) fn make_heap<D: Device, O: Sink>(
 ) -> Status
     requires order { IsOrder order }
     ensures size { D.shown.size device.new ≡ D.shown.size device.old }
+    ensures outside { IsTrue D.shown.tells_words →
+        ChangesOnly 0 (words_needed order) (D.shown.words device.old) (D.shown.words device.new) }
     ensures statuses { (number_of result ≡ 0) ⊎ (number_of result ≡ 3)
         ⊎ (number_of result ≡ 6) ⊎ (number_of result ≡ 7) }
     ensures made { number_of result ≡ 0 →

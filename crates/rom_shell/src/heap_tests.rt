@@ -1,12 +1,15 @@
 //! Heaps that are made and shown, to the byte, on devices in memory.
-use crate::run;
-use rom_device::{CallKind, Memory, Trip};
+use crate::{files_of, run};
+use rom_device::{CallKind, Device, Memory, Trip};
 use rom_script::{Bytes, Collect, Names};
 use std::alloc::{AllocError, Global};
 use std::test::Fail;
 
-/// Room for all calls of a test, and for all that is printed.
-const AMPLE: u64 = 1024;
+/// Room for all that is printed.
+pub(crate) const AMPLE: u64 = 1024;
+
+/// Room for all calls of a test.
+const MOST_CALLS: u64 = 4096;
 
 const HEADER: [u64; 8] = [0x524F_4D55_4C55_5331, 1, 4, 0, 0, 0, 0, 0];
 
@@ -19,7 +22,7 @@ const ROOT_AND_TREE: [u64; 48] = [
 const SHOWN: &str = "order 4\ncount 0\nqueue 0 set 0 map 0\nfree 15\ntotal 0\n";
 
 /// The words of a new heap of order 4, with these changes.
-fn heap(alloc: Global, changes: &[(usize, u64)]) -> Result<Vec<u64>, AllocError> {
+pub(crate) fn heap(alloc: Global, changes: &[(usize, u64)]) -> Result<Vec<u64>, AllocError> {
     let mut words = HEADER.to_vec(alloc)?;
     for _ in 0..2 {
         words.extend_from_slice(&ROOT_AND_TREE)?;
@@ -33,32 +36,64 @@ fn heap(alloc: Global, changes: &[(usize, u64)]) -> Result<Vec<u64>, AllocError>
     Ok(words)
 }
 
-fn device(alloc: Global, words: Vec<u64>, trips: &[Trip]) -> Result<Memory, AllocError> {
-    Memory::new(alloc, words, AMPLE, trips.to_vec(alloc)?)
+pub(crate) fn device(alloc: Global, words: Vec<u64>, trips: &[Trip]) -> Result<Memory, AllocError> {
+    Memory::new(alloc, words, MOST_CALLS, trips.to_vec(alloc)?)
+}
+
+/// How a command ended, and what it printed.
+#[derive(Drop)]
+pub(crate) struct Told<D> {
+    pub status: u8,
+    pub bytes: Vec<u8>,
+    pub device: D,
+}
+
+/// Runs the command that these words are on a device, with these scripts and a sink of this room.
+/// Words that name another number of scripts are not run.
+pub(crate) fn told_of<D: Device + Send + Drop>(
+    alloc: Global,
+    words: &[&str],
+    device: D,
+    scripts: &[&str],
+    room: u64,
+) -> Result<Told<D>, Fail> {
+    let mut names = Names::new(alloc);
+    for word in words {
+        names.push(alloc, word)?;
+    }
+    let mut sources = Vec::new(alloc);
+    for script in scripts {
+        let content = script.as_bytes().to_vec(alloc)?;
+        sources.push(Bytes::new(content, 3, Vec::new(alloc)))?;
+    }
+    if files_of(alloc, &names)?.scripts.len() != sources.len() as u64 {
+        return Err(Fail::from("another number of scripts"));
+    }
+    let mut out = Collect::with_room(alloc, room, 5)?;
+    let ended = run(alloc, &names, device, sources, &mut out);
+    Ok(Told {
+        status: ended.status,
+        bytes: out.bytes().to_vec(alloc)?,
+        device: ended.device,
+    })
 }
 
 /// Makes a heap of order 4. It gives the status, the printed bytes and the device.
-fn format(alloc: Global, device: Memory, room: u64) -> Result<(u8, Vec<u8>, Memory), AllocError> {
-    let mut words = Names::new(alloc);
-    words.push(alloc, "format")?;
-    words.push(alloc, "file")?;
-    words.push(alloc, "--order")?;
-    words.push(alloc, "4")?;
-    let scripts: Vec<Bytes> = Vec::new(alloc);
-    let mut out = Collect::with_room(alloc, room, 5)?;
-    let ended = run(alloc, &words, device, scripts, &mut out);
-    Ok((ended.status, out.bytes().to_vec(alloc)?, ended.device))
+fn format(alloc: Global, device: Memory, room: u64) -> Result<(u8, Vec<u8>, Memory), Fail> {
+    let told = told_of(
+        alloc,
+        &["format", "file", "--order", "4"],
+        device,
+        &[],
+        room,
+    )?;
+    Ok((told.status, told.bytes, told.device))
 }
 
 /// Shows a heap, likewise.
-fn stat(alloc: Global, device: Memory, room: u64) -> Result<(u8, Vec<u8>, Memory), AllocError> {
-    let mut words = Names::new(alloc);
-    words.push(alloc, "stat")?;
-    words.push(alloc, "file")?;
-    let scripts: Vec<Bytes> = Vec::new(alloc);
-    let mut out = Collect::with_room(alloc, room, 5)?;
-    let ended = run(alloc, &words, device, scripts, &mut out);
-    Ok((ended.status, out.bytes().to_vec(alloc)?, ended.device))
+fn stat(alloc: Global, device: Memory, room: u64) -> Result<(u8, Vec<u8>, Memory), Fail> {
+    let told = told_of(alloc, &["stat", "file"], device, &[], room)?;
+    Ok((told.status, told.bytes, told.device))
 }
 
 #[test]

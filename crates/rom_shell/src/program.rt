@@ -1,36 +1,29 @@
 //! The top call: all that the program does.
-ghost use Rattle.std.specs.Prelude.{◌≡◌, ◌≢◌, ◌↔◌, ◌⊎◌, [], ◌∷◌, length, map, codes, None, IfSome, IfOk, IfErr, OnOk, IsSome, IsNone, IsTrue};
-ghost use Rattle.std.specs.List.{list_any};
-ghost use Rattle.std.specs.Io.KnownBytes.{IsAtEnd};
+ghost use Rattle.std.specs.Prelude.{◌≡◌, ◌≢◌, ◌↔◌, ◌⊎◌, length, map, codes, None, IfSome, IsSome, IsNone, IsTrue};
 ghost use Rattle.rom_device.specs.Device.{told_words};
 ghost use Rattle.rom_model.specs.Region.{Contents};
 ghost use Rattle.rom_model.specs.Trio.{trio};
-ghost use Rattle.rom_script.specs.Limits.{FitsScript};
 ghost use Rattle.rom_script.specs.Runs.{AreAskedOnce, AreAtEnd, AreWithin, IsTold, SourceFailed, SourceTooLong};
-ghost use Rattle.rom_script.specs.Streams.{IsAskedOnce, StopsWriting, WriteFailed};
-ghost use Rattle.rom_script.specs.Text as texts;
+ghost use Rattle.rom_script.specs.Streams.{StopsWriting, WriteFailed};
 ghost use Rattle.rom_script.specs.Trio.{TextDetermines};
-ghost use Rattle.rom_shell.specs.Devices.{HasDeviceFailed, HasMade, IsHandedBack, IsHeapRefused, IsHeld, IsHeldNow, IsLeft, IsSpared};
-ghost use Rattle.rom_shell.specs.Run.{HasNotRun, HasReplies, HasRun, HasTried, IsRefused, IsStatus};
+ghost use Rattle.rom_shell.specs.Devices.{CountsFaults, HasDeviceFailed, HasMade, IsHandedBack, IsHeapRefused, IsHeld, IsHeldNow, IsKept, IsLeft, IsLeftBySession, IsSpared};
+ghost use Rattle.rom_shell.specs.Run.{HasNotFailed, HasNotRun, HasReplies, HasRun, IsStatus};
 ghost use Rattle.rom_shell.specs.Sessions.{EachStory, HasStory};
 ghost use Rattle.rom_shell.specs.Statuses.{number_of};
 ghost use Rattle.rom_shell.specs.Words.{command, scripts_of};
 
 use crate::format::make_heap;
-use crate::play::{Played, play};
+use crate::script::read_one;
+use crate::scripted::{run_heap, try_heap};
 use crate::session::Session;
-use crate::stat::{Shown, show_heap};
+use crate::stat::show_heap;
 use crate::status::Status;
 use crate::tell::tell;
 use crate::words::{Asked, read_command};
+use crate::worked::Worked;
 use rom_device::Device;
-use rom_heap::Trio;
-use rom_model::{Answer, LineResult, Reply};
-use rom_script::{Names, ReadRefused, Sink, Source, print_run, read_script};
+use rom_script::{Names, Sink, Source};
 use std::alloc::Global;
-
-/// The order of the heap of a `try`.
-const TRY_ORDER: u32 = 4;
 
 /// How a run ended, with all that it was handed.
 #[derive(Drop)]
@@ -40,7 +33,7 @@ pub struct Ended<D, S> {
     pub device: D,
     /// The sources, as far as they were read.
     pub scripts: Vec<S>,
-    /// What was done, where the scripts were run.
+    /// What was done on the heap, where one was opened or made for the command to work on.
     pub session: Option<Session>,
 }
 
@@ -60,88 +53,31 @@ impl<D, S> Ended<D, S> {
             session,
         }
     }
-}
 
-fn is_unread(told: &LineResult<Reply, Answer>) -> bool
-    ensures { result ≡ texts.is_unread told.now }
-{
-    matches!(told, LineResult::Unread)
-}
-
-fn any_unread(results: &[LineResult<Reply, Answer>]) -> bool
-    ensures { result ≡ list_any texts.is_unread results.now }
-{
-    results.iter().any(|told| is_unread(told))
-}
-
-/// The status of results that are all printed.
-fn status_of(results: &[LineResult<Reply, Answer>]) -> Status
-    ensures { number_of result ≡ texts.status_of (results.now ∷ []) }
-{
-    if any_unread(results) {
-        Status::Unread
-    } else {
-        Status::Done
+    fn after(worked: Worked<D>, scripts: Vec<S>) -> Ended<D, S>
+        ensures { result ≡ record {
+          status = number_of worked.status;
+          device = worked.device;
+          scripts = scripts;
+          session = worked.session;
+        } }
+    {
+        let Worked {
+            device,
+            status,
+            session,
+        } = worked;
+        Ended::of(status, device, scripts, session)
     }
-}
-
-/// Reads the script, runs it on a heap that begins empty, and prints what its lines were told. An
-/// `Err` is the status of a script that is not run; its line is printed then.
-fn run_script<S: Source, O: Sink>(
-    alloc: Global,
-    script: &mut S,
-    out: &mut O,
-) -> Result<(Status, Session), Status>
-    ensures story { IfOk result (λ ran. HasStory Contents ran.1) }
-    ensures replies { IfOk result (λ ran. EachStory Contents ran.1 (λ story.
-        HasTried S.shown O.shown story (script.old ∷ []) out.old out.new (number_of ran.0))) }
-    ensures statuses { IfOk result (λ ran.
-        (ran.0 ≡ Status.Done) ⊎ (ran.0 ≡ Status.Unread) ⊎ (ran.0 ≡ Status.SinkFailed)) }
-    ensures sink_failed { IfOk result (λ ran.
-        ran.0 ≡ Status.SinkFailed → WriteFailed O.shown out.old out.new) }
-    ensures fits { OnOk result (IfSome (S.shown.left script.old) FitsScript) }
-    ensures to_its_end { OnOk result (IsAtEnd (S.shown.left script.new)) }
-    ensures refused { IfErr result (λ status.
-        IsRefused S.shown O.shown status script.old script.new out.old out.new) }
-    ensures unfailed { result ≢ Err Status.ScriptFailed →
-        S.shown.faults script.new ≡ S.shown.faults script.old }
-    ensures asked_once { IsAskedOnce S.shown script.old script.new }
-    ensures writing { StopsWriting O.shown out.old out.new }
-    ensures rest { O.shown.rest out.new ≡ O.shown.rest out.old }
-{
-    let script = match read_script(alloc, script) {
-        Ok(script) => script,
-        Err(ReadRefused::Failed) => {
-            tell(out, &["script 1 failed"]);
-            return Err(Status::ScriptFailed);
-        }
-        Err(ReadRefused::TooLong) => {
-            tell(out, &["script 1 too long"]);
-            return Err(Status::ScriptTooLong);
-        }
-        Err(ReadRefused::OutOfMemory) => {
-            tell(out, &["no memory"]);
-            return Err(Status::NoMemory);
-        }
-    };
-    let Ok(played) = play::<Trio>(alloc, TRY_ORDER, script.lines()) else {
-        tell(out, &["no memory"]);
-        return Err(Status::NoMemory);
-    };
-    let Played { session, results } = played;
-    let status = match print_run(out, &results, session.count()) {
-        Err(_) => Status::SinkFailed,
-        Ok(()) => status_of(&results),
-    };
-    Ok((status, session))
 }
 
 /// Does all that the program does: runs the command that the words are on the device and the
 /// scripts that are handed in, and prints to the sink. `main` hands in what `files_of` of the same
 /// words names.
 ///
-/// All memory is taken before the first update. The device is handed back whatever comes; a `try`, and
-/// words that are no command, make no call of it.
+/// All memory is taken before the first update, and scripts are read before the device is called.
+/// Words that are no command, and scripts that can't be read, make no call of it. The device is handed
+/// back whatever comes.
 pub fn run<D: Device + Send, S: Source, O: Sink>(
     alloc: Global,
     words: &Names,
@@ -161,27 +97,36 @@ pub fn run<D: Device + Send, S: Source, O: Sink>(
     ensures no_session { HasNotRun (command words.now) result.status → IsNone result.session }
 
     // Where the scripts were run, the results of one history are printed.
-    ensures story { IfSome result.session (HasStory Contents) }
-    ensures replies { IfSome result.session (λ session. EachStory Contents session (λ story.
+    ensures story { IfSome result.session (HasStory trio Contents) }
+    ensures replies { IfSome result.session (λ session. EachStory trio Contents session (λ story.
         HasReplies S.shown O.shown (command words.now) (told_words D.shown device) story
         scripts.items out.old out.new result.status)) }
+    ensures faults { IfSome result.session (λ session. EachStory trio Contents session (λ story.
+        CountsFaults D.shown device result.device story)) }
     ensures fit { IsSome result.session → AreWithin S.shown scripts.items }
     ensures read { IsSome result.session → AreAtEnd S.shown result.scripts.items }
     ensures sink_failed { result.status ≡ 5 → WriteFailed O.shown out.old out.new }
 
-    // The device holds the heap that was made or opened, and a stop leaves this, or what it might have
-    // left before, or no heap.
+    // At the end a stop leaves the history, or that and the batch in doubt. At any moment it leaves what
+    // it might have left before, or what the history was at the end of a pass, or that and a batch in
+    // doubt; and before a heap is made, none.
     ensures made { result.status ≡ 0 →
         HasMade D.shown O.shown (command words.now) device result.device out.old out.new }
     ensures spared { IsSpared D.shown (command words.now) device result.device result.status }
     ensures held { IsTrue D.shown.tells_words → IfSome result.session (λ session.
-        EachStory Contents session (λ story.
+        EachStory trio Contents session (λ story.
         IsHeld D.shown (command words.now) result.device story)) }
     ensures now { IsTrue D.shown.tells_images → IfSome result.session (λ session.
-        EachStory Contents session (λ story.
+        EachStory trio Contents session (λ story.
         IsHeldNow D.shown (command words.now) result.device story)) }
-    ensures images { IsTrue D.shown.tells_images →
+    ensures since { IsTrue D.shown.tells_images → IfSome result.session (λ session.
+        EachStory trio Contents session (λ story.
+        IsLeftBySession D.shown (command words.now) device result.device story)) }
+    ensures images { IsTrue D.shown.tells_images → IsNone result.session →
         IsLeft D.shown (command words.now) device result.device }
+    ensures kept { IsTrue D.shown.tells_words →
+        IsKept (command words.now) (D.shown.words device) (D.shown.words result.device) }
+    ensures uncalled { (result.status ≡ 4) ⊎ (result.status ≡ 8) → result.device ≡ device }
 
     // Else one line says why not.
     ensures not_a_command { (result.status ≡ 2) ↔ (command words.now ≡ None) }
@@ -195,9 +140,9 @@ pub fn run<D: Device + Send, S: Source, O: Sink>(
     ensures none_failed { result.status ≢ 4 →
         map S.shown.faults result.scripts.items ≡ map S.shown.faults scripts.items }
     ensures no_memory_told { result.status ≡ 6 → IsTold O.shown out.old out.new (codes "no memory") }
-    ensures device_failed { result.status ≡ 7 →
+    ensures device_failed { result.status ≡ 7 → IsNone result.session →
         HasDeviceFailed D.shown O.shown device result.device out.old out.new }
-    ensures device_unfailed { result.status ≢ 3 → result.status ≢ 7 →
+    ensures device_unfailed { HasNotFailed (command words.now) result.status →
         D.shown.faults result.device ≡ D.shown.faults device }
     ensures too_long { result.status ≡ 8 →
         SourceTooLong S.shown O.shown scripts.items result.scripts.items out.old out.new }
@@ -210,8 +155,12 @@ pub fn run<D: Device + Send, S: Source, O: Sink>(
             tell(out, &["not a command"]);
             Ended::of(Status::NotACommand, device, scripts, None)
         }
-        Some(Asked::Try(_)) => match run_script(alloc, &mut scripts[0], out) {
-            Ok((status, session)) => Ended::of(status, device, scripts, Some(session)),
+        Some(Asked::Try(_)) => match read_one(alloc, &mut scripts[0], out) {
+            Ok(script) => Ended::after(try_heap(alloc, device, script.lines(), out), scripts),
+            Err(status) => Ended::of(status, device, scripts, None),
+        },
+        Some(Asked::Run { file: _, script: _ }) => match read_one(alloc, &mut scripts[0], out) {
+            Ok(script) => Ended::after(run_heap(alloc, device, script.lines(), out), scripts),
             Err(status) => Ended::of(status, device, scripts, None),
         },
         Some(Asked::Format { file: _, order }) => {
@@ -219,13 +168,6 @@ pub fn run<D: Device + Send, S: Source, O: Sink>(
             let status = make_heap(alloc, &mut device, order, out);
             Ended::of(status, device, scripts, None)
         }
-        Some(Asked::Stat(_)) => {
-            let Shown {
-                device,
-                status,
-                session,
-            } = show_heap(alloc, device, out);
-            Ended::of(status, device, scripts, session)
-        }
+        Some(Asked::Stat(_)) => Ended::after(show_heap(alloc, device, out), scripts),
     }
 }

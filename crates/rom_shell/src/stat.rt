@@ -9,12 +9,15 @@ ghost use Rattle.rom_model.specs.State as state;
 ghost use Rattle.rom_model.specs.Trio.{trio};
 ghost use Rattle.rom_model.specs.VecSpace.{words_of};
 ghost use Rattle.rom_model.specs.declared.call.Query.TheVariants.{Len, Total};
+ghost use Rattle.rom_model.specs.Machine.{on_words};
+ghost use Rattle.rom_combine.specs.Costs.{WithinHeap};
+ghost use Rattle.rom_combine.specs.Session.{SessionImage};
 ghost use Rattle.rom_recover.specs.Recovered.{Mended};
 ghost use Rattle.rom_script.specs.Runs.{IsTold};
 ghost use Rattle.rom_script.specs.Streams.{Prints, StopsWriting};
 ghost use Rattle.rom_script.specs.Text.{line_text};
 ghost use Rattle.rom_script.specs.Trio.{answer_text};
-ghost use Rattle.rom_shell.specs.Devices.{HasDeviceFailed, IsOpenedFrom, IsPut, IsUnopened};
+ghost use Rattle.rom_shell.specs.Devices.{CountsFaults, HasDeviceFailed, IsOpenedFrom, IsPut, IsUnopened};
 ghost use Rattle.rom_shell.specs.Run.{AreAnswered};
 ghost use Rattle.rom_shell.specs.Sessions.{EachStory, HasStory, IsStory};
 ghost use Rattle.rom_shell.specs.Stat.{stat_lines, stat_text};
@@ -24,12 +27,14 @@ ghost use Rattle.rom_store.specs.Refusals.{named_order};
 use crate::refusals::{refusal_status, tell_refusal};
 use crate::session::Session;
 use crate::status::Status;
+use crate::worked::Worked;
 use itoa::Buffer;
 use rom_device::Device;
 use rom_heap::{Trio, free_elements};
 use rom_model::{Answer, COUNT, Look, Object, Query, VecSpace};
 use rom_script::{IoFailed, Sink, Told, print_pieces, print_text};
 use rom_store::{Opened, Refused, open_device};
+use rom_twin::Phase;
 use std::alloc::Global;
 use std::snapshot::Snapshot;
 
@@ -95,55 +100,66 @@ fn print_before<O: Sink>(out: &mut O, pieces: &[&str], answer: &Answer) -> Resul
     print_text(out, "\n")
 }
 
-/// Prints the sizes of the heap in a region. The session is that of the heap, on which nothing is
-/// done.
-fn show_image<O: Sink>(alloc: Global, order: u32, image: Vec<u64>, out: &mut O) -> Session
+/// Prints the sizes of the heap in a region, on a device that has failed so often. The session is
+/// that of the heap, on which nothing is done.
+fn show_image<O: Sink>(
+    alloc: Global,
+    order: u32,
+    faults: u64,
+    image: Vec<u64>,
+    out: &mut O,
+) -> Session
     requires order { IsOrder order }
     requires region { (s : State) × (k : ℕ) × Contents order image.items s k }
-    ensures story { HasStory Contents result }
-    ensures opened { EachStory Contents result (λ story.
-        IsStory Contents order image.items story.opening_count [] story) }
-    ensures printed { EachStory Contents result (λ story.
+    ensures story { HasStory trio Contents result }
+    ensures opened { EachStory trio Contents result (λ story.
+        IsStory trio Contents order image.items faults [] Phase.Clean story) }
+    ensures printed { EachStory trio Contents result (λ story.
         IsPut O.shown out.old out.new (stat_text story.order story.opening story.opening_count)) }
     ensures writing { StopsWriting O.shown out.old out.new }
     ensures rest { O.shown.rest out.new ≡ O.shown.rest out.old }
 {
     let mut space = VecSpace::of(image);
     let opening = Snapshot::of(&space);
-    let sizes = Sizes::of(&mut space, order);
-    let _ = sizes.print(out);
-    Session::of::<Trio>(order, opening, sizes.count, Vec::new(alloc))
-}
-
-/// A device whose heap was shown, or was not opened.
-pub(crate) struct Shown<D> {
-    pub device: D,
-    pub status: Status,
-    pub session: Option<Session>,
+    let _ = Sizes::of(&mut space, order).print(out);
+    Session {
+        order,
+        image: opening,
+        opening_faults: faults,
+        passes: Vec::new(alloc),
+        phase: Phase::Clean,
+    }
 }
 
 /// Opens the heap on the device, and prints its sizes or why it is refused.
-pub(crate) fn show_heap<D: Device, O: Sink>(alloc: Global, device: D, out: &mut O) -> Shown<D>
+pub(crate) fn show_heap<D: Device, O: Sink>(alloc: Global, device: D, out: &mut O) -> Worked<D>
     ensures size { D.shown.size result.device ≡ D.shown.size device }
+    ensures outside { IsTrue D.shown.tells_words →
+        WithinHeap (named_order (D.shown.words device)) (D.shown.words device) (D.shown.words result.device) }
     ensures statuses { (number_of result.status ≡ 0) ⊎ (number_of result.status ≡ 3)
         ⊎ (number_of result.status ≡ 6) ⊎ (number_of result.status ≡ 7) }
     ensures session { number_of result.status ≡ 0 → IsSome result.session }
     ensures no_session { number_of result.status ≢ 0 → IsNone result.session }
-    ensures story { IfSome result.session (HasStory Contents) }
-    ensures opening { IfSome result.session (λ session. EachStory Contents session (λ story.
+    ensures story { IfSome result.session (HasStory trio Contents) }
+    ensures opening { IfSome result.session (λ session. EachStory trio Contents session (λ story.
         IfSome (told_words D.shown device) (λ words. IsOpenedFrom words story))) }
-    ensures answered { IfSome result.session (λ session. EachStory Contents session (λ story.
+    ensures answered { IfSome result.session (λ session. EachStory trio Contents session (λ story.
         AreAnswered trio story [] [])) }
-    ensures printed { IfSome result.session (λ session. EachStory Contents session (λ story.
+    ensures printed { IfSome result.session (λ session. EachStory trio Contents session (λ story.
         IsPut O.shown out.old out.new (stat_text story.order story.opening story.opening_count))) }
     ensures held { IsTrue D.shown.tells_words → IfSome result.session (λ session.
-        EachStory Contents session (λ story. IsOpenedFrom (D.shown.words result.device) story)) }
+        EachStory trio Contents session (λ story. IsOpenedFrom (D.shown.words result.device) story)) }
     ensures now { IsTrue D.shown.tells_images → IfSome result.session (λ session.
-        EachStory Contents session (λ story.
+        EachStory trio Contents session (λ story.
         (i : List ℕ) → D.shown.leaves result.device i → IsOpenedFrom i story)) }
     ensures images { IsTrue D.shown.tells_images →
         Leaves D.shown (Mended (named_order (D.shown.words device)) (D.shown.words device))
         device result.device }
+    ensures since { IsTrue D.shown.tells_images → IfSome result.session (λ session.
+        EachStory trio Contents session (λ story.
+        Leaves D.shown (SessionImage Contents (on_words trio) story) device result.device)) }
+    ensures faults { IfSome result.session (λ session. EachStory trio Contents session (λ story.
+        CountsFaults D.shown device result.device story)) }
     ensures heap_refused { number_of result.status ≡ 3 →
         IsUnopened D.shown O.shown device result.device out.old out.new }
     ensures device_failed { number_of result.status ≡ 7 →
@@ -162,14 +178,17 @@ pub(crate) fn show_heap<D: Device, O: Sink>(alloc: Global, device: D, out: &mut 
                 geometry,
                 image,
             },
-        ) => Shown {
-            device,
-            status: Status::Done,
-            session: Some(show_image(alloc, geometry.order(), image, out)),
-        },
+        ) => {
+            let faults = device.fault_count();
+            Worked {
+                device,
+                status: Status::Done,
+                session: Some(show_image(alloc, geometry.order(), faults, image, out)),
+            }
+        }
         Err(Refused { device, why }) => {
             tell_refusal(out, why);
-            Shown {
+            Worked {
                 device,
                 status: refusal_status(why),
                 session: None,

@@ -5,9 +5,9 @@ ghost use Rattle.rom_shell.specs.Statuses.{number_of};
 /// The exit status of the program.
 #[derive(Clone, Copy, Debug, PartialEq, Eq)]
 pub enum Status {
-    /// All lines were read, and all is printed.
+    /// None of the others.
     Done = 0,
-    /// As `Done`, but a line is no command.
+    /// As `Done`, but a line of a script is no command.
     Unread = 1,
     /// The words are no command.
     NotACommand = 2,
@@ -15,11 +15,11 @@ pub enum Status {
     HeapRefused = 3,
     /// A script could not be opened or read.
     ScriptFailed = 4,
-    /// The text could not be written.
+    /// The text of a run could not be written.
     SinkFailed = 5,
     /// There was no memory, before any update.
     NoMemory = 6,
-    /// The device failed.
+    /// The device failed, so that there is no heap, or under an update that was told so.
     DeviceFailed = 7,
     /// A script has more bytes than it may.
     ScriptTooLong = 8,

@@ -1,7 +1,9 @@
 //! Scripts and words, to the byte, over sources and sinks in memory.
 ghost use Rattle.std.specs.Prelude.{◌<◌};
 
-use crate::play::play;
+use crate::heap_tests::told_of;
+use crate::opening::{TRY_ORDER, new_heap};
+use crate::play::{Room, play};
 use crate::words::read_command;
 use crate::{DeviceWant, Ended, files_of, run};
 use rom_device::Ram;
@@ -65,7 +67,7 @@ fn tried(
     Ok(run(alloc, &words, device, scripts, out))
 }
 
-/// The status of a short script and the bytes that a sink with this room takes.
+/// The status of a short script that is tried, and the bytes that a sink with this room takes.
 fn told(
     alloc: Global,
     script: &str,
@@ -121,17 +123,36 @@ fn scripts_are_told_their_replies(rt: HostRuntime) -> Result<(), Fail> {
         let (found, bytes) = told(rt.alloc(), script, &[], AMPLE)?;
         assert_eq!(rt; found, status, "at {script}");
         assert!(rt; bytes.as_slice() == text.as_bytes(), "at {script}");
+
+        // A heap in a file that was just made gives the same.
+        let zeros = Ram::zeroed(rt.alloc(), 232)?;
+        let made = told_of(
+            rt.alloc(),
+            &["format", "file", "--order", "4"],
+            zeros,
+            &[],
+            AMPLE,
+        )?;
+        let played = told_of(
+            rt.alloc(),
+            &["run", "file", "script"],
+            made.device,
+            &[script],
+            AMPLE,
+        )?;
+        assert_eq!(rt; played.status, status, "at {script}");
+        assert!(rt; played.bytes.as_slice() == text.as_bytes(), "at {script}");
     }
     Ok(())
 }
 
 #[test]
-fn the_session_counts_its_updates(rt: HostRuntime) -> Result<(), Fail> {
+fn the_session_has_a_pass_for_each_update(rt: HostRuntime) -> Result<(), Fail> {
     let alloc = rt.alloc();
     let mut out = Collect::with_room(alloc, AMPLE, 5)?;
-    let script = b"enq 9\ndeq\ndeq\n".to_vec(alloc)?;
+    let script = b"enq 9\npeek\nqed\ndeq\n".to_vec(alloc)?;
     let ended = tried(alloc, script, 3, &[], &mut out)?;
-    assert_eq!(rt; ended.session.ok_or("no session")?.count(), 3);
+    assert_eq!(rt; ended.session.ok_or("no session")?.passes.len(), 2);
     let mut none = Collect::with_room(alloc, AMPLE, 5)?;
     let ended = tried(alloc, b"enq 9".to_vec(alloc)?, 3, &[2], &mut none)?;
     assert!(rt; ended.session.is_none());
@@ -141,7 +162,7 @@ fn the_session_counts_its_updates(rt: HostRuntime) -> Result<(), Fail> {
 #[test]
 fn other_words_are_no_command(rt: HostRuntime) -> Result<(), Fail> {
     let alloc = rt.alloc();
-    let rows: [&[&str]; 18] = [
+    let rows: [&[&str]; 20] = [
         &["format", "F"],
         &["format", "F", "--order", "3"],
         &["format", "F", "--order", "17"],
@@ -158,6 +179,8 @@ fn other_words_are_no_command(rt: HostRuntime) -> Result<(), Fail> {
         &["TRY", "a"],
         &["help"],
         &["run", "F"],
+        &["run", "F", "-x"],
+        &["run", "F", "a", "b"],
         &["try", "a", "b"],
         &["try", ""],
     ];
@@ -184,7 +207,7 @@ fn other_words_are_no_command(rt: HostRuntime) -> Result<(), Fail> {
 }
 
 #[test]
-fn try_names_one_script(rt: HostRuntime) -> Result<(), Fail> {
+fn try_and_run_name_one_script(rt: HostRuntime) -> Result<(), Fail> {
     let alloc = rt.alloc();
     for script in ["x", "-"] {
         let mut words = Names::new(alloc);
@@ -195,6 +218,19 @@ fn try_names_one_script(rt: HostRuntime) -> Result<(), Fail> {
             matches!(wanted.device, DeviceWant::Fresh(232)),
             "at {script}"
         );
+        assert_eq!(rt; wanted.scripts.len(), 1, "at {script}");
+        assert!(rt; wanted.scripts.at(0) == Some(script), "at {script}");
+
+        let mut words = Names::new(alloc);
+        words.push(alloc, "run")?;
+        words.push(alloc, "F")?;
+        words.push(alloc, script)?;
+        let wanted = files_of(alloc, &words)?;
+        let named = match &wanted.device {
+            DeviceWant::Old(name) => name.as_str() == "F",
+            _ => false,
+        };
+        assert!(rt; named, "at {script}");
         assert_eq!(rt; wanted.scripts.len(), 1, "at {script}");
         assert!(rt; wanted.scripts.at(0) == Some(script), "at {script}");
     }
@@ -253,11 +289,11 @@ fn a_full_sink_has_the_front_of_the_text(rt: HostRuntime) -> Result<(), Fail> {
     // The update is done, though its reply is not printed.
     let mut out = Collect::with_room(rt.alloc(), 10, 5)?;
     let ended = tried(rt.alloc(), b"enq 9".to_vec(rt.alloc())?, 3, &[], &mut out)?;
-    let done = match &ended.session {
-        Some(session) => session.count(),
-        None => 0,
-    };
-    assert_eq!(rt; done, 1);
+    let shown = told_of(rt.alloc(), &["stat", "file"], ended.device, &[], AMPLE)?;
+    assert!(rt;
+        shown.bytes.as_slice()
+            == b"order 4\ncount 1\nqueue 1 set 0 map 0\nfree 14\ntotal 0\n".as_slice()
+    );
 
     let text = FILLED.as_bytes();
     for room in 0..=text.len() {
@@ -322,8 +358,13 @@ fn lines_are_played_in_order(rt: HostRuntime) -> Result<(), Fail> {
         Step::Unread,
         Step::Ask(Query::Has(9)),
     ];
-    let played = play::<Trio>(rt.alloc(), 5, &lines)?;
-    assert_eq!(rt; played.session.count(), 1);
+    let alloc = rt.alloc();
+    let room = Room::for_lines(alloc, &lines)?;
+    let Ok(heap) = new_heap::<Ram, Trio>(alloc, Ram::zeroed(alloc, 232)?, TRY_ORDER) else {
+        return Err(Fail::from("no heap"));
+    };
+    let played = play(heap.plain, heap.image, room, &lines);
+    assert_eq!(rt; played.count, 1);
     let told = [
         LineResult::Update(Updated::Done(Reply::Added, 0)),
         LineResult::Unread,

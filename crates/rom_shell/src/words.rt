@@ -1,16 +1,13 @@
 //! The words of the command line.
 ghost use Rattle.std.specs.Prelude.{◌≡◌, [], ◌∷◌, IfOk, IfSome, Some};
 ghost use Rattle.rom_model.specs.Blocks.{IsOrder};
-ghost use Rattle.rom_header.specs.Layout.{words_needed};
 ghost use Rattle.rom_shell.specs.Wanted.{AsksForOrder, IsWanted, named};
 ghost use Rattle.rom_shell.specs.Words.{command, is_plain, orders, scripts_of, spelt};
 
+use crate::opening::TRY_ORDER;
 use rom_header::Geometry;
 use rom_script::{Name, Names};
 use std::alloc::{AllocError, Global};
-
-/// How many words the heap of a `try` has, which is of order 4.
-const TRY_WORDS: u64 = 232;
 
 /// The device that a command works on.
 #[derive(Debug, Drop)]
@@ -37,6 +34,8 @@ pub struct Wanted {
 pub(crate) enum Asked<'a> {
     /// To run this script on a new heap.
     Try(&'a str),
+    /// To run this script on the heap in this file.
+    Run { file: &'a str, script: &'a str },
     /// To make a new heap of this order in this file.
     Format { file: &'a str, order: u32 },
     /// To print the sizes of the heap in this file.
@@ -91,6 +90,17 @@ fn read_two<'a>(name: &str, word: &'a str) -> Option<Asked<'a>>
     }
 }
 
+/// A command of three words.
+fn read_three<'a>(name: &str, file: &'a str, script: &'a str) -> Option<Asked<'a>>
+    ensures named { named result ≡ command (name.now ∷ file.now ∷ script.now ∷ []) }
+    ensures order { IfSome result AsksForOrder }
+{
+    if name != "run" || !is_plain_word(file) || !is_plain_word(script) {
+        return None;
+    }
+    Some(Asked::Run { file, script })
+}
+
 /// A command of four words.
 fn read_four<'a>(name: &str, file: &'a str, option: &str, value: &str) -> Option<Asked<'a>>
     ensures named { named result ≡ command (name.now ∷ file.now ∷ option.now ∷ value.now ∷ []) }
@@ -111,22 +121,12 @@ pub(crate) fn read_command(words: &Names) -> Option<Asked<'_>>
 {
     match (words.at(0), words.at(1), words.at(2), words.at(3)) {
         (Some(name), Some(word), None, _) => read_two(name, word),
+        (Some(name), Some(file), Some(script), None) => read_three(name, file, script),
         (Some(name), Some(file), Some(option), Some(value)) if words.len() == 4 => {
             read_four(name, file, option, value)
         }
         _ => None,
     }
-}
-
-/// How many words a heap of this order has on a device.
-fn words_of_heap(order: u32) -> u64
-    requires { IsOrder order }
-    ensures { result ≡ words_needed order }
-{
-    let Some(geometry) = Geometry::of(u64::from(order)) else {
-        unreachable!()
-    };
-    geometry.need()
 }
 
 /// The device that a command works on.
@@ -135,12 +135,14 @@ fn device_of(alloc: Global, asked: &Asked<'_>) -> Result<DeviceWant, AllocError>
     ensures { IfOk result (IsWanted (named (Some asked.now))) }
 {
     match asked {
-        Asked::Try(_) => Ok(DeviceWant::Fresh(TRY_WORDS)),
+        Asked::Try(_) => Ok(DeviceWant::Fresh(Geometry::of_order(TRY_ORDER).need())),
         Asked::Format { file, order } => {
             let file = Name::of(alloc, file)?;
-            Ok(DeviceWant::Made(file, words_of_heap(*order)))
+            Ok(DeviceWant::Made(file, Geometry::of_order(*order).need()))
         }
-        Asked::Stat(file) => Ok(DeviceWant::Old(Name::of(alloc, file)?)),
+        Asked::Run { file, script: _ } | Asked::Stat(file) => {
+            Ok(DeviceWant::Old(Name::of(alloc, file)?))
+        }
     }
 }
 
@@ -149,7 +151,7 @@ fn named_scripts(alloc: Global, asked: &Asked<'_>) -> Result<Names, AllocError>
     ensures { IfOk result (λ scripts. scripts ≡ scripts_of (named (Some asked.now))) }
 {
     let mut scripts = Names::new(alloc);
-    if let Asked::Try(script) = asked {
+    if let Asked::Try(script) | Asked::Run { file: _, script } = asked {
         scripts.push(alloc, script)?;
     }
     Ok(scripts)

@@ -1,7 +1,13 @@
 -- Words hold one order, one state and one count, and so do all in which the same region counts.
+use Rattle.std.specs.Prelude.{OnOk, Result, Ok, Err}
 use Rattle.std.proofs.Common.{◌≡◌, inl, inr, ℕ, List, sym, ◌∙◌, subst, arith}
 use Rattle.rom_header.specs.Regions.{IsCounted, IsCurrentRegion, SameRegion}
-use Rattle.rom_store.specs.Held.{HoldsOne}
+use Rattle.rom_header.specs.Held.{HoldsOne}
+
+-- what two facts of a success lead to
+pub both_ok : {T E A B C : Type 0} (result : Result T E) → (A → B → C) → OnOk result A → OnOk result B → OnOk result C
+both_ok (Ok done) leads a b = leads a b
+both_ok (Err refused) leads a b = tt
 
 -- one region counts
 counted_one : (n : ℕ) (x p q : List ℕ) → IsCounted n x p → IsCounted n x q → p ≡ q

@@ -1,5 +1,5 @@
 -- What a device holds, and what the opening and the making of a heap answer and leave.
-pub mod Held
+pub mod AtRest
 pub mod Refusals
 pub mod Calls
 pub mod Opening

@@ -3,7 +3,7 @@ use Rattle.std.specs.Prelude.{◌≢◌, ◌⊎◌, ℕ, List, slice_index, Resu
 use Rattle.rom_header.specs.Fresh.{IsNew, HasTooFewFor}
 use Rattle.rom_header.specs.Layout.{MAGIC}
 use Rattle.rom_header.specs.declared.fresh.FormatRefused.{FormatRefused}
-use Rattle.rom_store.specs.Held.{Holds}
+use Rattle.rom_header.specs.Held.{Holds}
 use Rattle.rom_store.specs.declared.new_heap.NotFormatted.{NotFormatted}
 use Rattle.rom_store.specs.declared.new_heap.NotFormatted.TheVariants.{Refused, OutOfMemory}
 

@@ -16,7 +16,7 @@ mod ready;
 mod reasons;
 
 pub use from_device::{Opened, Refused, open_device};
-pub use new_heap::{NotFormatted, format_device};
+pub use new_heap::{NotFormatted, format_device, write_heap};
 pub use reasons::Why;
 
 #[cfg(test)]

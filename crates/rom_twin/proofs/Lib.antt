@@ -3,5 +3,4 @@ pub mod Since
 mod Written
 pub mod Phases
 mod Calls
-mod Repairs
-pub mod Counting
+pub mod Repairs

@@ -60,7 +60,7 @@ not_redo Doubt n other = record { asks = λ c w is. is; gives = λ c w is. is; a
 not_redo Redo n other = absurd (other refl)
 
 -- the state and one region
-state_or_joins : (at len : ℕ) (x y z : List ℕ) → StateOrWithin at len x y → StateOrWithin at len y z → StateOrWithin at len x z
+pub state_or_joins : (at len : ℕ) (x y z : List ℕ) → StateOrWithin at len x y → StateOrWithin at len y z → StateOrWithin at len x z
 state_or_joins at len x y z first second = record {
   as_long = second.as_long ∙ first.as_long;
   before = λ k h other. second.before k h other ∙ first.before k h other;
@@ -81,7 +81,7 @@ state_or_set at len v late x = record {
   behind = λ k h. let other : k ≢ STATE = omega (arith, h, late) in get_or-set_other x STATE k v 0 other;
 }
 
-state_or_writes : (at len v : ℕ) → 4 ≤ at → (x y : List ℕ) → Writes STATE v x y → StateOrWithin at len x y
+pub state_or_writes : (at len v : ℕ) → 4 ≤ at → (x y : List ℕ) → Writes STATE v x y → StateOrWithin at len x y
 state_or_writes at len v late x y (inl same) = subst (λ (l : List ℕ). StateOrWithin at len x l) (sym same) record { as_long = refl; before = λ k h other. refl; behind = λ k h. refl }
 state_or_writes at len v late x y (inr put) = subst (λ (l : List ℕ). StateOrWithin at len x l) (sym put) (state_or_set at len v late x)
 

@@ -1,5 +1,5 @@
 use Rattle.rom_recover.specs.Recovered.{Mended}
-use Rattle.rom_store.specs.Held.{Holds}
+use Rattle.rom_header.specs.Held.{Holds}
 use Rattle.rom_store.specs.Refusals.{named_order}
 use Rattle.rom_device.proofs.Going.{leaves_by}
 use Rattle.rom_store.proofs.Holding.{holds_one, same_current}

@@ -1,0 +1,57 @@
+-- How many writes and syncs of the device a batch makes.
+use Rattle.std.specs.Prelude.{◌≡◌, ℕ, ◌+◌, ◌*◌, List}
+use Rattle.rom_model.specs.Blocks.{region_len}
+use Rattle.rom_model.specs.Faults.{Adds, AtMost, Rose}
+use Rattle.rom_device.specs.Device.{ShownDevice}
+use Rattle.rom_header.specs.Layout.{MAIN}
+use Rattle.rom_header.specs.Writing.{StateOrWithin}
+use Rattle.rom_twin.specs.Calls.{repair_writes, repair_syncs}
+use Rattle.rom_twin.specs.declared.phase.Phase.{Phase}
+use Rattle.rom_twin.specs.declared.phase.Phase.TheVariants.{Clean}
+
+-- Those that lead from a phase at rest to `Clean`: none from `Clean` itself, and else a repair's.
+abbrev pub mending_writes : Phase → ℕ → ℕ
+mending_writes Clean order = 0
+mending_writes other order = repair_writes other order
+
+abbrev pub mending_syncs : Phase → ℕ
+mending_syncs Clean = 0
+mending_syncs other = repair_syncs other
+
+-- those of a whole batch: MUTATING, a region, COPYING, a region again, each with a sync, and IDLE with none
+abbrev pub batch_writes : Phase → ℕ → ℕ
+batch_writes phase order = mending_writes phase order + (2 * region_len order + 3)
+
+abbrev pub batch_syncs : Phase → ℕ
+batch_syncs phase = mending_syncs phase + 4
+
+-- those before COPYING
+abbrev pub writes_before_commit : Phase → ℕ → ℕ
+writes_before_commit phase order = mending_writes phase order + (region_len order + 1)
+
+abbrev pub syncs_before_commit : Phase → ℕ
+syncs_before_commit phase = mending_syncs phase + 2
+
+-- only the state of a heap of this order and its two regions differ
+abbrev pub WithinHeap : ℕ → List ℕ → List ℕ → Type 0
+WithinHeap order old new = StateOrWithin MAIN (2 * region_len order) old new
+
+module _ {D : Type 0} (shown : ShownDevice D) where
+  -- no call of the device failed, and its count of faults is below its last value
+  abbrev pub IsUnfailed : D → D → Type 0
+  IsUnfailed old new = Rose (shown.faults old) (shown.faults new) → ⊥
+
+  -- exactly so many writes and syncs were made
+  pub record Spends (writes syncs : ℕ) (old new : D) : Type 0 where
+    pub writes_made : Adds writes (shown.writes old) (shown.writes new)
+    pub syncs_made : Adds syncs (shown.syncs old) (shown.syncs new)
+
+  -- at most so many were made
+  pub record SpendsAtMost (writes syncs : ℕ) (old new : D) : Type 0 where
+    pub most_writes : AtMost writes (shown.writes old) (shown.writes new)
+    pub most_syncs : AtMost syncs (shown.syncs old) (shown.syncs new)
+
+  -- nothing was read, and the device is as long as it was
+  pub record OnlyWrites (old new : D) : Type 0 where
+    pub size : shown.size new ≡ shown.size old
+    pub reads : shown.reads new ≡ shown.reads old

@@ -1,0 +1,39 @@
+-- What a stop during a pass leaves.
+use Rattle.std.specs.Prelude.{◌≢◌, ◌⊎◌, ℕ, ◌+◌, List, length, Option}
+use Rattle.rom_model.specs.History.{after, batch}
+use Rattle.rom_model.specs.declared.record.Fate.{Fate}
+use Rattle.rom_model.specs.declared.record.Fate.TheVariants as fate
+use Rattle.rom_model.specs.declared.record.Found.{Found}
+use Rattle.rom_header.specs.Held.{Holds}
+use Rattle.rom_header.specs.Regions.{IsCurrentRegion}
+use Rattle.rom_twin.specs.Images.{HasBack, Repairing}
+use Rattle.rom_twin.specs.declared.phase.Phase.{Phase}
+use Rattle.rom_twin.specs.declared.phase.Phase.TheVariants as phase
+
+-- in the image this region counts
+abbrev pub Counting : ℕ → List ℕ → List ℕ → Type 0
+Counting order region i = IsCurrentRegion order i region
+
+-- Each image that is made before COPYING is to be written, by the phase that the batch began in: it is under MUTATING and has the committed region in back, or is one of the repair.
+abbrev pub BeforeCommit : Phase → ℕ → List ℕ → List ℕ → Type 0
+BeforeCommit phase.Clean order c i = HasBack order c i
+BeforeCommit other order c i = HasBack order c i ⊎ Repairing other order c i
+
+-- the committed region counts, or the new one, but not where the phase after is `Undo`
+abbrev pub Committable : Phase → ℕ → List ℕ → List ℕ → List ℕ → Type 0
+Committable after order c m i = IsCurrentRegion order i c ⊎ ((after ≢ phase.Undo) × IsCurrentRegion order i m)
+
+-- a pass that ended so may have left its batch done
+abbrev pub MayPublish : Fate → Type 0
+MayPublish fate.Failed = ⊥
+MayPublish other = Unit {0}
+
+module _ {S : Type 0} (Contents : ℕ → List ℕ → S → ℕ → Type 0) (order : ℕ) where
+  -- the region that counts in the image stands for this state and count
+  abbrev pub HoldsIn : S → ℕ → List ℕ → Type 0
+  HoldsIn s k i = Holds Contents order i s k
+
+  -- Each image that a pass with this fate makes holds the state and count before it, or those after its batch.
+  abbrev pub PassImage : (ℕ → S → ℕ → List ℕ → Option (S × List ℕ)) → Fate → S → ℕ → List Found → List ℕ → Type 0
+  PassImage step fate s k found i = let b = batch step order s k found in
+      HoldsIn s k i ⊎ (MayPublish fate × HoldsIn (after step order s k b) (k + length b) i)

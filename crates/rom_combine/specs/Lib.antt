@@ -1,0 +1,8 @@
+-- What a batch tells and costs, what a stop during it leaves, and how a session goes on with it.
+pub mod Told
+pub mod Images
+pub mod Causes
+pub mod Costs
+pub mod Plain
+pub mod Session
+pub mod Laws

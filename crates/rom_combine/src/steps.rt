@@ -1,0 +1,167 @@
+//! The device through a batch, whatever the images are kept in.
+ghost use Rattle.std.specs.Prelude.{◌≡◌, ◌⊎◌, ◌+◌, ◌≤◌, ℕ, List, OnOk, OnErr, IsTrue, length};
+ghost use Rattle.rom_model.specs.Blocks.{region_len};
+ghost use Rattle.rom_model.specs.Faults.{FailedLast, Rose};
+ghost use Rattle.rom_model.specs.Space.{Looks};
+ghost use Rattle.rom_device.specs.Device.{Becomes, Does, Makes, Runs};
+ghost use Rattle.rom_ranges.specs.Ranges.{AreWithin, held_count};
+ghost use Rattle.rom_twin.specs.Ranges.{SameBut};
+ghost use Rattle.rom_twin.specs.Seen.{InPhase, NeedsRepair, Rests, committed, main_now};
+ghost use Rattle.rom_combine.specs.Causes.{FailsAtCommit, FailsBeforeCommit};
+ghost use Rattle.rom_combine.specs.Costs.{IsUnfailed, OnlyWrites, Spends, SpendsAtMost, WithinHeap, mending_syncs, mending_writes};
+ghost use Rattle.rom_combine.specs.Images.{BeforeCommit, Counting, Committable};
+
+use rom_device::{Device, Failed};
+use rom_model::Look;
+use rom_ranges::Range;
+use rom_twin::{Phase, Twin};
+
+/// Repairs the device where it needs it. A fault at the last write of a repair, of IDLE, is no
+/// error.
+fn make_clean<D: Device, M: Look>(twin: &mut Twin<D>, image: &mut M) -> Result<(), Failed>
+    requires rests { Rests twin.old.phase }
+    requires image { length (M.shown.image image.old) ≡ region_len twin.old.order }
+    requires committed { IsTrue D.shown.tells_images →
+        committed D.shown twin.old ≡ M.shown.image image.old }
+    ensures ok { OnOk result (twin.new.phase ≡ Phase.Clean) }
+    ensures failed { OnErr result ((twin.new.phase ≡ twin.old.phase) × NeedsRepair twin.old.phase) }
+    ensures order { twin.new.order ≡ twin.old.order }
+    ensures committed { IsTrue D.shown.tells_images →
+        committed D.shown twin.new ≡ committed D.shown twin.old }
+    ensures images { IsTrue D.shown.tells_images → InPhase D.shown twin.new }
+    ensures before { IsTrue D.shown.tells_images →
+        Runs D.shown (Becomes (BeforeCommit twin.old.phase twin.old.order
+        (committed D.shown twin.old)))
+        twin.old.device twin.new.device }
+    ensures looks { Looks M.shown (region_len twin.old.order) image.old image.new }
+    ensures spends { OnOk result (Spends D.shown (mending_writes twin.old.phase twin.old.order)
+        (mending_syncs twin.old.phase) twin.old.device twin.new.device) }
+    ensures most { SpendsAtMost D.shown (mending_writes twin.old.phase twin.old.order)
+        (mending_syncs twin.old.phase) twin.old.device twin.new.device }
+    ensures only { OnlyWrites D.shown twin.old.device twin.new.device }
+    ensures does { Does D.shown (WithinHeap twin.old.order) twin.old.device twin.new.device }
+    ensures later { D.shown.faults twin.old.device ≤ D.shown.faults twin.new.device }
+    ensures cause { OnErr result (Rose (D.shown.faults twin.old.device)
+        (D.shown.faults twin.new.device)
+        × IsTrue (D.shown.failing twin.new.device)) }
+{
+    if twin.phase() == Phase::Clean {
+        return Ok(());
+    }
+    twin.repair(image)
+}
+
+/// Repairs the device where it needs it, and begins. The image is the committed one.
+pub fn begin_batch<D: Device, M: Look>(twin: &mut Twin<D>, image: &mut M) -> Result<(), Failed>
+    requires rests { Rests twin.old.phase }
+    requires image { length (M.shown.image image.old) ≡ region_len twin.old.order }
+    requires committed { IsTrue D.shown.tells_images →
+        committed D.shown twin.old ≡ M.shown.image image.old }
+    ensures ok { OnOk result (twin.new.phase ≡ Phase.Begun) }
+    ensures failed { OnErr result ((twin.new.phase ≡ Phase.Undo)
+        ⊎ ((twin.new.phase ≡ twin.old.phase) × NeedsRepair twin.old.phase)) }
+    ensures order { twin.new.order ≡ twin.old.order }
+    ensures committed { IsTrue D.shown.tells_images →
+        committed D.shown twin.new ≡ committed D.shown twin.old }
+    ensures images { IsTrue D.shown.tells_images → InPhase D.shown twin.new }
+    ensures since { IsTrue D.shown.tells_images →
+        Runs D.shown (Becomes (Counting twin.old.order (committed D.shown twin.old)))
+        twin.old.device twin.new.device }
+    ensures before { IsTrue D.shown.tells_images →
+        Runs D.shown (Becomes (BeforeCommit twin.old.phase twin.old.order
+        (committed D.shown twin.old)))
+        twin.old.device twin.new.device }
+    ensures looks { Looks M.shown (region_len twin.old.order) image.old image.new }
+    ensures spends { OnOk result (Spends D.shown (mending_writes twin.old.phase twin.old.order + 1)
+        (mending_syncs twin.old.phase + 1) twin.old.device twin.new.device) }
+    ensures most { SpendsAtMost D.shown (mending_writes twin.old.phase twin.old.order + 1)
+        (mending_syncs twin.old.phase + 1) twin.old.device twin.new.device }
+    ensures only { OnlyWrites D.shown twin.old.device twin.new.device }
+    ensures does { Does D.shown (WithinHeap twin.old.order) twin.old.device twin.new.device }
+    ensures later { D.shown.faults twin.old.device ≤ D.shown.faults twin.new.device }
+    ensures cause { OnErr result (FailsBeforeCommit D.shown twin.old.phase twin.old.order
+        (committed D.shown twin.old)
+        twin.old.device twin.new.device) }
+{
+    make_clean(twin, image)?;
+    twin.begin()
+}
+
+/// Writes the changes of main, and commits. The image is the new one, which differs from main on
+/// the device in the ranges alone.
+pub fn commit_batch<D: Device, M: Look>(
+    twin: &mut Twin<D>,
+    ranges: &[Range],
+    image: &mut M,
+) -> Result<(), Failed>
+    requires phase { twin.old.phase ≡ Phase.Begun }
+    requires image { length (M.shown.image image.old) ≡ region_len twin.old.order }
+    requires within { AreWithin (region_len twin.old.order) ranges.now }
+    requires but { IsTrue D.shown.tells_images →
+        SameBut ranges.now (main_now D.shown twin.old) (M.shown.image image.old) }
+    ensures ok { OnOk result (twin.new.phase ≡ Phase.Committed) }
+    ensures failed { OnErr result ((twin.new.phase ≡ Phase.Undo) ⊎ (twin.new.phase ≡ Phase.Doubt)) }
+    ensures order { twin.new.order ≡ twin.old.order }
+    ensures committed { IsTrue D.shown.tells_images →
+        committed D.shown twin.new ≡ committed D.shown twin.old }
+    ensures main { IsTrue D.shown.tells_images →
+        OnOk result (main_now D.shown twin.new ≡ M.shown.image image.old) }
+    ensures images { IsTrue D.shown.tells_images → InPhase D.shown twin.new }
+    ensures now { IsTrue D.shown.tells_images → (i : List ℕ) → D.shown.leaves twin.new.device i →
+        Committable twin.new.phase twin.old.order (committed D.shown twin.old)
+        (M.shown.image image.old) i }
+    ensures since { IsTrue D.shown.tells_images →
+        Runs D.shown (Becomes (Committable twin.new.phase twin.old.order
+        (committed D.shown twin.old) (M.shown.image image.old)))
+        twin.old.device twin.new.device }
+    ensures looks { Looks M.shown (held_count ranges.now) image.old image.new }
+    ensures only { OnlyWrites D.shown twin.old.device twin.new.device }
+    ensures does { Does D.shown (WithinHeap twin.old.order) twin.old.device twin.new.device }
+    ensures makes { Makes D.shown 0 (held_count ranges.now + 1) 2 twin.old.device twin.new.device
+        result }
+    ensures undo { twin.new.phase ≡ Phase.Undo →
+        SpendsAtMost D.shown (held_count ranges.now) 1 twin.old.device twin.new.device
+        × FailsBeforeCommit D.shown Phase.Clean twin.old.order (committed D.shown twin.old)
+        twin.old.device twin.new.device }
+    ensures doubt { twin.new.phase ≡ Phase.Doubt →
+        FailsAtCommit D.shown Phase.Clean twin.old.order (committed D.shown twin.old)
+        twin.old.device twin.new.device }
+{
+    twin.persist(ranges, image)?;
+    twin.commit()
+}
+
+/// Writes the changes to back, and ends the batch. The image is the new one, which is committed. A
+/// fault here changes no answer.
+pub fn finish_batch<D: Device, M: Look>(twin: &mut Twin<D>, ranges: &[Range], image: &mut M)
+    requires phase { twin.old.phase ≡ Phase.Committed }
+    requires image { length (M.shown.image image.old) ≡ region_len twin.old.order }
+    requires within { AreWithin (region_len twin.old.order) ranges.now }
+    requires main { IsTrue D.shown.tells_images →
+        main_now D.shown twin.old ≡ M.shown.image image.old }
+    requires but { IsTrue D.shown.tells_images →
+        SameBut ranges.now (committed D.shown twin.old) (M.shown.image image.old) }
+    ensures phase { (twin.new.phase ≡ Phase.Clean) ⊎ (twin.new.phase ≡ Phase.Redo) }
+    ensures order { twin.new.order ≡ twin.old.order }
+    ensures committed { IsTrue D.shown.tells_images →
+        committed D.shown twin.new ≡ M.shown.image image.old }
+    ensures images { IsTrue D.shown.tells_images → InPhase D.shown twin.new }
+    ensures since { IsTrue D.shown.tells_images →
+        Runs D.shown (Becomes (Counting twin.old.order (M.shown.image image.old)))
+        twin.old.device twin.new.device }
+    ensures looks { Looks M.shown (held_count ranges.now) image.old image.new }
+    ensures spends { IsUnfailed D.shown twin.old.device twin.new.device →
+        Spends D.shown (held_count ranges.now + 1) 1 twin.old.device twin.new.device }
+    ensures most { SpendsAtMost D.shown (held_count ranges.now + 1) 1
+        twin.old.device twin.new.device }
+    ensures only { OnlyWrites D.shown twin.old.device twin.new.device }
+    ensures does { Does D.shown (WithinHeap twin.old.order) twin.old.device twin.new.device }
+    ensures later { D.shown.faults twin.old.device ≤ D.shown.faults twin.new.device }
+    ensures cause { twin.new.phase ≡ Phase.Redo → FailedLast (D.shown.faults twin.old.device)
+        (D.shown.faults twin.new.device) (D.shown.failing twin.new.device) }
+{
+    if twin.copy(ranges, image).is_err() {
+        return;
+    }
+    let _ = twin.finish();
+}

@@ -1,0 +1,67 @@
+//! What a script was told, printed.
+ghost use Rattle.std.specs.Prelude.{◌≡◌, ◌⊎◌, ◌∷◌, []};
+ghost use Rattle.std.specs.List.{list_any};
+ghost use Rattle.rom_script.specs.Streams.{StopsWriting, WriteFailed};
+ghost use Rattle.rom_shell.specs.Run.{IsRunText};
+ghost use Rattle.rom_shell.specs.Statuses.{number_of};
+ghost use Rattle.rom_shell.specs.Statuses as statuses;
+
+use crate::status::Status;
+use rom_model::{Answer, LineResult, Reply, Updated};
+use rom_script::{Sink, print_run};
+
+fn is_unread(told: &LineResult<Reply, Answer>) -> bool
+    ensures { result ≡ statuses.is_unread told.now }
+{
+    matches!(told, LineResult::Unread)
+}
+
+fn is_faulted(told: &LineResult<Reply, Answer>) -> bool
+    ensures { result ≡ statuses.is_faulted told.now }
+{
+    matches!(told, LineResult::Update(Updated::Failed | Updated::Doubt))
+}
+
+fn any_unread(results: &[LineResult<Reply, Answer>]) -> bool
+    ensures { result ≡ list_any statuses.is_unread results.now }
+{
+    results.iter().any(|told| is_unread(told))
+}
+
+fn any_faulted(results: &[LineResult<Reply, Answer>]) -> bool
+    ensures { result ≡ list_any statuses.is_faulted results.now }
+{
+    results.iter().any(|told| is_faulted(told))
+}
+
+/// The status of results that are all printed.
+fn status_of(results: &[LineResult<Reply, Answer>]) -> Status
+    ensures { number_of result ≡ statuses.status_of (results.now ∷ []) }
+{
+    if any_faulted(results) {
+        Status::DeviceFailed
+    } else if any_unread(results) {
+        Status::Unread
+    } else {
+        Status::Done
+    }
+}
+
+/// Prints the results of the one script, and the count at closing.
+pub(crate) fn tell_results<O: Sink>(
+    out: &mut O,
+    results: &[LineResult<Reply, Answer>],
+    count: u64,
+) -> Status
+    ensures printed { IsRunText O.shown (results.now ∷ []) count out.old out.new (number_of result) }
+    ensures statuses { (result ≡ Status.Done) ⊎ (result ≡ Status.Unread)
+        ⊎ (result ≡ Status.SinkFailed) ⊎ (result ≡ Status.DeviceFailed) }
+    ensures sink_failed { result ≡ Status.SinkFailed → WriteFailed O.shown out.old out.new }
+    ensures writing { StopsWriting O.shown out.old out.new }
+    ensures rest { O.shown.rest out.new ≡ O.shown.rest out.old }
+{
+    match print_run(out, results, count) {
+        Err(_) => Status::SinkFailed,
+        Ok(()) => status_of(results),
+    }
+}

@@ -1,0 +1,12 @@
+//! A device that a command has worked on.
+
+use crate::session::Session;
+use crate::status::Status;
+
+/// The device after a command, how the command ended, and what it did on the heap, where one was
+/// opened or made.
+pub(crate) struct Worked<D> {
+    pub device: D,
+    pub status: Status,
+    pub session: Option<Session>,
+}
