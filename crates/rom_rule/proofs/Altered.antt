@@ -1,0 +1,78 @@
+-- A request that is changed, found by its caller's number.
+use Rattle.rom_model.specs.declared.kept.Kept.{Kept}
+use Rattle.std.proofs.Common.{◌≡◌, ◌≢◌, ℕ, zero, suc, ◌+◌, ◌*◌, ◌/◌, ◌%◌, ◌^◌, ◌<◌, ◌≤◌, ◌⊎◌, List, [], ◌∷◌, ◌++◌, map, take, length, get_or, set, sym, refl, ap, ◌∙◌, subst, inl, inr, ⊎_elim, arith, Bool, true, false, cond, eqb, eq-eqb, ne_eqb, append-nil, length-append, length-take, get_or-take}
+use Rattle.std.specs.Prelude.{filter, drop, ◌==◌, ◌&&◌, not}
+use Rattle.std.specs.List.{AllByRecursion}
+use Rattle.std.proofs.lemmas.List.Elements.{filter-append}
+use mathlib.Core.Logic.{dite}
+use mathlib.Core.Option.{some, some-injective, some-ne-none}
+use native.Mathlib.Decide.{ℕ_discrete}
+use lib.ListN.{get_elem?}
+use Rattle.atomic_table.proofs.Lists.{at_map, at_snoc, at_last}
+use Rattle.rom_model.specs.Seen.{StartsWith}
+use Rattle.rom_model.specs.declared.entry.Entry.{Entry}
+use Rattle.rom_model.specs.declared.record.Fate.{Fate}
+use Rattle.rom_model.specs.declared.record.Found.{Found}
+use Rattle.rom_model.specs.Passes.{fate_told}
+use Rattle.rom_rule.specs.CallKinds.{alter, answering}
+use Rattle.rom_rule.specs.Calls.{caller_in, is_owed, owed, owing}
+use Rattle.rom_rule.specs.Views.{Each}
+use Rattle.rom_rule.specs.declared.views.Request.{Request}
+use Rattle.rom_rule.proofs.Frames.{each_set, each_set_at, unseen}
+use Rattle.rom_rule.proofs.Slots.{put, put_here, put_else, kept_else, last_word, early, lies_more, changed, slot_word_here, slot_word_else, lies_else, slot_holds_else, knows_calls_else, open_else}
+use Rattle.rom_rule.proofs.Told.{starts_longer, starts_le, starts_at, starts_take, starts_more, at_front, at_low, at_some, all_at, all_append, all_map, at_numbered, length_numbered, numbered_more, fate_found, IsLate, fate_late, told_found, map_append, length_map, map_map, map_alike, at_mapped, scanned_more, scanned_up, scanned_one, OneOf, one_of, caller_of, one_told, owed_none, owed_alike, owed_all, all_filter}
+
+pub at_or : {A : Type 0} (l : List A) (i : ℕ) (d : A) → i < length l → get_elem? l i ≡ some (get_or l i d)
+at_or [] i d lt = absurd (omega arith)
+at_or (x ∷ xs) zero d lt = refl
+at_or (x ∷ xs) (suc i) d lt = at_or xs i d (omega arith)
+
+pub or_at : {A : Type 0} (l : List A) (i : ℕ) (a d : A) → get_elem? l i ≡ some a → get_or l i d ≡ a
+or_at [] i a d e = absurd (some-ne-none a (sym e))
+or_at (x ∷ xs) zero a d e = some-injective x a e
+or_at (x ∷ xs) (suc i) a d e = or_at xs i a d e
+
+pub at_split : {A : Type 0} (xs ys : List A) (i : ℕ) (a : A) → get_elem? (xs ++ ys) i ≡ some a → (get_elem? xs i ≡ some a) ⊎ ((j : ℕ) × (get_elem? ys j ≡ some a))
+at_split [] ys i a e = inr (i, e)
+at_split (x ∷ xs) ys zero a e = inl e
+at_split (x ∷ xs) ys (suc i) a e = at_split xs ys i a e
+
+-- the find of caller c, as g makes it
+module _ (c : ℕ) (g : Request → Request) where
+  alter_here : (f : Request) → f.caller ≡ c → alter c g f ≡ g f
+  alter_here f e = ap (λ (t : Bool). cond t (g f) f) (eq-eqb f.caller c e)
+
+  alter_else : (f : Request) → f.caller ≢ c → alter c g f ≡ f
+  alter_else f ne = ap (λ (t : Bool). cond t (g f) f) (ne_eqb f.caller c ne)
+
+  pub each_altered : (Q : Request → Type 0) (fs : List Request) → ((q : ℕ) (f : Request) → get_elem? fs q ≡ some f → f.caller ≡ c → Q (g f)) → ((q : ℕ) (f : Request) → get_elem? fs q ≡ some f → f.caller ≢ c → Q f) → Each (λ _. Q) (map (alter c g) fs)
+  each_altered Q fs here other q h e = let m = at_mapped (alter c g) fs q h e in let f : Request = m.0 in
+      dite (ℕ_discrete f.caller c) (λ is. subst Q (sym (alter_here f is) ∙ m.2) (here q f m.1 is)) (λ ne. subst Q (sym (alter_else f ne) ∙ m.2) (other q f m.1 ne))
+
+  pub callers_altered : (fs : List Request) → ((f : Request) → (g f).caller ≡ f.caller) → map caller_in (map (alter c g) fs) ≡ map caller_in fs
+  callers_altered fs same = map_map caller_in (alter c g) fs ∙ map_alike (λ f. caller_in (alter c g f)) caller_in fs (λ f. by_case f (eqb f.caller c))
+    where
+      by_case : (f : Request) (t : Bool) → (cond t (g f) f).caller ≡ f.caller
+      by_case f true = same f
+      by_case f false = refl
+
+  -- who is owed stays, where g leaves the caller and the answer
+  pub owed_kept : (d : ℕ) (fs : List Request) → ((f : Request) → is_owed d (g f) ≡ is_owed d f) → owed d (map (alter c g) fs) ≡ owed d fs
+  owed_kept d fs same = owed_alike d (alter c g) fs (λ f. by_case f (eqb f.caller c))
+    where
+      by_case : (f : Request) (t : Bool) → is_owed d (cond t (g f) f) ≡ is_owed d f
+      by_case f true = same f
+      by_case f false = refl
+
+pub owing_kept : (made : Bool) (d : ℕ) (fs gs : List Request) → owed d fs ≡ owed d gs → owing made d fs ≡ owing made d gs
+owing_kept true d fs gs e = e
+owing_kept false d fs gs e = refl
+
+-- the others are owed what they were, where the call of caller c is answered
+pub owed_other : (c d : ℕ) (fs : List Request) → d ≢ c → owed d (map (alter c answering) fs) ≡ owed d fs
+owed_other c d fs ne = owed_alike d (alter c answering) fs (λ f. dite (ℕ_discrete f.caller c)
+    (λ e. ap (is_owed d) (alter_here c answering f e) ∙ (no_and f.caller d (not true) (λ z. ne (sym z ∙ e)) ∙ sym (no_and f.caller d (not f.answered) (λ z. ne (sym z ∙ e)))))
+    (λ other. ap (is_owed d) (alter_else c answering f other)))
+  where
+    no_and : (x y : ℕ) (t : Bool) → x ≢ y → ((x == y) && t) ≡ false
+    no_and x y t differ = ap (λ (u : Bool). u && t) (ne_eqb x y differ)

@@ -1,0 +1,57 @@
+-- What a caller is told of its calls.
+use Rattle.rom_model.specs.declared.kept.Kept.{Kept}
+use Rattle.std.proofs.Common.{◌≡◌, ◌≢◌, ℕ, zero, suc, ◌+◌, ◌*◌, ◌/◌, ◌%◌, ◌^◌, ◌<◌, ◌≤◌, ◌⊎◌, List, [], ◌∷◌, ◌++◌, map, take, length, get_or, set, sym, refl, ap, ◌∙◌, subst, inl, inr, ⊎_elim, arith, Bool, true, false, cond, eqb, eq-eqb, ne_eqb, append-nil, length-append, length-take, get_or-take}
+use Rattle.std.specs.Prelude.{filter, drop, ◌==◌, ◌&&◌, not}
+use Rattle.std.specs.List.{AllByRecursion}
+use Rattle.std.proofs.lemmas.List.Elements.{filter-append}
+use mathlib.Core.Logic.{dite}
+use mathlib.Core.Option.{some, some-injective, some-ne-none}
+use native.Mathlib.Decide.{ℕ_discrete}
+use lib.ListN.{get_elem?}
+use Rattle.atomic_table.proofs.Lists.{at_map, at_snoc, at_last}
+use Rattle.rom_model.specs.Seen.{StartsWith}
+use Rattle.rom_model.specs.declared.entry.Entry.{Entry}
+use Rattle.rom_model.specs.declared.record.Fate.{Fate}
+use Rattle.rom_model.specs.declared.record.Found.{Found}
+use Rattle.rom_model.specs.Passes.{fate_told}
+use Rattle.rom_rule.specs.Calls.{Announced, IsLater, KnowsCalls, Lies, answer_words, found_in, numbered, owing, slot_word_at, told_to}
+use Rattle.rom_rule.specs.Views.{PlanCalls, Told, calls_in}
+use Rattle.rom_rule.specs.declared.views.View.{View}
+use Rattle.rom_rule.proofs.Frames.{each_set, each_set_at, unseen}
+use Rattle.rom_rule.proofs.Slots.{put, put_here, put_else, kept_else, last_word, early, lies_more, changed, slot_word_here, slot_word_else, lies_else, slot_holds_else, knows_calls_else, open_else}
+use Rattle.rom_rule.proofs.Told.{starts_longer, starts_le, starts_at, starts_take, starts_more, at_front, at_low, at_some, all_at, all_append, all_map, at_numbered, length_numbered, numbered_more, fate_found, IsLate, fate_late, told_found, map_append, length_map, map_map, map_alike, at_mapped, scanned_more, scanned_up, scanned_one, OneOf, one_of, caller_of, one_told, owed_none, owed_alike, owed_all, all_filter}
+use Rattle.rom_rule.proofs.Posting.{answers_le}
+use Rattle.rom_rule.proofs.Joining.{calls_only}
+
+module _ (P : List ℕ → Type 0) (callers count : ℕ) (slots : List ℕ) (sp : PlanCalls) where
+  module _ (views : List View) (r : Announced P callers slots count sp (map calls_in views)) where
+    -- what was told of a call, once its turn is even
+    pub learns : (id : ℕ) (v : View) → get_elem? views id ≡ some v → 0 < v.number → v.number ≤ callers → length v.calls ≡ length v.outcomes + 1 → slot_word_at slots v.number 0 % 2 ≡ 0
+        → (y : Told) × (get_elem? (told_to sp.told v.number) (length v.outcomes) ≡ some y) × (y.0 ≡ record { caller = v.number; seq = length v.outcomes; args = get_or v.calls (length v.outcomes) [] }) × IsLater count v.since y
+        × ((w : View) → calls_in w ≡ record (calls_in v) { outcomes = v.outcomes ++ y ∷ [] } → Announced P callers slots count sp (map calls_in (set views id w)))
+    learns id v at pos low open_now even = let c : ℕ = v.number in let k = r.views id (calls_in v) (at_map calls_in views id v at) in let t = r.each c pos low in let mine = k.mine pos in let same = ap length mine in let t₀ = t.given_le in let t₁ = t.one_open in let t₂ = t.turn in let t₃ = t.recorded in let k₀ = k.taken_le pos in
+        let i : ℕ = length v.outcomes in let all : r.given c ≡ length (r.calls c) = omega arith in let found = at_some (told_to sp.told c) i (omega arith) in let y : Told = found.0 in let le = answers_le P callers count slots sp c (r.calls c) (r.given c) (owing sp.made c sp.requests) (told_to sp.told c) t in
+        let first : get_elem? (numbered c 0 (r.calls c)) i ≡ some y.0 = starts_at (numbered c 0 (r.calls c)) (map found_in (told_to sp.told c)) i y.0 t.asked (at_map found_in (told_to sp.told c) i y found.1) in (
+          y,
+          found.1,
+          some-injective y.0 _ (sym first ∙ (at_numbered c 0 i (r.calls c) (omega arith) ∙ (λ z. some record { caller = c; seq = (let e : 0 + i ≡ i = omega arith in e) z; args = get_or (sym mine z) i [] }))),
+          k.since y pos found.1,
+          λ w is. calls_only P callers count slots sp views r id w (subst (KnowsCalls callers slots count r.calls r.given r.closed sp) (sym is) record {
+            live = k.live;
+            joined = k.joined;
+            mine = k.mine;
+            outcomes = λ _. starts_more (told_to sp.told c) v.outcomes y (k.outcomes pos) found.1;
+            taken_le = λ _. omega (arith, length-append v.outcomes (y ∷ []));
+            laid_there = k.laid_there;
+            laid_few = k.laid_few;
+            since_le = k.since_le;
+            since = λ z _ here. let lt = at_low (told_to sp.told c) (length (v.outcomes ++ y ∷ [])) z here in absurd (omega (arith, length-append v.outcomes (y ∷ [])));
+          }),
+        )
+
+    -- the last answer stands in the slot
+    pub takes : (id : ℕ) (v : View) (before : List Told) (y : Told) → get_elem? views id ≡ some v → 0 < v.number → v.number ≤ callers → length v.calls ≡ length v.outcomes → v.outcomes ≡ before ++ y ∷ []
+        → (length (answer_words y.1) ≤ 22) × Lies slots v.number 42 (answer_words y.1)
+    takes id v before y at pos low none_open is = let c : ℕ = v.number in let k = r.views id (calls_in v) (at_map calls_in views id v at) in let t = r.each c pos low in let mine = k.mine pos in let same = ap length mine in let t₀ = t.given_le in let k₀ = k.taken_le pos in
+        let many = ap length is in let more = length-append before (y ∷ []) in
+        t.answered (length before) y (omega arith) (omega arith) (starts_at (told_to sp.told c) v.outcomes (length before) y (k.outcomes pos) (subst (λ (l : List Told). get_elem? l (length before) ≡ some y) (sym is) (at_last before y (length before) refl)))

@@ -1,0 +1,255 @@
+-- Each kind of step keeps the rule
+use Rattle.rom_model.specs.Blocks.{region_len}
+use Rattle.std.proofs.Common.{◌≡◌, ◌≢◌, ℕ, ◌+◌, ◌-◌, ◌*◌, ◌%◌, ◌^◌, ◌<◌, ◌≤◌, List, [], ◌∷◌, map, length, get_or, set, sym, refl, ap, ◌∙◌, subst, ⊎_elim, arith, Option, length-set, get_or-set_other, get_or-set_same, eq-eqb, ne_eqb, eqb, cond, Bool, true, false}
+use mathlib.Core.Logic.{dite}
+use mathlib.Core.Option.{some}
+use native.Mathlib.Decide.{ℕ_discrete}
+use lib.ListN.{get_elem?}
+use lib.Seq.{set-get_or, map-set}
+use Rattle.atomic_table.specs.Table.{State, Me, step, keeps, Allows}
+use mathlib.Core.Option.{none}
+use Rattle.atomic_table.proofs.Lists.{at_set, at_map}
+use Rattle.rom_model.specs.declared.entry.Entry.{Entry}
+use Rattle.rom_rule.specs.Calls.{Announced}
+use Rattle.rom_rule.specs.Kinds.{HasArrived, HoldsVersion, IsOut, IsReading, StandsAt, arrived, departed, entering, loaded_image, loaded_side, loaded_version, moved}
+use Rattle.rom_rule.specs.Places.{Shown, back_at, indicator_at, indicator_count, indicator_of, main_at, shown, side_at, slots_at, version_at, word_at}
+use Rattle.rom_rule.specs.Readers.{CountsArrivals, Differ, HoldsNothing, IsNumbered, IsWritten, KeepsImage, ReadsNamedSide, Stands, hit, stands, total}
+use Rattle.rom_rule.specs.Records.{IsCall, IsFront, Remembers}
+use Rattle.rom_rule.specs.Rule.{IsOnlyPlan, IsRuled}
+use Rattle.rom_rule.specs.Views.{CallerCalls, Each, base_in, book_in, calls_in, image_of, indicator_in, is_reading, number_in, plan_calls, plan_in, position_in, reading_in, records_of, remembered_in, side_of, side_read, version_of}
+use Rattle.rom_rule.specs.declared.views.Base.{Base}
+use Rattle.rom_rule.specs.declared.views.Position.{Position}
+use Rattle.rom_rule.specs.declared.views.Position.TheVariants.{Arrived, Holds, Out, Reads}
+use Rattle.rom_rule.specs.declared.views.View.{View}
+use Rattle.rom_rule.proofs.Frames.{frame, each_set, each_at, total_set}
+use Rattle.rom_rule.proofs.Parts.{part_get, part_long, shown_indicators}
+use Rattle.rom_rule.proofs.Crowd.{crowd}
+use Rattle.rom_rule.proofs.Told.{all_append}
+use Rattle.rom_rule.proofs.Joining.{same_calls}
+use Rattle.rom_rule.proofs.Books.{front_now}
+
+-- facts on positions
+stands_one : (i v : ℕ) → i ≢ v → hit v i ≡ 0
+stands_one i v ne = ap (λ (c : Bool). let z : ℕ = cond c 1 0 in z) (ne_eqb v i (λ e. ne (sym e)))
+
+pub stands_here : (v : ℕ) → hit v v ≡ 1
+stands_here v = ap (λ (c : Bool). let z : ℕ = cond c 1 0 in z) (eq-eqb v v refl)
+
+light : (i : ℕ) (p : Position) → stands i p ≤ 1
+light i Out = omega arith
+light i (Holds v) = omega arith
+light i (Arrived v) = dite (ℕ_discrete i v) (λ e. let h = stands_here v in subst (λ (k : ℕ). hit v k ≤ 1) (sym e) (omega arith)) (λ n. let h = stands_one i v n in omega arith)
+light i (Reads v s f image) = dite (ℕ_discrete i v) (λ e. let h = stands_here v in subst (λ (k : ℕ). hit v k ≤ 1) (sym e) (omega arith)) (λ n. let h = stands_one i v n in omega arith)
+
+not_out : (i : ℕ) (p : Position) → 0 < stands i p → p ≢ Out
+not_out i p h e = let z : stands i p ≡ 0 = ap (stands i) e in omega arith
+
+-- it stands at one indicator at most
+elsewhere : (i v : ℕ) (p : Position) → stands v p ≡ 1 → i ≢ v → stands i p ≡ 0
+elsewhere i v Out h ne = refl
+elsewhere i v (Holds w) h ne = refl
+elsewhere i v (Arrived w) h ne = dite (ℕ_discrete v w) (λ e. stands_one i w (λ d. ne (d ∙ sym e))) (λ n. let z = stands_one v w n in absurd (omega arith))
+elsewhere i v (Reads w s f image) h ne = dite (ℕ_discrete v w) (λ e. stands_one i w (λ d. ne (d ∙ sym e))) (λ n. let z = stands_one v w n in absurd (omega arith))
+
+module _ {S : Type 0} (Contents : ℕ → List ℕ → S → ℕ → Type 0) (go : ℕ → S → ℕ → List ℕ → Option (S × List ℕ)) (b : Base) where
+  abbrev pub St : Type 0
+  St = State ℕ View
+
+  abbrev pub M : Type 0
+  M = Me ℕ View
+
+  abbrev pub R : St → Type 0
+  R = IsRuled Contents go b
+
+  abbrev pub after_step : St → List ℕ → ℕ → View → St
+  after_step s ws id w = record { words = ws; homes = s.homes; views = set s.views id w }
+
+  -- the number that stands at an indicator, after a step of one view
+  pub weigh : (i : ℕ) (views : List View) (id : ℕ) (v w : View) → get_elem? views id ≡ some v
+      → total (stands i) (map position_in (set views id w)) + stands i v.position ≡ total (stands i) (map position_in views) + stands i w.position
+  weigh i views id v w at = ap (λ (l : List Position). total (stands i) l + stands i v.position) (map-set position_in views id w) ∙ total_set (stands i) (map position_in views) id v.position w.position (at_map position_in views id v at)
+
+  total_map : (i : ℕ) (views : List View) → total (stands i) (map position_in views) ≡ total (λ (v : View). stands i v.position) views
+  total_map i [] = refl
+  total_map i (v ∷ vs) = ap (λ (k : ℕ). stands i v.position + k) (total_map i vs)
+
+  -- no indicator counts more than 16
+  at_most : (s : St) (r : R s) (i : ℕ) → total (stands i) (map position_in s.views) ≤ 16
+  at_most s r i = let l = r.limits in let l₀ = l.0 in let l₁ = l.1 in
+      let c = crowd (λ (v : View). stands i v.position) number_in r.plan.dealt s.views (λ v. light i v.position) (λ j v e p. r.seats.standing j v e (not_out i v.position p))
+      (λ j v e. each_at (λ _ n. n ≤ r.plan.dealt) number_in s.views j v e r.seats.given) r.seats.differ in
+      let m = total_map i s.views in omega arith
+
+  abbrev pub AnnouncedIn : (s : St) → R s → List ℕ → List CallerCalls → Type 0
+  AnnouncedIn s r slots all_calls = Announced (IsCall go b) b.callers slots r.count (plan_calls r.plan) all_calls
+
+  -- what stays the same at each step of a caller's
+  unfoldable pub caller_step : (s : St) (r : R s) (id : ℕ) (v w : View) (ws : List ℕ) → get_elem? s.views id ≡ some v → w.base ≡ v.base → w.plan ≡ v.plan → w.number ≡ v.number → length ws ≡ length s.words
+      → CountsArrivals b.callers (shown b ws).indicators (map position_in (set s.views id w)) → KeepsImage Contents go b r.plan.main r.plan.back w.position w.seen → IsWritten Contents go b r.start r.count (shown b ws) r.plan
+      → ReadsNamedSide b.callers r.plan w.position → Remembers r.count (book_in r.plan) (remembered_in w) → AnnouncedIn s r (shown b ws).slots (map calls_in (set s.views id w)) → IsNumbered w → (HoldsNothing v → HoldsNothing w) → R (after_step s ws id w)
+  caller_step s r id v w ws at base plan_same number wide counts image written behind memory announced holder bare = record {
+    plan = r.plan;
+    writer = r.writer;
+    start = r.start;
+    count = r.count;
+    opening = r.opening;
+    wide = wide ∙ r.wide;
+    limits = r.limits;
+    bases = frame base_in (Each (λ _ c. c ≡ b)) s.views id v w at base r.bases;
+    plans = frame plan_in (Each (IsOnlyPlan r.plan r.writer)) s.views id v w at plan_same r.plans;
+    arrivals = counts;
+    images = each_set (λ _ c. KeepsImage Contents go b r.plan.main r.plan.back c.0 c.1) (λ _ c. KeepsImage Contents go b r.plan.main r.plan.back c.0 c.1) reading_in s.views id w (λ _ _ _ h. h) image r.images;
+    written = written;
+    named = each_set (λ _. ReadsNamedSide b.callers r.plan) (λ _. ReadsNamedSide b.callers r.plan) position_in s.views id w (λ _ _ _ h. h) behind r.named;
+    remembered = each_set (λ _. Remembers r.count (book_in r.plan)) (λ _. Remembers r.count (book_in r.plan)) remembered_in s.views id w (λ _ _ _ h. h) memory r.remembered;
+    recorded = r.recorded;
+    announced = announced;
+    seats = record {
+      differ = frame number_in Differ s.views id v w at number r.seats.differ;
+      given = frame number_in (Each (λ _ n. n ≤ r.plan.dealt)) s.views id v w at number r.seats.given;
+      standing = λ j c e. ⊎_elim (λ (t : (j ≡ id) × (w ≡ c)). subst IsNumbered t.1 holder) (λ (t : (j ≢ id) × (get_elem? s.views j ≡ some c)). r.seats.standing j c t.1) (at_set s.views id j w c e);
+      bare = λ j c e. ⊎_elim (λ (t : (j ≡ id) × (w ≡ c)). subst HoldsNothing t.1 (bare (r.seats.bare id v at))) (λ (t : (j ≢ id) × (get_elem? s.views j ≡ some c)). r.seats.bare j c t.1) (at_set s.views id j w c e);
+    };
+  }
+
+  -- calls, where a step leaves them and the slots
+  pub announced_on : (s : St) (r : R s) (id : ℕ) (v w : View) (slots : List ℕ) → get_elem? s.views id ≡ some v → slots ≡ (shown b s.words).slots → calls_in w ≡ calls_in v → AnnouncedIn s r slots (map calls_in (set s.views id w))
+  announced_on s r id v w slots at same same_calls_too = subst (λ (l : List ℕ). AnnouncedIn s r l (map calls_in (set s.views id w))) (sym same) (same_calls (IsCall go b) b.callers r.count (shown b s.words).slots (plan_calls r.plan) s.views r.announced id v w at same_calls_too)
+
+  pub remembered_of : (s : St) (r : R s) (id : ℕ) (v : View) → get_elem? s.views id ≡ some v → Remembers r.count (book_in r.plan) (remembered_in v)
+  remembered_of s r id v at = each_at (λ _. Remembers r.count (book_in r.plan)) remembered_in s.views id v at r.remembered
+
+  pub reload : (s : St) (i id : ℕ) (w : View) → R (after_step s s.words id w) → R (after_step s (set s.words i (get_or s.words i 0)) id w)
+  reload s i id w r = subst (λ (ws : List ℕ). R (after_step s ws id w)) (sym (set-get_or s.words i 0)) r
+
+  -- the word of an indicator is the number of views that stand there
+  pub indicator_is : (s : St) (r : R s) (i : ℕ) → i < indicator_count b.callers → get_or s.words (2 + i) 0 ≡ total (stands i) (map position_in s.views)
+  unfolding shown
+  indicator_is s r i low = sym (part_get 2 (indicator_count b.callers) s.words i low) ∙ r.arrivals i low
+
+  pub indicators_long : (s : St) (r : R s) → length (shown b s.words).indicators ≡ indicator_count b.callers
+  unfolding shown
+  indicators_long s r = let w = r.wide in part_long 2 (indicator_count b.callers) s.words (omega arith)
+
+  -- a step on the indicator v, after which the view stands there or not
+  counted : (s : St) (r : R s) (id v x : ℕ) (u w : View) → get_elem? s.views id ≡ some u → v < indicator_count b.callers → x + stands v u.position ≡ get_or s.words (2 + v) 0 + stands v w.position
+      → ((i : ℕ) → i ≢ v → stands i u.position ≡ stands i w.position) → CountsArrivals b.callers (shown b (set s.words (2 + v) x)).indicators (map position_in (set s.views id w))
+  counted s r id v x u w at low sum others i lt = let here = weigh i s.views id u w at in ap (λ (t : Shown). get_or t.indicators i 0) (shown_indicators b s.words v x low) ∙ dite (ℕ_discrete i v)
+      (λ e. let was = indicator_is s r v low in let now = weigh v s.views id u w at in
+      subst (λ (k : ℕ). get_or (set (shown b s.words).indicators v x) k 0 ≡ total (stands k) (map position_in (set s.views id w))) (sym e)
+      (get_or-set_same (shown b s.words).indicators v x 0 (omega (arith, indicators_long s r)) ∙ omega arith))
+      (λ n. get_or-set_other (shown b s.words).indicators v i x 0 n ∙ (let c = r.arrivals i lt in let o = others i n in omega arith))
+
+  -- what the other words show stays
+  beside : (s : St) (r : R s) (v x : ℕ) → v < indicator_count b.callers → IsWritten Contents go b r.start r.count (shown b (set s.words (2 + v) x)) r.plan
+  beside s r v x low = let k = r.written in subst (λ (t : Shown). IsWritten Contents go b r.start r.count t r.plan) (sym (shown_indicators b s.words v x low)) record {
+    side = k.side;
+    version = k.version;
+    main = k.main;
+    back = k.back;
+    side_low = k.side_low;
+    version_low = k.version_low;
+    published = k.published;
+  }
+
+  pub still : (s : St) (r : R s) (id : ℕ) (v w : View) → get_elem? s.views id ≡ some v → ((i : ℕ) → stands i v.position ≡ stands i w.position) → CountsArrivals b.callers (shown b s.words).indicators (map position_in (set s.views id w))
+  still s r id v w at same i low = let h = weigh i s.views id v w at in let e = same i in let c = r.arrivals i low in omega arith
+
+  -- a caller loads `version`
+  pub loads_version : (slots id : ℕ) (me : M) → IsOut me.0 → Allows R slots id me version_at (λ n. n) (loaded_version (step slots version_at 0 0 none) me)
+  unfolding shown
+  loads_version slots id me can s r _ at _ = let out = can.0 in let mark = can.1 in let v = me.0 in let found : ℕ = get_or s.words 1 0 in let w : View = moved v (Holds found) in let k = r.written in let is = k.version in let low = k.version_low in (
+    w,
+    keeps,
+    tt,
+    reload s 1 id w (caller_step s r id v w s.words at refl refl refl refl (still s r id v w at (λ i. ap (stands i) out)) tt r.written tt (remembered_of s r id v at) (announced_on s r id v w (shown b s.words).slots at refl refl) (λ _. mark) (λ h. h)),
+    (omega arith, refl),
+  )
+
+  -- it arrives
+  pub arrives : (slots id : ℕ) (me : M) (v : ℕ) → HoldsVersion me.0 v → Allows R slots id me (indicator_at (indicator_of me.0.number v)) (λ n. (n + 1) % 2 ^ 64) (arrived (step slots (indicator_at (indicator_of me.0.number v)) 1 0 none) me)
+  arrives slots id me v can s r _ at fits = let holds = can.0 in let low = can.1 in let mark = can.2 in let u = me.0 in let n : ℕ = get_or s.words (2 + v) 0 in let x : ℕ = (n + 1) % 18446744073709551616 in let w : View = moved u (Arrived v) in
+      let count = indicator_is s r v low in let few = at_most s r v in let is : x ≡ n + 1 = omega arith in let none_yet : stands v u.position ≡ 0 = ap (stands v) holds in let one = stands_here v in (
+        w,
+        keeps,
+        tt,
+        caller_step s r id u w (set s.words (2 + v) x) at refl refl refl (length-set s.words (2 + v) x) (counted s r id v x u w at low (omega arith) (λ i ne. ap (stands i) holds ∙ sym (stands_one i v ne))) tt (beside s r v x low) tt
+            (remembered_of s r id u at) (announced_on s r id u w (shown b (set s.words (2 + v) x)).slots at (ap (λ (t : Shown). t.slots) (shown_indicators b s.words v x low)) refl) (λ _. mark) (λ h. h),
+        ap (λ (p : Position). let z : M = (moved u (Arrived (version_of p)), me.1) in z) (sym holds),
+      )
+
+  -- it loads `side`
+  pub loads_side : (slots id : ℕ) (me : M) (v : ℕ) → HasArrived me.0 v → Allows R slots id me side_at (λ n. n) (loaded_side Contents go (step slots side_at 0 0 none) me)
+  unfolding shown
+  loads_side slots id me v can s r _ at _ = let arrived_at = can.0 in let v_low = can.1 in let mark = can.2 in let u = me.0 in let k = r.written in let found : ℕ = get_or s.words 0 0 in let p = r.plan in let is : found ≡ p.side = k.side in let low = k.side_low in let image : List ℕ = side_of p.side p.main p.back in
+      let f : ℕ = r.count + length p.history in let w : View = entering u v found f image p.history in let same : u.base ≡ b = each_at (λ _ c. c ≡ b) base_in s.views id u at r.bases in let m = remembered_of s r id u at in
+      let whole : Stands Contents go b image p.history f = record { start = r.start; count = r.count; opening = r.opening; front_is = refl; held = k.published } in (
+        w,
+        keeps,
+        tt,
+        reload s 0 id w (caller_step s r id u w s.words at refl refl refl refl (still s r id u w at (λ i. ap (λ (q : Position). stands i q) arrived_at)) (ap (λ (z : ℕ). side_of z p.main p.back) (sym is), omega arith, p.history, ([], sym (mathlib.Core.List.append-nil p.history)), whole) r.written (v_low, λ _. is)
+            record {
+              seen = ([], sym (mathlib.Core.List.append-nil p.history));
+              fronts = all_append (IsFront r.count (records_of p)) u.fronts (f ∷ []) m.fronts (front_now Contents go b r.start r.count (book_in p) r.recorded, tt);
+              joined = m.joined;
+            }
+            (announced_on s r id u w (shown b s.words).slots at refl refl) (λ _. mark) (λ _ none. absurd (omega arith))),
+        (
+          f,
+          image,
+          p.history,
+          omega arith,
+          m.seen,
+          subst (λ (z : Base). Stands Contents go z image p.history f) (sym same) whole,
+          ap (λ (q : Position). let z : M = (entering u (indicator_in q) found f image p.history, me.1) in z) (sym arrived_at),
+        ),
+      )
+
+  -- the word of a side
+  pub side_word : (s : St) (r : R s) (side at i : ℕ) → side < 2 → at < region_len b.order → i ≡ word_at b.order b.callers side at → get_or s.words i 0 ≡ get_or (side_of side r.plan.main r.plan.back) at 0
+  unfolding shown
+  side_word s r side at i low inside is = let n : ℕ = region_len b.order in let k : ℕ = slots_at b.callers + 64 * b.callers in ap (λ (j : ℕ). get_or s.words j 0) is ∙ by_side (eqb side 0)
+    where
+      by_side : (c : Bool) → get_or s.words (cond c (main_at b.order b.callers at) (back_at b.order b.callers at)) 0 ≡ get_or (cond c r.plan.main r.plan.back) at 0
+      by_side true = sym (part_get (slots_at b.callers + 64 * b.callers) (region_len b.order) s.words at inside) ∙ ap (λ (l : List ℕ). get_or l at 0) r.written.main
+      by_side false = sym (part_get (slots_at b.callers + 64 * b.callers + region_len b.order) (region_len b.order) s.words at inside) ∙ ap (λ (l : List ℕ). get_or l at 0) r.written.back
+
+  -- what the rule says of a view that loads_image
+  pub image_kept : (main back : List ℕ) (p : Position) (seen : List Entry) → is_reading p ≡ true → KeepsImage Contents go b main back p seen → (image_of p ≡ side_of (side_read p) main back) × (side_read p < 2)
+  image_kept main back Out seen h k = cc
+  image_kept main back (Holds v) seen h k = cc
+  image_kept main back (Arrived v) seen h k = cc
+  image_kept main back (Reads v s f image) seen h k = (k.0, k.1)
+
+  -- it loads a word of the side that it reads
+  pub loads_image : (slots id : ℕ) (me : M) (i : ℕ) → IsReading me.0 → Allows R slots id me i (λ n. n) (loaded_image (step slots i 0 0 none) me)
+  loads_image slots id me i can s r _ there _ = let reading = can.0 in let mark = can.1 in let u = me.0 in let w : View = moved u u.position in let same : u.base ≡ b = each_at (λ _ c. c ≡ b) base_in s.views id u there r.bases in
+      let kept = each_at (λ _ c. KeepsImage Contents go b r.plan.main r.plan.back c.0 c.1) reading_in s.views id u there r.images in let known = image_kept r.plan.main r.plan.back u.position u.seen reading kept in (
+        w,
+        keeps,
+        tt,
+        reload s i id w (caller_step s r id u w s.words there refl refl refl refl (still s r id u w there (λ j. refl)) kept r.written (each_at (λ _. ReadsNamedSide b.callers r.plan) position_in s.views id u there r.named) (remembered_of s r id u there) (announced_on s r id u w (shown b s.words).slots there refl refl) (λ _. mark) (λ h. h)),
+        (
+          refl,
+          λ at inside is. side_word s r (side_read u.position) at i known.1 (subst (λ (z : Base). at < region_len z.order) same inside) (is ∙ ap (λ (z : Base). word_at z.order z.callers (side_read u.position) at) same)
+              ∙ ap (λ (l : List ℕ). get_or l at 0) (sym known.0),
+        ),
+      )
+
+  -- it departs
+  pub departs : (slots id : ℕ) (me : M) (v : ℕ) → StandsAt me.0 v → Allows R slots id me (indicator_at v) (λ n. (n + (2 ^ 64 - 1)) % 2 ^ 64) (departed (step slots (indicator_at v) 1 0 none) me)
+  departs slots id me v can s r _ at fits = let here = can.0 in let low = can.1 in let u = me.0 in let n : ℕ = get_or s.words (2 + v) 0 in let x : ℕ = (n + 18446744073709551615) % 18446744073709551616 in let w : View = moved u Out in
+      let count = indicator_is s r v low in let now = weigh v s.views id u w at in let is : x + 1 ≡ n = omega arith in (
+        w,
+        keeps,
+        tt,
+        caller_step s r id u w (set s.words (2 + v) x) at refl refl refl (length-set s.words (2 + v) x) (counted s r id v x u w at low (omega arith) (λ i ne. elsewhere i v u.position here ne)) tt (beside s r v x low) tt
+            (remembered_of s r id u at) (announced_on s r id u w (shown b (set s.words (2 + v) x)).slots at (ap (λ (t : Shown). t.slots) (shown_indicators b s.words v x low)) refl) (λ h. absurd (h refl)) (λ h. h),
+        refl,
+      )
+
+pub reading_stands : (v : ℕ) (p : Position) → is_reading p ≡ true → v ≡ indicator_in p → stands v p ≡ 1
+reading_stands v Out h e = cc
+reading_stands v (Holds w) h e = cc
+reading_stands v (Arrived w) h e = cc
+reading_stands v (Reads w s f image) h e = subst (λ (k : ℕ). hit w k ≡ 1) (sym e) (stands_here w)

@@ -1,0 +1,78 @@
+-- Where the shared words stand, and what they are for.
+use Rattle.std.specs.Prelude.{ℕ, ◌+◌, ◌-◌, ◌*◌, ◌≤◌, List, ◌++◌, take, drop, slice_index, slice_set, replicate, ◌==◌, if◌then◌else◌}
+use Rattle.rom_model.specs.Blocks.{region_len}
+use Rattle.rom_rule.specs.declared.views.Base.{Base}
+
+-- how many callers a table may have
+abbrev pub AreCallers : ℕ → Type 0
+AreCallers callers = (1 ≤ callers) × (callers ≤ 16)
+
+-- the word that names the side that readers are sent to, and the one that names the version of the indicator that they arrive at
+abbrev pub side_at : ℕ
+side_at = 0
+
+abbrev pub version_at : ℕ
+version_at = 1
+
+-- how many read indicators there are
+abbrev pub indicator_count : ℕ → ℕ
+indicator_count callers = 2
+
+-- the indicator at which a caller that has loaded this version arrives, and the version of an indicator
+abbrev pub indicator_of : ℕ → ℕ → ℕ
+indicator_of caller version = version
+
+abbrev pub version_of_indicator : ℕ → ℕ
+version_of_indicator k = k
+
+abbrev pub indicator_at : ℕ → ℕ
+indicator_at k = 2 + k
+
+-- where the first slot begins; a slot has 64 words
+abbrev pub slots_at : ℕ → ℕ
+slots_at callers = 2 + indicator_count callers
+
+-- word j of the slot of caller c
+abbrev pub slot_at : ℕ → ℕ → ℕ → ℕ
+slot_at callers c j = slots_at callers + (64 * (c - 1) + j)
+
+-- Of a heap's order and a number of callers:
+module _ (order callers : ℕ) where
+  abbrev pub main_at : ℕ → ℕ
+  main_at i = slots_at callers + 64 * callers + i
+
+  abbrev pub back_at : ℕ → ℕ
+  back_at i = slots_at callers + 64 * callers + region_len order + i
+
+  -- word i of a side: 0 is main, 1 is back
+  abbrev pub word_at : ℕ → ℕ → ℕ
+  word_at side i = if side == 0 then main_at i else back_at i
+
+  abbrev pub table_len : ℕ
+  table_len = slots_at callers + 64 * callers + 2 * region_len order
+
+-- The words by what they are for.
+pub record Shown : Type 0 where
+  pub side : ℕ
+  pub version : ℕ
+  pub indicators : List ℕ
+  pub slots : List ℕ
+  pub main : List ℕ
+  pub back : List ℕ
+
+abbrev pub part : ℕ → ℕ → List ℕ → List ℕ
+part from count words = take count (drop from words)
+
+unfoldable pub shown : Base → List ℕ → Shown
+shown b words = record {
+  side = slice_index words 0;
+  version = slice_index words 1;
+  indicators = part 2 (indicator_count b.callers) words;
+  slots = part (slots_at b.callers) (64 * b.callers) words;
+  main = part (slots_at b.callers + 64 * b.callers) (region_len b.order) words;
+  back = part (slots_at b.callers + 64 * b.callers + region_len b.order) (region_len b.order) words;
+}
+
+-- The words at the opening: readers are sent to back, no call is posted, and both sides hold the image.
+abbrev pub opening_words : ℕ → List ℕ → List ℕ
+opening_words callers image = (slice_set (replicate (slots_at callers + 64 * callers) 0) side_at 1 ++ image) ++ image

@@ -1,0 +1,36 @@
+-- What the rule says of the published history: it is that of the records, and what views know of it is true.
+use Rattle.std.specs.Prelude.{◌≡◌, ℕ, ◌+◌, ◌≤◌, List, take, length, Option, IsSome}
+use Rattle.std.specs.List.{AllByRecursion}
+use Rattle.rom_model.specs.Passes.{history_of, all_told, AreInOrder}
+use Rattle.rom_model.specs.Seen.{StartsWith}
+use Rattle.rom_model.specs.Story.{len_after}
+use Rattle.rom_model.specs.declared.kept.Kept.{Kept}
+use Rattle.rom_model.specs.declared.record.PassRecord.{PassRecord}
+use Rattle.rom_rule.specs.declared.views.Base.{Base}
+use Rattle.rom_rule.specs.Views.{Book, Remembered}
+
+-- a front is the count at the opening or after a pass
+abbrev pub IsFront : ℕ → List PassRecord → ℕ → Type 0
+IsFront count records front = (i : ℕ) × (i ≤ length records) × (front ≡ count + len_after 0 (take i records))
+
+-- what a joined view had seen begins the published history, and the fronts that it had are fronts
+abbrev pub IsKept : ℕ → Book → Kept → Type 0
+IsKept count book k = StartsWith book.history k.seen × AllByRecursion (IsFront count book.records) k.fronts
+
+-- Each history that a view has seen, also one that a join has kept, begins the published history. Each front that a view had, also one that a join has kept, is the count at a boundary of the records.
+pub record Remembers (count : ℕ) (book : Book) (m : Remembered) : Type 0 where
+  pub seen : StartsWith book.history m.seen
+  pub fronts : AllByRecursion (IsFront count book.records) m.fronts
+  pub joined : AllByRecursion (IsKept count book) m.joined
+
+module _ {S : Type 0} (step : ℕ → S → ℕ → List ℕ → Option (S × List ℕ)) where
+  -- the words are those of a call
+  abbrev pub IsCall : Base → List ℕ → Type 0
+  IsCall b args = (s : S) (k : ℕ) → IsSome (step b.order s k args)
+
+  -- The published history is the one that the records make, from the opening state and count, and what is told is what they told. They are in order, and the first begins with at least the opening count of faults. Each found call has the words of a call.
+  pub record Recorded (b : Base) (start : S) (count : ℕ) (book : Book) : Type 0 where
+    pub made : book.history ≡ history_of step b.order start count book.records
+    pub told : book.told ≡ all_told step b.order start count book.records
+    pub in_order : AreInOrder step b.order start count 0 b.faults book.records
+    pub calls : AllByRecursion (λ r. AllByRecursion (λ f. IsCall b f.args) r.found) book.records

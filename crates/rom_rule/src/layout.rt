@@ -1,0 +1,108 @@
+//! Where each word stands in the shared table.
+ghost use Rattle.std.specs.Prelude.{◌≡◌, ◌^◌, ◌<◌, ◌≤◌};
+ghost use Rattle.rom_model.specs.Blocks.{IsOrder, region_len};
+ghost use Rattle.rom_rule.specs.Places.{AreCallers, side_at, version_at, indicator_at, slot_at, main_at, back_at, table_len};
+
+use rom_model::region_len;
+
+/// The number of words of a caller's slot.
+const SLOT: u64 = 64;
+
+/// The places of the words of one shared table. Every place is the word's number in the table.
+#[derive(Clone, Copy, Debug, PartialEq, Eq)]
+pub struct Layout {
+    order: u32,
+    callers: u32,
+    ghost fits: { (4 ≤ order) × (order ≤ 16) × (1 ≤ callers) × (callers ≤ 16) },
+}
+
+impl Layout {
+    /// The layout for a heap's order, from 4 to 16, and a number of callers, from 1 to 16.
+    pub fn new(order: u32, callers: u32) -> Layout
+        requires order { IsOrder order }
+        requires callers { AreCallers callers }
+        ensures is { (result.order ≡ order) × (result.callers ≡ callers) }
+    {
+        Layout { order, callers }
+    }
+
+    /// The heap's order.
+    pub fn order(&self) -> u32
+        ensures is { result ≡ self.now.order }
+        ensures fits { IsOrder result }
+    {
+        self.order
+    }
+
+    /// The number of callers.
+    pub fn callers(&self) -> u32
+        ensures is { result ≡ self.now.callers }
+        ensures fits { AreCallers result }
+    {
+        self.callers
+    }
+
+    /// The number of words of the table.
+    pub fn len(&self) -> u64
+        ensures is { result ≡ table_len self.now.order self.now.callers }
+    {
+        self.slots() + SLOT * self.callers as u64 + 2 * region_len(self.order)
+    }
+
+    /// The word that names the side that readers are sent to: 0 is main, 1 is back.
+    pub fn side(&self) -> u64
+        ensures is { result ≡ side_at }
+    {
+        0
+    }
+
+    /// The word that names the indicator that readers arrive at: 0 or 1.
+    pub fn version(&self) -> u64
+        ensures is { result ≡ version_at }
+    {
+        1
+    }
+
+    /// The read indicator of a version: how many readers have arrived at it and not yet departed.
+    pub fn indicator(&self, version: u64) -> u64
+        requires version { version < 2 }
+        ensures is { result ≡ indicator_at version }
+    {
+        2 + version
+    }
+
+    // where the first slot begins
+    fn slots(&self) -> u64
+        ensures is { result ≡ slot_at self.now.callers 1 0 }
+    {
+        4
+    }
+
+    /// Word j, below 64, of the slot in which a caller posts its calls and finds their answers;
+    /// callers are numbered from 1.
+    pub fn slot(&self, caller: u32, j: u64) -> u64
+        requires caller { (1 ≤ caller) × (caller ≤ self.now.callers) }
+        requires word { j < 64 }
+        ensures is { result ≡ slot_at self.now.callers caller j }
+    {
+        self.slots() + SLOT * (caller as u64 - 1) + j
+    }
+
+    /// Word `at` of shared main, an offset from the region's start.
+    pub fn main(&self, at: u64) -> u64
+        requires inside { at < region_len self.now.order }
+        ensures is { result ≡ main_at self.now.order self.now.callers at }
+        ensures near { result < 2 ^ 32 }
+    {
+        self.slots() + SLOT * self.callers as u64 + at
+    }
+
+    /// Word `at` of shared back, an offset from the region's start.
+    pub fn back(&self, at: u64) -> u64
+        requires inside { at < region_len self.now.order }
+        ensures is { result ≡ back_at self.now.order self.now.callers at }
+        ensures near { result < 2 ^ 32 }
+    {
+        self.slots() + SLOT * self.callers as u64 + region_len(self.order) + at
+    }
+}
