@@ -1,0 +1,11 @@
+-- Where the words of a side stand.
+use Rattle.std.proofs.Common.{◌≡◌, ℕ, ◌+◌, arith, Bool, true, false, cond, eqb}
+use Rattle.rom_rule.specs.Places.{word_at, main_at, back_at}
+
+-- they follow the first one
+pub word_from : (order callers side at : ℕ) → word_at order callers side 0 + at ≡ word_at order callers side at
+word_from order callers side at = by_side (eqb side 0)
+  where
+    by_side : (t : Bool) → cond t (main_at order callers 0) (back_at order callers 0) + at ≡ cond t (main_at order callers at) (back_at order callers at)
+    by_side true = omega arith
+    by_side false = omega arith

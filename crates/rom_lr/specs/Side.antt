@@ -1,0 +1,8 @@
+-- A side as the word `side` has it.
+use Rattle.std.specs.Prelude.{ℕ}
+use Rattle.rom_lr.specs.declared.side.Side.{Side}
+use Rattle.rom_lr.specs.declared.side.Side.TheVariants.{Main, Back}
+
+abbrev pub side_number : Side → ℕ
+side_number Main = 0
+side_number Back = 1

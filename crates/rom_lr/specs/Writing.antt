@@ -1,0 +1,12 @@
+-- What the writer's calls leave.
+use Rattle.std.specs.Prelude.{◌≡◌, ◌-◌, ◌∷◌, Some}
+use Rattle.rom_lr.specs.declared.seats.WriterSeat.{WriterSeat}
+use Rattle.rom_rule.specs.declared.views.Plan.{Plan}
+
+-- After some steps the writer's plan is p, and nothing else of its view has changed but their number.
+abbrev pub Writes : WriterSeat → WriterSeat → Plan → Type 0
+Writes s t p = (t.token.table_id ≡ s.token.table_id) × (t.token.id ≡ s.token.id) × (t.token.me.0 ≡ record s.token.me.0 { plan = Some p; steps = t.token.me.0.steps })
+
+-- The plan after both waits: the indicator of the other version was loaded as 0 while `version` named the former, then `version` was stored as the other, then the indicator of the former was loaded as 0 while `version` named the other. The list has the last first, each with what `version` was at that load.
+abbrev pub settled : Plan → Plan
+settled p = record p { version = 1 - p.version; clear = (p.version, 1 - p.version) ∷ (1 - p.version, p.version) ∷ p.clear }

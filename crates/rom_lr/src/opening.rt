@@ -1,0 +1,81 @@
+//! How a table is opened, and its callers get their seats.
+ghost use Rattle.std.specs.Prelude.{◌≡◌, ℕ, ◌+◌, ◌<◌, ◌≤◌, IfOk, length};
+ghost use Rattle.rom_model.specs.Blocks.{IsOrder, region_len};
+ghost use Rattle.rom_lr.specs.Seats.{IsSeatOf, IsWriterOf};
+ghost use Rattle.rom_rule.specs.Kinds.{dealing, newcomer};
+ghost use Rattle.rom_rule.specs.Places.{AreCallers, opening_words};
+ghost use Rattle.rom_rule.specs.Views.{base_of, opening_view, plan_of};
+
+use crate::seats::{Seat, WriterSeat};
+use crate::shared::Shared;
+use crate::side::Side;
+use atomic_table::Table;
+use rom_model::Object;
+use rom_rule::{Deals, Key, Layout};
+use std::alloc::{AllocError, Global};
+use std::snapshot::Snapshot;
+
+/// The words of a table as it is opened: readers are sent to back, no call is posted, and both sides
+/// hold the image.
+fn opening_words(alloc: Global, layout: Layout, image: &[u64]) -> Result<Vec<u64>, AllocError>
+    ensures is { IfOk result (λ words. words.items ≡ opening_words layout.callers image.now) }
+{
+    let mut words = Vec::from_elem(alloc, 0u64, layout.main(0) as usize)?;
+    words[layout.side() as usize] = Side::Back.number();
+    words.extend_from_slice(image)?;
+    words.extend_from_slice(image)?;
+    Ok(words)
+}
+
+impl<O: Object> Shared<O> {
+    /// The table for a number of callers, from 1 to 16, with the writer's seat alone. Both sides hold
+    /// the image, readers are sent to back, and both waits count as over. `faults` is the device's
+    /// count of faults, from which the records of passes go on. There is no other error than want
+    /// of memory.
+    pub fn open(
+        alloc: Global,
+        order: u32,
+        callers: u32,
+        image: &[u64],
+        faults: u64,
+    ) -> Result<(Shared<O>, WriterSeat), AllocError>
+        requires order { IsOrder order }
+        requires callers { AreCallers callers }
+        requires sized { length image.now ≡ region_len order }
+        requires formed { (s : O.State) × (k : ℕ) × O.Contents order image.now s k }
+        ensures of { IfOk result (λ opened. IsWriterOf opened.0.table.shared.table_id opened.0.table.shared.key opened.1) }
+        ensures layout { IfOk result (λ opened. (opened.0.layout.order ≡ order) × (opened.0.layout.callers ≡ callers)) }
+        ensures base { IfOk result (λ opened. base_of opened.0.table.shared.key ≡ record { order = order; callers = callers; image = image.now; faults = faults }) }
+        ensures view { IfOk result (λ opened. opened.1.token.me.0 ≡ opening_view (base_of opened.0.table.shared.key)) }
+    {
+        let layout = Layout::new(order, callers);
+        let words = opening_words(alloc, layout, image)?;
+        let key = Key {
+            layout,
+            words: Snapshot::of(&words),
+            faults,
+        };
+        let (table, token) = Table::of_words(alloc, words.as_slice(), &key)?;
+        Ok((Shared { table, layout }, WriterSeat { token, version: 0 }))
+    }
+
+    /// The seat of the next caller. Numbers go from 1, and none is given twice.
+    pub fn deal(&self, writer: &mut WriterSeat, number: u32) -> Seat
+        requires of { IsWriterOf self.now.table.shared.table_id self.now.table.shared.key writer.old }
+        requires next { number ≡ (plan_of writer.old.token.me.0).dealt + 1 }
+        requires left { number ≤ self.now.layout.callers }
+        ensures of { IsSeatOf self.now.table.shared.table_id self.now.table.shared.key result }
+        ensures number { result.number ≡ number }
+        ensures seat { result.token.me.0 ≡ newcomer writer.old.token.me.0 }
+        ensures writer { (writer.new.token.table_id ≡ writer.old.token.table_id) × (writer.new.token.id ≡ writer.old.token.id) × (writer.new.token.me.0 ≡ dealing writer.old.token.me.0) }
+    {
+        let token = self.table.shared.split_seat::<Deals>(&mut writer.token);
+        Seat {
+            token,
+            number,
+            version: 0,
+            side: Side::Back,
+            first: 0,
+        }
+    }
+}

@@ -1,0 +1,18 @@
+//! The shared words.
+ghost use Rattle.std.specs.Prelude.{◌≡◌};
+ghost use Rattle.rom_rule.specs.Places.{table_len};
+
+use atomic_table::Table;
+use rom_model::Object;
+use rom_rule::{Key, Law, Layout, View};
+use std::alloc::Global;
+
+/// The words that callers and the writer share, and where each stands. Their regions are those of an
+/// object. It is lent to every call; all that a call does to it are single steps on single words.
+#[derive(Drop)]
+pub struct Shared<O: Object> {
+    pub table: Table<u8, View, Key, Law<O>, Global>,
+    pub layout: Layout,
+    ghost sized: { table.shared.table_id.words ≡ table_len layout.order layout.callers },
+    ghost laid: { layout ≡ table.shared.key.layout },
+}

@@ -1,0 +1,111 @@
+//! How the writer sends readers to a side, and waits until the other is left.
+ghost use Rattle.std.specs.Prelude.{◌≡◌, ◌≢◌, ℕ, ◌+◌, ◌-◌, ◌<◌, ◌≤◌};
+ghost use Rattle.rom_model.specs.Machine.{on_words};
+ghost use Rattle.rom_lr.specs.Seats.{IsWriterOf};
+ghost use Rattle.rom_lr.specs.Switch.{CanSwitch, HasSwitched};
+ghost use Rattle.rom_lr.specs.Writing.{Writes, settled};
+ghost use Rattle.rom_lr.specs.declared.side.Side.TheVariants.{Back, Main};
+ghost use Rattle.rom_rule.specs.Kinds.{CanSwitchToBack, CanSwitchToMain, observed};
+ghost use Rattle.rom_rule.specs.Readers.{Settled};
+ghost use Rattle.rom_rule.specs.Views.{plan_of};
+
+use crate::seats::WriterSeat;
+use crate::shared::Shared;
+use crate::side::Side;
+use crossbeam_utils::Backoff;
+use rom_model::Object;
+use rom_rule::{ChecksIndicator, PassEnd, StoresVersion, SwitchesToBack, SwitchesToMain};
+use std::marker::Brand;
+use std::sync::Wait;
+
+impl<O: Object> Shared<O> {
+    /// Sends readers to a side from now on, in one step. To main it publishes the batch of the calls
+    /// that were found in this pass, and makes the pass's record where there are any. `before` and `after` are the
+    /// device's counts of faults at the pass's start and now; they go into the record.
+    pub fn switch(&self, seat: &mut WriterSeat, side: Side, before: u64, after: u64)
+        requires of { IsWriterOf self.now.table.shared.table_id self.now.table.shared.key seat.old }
+        requires can { CanSwitch O.Contents (on_words O.machine) seat.old.token.me.0.base (plan_of seat.old.token.me.0) side before after }
+        ensures switched { HasSwitched O.Contents (on_words O.machine) seat.old seat.new side before after }
+        ensures step { seat.new.token.me.0.steps ≡ seat.old.token.me.0.steps + 1 }
+    {
+        match side {
+            Side::Main => self.switch_to_main::<Brand>(seat, before, after),
+            Side::Back => self.switch_to_back::<Brand>(seat, before, after),
+        }
+    }
+
+    fn switch_to_main<N: PassEnd>(&self, seat: &mut WriterSeat, before: u64, after: u64)
+        requires picked { (N.before ≡ before) × (N.after ≡ after) }
+        requires of { IsWriterOf self.now.table.shared.table_id self.now.table.shared.key seat.old }
+        requires can { CanSwitchToMain O.Contents (on_words O.machine) seat.old.token.me.0.base (plan_of seat.old.token.me.0) before after }
+        ensures switched { HasSwitched O.Contents (on_words O.machine) seat.old seat.new Main before after }
+        ensures step { seat.new.token.me.0.steps ≡ seat.old.token.me.0.steps + 1 }
+    {
+        let word = self.layout.side() as usize;
+        self.table
+            .shared
+            .store::<SwitchesToMain<O, N>>(&mut seat.token, word, Side::Main.number());
+    }
+
+    fn switch_to_back<N: PassEnd>(&self, seat: &mut WriterSeat, before: u64, after: u64)
+        requires picked { (N.before ≡ before) × (N.after ≡ after) }
+        requires of { IsWriterOf self.now.table.shared.table_id self.now.table.shared.key seat.old }
+        requires can { CanSwitchToBack O.Contents (on_words O.machine) seat.old.token.me.0.base (plan_of seat.old.token.me.0) before after }
+        ensures switched { HasSwitched O.Contents (on_words O.machine) seat.old seat.new Back before after }
+        ensures step { seat.new.token.me.0.steps ≡ seat.old.token.me.0.steps + 1 }
+    {
+        let word = self.layout.side() as usize;
+        self.table
+            .shared
+            .store::<SwitchesToBack<N>>(&mut seat.token, word, Side::Back.number());
+    }
+
+    /// Waits until nobody reads the side that readers were sent from. It returns only after it has
+    /// loaded each indicator as 0 since the last [`Shared::switch`]: that of the other version first,
+    /// then, with `version` stored as the other one, that of the former. An indicator is loaded only
+    /// while `version` names the other one, so nobody newly arrives at it but who had loaded `version` before.
+    pub fn settle<R: Wait>(&self, rt: &R, seat: &mut WriterSeat)
+        requires of { IsWriterOf self.now.table.shared.table_id self.now.table.shared.key seat.old }
+        ensures waited { Writes seat.old seat.new (settled (plan_of seat.old.token.me.0)) }
+        ensures settled { Settled seat.new.token.me.0.base (plan_of seat.new.token.me.0) }
+    {
+        let former = seat.version;
+        self.wait_for(rt, seat, 1 - former);
+        self.name_version(seat, 1 - former);
+        self.wait_for(rt, seat, former);
+    }
+
+    // Loads the indicator of the version that isn't named until it is 0.
+    fn wait_for<R: Wait>(&self, rt: &R, seat: &mut WriterSeat, version: u64)
+        requires of { IsWriterOf self.now.table.shared.table_id self.now.table.shared.key seat.old }
+        requires low { version < 2 }
+        requires other { (plan_of seat.old.token.me.0).version ≢ version }
+        ensures waited { Writes seat.old seat.new (observed version 0 (plan_of seat.old.token.me.0)) }
+    {
+        let backoff = Backoff::new();
+        let word = self.layout.indicator(version) as usize;
+        for _ in rt.forever() {
+            let readers = self
+                .table
+                .shared
+                .load::<ChecksIndicator>(&mut seat.token, word);
+            if readers == 0 {
+                return;
+            }
+            backoff.snooze();
+        }
+        unreachable!()
+    }
+
+    fn name_version(&self, seat: &mut WriterSeat, version: u64)
+        requires of { IsWriterOf self.now.table.shared.table_id self.now.table.shared.key seat.old }
+        requires low { version < 2 }
+        ensures named { let p = plan_of seat.old.token.me.0 in Writes seat.old seat.new (record p { version = version }) }
+    {
+        let word = self.layout.version() as usize;
+        self.table
+            .shared
+            .store::<StoresVersion>(&mut seat.token, word, version);
+        seat.version = version;
+    }
+}
