@@ -15,5 +15,8 @@ mod calls;
 mod faults;
 #[cfg(test)]
 mod heaps;
+mod job;
+#[cfg(test)]
+mod readers;
 #[cfg(test)]
 mod stops;

@@ -1,0 +1,37 @@
+-- Seats of a table at which no call was posted.
+use Rattle.std.specs.Prelude.{◌≡◌, []}
+use Rattle.atomic_table.specs.Seated.{TableId}
+use Rattle.rom_lr.specs.Seats.{IsSeatOf, IsWriterOf}
+use Rattle.rom_lr.specs.declared.seats.WriterSeat.{WriterSeat}
+use Rattle.rom_model.specs.Region.{Contents}
+use Rattle.rom_model.specs.State.{empty}
+use Rattle.rom_rows.specs.declared.job.Job.{Job}
+use Rattle.rom_rows.specs.declared.job.Job.TheVariants.{Reads, Writes}
+use Rattle.rom_rule.specs.declared.law.Key.{Key}
+use Rattle.rom_rule.specs.declared.views.Base.{Base}
+use Rattle.rom_rule.specs.declared.views.Plan.{Plan}
+use Rattle.rom_rule.specs.declared.views.Position.TheVariants.{Out}
+use Rattle.rom_rule.specs.declared.views.View.{View}
+use Rattle.rom_rule.specs.Views.{plan_of}
+
+-- The writer has found no call and published nothing, and both sides are still the opening image, which is an empty heap.
+pub record IsUntouched (b : Base) (p : Plan) : Type 0 where
+  pub opening : Contents b.order b.image empty 0
+  pub faults : b.faults ≡ 0
+  pub history : p.history ≡ []
+  pub records : p.records ≡ []
+  pub mine : p.mine ≡ []
+  pub requests : p.requests ≡ []
+  pub main : p.main ≡ b.image
+  pub back : p.back ≡ b.image
+
+abbrev pub AtRest : View → Type 0
+AtRest v = IsUntouched v.base (plan_of v)
+
+abbrev pub MayStart : TableId → Key → Job → Type 0
+MayStart table key (Reads seat wrong) = IsSeatOf table key seat × (seat.token.me.0.position ≡ Out)
+MayStart table key (Writes seat) = IsWriterOf table key seat × AtRest seat.token.me.0
+
+-- the job's seat is one of this table, and it may start
+pub record IsReady (table : TableId) (key : Key) (job : Job) : Type 0 where
+  pub may : MayStart table key job

@@ -1,0 +1,190 @@
+//! Readers beside a writer that switches: each sees one image.
+ghost use Rattle.std.specs.Prelude.{◌≡◌, ℕ, All, IfOk, length};
+ghost use Rattle.rom_model.specs.Blocks.{region_len};
+ghost use Rattle.rom_model.specs.Region.{Contents};
+ghost use Rattle.rom_model.specs.State.{empty};
+ghost use Rattle.rom_model.specs.VecSpace.{words_of};
+ghost use Rattle.rom_rule.specs.Places.{AreCallers};
+ghost use Rattle.rom_rule.specs.Views.{plan_of};
+ghost use Rattle.rom_lr.specs.Seats.{IsSeatOf, IsWriterOf};
+ghost use Rattle.rom_rows.specs.Untouched.{AtRest, IsReady};
+ghost use Rattle.rom_rule.specs.declared.views.Position.TheVariants.{Out};
+
+use crate::job::Job;
+use rom_heap::Trio;
+use rom_lr::{Seat, Shared, Side, WriterSeat};
+use rom_model::{VecSpace, new_region};
+use std::alloc::{AllocError, Global};
+use std::sync::Wait;
+use std::test::Fail;
+use std::thread;
+use std::thread::Threads;
+
+/// How often a reader enters, and how often the writer sends all to main and back.
+const READS: u64 = 2000;
+
+const TURNS: u64 = 500;
+
+/// Sends readers to main, and waits until back is left.
+fn to_main<R: Wait>(rt: &R, shared: &Shared<Trio>, writer: &mut WriterSeat)
+    requires of { IsWriterOf shared.now.table.shared.table_id shared.now.table.shared.key writer.old }
+    requires rests { AtRest writer.old.token.me.0 }
+    ensures of { IsWriterOf shared.now.table.shared.table_id shared.now.table.shared.key writer.new }
+    ensures rests { AtRest writer.new.token.me.0 }
+{
+    shared.switch(writer, Side::Main, 0, 0);
+    shared.settle(rt, writer);
+}
+
+/// Sends readers to back, and waits until main is left.
+fn to_back<R: Wait>(rt: &R, shared: &Shared<Trio>, writer: &mut WriterSeat)
+    requires of { IsWriterOf shared.now.table.shared.table_id shared.now.table.shared.key writer.old }
+    requires rests { AtRest writer.old.token.me.0 }
+    ensures of { IsWriterOf shared.now.table.shared.table_id shared.now.table.shared.key writer.new }
+    ensures rests { AtRest writer.new.token.me.0 }
+{
+    shared.switch(writer, Side::Back, 0, 0);
+    shared.settle(rt, writer);
+}
+
+/// Whether all words of the image that the seat enters are those given.
+fn finds(shared: &Shared<Trio>, seat: &mut Seat, image: &[u64]) -> bool
+    requires of { IsSeatOf shared.now.table.shared.table_id shared.now.table.shared.key seat.old }
+    requires out { seat.old.token.me.0.position ≡ Out }
+    requires sized { length image.now ≡ region_len shared.now.layout.order }
+    ensures of { IsSeatOf shared.now.table.shared.table_id shared.now.table.shared.key seat.new }
+    ensures out { seat.new.token.me.0.position ≡ Out }
+{
+    shared.enter(seat);
+    let mut same = true;
+    for at in 0..image.len() {
+        let word = shared.load(seat, at as u64);
+        same = same && word == image[at];
+    }
+    shared.leave(seat);
+    same
+}
+
+/// The same of every time that the seat enters.
+fn finds_always(shared: &Shared<Trio>, seat: &mut Seat, image: &[u64]) -> bool
+    requires of { IsSeatOf shared.now.table.shared.table_id shared.now.table.shared.key seat.old }
+    requires out { seat.old.token.me.0.position ≡ Out }
+    requires sized { length image.now ≡ region_len shared.now.layout.order }
+    ensures of { IsSeatOf shared.now.table.shared.table_id shared.now.table.shared.key seat.new }
+    ensures out { seat.new.token.me.0.position ≡ Out }
+{
+    let mut same = true;
+    for _ in 0..READS {
+        let found = finds(shared, seat, image);
+        same = same && found;
+    }
+    same
+}
+
+fn switch_often<R: Wait>(rt: &R, shared: &Shared<Trio>, writer: &mut WriterSeat)
+    requires of { IsWriterOf shared.now.table.shared.table_id shared.now.table.shared.key writer.old }
+    requires rests { AtRest writer.old.token.me.0 }
+    ensures of { IsWriterOf shared.now.table.shared.table_id shared.now.table.shared.key writer.new }
+    ensures rests { AtRest writer.new.token.me.0 }
+{
+    for _ in 0..TURNS {
+        to_main(rt, shared, writer);
+        to_back(rt, shared, writer);
+    }
+}
+
+/// What the threads share.
+#[derive(Clone, Copy, Drop)]
+struct Room<'a> {
+    shared: &'a Shared<Trio>,
+    image: &'a [u64],
+    ghost sized: { length image.now ≡ region_len shared.now.layout.order },
+}
+
+fn work<R: Wait>(rt: &R, room: &Room<'_>, job: &mut Job)
+    requires ready { IsReady room.now.shared.now.table.shared.table_id room.now.shared.now.table.shared.key job.old }
+    ensures ready { IsReady room.now.shared.now.table.shared.table_id room.now.shared.now.table.shared.key job.new }
+{
+    match job {
+        Job::Reads(seat, same) => *same = finds_always(room.shared, seat, room.image),
+        Job::Writes(writer) => switch_often(rt, room.shared, writer),
+    }
+}
+
+fn work_all<R: Threads + Wait + Sync>(rt: &R, room: &Room<'_>, jobs: &mut [Job])
+    requires ready { All (λ job. IsReady room.now.shared.now.table.shared.table_id room.now.shared.now.table.shared.key job) jobs.old }
+{
+    thread::for_each_mut(rt, jobs, 3, &|_, job| work(rt, room, job));
+}
+
+/// A table of an empty heap, for so many callers.
+fn opened(
+    alloc: Global,
+    heap: &VecSpace,
+    callers: u32,
+) -> Result<(Shared<Trio>, WriterSeat), AllocError>
+    requires callers { AreCallers callers }
+    requires made { Contents 4 (words_of heap.now) empty 0 }
+    ensures of { IfOk result (λ opened. IsWriterOf opened.0.table.shared.table_id opened.0.table.shared.key opened.1) }
+    ensures layout { IfOk result (λ opened. (opened.0.layout.order ≡ 4) × (opened.0.layout.callers ≡ callers)) }
+    ensures rests { IfOk result (λ opened. AtRest opened.1.token.me.0 × ((plan_of opened.1.token.me.0).dealt ≡ 0)) }
+{
+    let (shared, writer) = Shared::<Trio>::open(alloc, 4, callers, heap.words(), 0)?;
+    Ok((shared, writer))
+}
+
+/// The seats of both callers of a table.
+fn both(shared: &Shared<Trio>, writer: &mut WriterSeat) -> (Seat, Seat)
+    requires of { IsWriterOf shared.now.table.shared.table_id shared.now.table.shared.key writer.old }
+    requires rests { AtRest writer.old.token.me.0 × ((plan_of writer.old.token.me.0).dealt ≡ 0) }
+    requires two { shared.now.layout.callers ≡ 2 }
+    ensures of { IsWriterOf shared.now.table.shared.table_id shared.now.table.shared.key writer.new }
+    ensures rests { AtRest writer.new.token.me.0 }
+    ensures first { IsSeatOf shared.now.table.shared.table_id shared.now.table.shared.key result.0 × (result.0.token.me.0.position ≡ Out) }
+    ensures second { IsSeatOf shared.now.table.shared.table_id shared.now.table.shared.key result.1 × (result.1.token.me.0.position ≡ Out) }
+{
+    let first = shared.deal(writer, 1);
+    let second = shared.deal(writer, 2);
+    (first, second)
+}
+
+/// Whether a job's reader found what it should, and its writer left `version` as it was.
+fn is_right(job: &Job) -> bool {
+    match job {
+        Job::Reads(_, same) => *same,
+        Job::Writes(writer) => writer.version == 0,
+    }
+}
+
+#[test]
+fn each_reader_keeps_one_image_beside_a_switching_writer(rt: HostRuntime) -> Result<(), Fail> {
+    let alloc = rt.alloc();
+    let heap = new_region::<Trio>(alloc, 4)?;
+    let (shared, mut writer) = opened(alloc, &heap, 2)?;
+    let (first, second) = both(&shared, &mut writer);
+    let mut jobs = Vec::with_capacity(alloc, 3)?;
+    jobs.push(Job::Reads(first, true))?;
+    jobs.push(Job::Writes(writer))?;
+    jobs.push(Job::Reads(second, true))?;
+    let room = Room {
+        shared: &shared,
+        image: heap.words(),
+    };
+    work_all(&rt, &room, jobs.as_mut_slice());
+    for job in &jobs {
+        assert!(rt; is_right(job));
+    }
+    Ok(())
+}
+
+#[test]
+fn a_writer_alone_switches_and_settles(rt: HostRuntime) -> Result<(), Fail> {
+    let alloc = rt.alloc();
+    let heap = new_region::<Trio>(alloc, 4)?;
+    let (shared, mut writer) = opened(alloc, &heap, 1)?;
+    to_main(&rt, &shared, &mut writer);
+    assert_eq!(rt; writer.version, 1);
+    to_back(&rt, &shared, &mut writer);
+    assert_eq!(rt; writer.version, 0);
+    Ok(())
+}
