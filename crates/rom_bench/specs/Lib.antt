@@ -1,2 +1,3 @@
 -- What the functions of this crate tell each other.
 pub mod Holds
+pub mod Ready

@@ -1,5 +1,6 @@
 //! The command line.
 use crate::calls::Calls;
+use crate::reads::{Reading, Way};
 use rom_header::{Geometry, State};
 
 /// What is to be done with a file.
@@ -24,6 +25,8 @@ pub enum Command {
     OnFile(Action, String),
     /// So many of these calls on a heap in memory.
     Count(Calls, u64),
+    /// Reads by threads beside each other.
+    Read(Reading),
 }
 
 /// The action of that name with that number.
@@ -58,6 +61,8 @@ impl Command {
         }
         match name.as_str() {
             "count" => Some(Command::Count(Calls::of(second.as_str())?, number?)),
+            "read" => Some(Command::Read(Reading::Once(Way::of(second.as_str())?, number?))),
+            "reads" => Some(Command::Read(Reading::Timed(number_of(&second)?, number?))),
             other => Some(Command::OnFile(action_of(other, number)?, second)),
         }
     }

@@ -1,16 +1,21 @@
-//! Times the opening and recovery of a heap in a file, beside a plain loop over the same file; and
-//! makes calls on a heap in memory, for their instructions to be counted.
+//! Times the opening and recovery of a heap in a file, beside a plain loop over the same file; times
+//! reads by threads beside each other, beside the same on plain words; and makes calls on a heap in
+//! memory and reads, for their instructions to be counted.
 //!
 //! It stands apart from the program. Nothing is promised of its answers; it is proved that it
 //! does not panic and that it meets the conditions of what it calls.
 #![tactic(auto)]
 
+mod bare;
 mod calls;
 mod command;
 mod heap;
 mod plain;
+mod reads;
 mod rounds;
+mod seated;
 
+use calls::Calls;
 use command::{Action, Command};
 use rom_header::State;
 use std::fs::File;
@@ -22,7 +27,8 @@ const USAGE: &str =
     "rom_bench make FILE ORDER | mark FILE STATE | open FILE | plain FILE | time FILE ROUNDS
 rom_bench count CALL CALLS
 a CALL is enq, deq, add, add-middle, rem, rem-middle, put, again, del, move, has, has-middle, get, peek, len, total
-or nothing, and at most 1000 are made";
+or nothing, and at most 1000 are made
+rom_bench read seats READS | read bare READS | reads READS ROUNDS";
 
 /// Sees to it that the descriptors 0 to 2 are taken. One that was closed when the program began
 /// would be given to the heap's file, and what is printed would go into that heap. So `/dev/null`
@@ -80,16 +86,11 @@ fn done_on(rt: &HostRuntime, action: Action, path: &str) -> io::Result<bool> {
     }
 }
 
-/// Does what is asked for.
-fn done(rt: &HostRuntime, command: &Command) -> io::Result<bool> {
-    match command {
-        Command::OnFile(action, path) => done_on(rt, *action, path.as_str()),
-        Command::Count(calls, count) => {
-            let done = calls::count(rt.alloc(), *calls, *count)?;
-            println!(rt; "{done} done")?;
-            Ok(true)
-        }
-    }
+/// Makes so many of these calls, and says how many were done.
+fn count(rt: &HostRuntime, calls: Calls, count: u64) -> io::Result<bool> {
+    let done = calls::count(rt.alloc(), calls, count)?;
+    println!(rt; "{done} done")?;
+    Ok(true)
 }
 
 fn main(rt: HostRuntime) -> io::Result<ExitCode> {
@@ -98,7 +99,13 @@ fn main(rt: HostRuntime) -> io::Result<ExitCode> {
         println!(&rt; "{}", USAGE)?;
         return Ok(ExitCode::from(2));
     };
-    if done(&rt, &command)? {
+    let done = match command {
+        Command::OnFile(action, path) => done_on(&rt, action, path.as_str())?,
+        Command::Count(calls, most) => count(&rt, calls, most)?,
+        // Threads are started with the handle that `main` alone has.
+        Command::Read(reading) => reads::make(&rt, rt.alloc(), reading)?,
+    };
+    if done {
         Ok(ExitCode::SUCCESS)
     } else {
         Ok(ExitCode::from(1))

@@ -1,0 +1,94 @@
+//! Reads by callers at their seats, of a table that nobody changes meanwhile.
+ghost use Rattle.std.specs.Prelude.{◌≡◌, ◌+◌, ◌≤◌, All, IfOk};
+ghost use Rattle.rom_lr.specs.Seats.{IsWriterOf};
+ghost use Rattle.rom_rule.specs.Places.{AreCallers};
+ghost use Rattle.rom_rule.specs.Views.{plan_of};
+ghost use Rattle.rom_bench.specs.Ready.{IsReady};
+
+use rom_heap::Trio;
+use rom_lr::{Seat, Shared, WriterSeat};
+use rom_model::{COUNT, new_region};
+use std::alloc::{AllocError, Global};
+use std::thread;
+use std::thread::Threads;
+
+/// The heap's order.
+const ORDER: u32 = 4;
+
+/// A caller, how many reads it is to make, and how many of those that it made found one word twice.
+#[derive(Drop)]
+pub struct Reader {
+    pub seat: Seat,
+    pub reads: u64,
+    pub alike: u64,
+}
+
+/// The readers of a table, one at each of its seats, each to make so many reads.
+fn readers_of(
+    alloc: Global,
+    shared: &Shared<Trio>,
+    mut writer: WriterSeat,
+    reads: u64,
+) -> Result<Vec<Reader>, AllocError>
+    requires of { IsWriterOf shared.now.table.shared.table_id shared.now.table.shared.key writer }
+    requires none { (plan_of writer.token.me.0).dealt ≡ 0 }
+    ensures ready { IfOk result (λ readers. All (λ r. IsReady shared.now.table.shared.table_id shared.now.table.shared.key r.seat) readers.items) }
+{
+    let mut readers = Vec::new(alloc);
+    for dealt in 0..shared.layout.callers() {
+        let seat = shared.deal(&mut writer, dealt + 1);
+        readers.push(Reader {
+            seat,
+            reads,
+            alike: 0,
+        })?;
+    }
+    Ok(readers)
+}
+
+/// The table of a new heap, with so many readers.
+pub fn open(
+    alloc: Global,
+    callers: u32,
+    reads: u64,
+) -> Result<(Shared<Trio>, Vec<Reader>), AllocError>
+    requires callers { AreCallers callers }
+    ensures ready { IfOk result (λ opened. All (λ r. IsReady opened.0.table.shared.table_id opened.0.table.shared.key r.seat) opened.1.items) }
+{
+    let space = new_region::<Trio>(alloc, ORDER)?;
+    let (shared, writer) = Shared::<Trio>::open(alloc, ORDER, callers, space.words(), 0)?;
+    let readers = readers_of(alloc, &shared, writer, reads)?;
+    Ok((shared, readers))
+}
+
+/// One read: the caller enters, loads the heap's count twice, and leaves. It tells whether both loads
+/// found the same.
+fn read(shared: &Shared<Trio>, seat: &mut Seat) -> bool
+    requires ready { IsReady shared.now.table.shared.table_id shared.now.table.shared.key seat.old }
+    ensures ready { IsReady shared.now.table.shared.table_id shared.now.table.shared.key seat.new }
+{
+    shared.enter(seat);
+    let first = shared.load(seat, COUNT);
+    let second = shared.load(seat, COUNT);
+    shared.leave(seat);
+    first == second
+}
+
+/// Makes the reads of one caller.
+fn read_in(shared: &Shared<Trio>, reader: &mut Reader)
+    requires ready { IsReady shared.now.table.shared.table_id shared.now.table.shared.key reader.old.seat }
+    ensures ready { IsReady shared.now.table.shared.table_id shared.now.table.shared.key reader.new.seat }
+{
+    for _ in 0..reader.reads {
+        if read(shared, &mut reader.seat) {
+            reader.alike = reader.alike.wrapping_add(1);
+        }
+    }
+}
+
+/// Makes the reads of all callers beside each other, each in a thread of its own.
+pub fn read_all<R: Threads + Sync>(rt: &R, shared: &Shared<Trio>, readers: &mut [Reader])
+    requires ready { All (λ r. IsReady shared.now.table.shared.table_id shared.now.table.shared.key r.seat) readers.old }
+{
+    thread::for_each_mut(rt, readers, 16, &|_, reader| read_in(shared, reader));
+}
