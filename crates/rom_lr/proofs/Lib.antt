@@ -1,2 +1,3 @@
 pub mod Seated
 pub mod Sides
+pub mod Dealing

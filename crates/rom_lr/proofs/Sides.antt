@@ -1,6 +1,6 @@
 -- Where the words of a side stand.
 use Rattle.std.proofs.Common.{◌≡◌, ℕ, ◌+◌, arith, Bool, true, false, cond, eqb}
-use Rattle.rom_rule.specs.Places.{word_at, main_at, back_at}
+use Rattle.rom_rule.specs.Places.{back_at, main_at, word_at}
 
 -- they follow the first one
 pub word_from : (order callers side at : ℕ) → word_at order callers side 0 + at ≡ word_at order callers side at

@@ -1,15 +1,20 @@
 -- What a seat reads.
 use Rattle.std.specs.Prelude.{◌≡◌, ℕ, ◌+◌, List, Option}
-use Rattle.rom_lr.specs.declared.seats.Seat.{Seat}
 use Rattle.rom_model.specs.Seen.{StartsWith}
 use Rattle.rom_model.specs.declared.entry.Entry.{Entry}
+use Rattle.rom_lr.specs.declared.seats.Seat.{Seat}
 use Rattle.rom_rule.specs.Kinds.{entering}
 use Rattle.rom_rule.specs.Readers.{Stands}
-use Rattle.rom_rule.specs.Views.{side_read, indicator_in, front_of, image_of}
+use Rattle.rom_rule.specs.Views.{front_of, image_of, indicator_in, side_read}
+use Rattle.rom_rule.specs.declared.views.View.{View}
 
 -- The seat makes so many steps, and its view stays but for their number.
 abbrev pub HasStepped : Seat → Seat → ℕ → Type 0
 HasStepped s t n = (t.token.me.0 ≡ record s.token.me.0 { steps = s.token.me.0.steps + n }) × (t.version ≡ s.version) × (t.side ≡ s.side) × (t.first ≡ s.first)
+
+-- a view but for the number of its steps
+abbrev pub but_steps : View → View
+but_steps v = record v { steps = 0 }
 
 module _ {S : Type 0} (Contents : ℕ → List ℕ → S → ℕ → Type 0) (step : ℕ → S → ℕ → List ℕ → Option (S × List ℕ)) where
   -- In three steps the seat comes to read a side. What it has then seen begins with what it had seen; its front is the count after that history, and is kept among its fronts; the image stands for the state there. Nothing else of its view changes.

@@ -3,8 +3,8 @@ use Rattle.std.specs.Prelude.{◌≡◌}
 use Rattle.atomic_table.specs.Seated.{TableId}
 use Rattle.rom_lr.specs.declared.seats.Seat.{Seat}
 use Rattle.rom_lr.specs.declared.seats.WriterSeat.{WriterSeat}
-use Rattle.rom_rule.specs.declared.law.Key.{Key}
 use Rattle.rom_rule.specs.Views.{base_of}
+use Rattle.rom_rule.specs.declared.law.Key.{Key}
 
 abbrev pub IsWriterOf : TableId → Key → WriterSeat → Type 0
 IsWriterOf table key s = (s.token.table_id ≡ table) × (s.token.me.0.base ≡ base_of key)

@@ -1,15 +1,15 @@
 -- What a store of `side` asks for, and what it leaves.
 use Rattle.std.specs.Prelude.{ℕ, List, Option}
-use Rattle.rom_lr.specs.declared.seats.WriterSeat.{WriterSeat}
-use Rattle.rom_lr.specs.declared.side.Side.{Side}
-use Rattle.rom_lr.specs.declared.side.Side.TheVariants.{Main, Back}
-use Rattle.rom_lr.specs.Writing.{Writes}
 use Rattle.rom_model.specs.declared.entry.Entry.{Entry}
 use Rattle.rom_model.specs.declared.record.Fate.TheVariants.{Published}
+use Rattle.rom_lr.specs.Writing.{Writes}
+use Rattle.rom_lr.specs.declared.seats.WriterSeat.{WriterSeat}
+use Rattle.rom_lr.specs.declared.side.Side.{Side}
+use Rattle.rom_lr.specs.declared.side.Side.TheVariants.{Back, Main}
+use Rattle.rom_rule.specs.Kinds.{CanSwitchToBack, CanSwitchToMain, IsBatch, TellsEach, making, raising, switched}
+use Rattle.rom_rule.specs.Views.{plan_of}
 use Rattle.rom_rule.specs.declared.views.Base.{Base}
 use Rattle.rom_rule.specs.declared.views.Plan.{Plan}
-use Rattle.rom_rule.specs.Kinds.{CanSwitchToMain, CanSwitchToBack, IsBatch, TellsEach, making, raising, switched}
-use Rattle.rom_rule.specs.Views.{plan_of}
 
 module _ {S : Type 0} (Contents : ℕ → List ℕ → S → ℕ → Type 0) (step : ℕ → S → ℕ → List ℕ → Option (S × List ℕ)) where
   -- that side is whole for the history that the call publishes, and the counts of faults go on from the records

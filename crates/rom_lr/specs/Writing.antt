@@ -1,7 +1,16 @@
--- What the writer's calls leave.
-use Rattle.std.specs.Prelude.{◌≡◌, ◌-◌, ◌∷◌, Some}
+-- What the writer's calls ask for, and what they leave.
+use Rattle.std.specs.Prelude.{◌≡◌, ◌-◌, [], ◌∷◌, Some}
+use Rattle.rom_lr.specs.Side.{other_side, side_number}
 use Rattle.rom_lr.specs.declared.seats.WriterSeat.{WriterSeat}
+use Rattle.rom_lr.specs.declared.side.Side.{Side}
+use Rattle.rom_rule.specs.Readers.{Settled}
+use Rattle.rom_rule.specs.Views.{plan_of}
 use Rattle.rom_rule.specs.declared.views.Plan.{Plan}
+use Rattle.rom_rule.specs.declared.views.View.{View}
+
+-- Nobody reads this side: `side` names the other one, and both waits are over since it was stored.
+abbrev pub NobodyReads : View → Side → Type 0
+NobodyReads v side = ((plan_of v).side ≡ side_number (other_side side)) × Settled v.base (plan_of v)
 
 -- After some steps the writer's plan is p, and nothing else of its view has changed but their number.
 abbrev pub Writes : WriterSeat → WriterSeat → Plan → Type 0
@@ -10,3 +19,7 @@ Writes s t p = (t.token.table_id ≡ s.token.table_id) × (t.token.id ≡ s.toke
 -- The plan after both waits: the indicator of the other version was loaded as 0 while `version` named the former, then `version` was stored as the other, then the indicator of the former was loaded as 0 while `version` named the other. The list has the last first, each with what `version` was at that load.
 abbrev pub settled : Plan → Plan
 settled p = record p { version = 1 - p.version; clear = (p.version, 1 - p.version) ∷ (1 - p.version, p.version) ∷ p.clear }
+
+-- the writer's view but for main and the number of its steps
+abbrev pub but_main : View → View
+but_main v = record v { plan = Some (record (plan_of v) { main = [] }); steps = 0 }

@@ -2,23 +2,34 @@
 //! word, while the writer changes the other side; it takes no lock and waits for nobody.
 //!
 //! A [`Shared`] is a table of shared words with two sides, main and back. A caller's [`Seat`]
-//! enters a side, loads its words and leaves. The [`WriterSeat`] switches readers to a side that is
-//! whole, and settles: it waits until nobody reads the side that they left. Each call makes a number
-//! of steps that its contract tells, each of one word; `settle` alone waits.
+//! enters a side, loads its words or asks a query of them, and leaves. The [`WriterSeat`] switches
+//! readers to a side that is whole, and settles: it waits until nobody reads the side that they left.
+//! Then it may store words there, one by one or, on main, by a whole update. A [`Note`] hands what one
+//! caller has seen to another. Each call makes a number of steps that its contract tells, each of one
+//! word; `settle` alone waits, and the opening alone takes memory.
 //!
-//! `specs/Reading.antt` has what a seat reads from then on, `specs/Switch.antt` what a store of
-//! `side` asks for and leaves, and `specs/Writing.antt` what the writer's other calls leave. That
-//! nothing read can change is the table's rule, of `rom_rule`; the proofs here give each
+//! `specs/Opening.antt` has the seats as they are handed out, `specs/Reading.antt` what a seat reads
+//! from then on, `specs/Switch.antt` what a store of `side` asks for and leaves, `specs/Writing.antt`
+//! when the writer may store words and what its other calls leave, and `specs/Notes.antt` what a note
+//! tells. That nothing read can change is the table's rule, of `rom_rule`; the proofs here give each
 //! step its condition.
 #![tactic(auto)]
 
+mod asking;
+mod note;
+mod notes;
 mod opening;
 mod reading;
 mod seats;
 mod shared;
 mod side;
+mod space;
+mod words;
 mod writing;
 
+pub use asking::{SideLook, ask};
+pub use note::Note;
 pub use seats::{Seat, WriterSeat};
 pub use shared::Shared;
 pub use side::Side;
+pub use space::{MainSpace, apply_main};

@@ -1,7 +1,10 @@
 //! How a table is opened, and its callers get their seats.
 ghost use Rattle.std.specs.Prelude.{◌≡◌, ℕ, ◌+◌, ◌<◌, ◌≤◌, IfOk, length};
 ghost use Rattle.rom_model.specs.Blocks.{IsOrder, region_len};
+ghost use Rattle.rom_lr.specs.Opening.{AreNew, dealt_view};
 ghost use Rattle.rom_lr.specs.Seats.{IsSeatOf, IsWriterOf};
+ghost use Rattle.rom_lr.specs.Writing.{NobodyReads};
+ghost use Rattle.rom_lr.specs.declared.side.Side.TheVariants.{Main};
 ghost use Rattle.rom_rule.specs.Kinds.{dealing, newcomer};
 ghost use Rattle.rom_rule.specs.Places.{AreCallers, opening_words};
 ghost use Rattle.rom_rule.specs.Views.{base_of, opening_view, plan_of};
@@ -28,11 +31,37 @@ fn opening_words(alloc: Global, layout: Layout, image: &[u64]) -> Result<Vec<u64
 }
 
 impl<O: Object> Shared<O> {
-    /// The table for a number of callers, from 1 to 16, with the writer's seat alone. Both sides hold
-    /// the image, readers are sent to back, and both waits count as over. `faults` is the device's
-    /// count of faults, from which the records of passes go on. There is no other error than want
-    /// of memory.
-    pub fn open(
+    /// The table of a heap's order, from 4 to 16, and a number of callers, from 1 to 16, with the
+    /// writer's seat and the seats of all callers, in the order of their numbers. The image is a
+    /// well-formed region of that order. Both sides hold it, readers are sent to back, and both waits
+    /// count as over. `faults` is the device's count of faults, from which the records of passes go
+    /// on. There is no other error than want of memory, and nothing is left behind then.
+    pub fn new(
+        alloc: Global,
+        order: u32,
+        callers: u32,
+        image: &[u64],
+        faults: u64,
+    ) -> Result<(Shared<O>, WriterSeat, Vec<Seat>), AllocError>
+        requires order { IsOrder order }
+        requires callers { AreCallers callers }
+        requires sized { length image.now ≡ region_len order }
+        requires formed { (s : O.State) × (k : ℕ) × O.Contents order image.now s k }
+        ensures of { IfOk result (λ opened. IsWriterOf opened.0.table.shared.table_id opened.0.table.shared.key opened.1) }
+        ensures layout { IfOk result (λ opened. (opened.0.layout.order ≡ order) × (opened.0.layout.callers ≡ callers)) }
+        ensures base { IfOk result (λ opened. base_of opened.0.table.shared.key ≡ record { order = order; callers = callers; image = image.now; faults = faults }) }
+        ensures writer { IfOk result (λ opened. opened.1.token.me.0 ≡ dealt_view (base_of opened.0.table.shared.key) callers) }
+        ensures unread { IfOk result (λ opened. NobodyReads opened.1.token.me.0 Main) }
+        ensures many { IfOk result (λ opened. length opened.2.items ≡ callers) }
+        ensures seats { IfOk result (λ opened. AreNew opened.0.table.shared.table_id opened.0.table.shared.key opened.2.items) }
+    {
+        let (shared, mut writer) = Shared::open(alloc, order, callers, image, faults)?;
+        let seats = shared.deal_all(alloc, &mut writer)?;
+        Ok((shared, writer, seats))
+    }
+
+    // The table with the writer's seat alone.
+    fn open(
         alloc: Global,
         order: u32,
         callers: u32,
@@ -59,8 +88,25 @@ impl<O: Object> Shared<O> {
         Ok((Shared { table, layout }, WriterSeat { token, version: 0 }))
     }
 
-    /// The seat of the next caller. Numbers go from 1, and none is given twice.
-    pub fn deal(&self, writer: &mut WriterSeat, number: u32) -> Seat
+    // The seats of all callers, from 1 on.
+    fn deal_all(&self, alloc: Global, writer: &mut WriterSeat) -> Result<Vec<Seat>, AllocError>
+        requires of { IsWriterOf self.now.table.shared.table_id self.now.table.shared.key writer.old }
+        requires opened { writer.old.token.me.0 ≡ opening_view (base_of self.now.table.shared.key) }
+        ensures of { IsWriterOf self.now.table.shared.table_id self.now.table.shared.key writer.new }
+        ensures writer { IfOk result (λ _. writer.new.token.me.0 ≡ dealt_view (base_of self.now.table.shared.key) self.now.layout.callers) }
+        ensures many { IfOk result (λ seats. length seats.items ≡ self.now.layout.callers) }
+        ensures seats { IfOk result (λ seats. AreNew self.now.table.shared.table_id self.now.table.shared.key seats.items) }
+    {
+        let mut seats = Vec::new(alloc);
+        for i in 0..self.layout.callers() {
+            let seat = self.deal(writer, i + 1);
+            seats.push(seat)?;
+        }
+        Ok(seats)
+    }
+
+    // The seat of the next caller. Numbers go from 1, and none is given twice.
+    fn deal(&self, writer: &mut WriterSeat, number: u32) -> Seat
         requires of { IsWriterOf self.now.table.shared.table_id self.now.table.shared.key writer.old }
         requires next { number ≡ (plan_of writer.old.token.me.0).dealt + 1 }
         requires left { number ≤ self.now.layout.callers }
@@ -76,6 +122,7 @@ impl<O: Object> Shared<O> {
             version: 0,
             side: Side::Back,
             first: 0,
+            posted: 0,
         }
     }
 }

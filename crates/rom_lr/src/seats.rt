@@ -2,9 +2,10 @@
 ghost use Rattle.std.specs.Prelude.{◌≡◌, ◌^◌, ◌<◌, ◌≤◌, [], IsTrue, length};
 ghost use Rattle.rom_model.specs.Blocks.{region_len};
 ghost use Rattle.rom_lr.specs.Side.{side_number};
+ghost use Rattle.rom_rule.specs.CallKinds.{posted};
 ghost use Rattle.rom_rule.specs.Places.{indicator_of, word_at};
-ghost use Rattle.rom_rule.specs.declared.views.Position.TheVariants.{Out};
 ghost use Rattle.rom_rule.specs.Views.{IsWriter, indicator_in, is_reading, plan_of, side_read};
+ghost use Rattle.rom_rule.specs.declared.views.Position.TheVariants.{Out};
 
 use crate::side::Side;
 use rom_rule::Token;
@@ -20,8 +21,11 @@ pub struct Seat {
     pub version: u64,
     pub side: Side,
     pub first: u64,
+    /// How many calls it has posted.
+    pub posted: u64,
     ghost bare: { token.me.1 ≡ [] },
     ghost own: { number ≡ token.me.0.number },
+    ghost counted: { posted ≡ length token.me.0.calls },
     ghost numbered: { 0 < token.me.0.number },
     ghost within: { token.me.0.number ≤ token.me.0.base.callers },
     ghost known: { IsTrue (is_reading token.me.0.position) → (indicator_of number version ≡ indicator_in token.me.0.position) × (version < 2) × (side_number side ≡ side_read token.me.0.position) × (first ≡ word_at token.me.0.base.order token.me.0.base.callers (side_read token.me.0.position) 0) },

@@ -1,26 +1,15 @@
 -- A request that is changed, found by its caller's number.
-use Rattle.rom_model.specs.declared.kept.Kept.{Kept}
-use Rattle.std.proofs.Common.{◌≡◌, ◌≢◌, ℕ, zero, suc, ◌+◌, ◌*◌, ◌/◌, ◌%◌, ◌^◌, ◌<◌, ◌≤◌, ◌⊎◌, List, [], ◌∷◌, ◌++◌, map, take, length, get_or, set, sym, refl, ap, ◌∙◌, subst, inl, inr, ⊎_elim, arith, Bool, true, false, cond, eqb, eq-eqb, ne_eqb, append-nil, length-append, length-take, get_or-take}
-use Rattle.std.specs.Prelude.{filter, drop, ◌==◌, ◌&&◌, not}
-use Rattle.std.specs.List.{AllByRecursion}
-use Rattle.std.proofs.lemmas.List.Elements.{filter-append}
+use Rattle.std.proofs.Common.{◌≡◌, ◌≢◌, ℕ, zero, suc, ◌<◌, ◌⊎◌, List, [], ◌∷◌, ◌++◌, map, length, get_or, sym, refl, ap, ◌∙◌, subst, inl, inr, arith, Bool, true, false, cond, eqb, eq-eqb, ne_eqb}
+use Rattle.std.specs.Prelude.{◌==◌, ◌&&◌, not}
 use mathlib.Core.Logic.{dite}
 use mathlib.Core.Option.{some, some-injective, some-ne-none}
 use native.Mathlib.Decide.{ℕ_discrete}
 use lib.ListN.{get_elem?}
-use Rattle.atomic_table.proofs.Lists.{at_map, at_snoc, at_last}
-use Rattle.rom_model.specs.Seen.{StartsWith}
-use Rattle.rom_model.specs.declared.entry.Entry.{Entry}
-use Rattle.rom_model.specs.declared.record.Fate.{Fate}
-use Rattle.rom_model.specs.declared.record.Found.{Found}
-use Rattle.rom_model.specs.Passes.{fate_told}
 use Rattle.rom_rule.specs.CallKinds.{alter, answering}
 use Rattle.rom_rule.specs.Calls.{caller_in, is_owed, owed, owing}
 use Rattle.rom_rule.specs.Views.{Each}
 use Rattle.rom_rule.specs.declared.views.Request.{Request}
-use Rattle.rom_rule.proofs.Frames.{each_set, each_set_at, unseen}
-use Rattle.rom_rule.proofs.Slots.{put, put_here, put_else, kept_else, last_word, early, lies_more, changed, slot_word_here, slot_word_else, lies_else, slot_holds_else, knows_calls_else, open_else}
-use Rattle.rom_rule.proofs.Told.{starts_longer, starts_le, starts_at, starts_take, starts_more, at_front, at_low, at_some, all_at, all_append, all_map, at_numbered, length_numbered, numbered_more, fate_found, IsLate, fate_late, told_found, map_append, length_map, map_map, map_alike, at_mapped, scanned_more, scanned_up, scanned_one, OneOf, one_of, caller_of, one_told, owed_none, owed_alike, owed_all, all_filter}
+use Rattle.rom_rule.proofs.Told.{map_map, map_alike, at_mapped, owed_alike}
 
 pub at_or : {A : Type 0} (l : List A) (i : ℕ) (d : A) → i < length l → get_elem? l i ≡ some (get_or l i d)
 at_or [] i d lt = absurd (omega arith)

@@ -1,25 +1,12 @@
 -- What a caller is told of its calls.
-use Rattle.rom_model.specs.declared.kept.Kept.{Kept}
-use Rattle.std.proofs.Common.{◌≡◌, ◌≢◌, ℕ, zero, suc, ◌+◌, ◌*◌, ◌/◌, ◌%◌, ◌^◌, ◌<◌, ◌≤◌, ◌⊎◌, List, [], ◌∷◌, ◌++◌, map, take, length, get_or, set, sym, refl, ap, ◌∙◌, subst, inl, inr, ⊎_elim, arith, Bool, true, false, cond, eqb, eq-eqb, ne_eqb, append-nil, length-append, length-take, get_or-take}
-use Rattle.std.specs.Prelude.{filter, drop, ◌==◌, ◌&&◌, not}
-use Rattle.std.specs.List.{AllByRecursion}
-use Rattle.std.proofs.lemmas.List.Elements.{filter-append}
-use mathlib.Core.Logic.{dite}
-use mathlib.Core.Option.{some, some-injective, some-ne-none}
-use native.Mathlib.Decide.{ℕ_discrete}
+use Rattle.std.proofs.Common.{◌≡◌, ℕ, ◌+◌, ◌%◌, ◌<◌, ◌≤◌, List, [], ◌∷◌, ◌++◌, map, length, get_or, set, sym, refl, ap, ◌∙◌, subst, arith, length-append}
+use mathlib.Core.Option.{some, some-injective}
 use lib.ListN.{get_elem?}
-use Rattle.atomic_table.proofs.Lists.{at_map, at_snoc, at_last}
-use Rattle.rom_model.specs.Seen.{StartsWith}
-use Rattle.rom_model.specs.declared.entry.Entry.{Entry}
-use Rattle.rom_model.specs.declared.record.Fate.{Fate}
-use Rattle.rom_model.specs.declared.record.Found.{Found}
-use Rattle.rom_model.specs.Passes.{fate_told}
+use Rattle.atomic_table.proofs.Lists.{at_map, at_last}
 use Rattle.rom_rule.specs.Calls.{Announced, IsLater, KnowsCalls, Lies, answer_words, found_in, numbered, owing, slot_word_at, told_to}
 use Rattle.rom_rule.specs.Views.{PlanCalls, Told, calls_in}
 use Rattle.rom_rule.specs.declared.views.View.{View}
-use Rattle.rom_rule.proofs.Frames.{each_set, each_set_at, unseen}
-use Rattle.rom_rule.proofs.Slots.{put, put_here, put_else, kept_else, last_word, early, lies_more, changed, slot_word_here, slot_word_else, lies_else, slot_holds_else, knows_calls_else, open_else}
-use Rattle.rom_rule.proofs.Told.{starts_longer, starts_le, starts_at, starts_take, starts_more, at_front, at_low, at_some, all_at, all_append, all_map, at_numbered, length_numbered, numbered_more, fate_found, IsLate, fate_late, told_found, map_append, length_map, map_map, map_alike, at_mapped, scanned_more, scanned_up, scanned_one, OneOf, one_of, caller_of, one_told, owed_none, owed_alike, owed_all, all_filter}
+use Rattle.rom_rule.proofs.Told.{starts_at, starts_more, at_low, at_some, at_numbered}
 use Rattle.rom_rule.proofs.Posting.{answers_le}
 use Rattle.rom_rule.proofs.Joining.{calls_only}
 

@@ -3,7 +3,6 @@ use Rattle.rom_model.specs.Blocks.{region_len}
 use Rattle.std.proofs.Common.{◌≡◌, ◌≢◌, ℕ, ◌+◌, ◌-◌, ◌*◌, ◌^◌, ◌<◌, ◌≤◌, ◌⊎◌, List, [], ◌∷◌, ◌++◌, map, length, length-append, length-drop, length-set, get_or-set_same, get_or-set_other, append_assoc, get_or, set, take, drop, replicate, sym, refl, ap, ◌∙◌, subst, arith, Option, Some, Bool, true, false}
 use Rattle.std.proofs.lemmas.List.{get_or-replicate, take-append-le, drop-append-le, take_all, get_or_append_left}
 use Rattle.std.proofs.Math.Seq.{take-append_seam, drop-append_seam}
-use Rattle.rom_rule.specs.CallKinds.{answered, posted, scanned}
 use Rattle.rom_rule.specs.Calls.{SlotHolds}
 use Rattle.rom_rule.specs.Places.{Shown, indicator_count, opening_words, part, shown, slots_at, table_len}
 use Rattle.rom_rule.specs.Readers.{CountsArrivals, HoldsNothing, IsNumbered, IsWritten}

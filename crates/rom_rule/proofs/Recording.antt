@@ -1,26 +1,20 @@
 -- What the record of a pass keeps of the calls.
-use Rattle.rom_model.specs.declared.kept.Kept.{Kept}
-use Rattle.std.proofs.Common.{◌≡◌, ◌≢◌, ℕ, zero, suc, ◌+◌, ◌*◌, ◌/◌, ◌%◌, ◌^◌, ◌<◌, ◌≤◌, ◌⊎◌, List, [], ◌∷◌, ◌++◌, map, take, length, get_or, set, sym, refl, ap, ◌∙◌, subst, inl, inr, ⊎_elim, arith, Bool, true, false, cond, eqb, eq-eqb, ne_eqb, append-nil, length-append, length-take, get_or-take}
-use Rattle.std.specs.Prelude.{filter, drop, ◌==◌, ◌&&◌, not}
+use Rattle.std.proofs.Common.{◌≡◌, ℕ, suc, ◌+◌, ◌<◌, ◌≤◌, List, [], ◌∷◌, ◌++◌, map, take, length, get_or, sym, refl, ap, ◌∙◌, subst, ⊎_elim, arith, Bool, true, false, append-nil, length-append}
+use Rattle.std.specs.Prelude.{filter, drop, ◌==◌}
 use Rattle.std.specs.List.{AllByRecursion}
 use Rattle.std.proofs.lemmas.List.Elements.{filter-append}
-use mathlib.Core.Logic.{dite}
-use mathlib.Core.Option.{some, some-injective, some-ne-none}
-use native.Mathlib.Decide.{ℕ_discrete}
+use mathlib.Core.Option.{some, some-injective}
 use lib.ListN.{get_elem?}
-use Rattle.atomic_table.proofs.Lists.{at_map, at_snoc, at_last}
+use Rattle.atomic_table.proofs.Lists.{at_map, at_last}
 use Rattle.rom_model.specs.Seen.{StartsWith}
 use Rattle.rom_model.specs.declared.entry.Entry.{Entry}
 use Rattle.rom_model.specs.declared.record.Fate.{Fate}
 use Rattle.rom_model.specs.declared.record.Found.{Found}
 use Rattle.rom_model.specs.Passes.{fate_told}
-use Rattle.rom_rule.specs.CallKinds.{answered, posted, scanned}
 use Rattle.rom_rule.specs.Calls.{Announced, AreScanned, IsClosed, SlotHolds, caller_in, found_in, found_of, numbered, owing, packed, slot_word_at, told_to}
 use Rattle.rom_rule.specs.Views.{CallerCalls, Each, PlanCalls, Told}
 use Rattle.rom_rule.specs.declared.views.Request.{Request}
-use Rattle.rom_rule.proofs.Frames.{each_set, each_set_at, unseen}
-use Rattle.rom_rule.proofs.Slots.{put, put_here, put_else, kept_else, last_word, early, lies_more, changed, slot_word_here, slot_word_else, lies_else, slot_holds_else, knows_calls_else, open_else}
-use Rattle.rom_rule.proofs.Told.{starts_longer, starts_le, starts_at, starts_take, starts_more, at_front, at_low, at_some, all_at, all_append, all_map, at_numbered, length_numbered, numbered_more, fate_found, IsLate, fate_late, told_found, map_append, length_map, map_map, map_alike, at_mapped, scanned_more, scanned_up, scanned_one, OneOf, one_of, caller_of, one_told, owed_none, owed_alike, owed_all, all_filter}
+use Rattle.rom_rule.proofs.Told.{starts_longer, starts_more, at_front, all_at, all_append, all_map, at_numbered, fate_found, IsLate, fate_late, told_found, map_append, length_map, map_map, OneOf, one_of, caller_of, one_told, owed_all, all_filter}
 use Rattle.rom_rule.proofs.Altered.{at_split}
 use Rattle.rom_rule.proofs.Scanning.{heard_at, heard_more, one_request, open_at}
 

@@ -9,7 +9,7 @@ use Rattle.rom_model.specs.declared.record.Fate.TheVariants.{Published, Failed, 
 use Rattle.rom_model.specs.declared.call.Updated.{Updated}
 use Rattle.rom_model.specs.History.{after, batch, LAST_COUNT}
 use Rattle.rom_model.specs.Passes.{published}
-use Rattle.rom_rule.specs.CallKinds.{CanBegin, CanFinish, CanLoadArgument, CanMakeRecord, CanScan, CanStoreReply, IsAnswer, IsPending, alter, altered, answered, answering, beginning, begun, begun_answer, found_after, laying, loaded_argument, loading, made_record, placing, posted, scanned, stored_place, stored_reply}
+use Rattle.rom_rule.specs.CallKinds.{CanBegin, CanFinish, CanLoadArgument, CanMakeRecord, CanScan, CanStoreReply, IsAnswer, IsPending, alter, altered, answered, answering, beginning, begun, begun_answer, found_after, laying, loaded_argument, loading, made_record, placing, scanned, stored_place, stored_reply}
 use Rattle.rom_rule.specs.Calls.{Announced, found_of}
 use Rattle.rom_rule.specs.Kinds.{TellsEach, making, planned}
 use Rattle.rom_rule.specs.Places.{Shown, shown, slot_at}

@@ -8,7 +8,6 @@ use Rattle.atomic_table.specs.Table.{State, Me, step, keeps, Allows, Splits, Joi
 use Rattle.atomic_table.proofs.Lists.{at_set, at_map, at_snoc, set_else}
 use Rattle.std.specs.List.{AllByRecursion}
 use Rattle.rom_model.specs.Seen.{StartsWith}
-use Rattle.rom_rule.specs.CallKinds.{scanned}
 use Rattle.rom_rule.specs.Calls.{Announced, told_to}
 use Rattle.rom_rule.specs.Kinds.{CanDeal, CanJoin, caught_up, dealing, informed, newcomer, note_of, noting, planned, reviewed, spent_as}
 use Rattle.rom_rule.specs.Places.{shown}

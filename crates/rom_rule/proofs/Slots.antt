@@ -4,7 +4,6 @@ use Rattle.std.proofs.Common.{◌≡◌, ◌≢◌, ℕ, ◌+◌, ◌-◌, ◌*�
 use mathlib.Core.Logic.{dite}
 use native.Mathlib.Decide.{ℕ_discrete}
 use Rattle.std.specs.List.{AllByRecursion}
-use Rattle.rom_rule.specs.CallKinds.{answered, posted}
 use Rattle.rom_rule.specs.Calls.{IsClosed, IsOpen, KnowsCalls, Lies, SlotHolds, answer_words, packed, slot_word_at}
 use Rattle.rom_rule.specs.Views.{CallerCalls, PlanCalls, Told}
 use Rattle.rom_rule.specs.declared.views.Request.{Request}

@@ -1,13 +1,7 @@
 -- The writer's stores of `side`, and the record of a pass, keep the rule.
-use Rattle.rom_model.specs.Blocks.{region_len}
-use Rattle.std.proofs.Common.{◌≡◌, ◌≢◌, ℕ, ◌+◌, ◌-◌, ◌*◌, ◌||◌, ◌%◌, ◌^◌, ◌<◌, ◌≤◌, ◌⊎◌, List, [], ◌∷◌, ◌++◌, map, length, get_or, set, sym, refl, ap, ◌∙◌, subst, inl, inr, ⊎_elim, arith, Option, Some, None, append-nil, length-append, length-set, get_or-set_other, get_or-set_same, eq-eqb, ne_eqb, eqb, cond, Bool, true, false}
-use mathlib.Core.Logic.{dite}
-use mathlib.Core.Option.{some}
-use native.Mathlib.Decide.{ℕ_discrete}
-use lib.ListN.{get_elem?}
+use Rattle.std.proofs.Common.{◌≡◌, ℕ, ◌+◌, ◌≤◌, List, [], ◌∷◌, ◌++◌, map, length, set, sym, refl, ap, ◌∙◌, subst, arith, Option, append-nil, length-append, length-set, false}
 use Rattle.atomic_table.specs.Table.{State, Me, step, keeps, Allows}
 use mathlib.Core.Option.{none}
-use Rattle.atomic_table.proofs.Lists.{at_set}
 use Rattle.std.specs.List.{AllByRecursion}
 use Rattle.rom_model.specs.declared.entry.Entry.{Entry}
 use Rattle.rom_model.specs.declared.record.Fate.{Fate}
@@ -17,11 +11,10 @@ use Rattle.rom_model.specs.declared.record.PassRecord.{PassRecord}
 use Rattle.rom_model.specs.History.{after, batch}
 use Rattle.rom_model.specs.Passes.{published, fate_told, HasFault, AreRising}
 use Rattle.rom_model.specs.Passes.{faults_after}
-use Rattle.rom_rule.specs.CallKinds.{scanned}
 use Rattle.rom_rule.specs.Calls.{Announced, IsWhole, found_of}
 use Rattle.rom_rule.specs.Kinds.{CanSwitchToBack, CanSwitchToMain, IsBatch, MayRaise, TellsEach, making, planned, raised, raising, record_list, switched, switched_to_back, switched_to_main}
 use Rattle.rom_rule.specs.Places.{Shown, shown, side_at}
-use Rattle.rom_rule.specs.Readers.{Held, IsWritten, stands}
+use Rattle.rom_rule.specs.Readers.{Held, IsWritten}
 use Rattle.rom_rule.specs.Records.{IsCall, IsFront, Recorded, Remembers}
 use Rattle.rom_rule.specs.Rule.{IsRuled}
 use Rattle.rom_rule.specs.Views.{Book, Each, IsWriter, PlanCalls, Remembered, Told, book_in, calls_in, is_made, plan_calls, plan_of, records_of}
@@ -29,9 +22,7 @@ use Rattle.rom_rule.specs.declared.views.Base.{Base}
 use Rattle.rom_rule.specs.declared.views.Plan.{Plan}
 use Rattle.rom_rule.specs.declared.views.Request.{Request}
 use Rattle.rom_rule.specs.declared.views.View.{View}
-use Rattle.rom_rule.proofs.Frames.{unseen, frame, each_set, each_at}
-use Rattle.rom_rule.proofs.Parts.{shown_side, shown_version, shown_main, shown_back}
-use Rattle.rom_rule.proofs.Readers.{stands_here, indicator_is, reload, side_word}
+use Rattle.rom_rule.proofs.Parts.{shown_side}
 use Rattle.rom_rule.proofs.Told.{starts_longer}
 use Rattle.rom_rule.proofs.Recording.{makes, calls_found, tells_each}
 use Rattle.rom_rule.proofs.Books.{rising, remembers_on, front_longer, front_raised, book_more, book_raised}

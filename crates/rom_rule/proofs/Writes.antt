@@ -8,15 +8,7 @@ use lib.ListN.{get_elem?}
 use Rattle.atomic_table.specs.Table.{State, Me, step, keeps, Allows}
 use mathlib.Core.Option.{none}
 use Rattle.atomic_table.proofs.Lists.{at_set}
-use Rattle.std.specs.List.{AllByRecursion}
 use Rattle.rom_model.specs.declared.entry.Entry.{Entry}
-use Rattle.rom_model.specs.declared.record.Fate.{Fate}
-use Rattle.rom_model.specs.declared.record.Fate.TheVariants.{Published, Failed, Doubt}
-use Rattle.rom_model.specs.declared.record.Found.{Found}
-use Rattle.rom_model.specs.declared.record.PassRecord.{PassRecord}
-use Rattle.rom_model.specs.History.{after, batch}
-use Rattle.rom_model.specs.Passes.{published, fate_told, HasFault, AreRising}
-use Rattle.rom_model.specs.Passes.{faults_after}
 use Rattle.rom_rule.specs.Calls.{Announced}
 use Rattle.rom_rule.specs.Kinds.{CanCheck, CanStore, CanStoreVersion, checked_indicator, loaded_region, observed, planned, stored_back, stored_main, stored_version}
 use Rattle.rom_rule.specs.Places.{Shown, back_at, indicator_at, indicator_count, main_at, shown, version_at, word_at}
@@ -30,11 +22,8 @@ use Rattle.rom_rule.specs.declared.views.Position.{Position}
 use Rattle.rom_rule.specs.declared.views.Position.TheVariants.{Arrived, Holds, Out, Reads}
 use Rattle.rom_rule.specs.declared.views.View.{View}
 use Rattle.rom_rule.proofs.Frames.{unseen, frame, each_set, each_at}
-use Rattle.rom_rule.proofs.Parts.{shown_side, shown_version, shown_main, shown_back}
+use Rattle.rom_rule.proofs.Parts.{shown_version, shown_main, shown_back}
 use Rattle.rom_rule.proofs.Readers.{stands_here, indicator_is, reload, side_word}
-use Rattle.rom_rule.proofs.Told.{starts_longer}
-use Rattle.rom_rule.proofs.Recording.{makes, calls_found, tells_each}
-use Rattle.rom_rule.proofs.Books.{rising, remembers_on, front_longer, front_raised, book_more, book_raised}
 
 -- where nothing stands, no member stands
 none_stands : (f : Position → ℕ) (ps : List Position) (j : ℕ) (p : Position) → total f ps ≡ 0 → get_elem? ps j ≡ some p → f p ≡ 0

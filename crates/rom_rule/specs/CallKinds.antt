@@ -1,12 +1,11 @@
 -- The kinds of step on posted calls: a caller posts a call in its slot, the writer finds it, answers it, and the caller takes the answer. As in `Kinds.antt`, each has its sentence, its condition, and what it tells.
-use Rattle.std.specs.Prelude.{◌≡◌, ◌≢◌, ℕ, ◌+◌, ◌/◌, ◌%◌, ◌^◌, ◌<◌, ◌≤◌, List, [], ◌∷◌, ◌++◌, map, take, drop, length, nat_lt, slice_index, slice_index_or, slice_set, Option, Some, None, true, false, ◌==◌, if◌then◌else◌}
+use Rattle.std.specs.Prelude.{◌≡◌, ℕ, ◌+◌, ◌/◌, ◌%◌, ◌^◌, ◌<◌, ◌≤◌, List, [], ◌∷◌, ◌++◌, map, take, drop, length, nat_lt, slice_index, slice_index_or, Option, true, false, ◌==◌, if◌then◌else◌}
 use Rattle.std.specs.List.{AllByRecursion}
 use mathlib.Core.Option.{some}
 use lib.ListN.{get_elem?}
-use Rattle.atomic_table.specs.Table.{Me, Step}
-use Rattle.rom_model.specs.Blocks.{region_len}
+use Rattle.atomic_table.specs.Table.{Step}
 use Rattle.rom_model.specs.History.{after, batch, LAST_COUNT}
-use Rattle.rom_model.specs.Passes.{published, fate_told, faults_after, history_of, HasFault}
+use Rattle.rom_model.specs.Passes.{fate_told, faults_after, history_of, HasFault}
 use Rattle.rom_model.specs.Seen.{StartsWith}
 use Rattle.rom_model.specs.declared.call.Updated.{Updated}
 use Rattle.rom_model.specs.declared.call.Updated.TheVariants.{Done}
@@ -70,7 +69,7 @@ abbrev pub CanBegin : Plan → Type 0
 CanBegin p = Each (λ _ f. f.answered ≡ true) p.requests
 
 abbrev pub beginning : Plan → Plan
-beginning p = record p { records = p.records ++ p.mine; mine = []; requests = []; scanned = 0 }
+beginning p = record p { records = p.records ++ p.mine; mine = []; requests = []; passes = p.passes + 1; scanned = 0 }
 
 abbrev pub begun : Step ℕ → Seated → ℕ → Seated → Type 0
 begun st m turn m' = m' ≡ (planned m.0 (found_after 1 turn (beginning (plan_of m.0))), m.1)

@@ -1,15 +1,13 @@
 -- The kinds of step. Each is one load, store, fetch_add or fetch_sub of one word by one seat, and changes that seat's view alone; a view is cut in two or two are joined at a load of word 0. For each kind: who makes it and what it does; when it may be made, which is a condition on the seat's own view, or on the plan in it; and what it tells, which is the view after it. Each step adds one to the steps of the view that makes it. Here are the kinds by which readers read, the writer switches and changes a side, and seats are made and joined; those on posted calls stand in `CallKinds.antt`.
-use Rattle.std.specs.Prelude.{◌≡◌, ◌≢◌, ℕ, ◌+◌, ◌/◌, ◌%◌, ◌^◌, ◌<◌, ◌≤◌, List, [], ◌∷◌, ◌++◌, map, take, drop, length, nat_lt, slice_index, slice_index_or, slice_set, Option, Some, None, true, false, ◌==◌, if◌then◌else◌}
+use Rattle.std.specs.Prelude.{◌≡◌, ◌≢◌, ℕ, ◌+◌, ◌<◌, ◌≤◌, List, [], ◌∷◌, ◌++◌, map, length, slice_index, slice_set, Option, Some, None, true, ◌==◌, if◌then◌else◌}
 use Rattle.std.specs.List.{AllByRecursion}
 use mathlib.Core.Option.{some}
 use lib.ListN.{get_elem?}
 use Rattle.atomic_table.specs.Table.{Me, Step}
 use Rattle.rom_model.specs.Blocks.{region_len}
-use Rattle.rom_model.specs.History.{after, batch, LAST_COUNT}
-use Rattle.rom_model.specs.Passes.{published, fate_told, faults_after, history_of, HasFault}
+use Rattle.rom_model.specs.History.{after, batch}
+use Rattle.rom_model.specs.Passes.{published, fate_told, faults_after}
 use Rattle.rom_model.specs.Seen.{StartsWith}
-use Rattle.rom_model.specs.declared.call.Updated.{Updated}
-use Rattle.rom_model.specs.declared.call.Updated.TheVariants.{Done}
 use Rattle.rom_model.specs.declared.entry.Entry.{Entry}
 use Rattle.rom_model.specs.declared.record.Fate.{Fate}
 use Rattle.rom_model.specs.declared.record.Fate.TheVariants.{Published}

@@ -156,6 +156,7 @@ opening_plan b = record {
   side = 1;
   version = 0;
   clear = below (indicator_count b.callers);
+  passes = 0;
   scanned = 0;
   requests = [];
   dealt = 0;

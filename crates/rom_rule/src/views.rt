@@ -62,6 +62,8 @@ pub struct Plan {
     /// The indicators that it has loaded as 0 since it last stored `side`, the last first, each with
     /// what `version` was then.
     pub clear: LinkedList<(u64, u64)>,
+    /// How many passes it has begun.
+    pub passes: u64,
     /// The caller whose turn it loaded last in this pass.
     pub scanned: u64,
     /// The calls that it found in this pass.

@@ -1,12 +1,11 @@
 use Rattle.std.proofs.Common.{ℕ, ◌+◌, ◌<◌, sym, ap, ◌∙◌, subst}
 use Rattle.rom_model.specs.Blocks.{region_len}
-use Rattle.rom_lr.proofs.Sides.{word_from}
+use Rattle.rom_rule.specs.Views.{base_of, side_read}
 use Rattle.rom_rule.specs.declared.views.Base.{Base}
 use Rattle.rom_rule.specs.declared.views.View.{View}
-use Rattle.rom_rule.specs.Views.{side_read}
+use Rattle.rom_lr.proofs.Sides.{word_from}
 use Rattle.rom_model.specs.Machine.{on_words}
 use Rattle.std.proofs.Common.{rules}
-use Rattle.rom_rule.specs.Views.{base_of}
 use Rattle.rom_rule.proofs.Readers.{loads_image}
 use Rattle.rom_lr.proofs.shared.Shared.load.Goals as goal
 

@@ -1,0 +1,28 @@
+use Rattle.rom_model.specs.Machine.{on_words}
+use Rattle.std.proofs.Common.{rules, arith, ◌≡◌, ◌+◌, List, [], ◌∷◌, ◌++◌, ap, ◌∙◌, subst}
+use Rattle.std.specs.List.{AllByRecursion}
+use Rattle.rom_model.specs.Seen.{StartsWith}
+use Rattle.rom_model.specs.declared.kept.Kept.{Kept}
+use Rattle.rom_rule.specs.Kinds.{informed}
+use Rattle.rom_rule.specs.Views.{base_of, kept_of}
+use Rattle.rom_rule.specs.declared.views.View.{View}
+use Rattle.rom_rule.proofs.Seats.{joins_views, catches_up}
+use Rattle.rom_lr.proofs.shared.Shared.learn_as.Goals as goal
+
+pub join_seat-requires : goal.join_seat-requires
+join_seat-requires g c = (search rules, search rules, c.args.note.bare, search rules, joins_views g.O.Object.Contents (on_words g.O.Object.machine) (base_of c.args.self.now.table.shared.key) _ _ _ _ _ c.requires.picked (c.requires.out, c.args.note.idle, c.args.note.plain))
+
+pub load-requires : goal.load-requires
+load-requires g c = (search rules, search rules, rw c.side.ensures.is (catches_up g.O.Object.Contents (on_words g.O.Object.machine) (base_of c.args.self.now.table.shared.key) _ _ _ (ap (λ m. m.0.position) c.join_seat.ensures.2 ∙ c.requires.out)))
+
+middle : (P : Kept → Type 0) (xs ys : List Kept) (y : Kept) → AllByRecursion P (xs ++ y ∷ ys) → P y
+middle P [] ys y h = h.0
+middle P (x ∷ xs) ys y h = middle P xs ys y h.1
+
+pub returns-clause-learnt : goal.returns-clause-learnt
+returns-clause-learnt g c = let v : View = c.args.seat.now.token.me.0 in let n : View = c.args.note.token.me.0 in let did = c.load.ensures.2 in let now : c.join_seat.new.seat.me.0 ≡ informed v n = ap (λ m. m.0) c.join_seat.ensures.2 in record {
+  seen = did.0;
+  begins = subst (λ (z : View). StartsWith did.0 z.seen) now did.1;
+  learns = middle (λ k. StartsWith did.0 k.seen) v.joined n.joined (kept_of n) (subst (λ (z : View). AllByRecursion (λ k. StartsWith did.0 k.seen) z.joined) now did.2);
+  view = ap (λ m. m.0) did.3 ∙ ap (λ (z : View). let y : View = record z { seen = did.0; steps = z.steps + 1 } in y) now ∙ (λ i. record v { seen = did.0; joined = v.joined ++ kept_of n ∷ n.joined; steps = (let two : v.steps + 1 + 1 ≡ v.steps + 2 = omega arith in two) i });
+}

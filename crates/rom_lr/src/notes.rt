@@ -1,0 +1,56 @@
+//! Notes, by which one caller tells another what it has seen.
+ghost use Rattle.std.specs.Prelude.{◌≡◌, ℕ, ◌+◌};
+ghost use Rattle.rom_lr.specs.Notes.{HasLearnt};
+ghost use Rattle.rom_lr.specs.Seats.{IsSameSeat, IsSeatOf};
+ghost use Rattle.rom_rule.specs.Kinds.{note_of, noting};
+ghost use Rattle.rom_rule.specs.declared.views.Position.TheVariants.{Out};
+
+use crate::note::Note;
+use crate::seats::Seat;
+use crate::shared::Shared;
+use rom_model::Object;
+use rom_rule::{CatchesUp, JoinsViews, Origin, TakesNote};
+use std::marker::Brand;
+
+impl<O: Object> Shared<O> {
+    /// What the seat has seen, for another to learn, in one step. It takes no memory.
+    pub fn note(&self, seat: &mut Seat) -> Note
+        requires of { IsSeatOf self.now.table.shared.table_id self.now.table.shared.key seat.old }
+        requires out { seat.old.token.me.0.position ≡ Out }
+        ensures same { IsSameSeat seat.old seat.new }
+        ensures still { seat.new.token.me.0 ≡ noting seat.old.token.me.0 }
+        ensures of { result.token.table_id ≡ self.now.table.shared.table_id }
+        ensures note { result.token.me.0 ≡ note_of seat.old.token.me.0 }
+    {
+        let token = self.table.shared.split_seat::<TakesNote>(&mut seat.token);
+        Note { token }
+    }
+
+    /// The seat has then seen as much as it and the note's caller had, and keeps what the note knew,
+    /// in two steps. So what it reads later is no older than what that caller had read. It takes no
+    /// memory.
+    pub fn learn(&self, seat: &mut Seat, note: Note)
+        requires of { IsSeatOf self.now.table.shared.table_id self.now.table.shared.key seat.old }
+        requires out { seat.old.token.me.0.position ≡ Out }
+        requires note { note.token.table_id ≡ self.now.table.shared.table_id }
+        ensures same { IsSameSeat seat.old seat.new }
+        ensures learnt { HasLearnt seat.old.token.me.0 note.token.me.0 seat.new.token.me.0 }
+    {
+        self.learn_as::<Brand>(seat, note);
+    }
+
+    // The note's view is spent, and then it is as the opening left every other one.
+    fn learn_as<N: Origin>(&self, seat: &mut Seat, note: Note)
+        requires picked { N.base ≡ seat.old.token.me.0.base }
+        requires of { IsSeatOf self.now.table.shared.table_id self.now.table.shared.key seat.old }
+        requires out { seat.old.token.me.0.position ≡ Out }
+        requires note { note.token.table_id ≡ self.now.table.shared.table_id }
+        ensures same { IsSameSeat seat.old seat.new }
+        ensures learnt { HasLearnt seat.old.token.me.0 note.token.me.0 seat.new.token.me.0 }
+    {
+        let Note { token } = note;
+        let table = &self.table.shared;
+        table.join_seat::<JoinsViews<N>>(&mut seat.token, token);
+        table.load::<CatchesUp>(&mut seat.token, self.layout.side() as usize);
+    }
+}
