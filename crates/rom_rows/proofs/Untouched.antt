@@ -1,7 +1,8 @@
 -- What a switch and a wait ask for and leave where no call was posted.
-use Rattle.std.proofs.Common.{◌≡◌, ℕ, ◌+◌, ◌≤◌, List, [], ◌∷◌, ◌++◌, map, length, sym, refl, ap, ◌∙◌, subst, arith, Option, Some}
+use Rattle.std.proofs.Common.{◌≡◌, ℕ, ◌+◌, ◌≤◌, List, [], ◌++◌, map, length, sym, refl, ap, ◌∙◌, subst, arith, Option, Some}
 use mathlib.Core.Option.{some, some-ne-none}
 use lib.ListN.{get_elem?}
+use Rattle.rom_lr.specs.Opening.{dealt_view}
 use Rattle.rom_lr.specs.Writing.{settled}
 use Rattle.rom_model.specs.History.{after, batch}
 use Rattle.rom_model.specs.Machine.{on_words}
@@ -12,10 +13,10 @@ use Rattle.rom_model.specs.Trio.{trio}
 use Rattle.rom_model.specs.declared.entry.Entry.{Entry}
 use Rattle.rom_model.specs.declared.record.Fate.TheVariants.{Published}
 use Rattle.rom_model.specs.declared.record.PassRecord.{PassRecord}
-use Rattle.rom_rule.specs.Calls.{found_of, IsWhole}
-use Rattle.rom_rule.specs.Kinds.{CanSwitchToMain, CanSwitchToBack, IsBatch, dealing, MayRaise, making, raised, raising, record_list, switched}
+use Rattle.rom_rule.specs.Calls.{found_of}
+use Rattle.rom_rule.specs.Kinds.{CanSwitchToMain, CanSwitchToBack, IsBatch, MayRaise, making, raised, raising, record_list, switched}
 use Rattle.rom_rule.specs.Readers.{Held}
-use Rattle.rom_rule.specs.Views.{Each, opening_view, plan_of}
+use Rattle.rom_rule.specs.Views.{plan_of}
 use Rattle.rom_rule.specs.declared.views.Base.{Base}
 use Rattle.rom_rule.specs.declared.views.Plan.{Plan}
 use Rattle.rom_rule.specs.declared.views.Request.{Request}
@@ -84,10 +85,6 @@ pub at_back : (v w : View) (n : ℕ) → AtRest v → w ≡ record v { plan = So
 at_back v w n u e = rests_on v w _ n e (after_back v.base (plan_of v) u)
 
 -- as the table is opened
-pub at_opening : (v : View) (b : Base) → v ≡ opening_view b → b.faults ≡ 0 → Contents b.order b.image empty 0 → AtRest v × ((plan_of v).dealt ≡ 0)
-at_opening v b e none held = subst (λ (z : View). AtRest z × ((plan_of z).dealt ≡ 0)) (sym e)
-    (record { opening = held; faults = none; history = refl; records = refl; mine = refl; requests = refl; main = refl; back = refl }, refl)
-
--- once a seat was dealt
-pub after_deal : (v w : View) → AtRest v → w ≡ dealing v → AtRest w
-after_deal v w u e = subst AtRest (sym e) record { opening = u.opening; faults = u.faults; history = u.history; records = u.records; mine = u.mine; requests = u.requests; main = u.main; back = u.back }
+pub at_opening : (v : View) (b : Base) (n : ℕ) → v ≡ dealt_view b n → b.faults ≡ 0 → Contents b.order b.image empty 0 → AtRest v
+at_opening v b n e none held = subst AtRest (sym e)
+    record { opening = held; faults = none; history = refl; records = refl; mine = refl; requests = refl; main = refl; back = refl }

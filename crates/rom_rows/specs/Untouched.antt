@@ -2,7 +2,6 @@
 use Rattle.std.specs.Prelude.{◌≡◌, []}
 use Rattle.atomic_table.specs.Seated.{TableId}
 use Rattle.rom_lr.specs.Seats.{IsSeatOf, IsWriterOf}
-use Rattle.rom_lr.specs.declared.seats.WriterSeat.{WriterSeat}
 use Rattle.rom_model.specs.Region.{Contents}
 use Rattle.rom_model.specs.State.{empty}
 use Rattle.rom_rows.specs.declared.job.Job.{Job}

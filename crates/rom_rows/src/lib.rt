@@ -19,4 +19,6 @@ mod job;
 #[cfg(test)]
 mod readers;
 #[cfg(test)]
+mod seats;
+#[cfg(test)]
 mod stops;

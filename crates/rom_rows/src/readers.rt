@@ -4,8 +4,9 @@ ghost use Rattle.rom_model.specs.Blocks.{region_len};
 ghost use Rattle.rom_model.specs.Region.{Contents};
 ghost use Rattle.rom_model.specs.State.{empty};
 ghost use Rattle.rom_model.specs.VecSpace.{words_of};
-ghost use Rattle.rom_rule.specs.Places.{AreCallers};
-ghost use Rattle.rom_rule.specs.Views.{plan_of};
+ghost use Rattle.rom_lr.specs.Writing.{NobodyReads};
+ghost use Rattle.rom_lr.specs.declared.side.Side.TheVariants.{Main};
+ghost use Rattle.rom_lr.specs.Opening.{AreNew, IsNew};
 ghost use Rattle.rom_lr.specs.Seats.{IsSeatOf, IsWriterOf};
 ghost use Rattle.rom_rows.specs.Untouched.{AtRest, IsReady};
 ghost use Rattle.rom_rule.specs.declared.views.Position.TheVariants.{Out};
@@ -117,35 +118,42 @@ fn work_all<R: Threads + Wait + Sync>(rt: &R, room: &Room<'_>, jobs: &mut [Job])
     thread::for_each_mut(rt, jobs, 3, &|_, job| work(rt, room, job));
 }
 
-/// A table of an empty heap, for so many callers.
+/// A table of an empty heap for three callers, with all its seats.
 fn opened(
     alloc: Global,
     heap: &VecSpace,
-    callers: u32,
-) -> Result<(Shared<Trio>, WriterSeat), AllocError>
-    requires callers { AreCallers callers }
+) -> Result<(Shared<Trio>, WriterSeat, Vec<Seat>), AllocError>
     requires made { Contents 4 (words_of heap.now) empty 0 }
     ensures of { IfOk result (λ opened. IsWriterOf opened.0.table.shared.table_id opened.0.table.shared.key opened.1) }
-    ensures layout { IfOk result (λ opened. (opened.0.layout.order ≡ 4) × (opened.0.layout.callers ≡ callers)) }
-    ensures rests { IfOk result (λ opened. AtRest opened.1.token.me.0 × ((plan_of opened.1.token.me.0).dealt ≡ 0)) }
+    ensures layout { IfOk result (λ opened. (opened.0.layout.order ≡ 4) × (opened.0.layout.callers ≡ 3)) }
+    ensures rests { IfOk result (λ opened. AtRest opened.1.token.me.0) }
+    ensures unread { IfOk result (λ opened. NobodyReads opened.1.token.me.0 Main) }
+    ensures many { IfOk result (λ opened. length opened.2.items ≡ 3) }
+    ensures seats { IfOk result (λ opened. AreNew opened.0.table.shared.table_id opened.0.table.shared.key opened.2.items) }
 {
-    let (shared, writer) = Shared::<Trio>::open(alloc, 4, callers, heap.words(), 0)?;
-    Ok((shared, writer))
+    let (shared, writer, seats) = Shared::<Trio>::new(alloc, 4, 3, heap.words(), 0)?;
+    Ok((shared, writer, seats))
 }
 
-/// The seats of both callers of a table.
-fn both(shared: &Shared<Trio>, writer: &mut WriterSeat) -> (Seat, Seat)
-    requires of { IsWriterOf shared.now.table.shared.table_id shared.now.table.shared.key writer.old }
-    requires rests { AtRest writer.old.token.me.0 × ((plan_of writer.old.token.me.0).dealt ≡ 0) }
-    requires two { shared.now.layout.callers ≡ 2 }
-    ensures of { IsWriterOf shared.now.table.shared.table_id shared.now.table.shared.key writer.new }
-    ensures rests { AtRest writer.new.token.me.0 }
-    ensures first { IsSeatOf shared.now.table.shared.table_id shared.now.table.shared.key result.0 × (result.0.token.me.0.position ≡ Out) }
-    ensures second { IsSeatOf shared.now.table.shared.table_id shared.now.table.shared.key result.1 × (result.1.token.me.0.position ≡ Out) }
+/// The same with each caller's seat by itself.
+pub fn seated(
+    alloc: Global,
+    heap: &VecSpace,
+) -> Result<(Shared<Trio>, WriterSeat, (Seat, Seat, Seat)), AllocError>
+    requires made { Contents 4 (words_of heap.now) empty 0 }
+    ensures of { IfOk result (λ opened. IsWriterOf opened.0.table.shared.table_id opened.0.table.shared.key opened.1) }
+    ensures layout { IfOk result (λ opened. (opened.0.layout.order ≡ 4) × (opened.0.layout.callers ≡ 3)) }
+    ensures rests { IfOk result (λ opened. AtRest opened.1.token.me.0) }
+    ensures unread { IfOk result (λ opened. NobodyReads opened.1.token.me.0 Main) }
+    ensures first { IfOk result (λ opened. IsNew opened.0.table.shared.table_id opened.0.table.shared.key 1 opened.2.0) }
+    ensures second { IfOk result (λ opened. IsNew opened.0.table.shared.table_id opened.0.table.shared.key 2 opened.2.1) }
+    ensures third { IfOk result (λ opened. IsNew opened.0.table.shared.table_id opened.0.table.shared.key 3 opened.2.2) }
 {
-    let first = shared.deal(writer, 1);
-    let second = shared.deal(writer, 2);
-    (first, second)
+    let (shared, writer, mut seats) = opened(alloc, heap)?;
+    let third = seats.pop().unwrap();
+    let second = seats.pop().unwrap();
+    let first = seats.pop().unwrap();
+    Ok((shared, writer, (first, second, third)))
 }
 
 /// Whether a job's reader found what it should, and its writer left `version` as it was.
@@ -160,8 +168,7 @@ fn is_right(job: &Job) -> bool {
 fn each_reader_keeps_one_image_beside_a_switching_writer(rt: HostRuntime) -> Result<(), Fail> {
     let alloc = rt.alloc();
     let heap = new_region::<Trio>(alloc, 4)?;
-    let (shared, mut writer) = opened(alloc, &heap, 2)?;
-    let (first, second) = both(&shared, &mut writer);
+    let (shared, writer, (first, second, _third)) = seated(alloc, &heap)?;
     let mut jobs = Vec::with_capacity(alloc, 3)?;
     jobs.push(Job::Reads(first, true))?;
     jobs.push(Job::Writes(writer))?;
@@ -181,7 +188,7 @@ fn each_reader_keeps_one_image_beside_a_switching_writer(rt: HostRuntime) -> Res
 fn a_writer_alone_switches_and_settles(rt: HostRuntime) -> Result<(), Fail> {
     let alloc = rt.alloc();
     let heap = new_region::<Trio>(alloc, 4)?;
-    let (shared, mut writer) = opened(alloc, &heap, 1)?;
+    let (shared, mut writer, _seats) = seated(alloc, &heap)?;
     to_main(&rt, &shared, &mut writer);
     assert_eq!(rt; writer.version, 1);
     to_back(&rt, &shared, &mut writer);

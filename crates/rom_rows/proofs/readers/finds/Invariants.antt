@@ -1,4 +1,3 @@
-use Rattle.std.proofs.Common.{◌≡◌, ℕ}
 use Rattle.std.specs.Prelude.{IsTrue}
 use Rattle.rom_lr.specs.Seats.{IsSeatOf}
 use Rattle.rom_rule.specs.Views.{is_reading}
