@@ -1,12 +1,10 @@
 //! Reads by callers at their seats, of a table that nobody changes meanwhile.
-ghost use Rattle.std.specs.Prelude.{◌≡◌, ◌+◌, ◌≤◌, All, IfOk};
-ghost use Rattle.rom_lr.specs.Seats.{IsWriterOf};
+ghost use Rattle.std.specs.Prelude.{All, IfOk};
 ghost use Rattle.rom_rule.specs.Places.{AreCallers};
-ghost use Rattle.rom_rule.specs.Views.{plan_of};
 ghost use Rattle.rom_bench.specs.Ready.{IsReady};
 
 use rom_heap::Trio;
-use rom_lr::{Seat, Shared, WriterSeat};
+use rom_lr::{Seat, Shared};
 use rom_model::{COUNT, new_region};
 use std::alloc::{AllocError, Global};
 use std::thread;
@@ -23,29 +21,6 @@ pub struct Reader {
     pub alike: u64,
 }
 
-/// The readers of a table, one at each of its seats, each to make so many reads.
-fn readers_of(
-    alloc: Global,
-    shared: &Shared<Trio>,
-    mut writer: WriterSeat,
-    reads: u64,
-) -> Result<Vec<Reader>, AllocError>
-    requires of { IsWriterOf shared.now.table.shared.table_id shared.now.table.shared.key writer }
-    requires none { (plan_of writer.token.me.0).dealt ≡ 0 }
-    ensures ready { IfOk result (λ readers. All (λ r. IsReady shared.now.table.shared.table_id shared.now.table.shared.key r.seat) readers.items) }
-{
-    let mut readers = Vec::new(alloc);
-    for dealt in 0..shared.layout.callers() {
-        let seat = shared.deal(&mut writer, dealt + 1);
-        readers.push(Reader {
-            seat,
-            reads,
-            alike: 0,
-        })?;
-    }
-    Ok(readers)
-}
-
 /// The table of a new heap, with so many readers.
 pub fn open(
     alloc: Global,
@@ -56,8 +31,15 @@ pub fn open(
     ensures ready { IfOk result (λ opened. All (λ r. IsReady opened.0.table.shared.table_id opened.0.table.shared.key r.seat) opened.1.items) }
 {
     let space = new_region::<Trio>(alloc, ORDER)?;
-    let (shared, writer) = Shared::<Trio>::open(alloc, ORDER, callers, space.words(), 0)?;
-    let readers = readers_of(alloc, &shared, writer, reads)?;
+    let (shared, _writer, seats) = Shared::<Trio>::new(alloc, ORDER, callers, space.words(), 0)?;
+    let mut readers = Vec::with_capacity(alloc, seats.len())?;
+    for seat in seats {
+        readers.push(Reader {
+            seat,
+            reads,
+            alike: 0,
+        })?;
+    }
     Ok((shared, readers))
 }
 
