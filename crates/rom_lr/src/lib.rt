@@ -5,8 +5,9 @@
 //! enters a side, loads its words or asks a query of them, and leaves. The [`WriterSeat`] switches
 //! readers to a side that is whole, and settles: it waits until nobody reads the side that they left.
 //! Then it may store words there, one by one or, on main, by a whole update. A [`Note`] hands what one
-//! caller has seen to another. Each call makes a number of steps that its contract tells, each of one
-//! word; `settle` alone waits, and the opening alone takes memory.
+//! caller has seen to another. A call makes steps of one word each, and its contract tells how many, or
+//! at most how many, but for `settle`, which alone waits, and an update on main. The opening alone takes
+//! memory.
 //!
 //! `specs/Opening.antt` has the seats as they are handed out, `specs/Reading.antt` what a seat reads
 //! from then on, `specs/Switch.antt` what a store of `side` asks for and leaves, `specs/Writing.antt`

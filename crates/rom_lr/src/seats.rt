@@ -2,7 +2,6 @@
 ghost use Rattle.std.specs.Prelude.{◌≡◌, ◌^◌, ◌<◌, ◌≤◌, [], IsTrue, length};
 ghost use Rattle.rom_model.specs.Blocks.{region_len};
 ghost use Rattle.rom_lr.specs.Side.{side_number};
-ghost use Rattle.rom_rule.specs.CallKinds.{posted};
 ghost use Rattle.rom_rule.specs.Places.{indicator_of, word_at};
 ghost use Rattle.rom_rule.specs.Views.{IsWriter, indicator_in, is_reading, plan_of, side_read};
 ghost use Rattle.rom_rule.specs.declared.views.Position.TheVariants.{Out};

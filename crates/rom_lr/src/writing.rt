@@ -20,8 +20,8 @@ use std::sync::Wait;
 
 impl<O: Object> Shared<O> {
     /// Sends readers to a side from now on, in one step. To main it publishes the batch of the calls
-    /// that were found in this pass, and makes the pass's record where there are any. `before` and `after` are the
-    /// device's counts of faults at the pass's start and now; they go into the record.
+    /// that were found in this pass, and makes the pass's record where there are any. `before` and
+    /// `after` are the device's counts of faults at the pass's start and now; they go into the record.
     pub fn switch(&self, seat: &mut WriterSeat, side: Side, before: u64, after: u64)
         requires of { IsWriterOf self.now.table.shared.table_id self.now.table.shared.key seat.old }
         requires can { CanSwitch O.Contents (on_words O.machine) seat.old.token.me.0.base (plan_of seat.old.token.me.0) side before after }
@@ -63,7 +63,8 @@ impl<O: Object> Shared<O> {
     /// Waits until nobody reads the side that readers were sent from. It returns only after it has
     /// loaded each indicator as 0 since the last [`Shared::switch`]: that of the other version first,
     /// then, with `version` stored as the other one, that of the former. An indicator is loaded only
-    /// while `version` names the other one, so nobody newly arrives at it but who had loaded `version` before.
+    /// while `version` names the other one, so nobody newly arrives at it but who had loaded `version`
+    /// before.
     pub fn settle<R: Wait>(&self, rt: &R, seat: &mut WriterSeat)
         requires of { IsWriterOf self.now.table.shared.table_id self.now.table.shared.key seat.old }
         ensures waited { Writes seat.old seat.new (settled (plan_of seat.old.token.me.0)) }

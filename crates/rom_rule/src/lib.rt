@@ -8,9 +8,9 @@
 //!
 //! `specs/Places.antt` has the words by what they are for, `specs/Views.antt` the parts of a view,
 //! `specs/Readers.antt`, `specs/Records.antt` and `specs/Calls.antt` the invariants, each by its
-//! sentence, `specs/Rule.antt` the rule that joins them, and `specs/Kinds.antt` the kinds of step
-//! as a table: who makes it, when it may be made, and what it tells. `proofs/` has, for each kind, the law that
-//! it keeps the rule; the methods above cite these. The contracts here promise that a layout's
+//! sentence, `specs/Rule.antt` the rule that joins them, and `specs/Kinds.antt` the kinds of step as a
+//! table: who makes it, when it may be made, and what it tells. `proofs/` has, for each kind, the law
+//! that it keeps the rule; the methods above cite these. The contracts here promise that a layout's
 //! functions give the places of its definition.
 #![tactic(auto)]
 

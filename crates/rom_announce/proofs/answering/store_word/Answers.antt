@@ -1,0 +1,34 @@
+use Rattle.rom_model.specs.Machine.{on_words}
+use Rattle.std.proofs.Common.{rules, ◌≡◌, ◌+◌, refl, sym, ap, ◌∙◌, subst, Some}
+use Rattle.rom_rule.specs.CallKinds.{altered, laying}
+use Rattle.rom_rule.specs.Kinds.{planned}
+use Rattle.rom_rule.specs.Places.{slot_at}
+use Rattle.rom_rule.specs.Views.{base_of, plan_of}
+use Rattle.rom_rule.specs.declared.views.Base.{Base}
+use Rattle.rom_rule.specs.declared.views.Plan.{Plan}
+use Rattle.rom_rule.specs.declared.views.Request.{Request}
+use Rattle.rom_rule.specs.declared.views.View.{View}
+use Rattle.rom_rule.proofs.Requests.{stores_reply}
+use Rattle.rom_lr.proofs.Seated.{plan_after, writes_after, sized_after}
+use Rattle.rom_announce.proofs.answering.store_word.Goals as goal
+
+pub store-requires : goal.store-requires
+store-requires g c = let s = c.args.seat.now in let f : Request = c.requires.found.0 in let same : c.args.caller ≡ f.caller = sym c.requires.found.1.2 in
+    (search rules, search rules, rw (c.slot-at.ensures.is, ap (λ l. slot_at l.callers c.args.caller (43 + c.args.j)) c.args.shared.now.laid, same) (stores_reply g.O.Object.Contents (on_words g.O.Object.machine) (base_of c.args.shared.now.table.shared.key) _ _ c.args.j _ f _ s.writes ((c.requires.found.1.0, c.requires.found.1.1, refl, c.requires.found.1.3), c.requires.found.2, c.requires.within.2)))
+
+pub invariant_of-seat : goal.invariant_of-seat
+invariant_of-seat g c = let s = c.args.seat.now in let v : View = s.token.me.0 in let at : c.slot-at.result ≡ slot_at v.base.callers c.args.caller (43 + c.args.j) = c.slot-at.ensures.is ∙ (ap (λ l. slot_at l.callers c.args.caller (43 + c.args.j)) c.args.shared.now.laid ∙ ap (λ (z : Base). slot_at z.callers c.args.caller (43 + c.args.j)) (sym c.requires.of.1)) in
+    let q : Plan = altered c.args.caller (laying c.args.j c.args.word) (plan_of v) in let did = c.store.ensures.2 c.args.caller c.args.j c.requires.within.0 c.requires.within.2 at in let w : View = c.store.new.seat.me.0 in let now : w ≡ planned v q = ap (λ m. m.0) did in record {
+      bare = ap (λ m. m.1) did ∙ s.bare;
+      writes = writes_after v w q now;
+      sized = sized_after v w q refl refl now s.sized;
+      out = ap (λ (z : View). z.position) now ∙ s.out;
+      named = (s.named.0 ∙ sym (ap (λ (z : Plan). z.version) (plan_after v w q now)), s.named.1);
+    }
+
+pub returns : goal.returns
+returns g c = let v : View = c.args.seat.now.token.me.0 in let at : c.slot-at.result ≡ slot_at v.base.callers c.args.caller (43 + c.args.j) = c.slot-at.ensures.is ∙ (ap (λ l. slot_at l.callers c.args.caller (43 + c.args.j)) c.args.shared.now.laid ∙ ap (λ (z : Base). slot_at z.callers c.args.caller (43 + c.args.j)) (sym c.requires.of.1)) in
+    let q : Plan = altered c.args.caller (laying c.args.j c.args.word) (plan_of v) in let now : c.store.new.seat.me.0 ≡ planned v q = ap (λ m. m.0) (c.store.ensures.2 c.args.caller c.args.j c.requires.within.0 c.requires.within.2 at) in record {
+      stored = (c.store.ensures.0, c.store.ensures.1, subst (λ (z : View). z ≡ record v { plan = Some q; steps = z.steps }) (sym now) refl);
+      step = ap (λ (z : View). z.steps) now;
+    }

@@ -1,0 +1,17 @@
+-- What the writer's scan asks for and leaves.
+use Rattle.std.specs.Prelude.{◌≡◌, ◌≢◌, ℕ, List, ◌==◌, if◌then◌else◌}
+use Rattle.rom_rule.specs.CallKinds.{CanBegin, CanScan, beginning}
+use Rattle.rom_rule.specs.declared.views.Plan.{Plan}
+use Rattle.rom_rule.specs.declared.views.Request.{Request}
+
+-- It is the first caller, and each call found before is answered; or it is the caller after the one scanned last, and the pass has no record yet.
+abbrev pub MayScan : Plan → ℕ → Type 0
+MayScan p caller = (caller ≡ 1 → CanBegin p) × (caller ≢ 1 → CanScan p caller)
+
+-- the plan before that caller's turn is loaded: with the first caller a new pass begins
+abbrev pub scanned_from : ℕ → Plan → Plan
+scanned_from caller p = if caller == 1 then beginning p else p
+
+-- a request of which these words were loaded
+abbrev pub with_words : List ℕ → Request → Request
+with_words words f = record f { words = words }

@@ -1,0 +1,23 @@
+//! Announced calls: a caller posts a call in its slot, the writer finds and answers it there, and the
+//! caller takes the answer.
+//!
+//! [`post`], [`answered`] and [`take`] are a caller's, [`posted`], [`arguments`] and [`answer`] the
+//! writer's. None waits, takes memory or can be refused, and each makes a number of steps that its
+//! contract tells, each of one word.
+//!
+//! Each contract says what its seat's view becomes as a whole, so nothing else of the view changes.
+//! `specs/Scanning.antt` and `specs/Answering.antt` have what the writer's calls ask for and leave.
+//! That the words which the writer finds in a slot are those of the posted call, that each posted call
+//! stands in one pass's record, and that a caller finds what that record tells of it, is the table's
+//! rule, of `rom_rule`; the proofs here give each step its condition.
+#![tactic(auto)]
+
+mod answering;
+mod posting;
+mod scanning;
+mod taking;
+
+pub use answering::answer;
+pub use posting::post;
+pub use scanning::{arguments, posted};
+pub use taking::{answered, take};
