@@ -67,7 +67,7 @@ module _ {D : Type 0} (shown : ShownDevice D) (t : Seen D) where
       let new_is : known.new ≡ committed shown t = sym (all (shown.words t.device) reads).main_is ∙ sym (ap (λ (p : Phase). committed_in p t.order (shown.words t.device)) is) in
       main_region t.order (committed shown t) i (subst (λ (z : List ℕ). HasMain t.order z i) new_is (all i left))
 
-  undo_region : t.phase ≡ Undo → InPhase shown t → (i : List ℕ) → shown.leaves t.device i → IsCurrentRegion t.order i (committed shown t)
+  pub undo_region : t.phase ≡ Undo → InPhase shown t → (i : List ℕ) → shown.leaves t.device i → IsCurrentRegion t.order i (committed shown t)
   undo_region is known i left = either (each_of Undo is known i left)
     where
       either : HasBack t.order (committed shown t) i ⊎ Twins t.order (committed shown t) i → IsCurrentRegion t.order i (committed shown t)

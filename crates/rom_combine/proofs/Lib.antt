@@ -9,3 +9,15 @@ pub mod Passing
 pub mod Rising
 pub mod Sessions
 pub mod GoingOn
+pub mod Writing
+pub mod Scans
+pub mod Limits
+pub mod Applies
+pub mod Gives
+pub mod Publishes
+pub mod Copies
+pub mod Bridge
+pub mod Refusing
+pub mod Rested
+pub mod Keeping
+pub mod Failing

@@ -6,3 +6,12 @@ pub mod Costs
 pub mod Plain
 pub mod Session
 pub mod Laws
+pub mod Scanning
+pub mod Applying
+pub mod Answering
+pub mod Looking
+pub mod Published
+pub mod Resting
+pub mod Histories
+pub mod AtRest
+pub mod Passing

@@ -1,0 +1,66 @@
+use Rattle.rom_model.specs.Machine.{on_words}
+use Rattle.std.proofs.Common.{rules, arith, ◌≡◌, ℕ, ◌+◌, ◌<◌, ◌≤◌, List, [], ◌∷◌, ◌++◌, length, sym, refl, ap, ◌∙◌, subst}
+use mathlib.Core.Option.{some}
+use lib.ListN.{get_elem?}
+use Rattle.atomic_table.proofs.Lists.{at_index}
+use Rattle.rom_model.specs.History.{after}
+use Rattle.rom_rule.specs.declared.views.Base.{Base}
+use Rattle.rom_rule.specs.declared.views.Plan.{Plan}
+use Rattle.rom_rule.specs.declared.views.View.{View}
+use Rattle.rom_rule.specs.Views.{plan_of}
+use Rattle.rom_rule.specs.Records.{IsCall}
+use Rattle.rom_combine.proofs.Writing.{main_writes, writes_still}
+use Rattle.rom_combine.specs.declared.answering.Answer.{Answer}
+use Rattle.rom_combine.specs.declared.scanning.Posted.{Posted}
+use Rattle.rom_combine.specs.Applying.{batch_first, IsApplied, IsDoneOne}
+use Rattle.rom_combine.proofs.Applies.{posted_at, none_applied, next_state, one_applied}
+use Rattle.rom_combine.proofs.applying.apply_all.Goals as goal
+
+pub loop-i-init : goal.loop-i-init
+loop-i-init g c = let u : View = c.args.seat.now.token.me.0 in let h = c.requires.held in (
+  (refl, refl, writes_still u c.args.seat.now.writes),
+  ap length c.requires.none,
+  (
+    h.0,
+    h.1,
+    h.2,
+    h.4,
+    subst (λ (l : List Answer). IsApplied g.O.Object.Contents (on_words g.O.Object.machine) u.base h.0 h.1 (plan_of u) (plan_of u).main 0 l) (sym c.requires.none) (none_applied g.O.Object.Contents (on_words g.O.Object.machine) u.base h.0 h.1 (plan_of u) (plan_of u).main h.3),
+  ),
+)
+
+pub apply_one-one-requires-clause-call : goal.apply_one-one-requires-clause-call
+apply_one-one-requires-clause-call g c = let inv = c.loop-i.invariant in let u : View = c.args.seat.now.token.me.0 in let v : View = c.loop-i.seat.token.me.0 in let p : Plan = plan_of u in let b : Base = u.base in let i : ℕ = c.loop-i.i in let items : List Posted = c.args.found.now in let x : Posted = c.index-found-i.result in let h = inv.2 in
+    let at : get_elem? items i ≡ some x = at_index items i x c.loop-i-test.true c.index-found-i.is in let f = posted_at items p.requests i x c.requires.found at in let base : v.base ≡ b = ap (λ (z : View). z.base) inv.0.2 in
+    subst (λ (z : Base × Posted). IsCall (on_words g.O.Object.machine) z.0 z.1.args) (λ j. (sym base j, f.2 j)) (c.requires.fresh i f.0 f.1).2
+
+pub apply_one-one-requires-clause-held : goal.apply_one-one-requires-clause-held
+apply_one-one-requires-clause-held g c = let inv = c.loop-i.invariant in let u : View = c.args.seat.now.token.me.0 in let v : View = c.loop-i.seat.token.me.0 in let p : Plan = plan_of u in let b : Base = u.base in let i : ℕ = c.loop-i.i in let items : List Posted = c.args.found.now in let x : Posted = c.index-found-i.result in let h = inv.2 in
+    let at : get_elem? items i ≡ some x = at_index items i x c.loop-i-test.true c.index-found-i.is in let f = posted_at items p.requests i x c.requires.found at in let base : v.base ≡ b = ap (λ (z : View). z.base) inv.0.2 in (
+      after (on_words g.O.Object.machine) b.order (after (on_words g.O.Object.machine) b.order h.0 h.1 p.history) (h.1 + length p.history) (batch_first g.O.Object.Contents (on_words g.O.Object.machine) b h.0 h.1 p i),
+      λ low. subst (λ (z : Base × ℕ). g.O.Object.Contents z.0.order (plan_of v).main (after (on_words g.O.Object.machine) b.order (after (on_words g.O.Object.machine) b.order h.0 h.1 p.history) (h.1 + length p.history) (batch_first g.O.Object.Contents (on_words g.O.Object.machine) b h.0 h.1 p i)) z.1)
+          (λ j. (sym base j, (let e : h.1 + length p.history + i ≡ c.args.place + i = omega (arith, h.3) in e) j))
+          (next_state g.O.Object.Contents (on_words g.O.Object.machine) b h.0 h.1 p (plan_of v).main i c.loop-i.answers.items f.0 h.4 c.requires.fresh f.1 (omega (arith, h.3, low))),
+    )
+
+pub loop-i-preserved : goal.loop-i-preserved
+loop-i-preserved g c = let inv = c.loop-i.invariant in let u : View = c.args.seat.now.token.me.0 in let v : View = c.loop-i.seat.token.me.0 in let p : Plan = plan_of u in let b : Base = u.base in let i : ℕ = c.loop-i.i in let items : List Posted = c.args.found.now in let x : Posted = c.index-found-i.result in let h = inv.2 in
+    let at : get_elem? items i ≡ some x = at_index items i x c.loop-i-test.true c.index-found-i.is in let f = posted_at items p.requests i x c.requires.found at in let base : v.base ≡ b = ap (λ (z : View). z.base) inv.0.2 in
+    let did : IsDoneOne g.O.Object.Contents (on_words g.O.Object.machine) b (Rattle.rom_combine.specs.Scanning.posted_of f.0) (h.1 + length p.history + i) (plan_of v).main (plan_of c.apply_one-one.new.seat.token.me.0).main c.apply_one-one.result
+    = subst (λ (z : Base × Posted × ℕ). IsDoneOne g.O.Object.Contents (on_words g.O.Object.machine) z.0 z.1 z.2 (plan_of v).main (plan_of c.apply_one-one.new.seat.token.me.0).main c.apply_one-one.result)
+    (λ j. (base j, sym f.2 j, (let e : c.args.place + i ≡ h.1 + length p.history + i = omega (arith, h.3) in e) j)) c.apply_one-one.ensures.done in let pushed = c.push.ensures.items in (
+      (
+        c.apply_one-one.ensures.kept.0 ∙ inv.0.0,
+        c.apply_one-one.ensures.kept.1 ∙ inv.0.1,
+        main_writes u v c.apply_one-one.new.seat.token.me.0 p (plan_of v).main (plan_of c.apply_one-one.new.seat.token.me.0).main inv.0.2 c.apply_one-one.ensures.kept.2,
+      ),
+      ap length pushed ∙ (let e : length (c.loop-i.answers.items ++ c.apply_one-one.result ∷ []) ≡ i + 1 = omega (arith, Rattle.std.proofs.Common.length-append c.loop-i.answers.items (c.apply_one-one.result ∷ []), inv.1) in e),
+      (
+        h.0,
+        h.1,
+        h.2,
+        h.3,
+        subst (λ (l : List Answer). IsApplied g.O.Object.Contents (on_words g.O.Object.machine) b h.0 h.1 p (plan_of c.apply_one-one.new.seat.token.me.0).main (i + 1) l) (sym pushed)
+            (one_applied g.O.Object.Contents (on_words g.O.Object.machine) b h.0 h.1 p (plan_of v).main (plan_of c.apply_one-one.new.seat.token.me.0).main i c.loop-i.answers.items f.0 c.apply_one-one.result h.4 c.requires.fresh f.1 did),
+      ),
+    )

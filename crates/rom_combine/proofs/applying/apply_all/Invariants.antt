@@ -1,0 +1,12 @@
+use Rattle.std.proofs.Common.{◌≡◌, ℕ, ◌+◌, length}
+use Rattle.rom_model.specs.Machine.{on_words}
+use Rattle.rom_combine.specs.Applying.{IsApplied}
+use Rattle.rom_lr.specs.Writing.{Writes}
+use Rattle.rom_rule.specs.Views.{plan_of}
+use Rattle.rom_combine.proofs.applying.apply_all.Given as goal
+
+-- the first calls are done
+abbrev pub invariant-loop-i : goal.invariant-loop-i
+invariant-loop-i g l = let b = l.fn.seat.token.me.0.base in let p = plan_of l.fn.seat.token.me.0 in
+    Writes l.fn.seat l.seat (record p { main = (plan_of l.seat.token.me.0).main }) × (length l.answers.items ≡ l.i)
+    × ((s : g.O.Object.State) × (n : ℕ) × g.O.Object.Contents b.order b.image s n × (l.place ≡ n + length p.history) × IsApplied g.O.Object.Contents (on_words g.O.Object.machine) b s n p (plan_of l.seat.token.me.0).main l.i l.answers.items)

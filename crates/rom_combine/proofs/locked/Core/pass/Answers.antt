@@ -1,0 +1,389 @@
+use Rattle.rom_model.specs.Machine.{on_words}
+use Rattle.std.proofs.Common.{Some, rules, arith, ◌≡◌, ◌⊎◌, inl, inr, ⊎_elim, ℕ, ◌+◌, ◌-◌, ◌^◌, ◌<◌, ◌≤◌, List, [], ◌∷◌, ◌++◌, map, length, length-append, slice_index, sym, refl, ap, ◌∙◌, subst, true, false, ◌≢◌, IsTrue}
+use mathlib.Core.Option.{some}
+use lib.ListN.{get_elem?}
+use Rattle.rom_combine.proofs.Since.{becomes_none}
+use Rattle.rom_combine.proofs.Counting.{after_region}
+use Rattle.rom_twin.specs.Seen.{committed}
+use Rattle.rom_header.specs.Regions.{IsCurrentRegion}
+use Rattle.rom_device.specs.Device.{Does, Runs}
+use Rattle.rom_device.specs.Device.{Becomes}
+use Rattle.rom_combine.specs.Costs.{WithinHeap}
+use Rattle.rom_combine.specs.Images.{MayPublish}
+use Rattle.rom_combine.specs.Told.{fate_of}
+use Rattle.rom_combine.proofs.Outside.{within_then}
+use Rattle.rom_combine.specs.declared.passed.Outcome.TheVariants as outcome
+use Rattle.atomic_table.proofs.Lists.{at_map}
+use Rattle.rom_rule.proofs.Told.{length_map, at_some}
+use Rattle.rom_combine.specs.Resting.{rested}
+use Rattle.rom_combine.proofs.Gives.{made_some}
+use Rattle.rom_combine.proofs.Limits.{batch_short}
+use Rattle.rom_combine.proofs.Rested.{left_rested, made_rested, faults_rested}
+use Rattle.rom_model.specs.declared.entry.Entry.{Entry}
+use Rattle.rom_model.specs.declared.record.Fate.TheVariants as fate
+use Rattle.rom_model.specs.declared.record.PassRecord.{PassRecord}
+use Rattle.rom_model.specs.Blocks.{IsOrder}
+use Rattle.rom_model.specs.History.{LAST_COUNT, after, batch}
+use Rattle.rom_model.specs.Passes.{faults_after}
+use Rattle.rom_rule.specs.declared.views.Base.{Base}
+use Rattle.rom_rule.specs.declared.views.Plan.{Plan}
+use Rattle.rom_rule.specs.declared.views.View.{View}
+use Rattle.rom_rule.specs.Views.{Each, base_of, has, is_made, plan_of, records_of}
+use Rattle.rom_rule.specs.Calls.{AreScanned, caller_in, found_of}
+use Rattle.rom_rule.specs.Kinds.{raised}
+use Rattle.rom_rule.specs.CallKinds.{beginning}
+use Rattle.rom_rule.proofs.Books.{full_batch}
+use Rattle.rom_rule.specs.Records.{IsCall}
+use Rattle.rom_rule.specs.Places.{indicator_count}
+use Rattle.rom_rule.specs.Readers as rule
+use Rattle.rom_combine.specs.declared.answering.Answer.{Answer}
+use Rattle.rom_combine.specs.Scanning.{IsFresh, IsScan, posted_of, but_requests}
+use Rattle.rom_combine.specs.declared.scanning.Posted.{Posted}
+use Rattle.rom_combine.specs.Answering.{IsLeft, IsRecordedBy, SameCalls}
+use Rattle.rom_combine.specs.Answering.{refused}
+use Rattle.rom_combine.specs.Histories.{PassMakes, ImageAt}
+use Rattle.rom_combine.specs.AtRest.{IsAtRest, Locked}
+use Rattle.rom_combine.proofs.Bridge.{batch_now, same_held, list_settled}
+use Rattle.rom_combine.specs.Passing.{IsPass}
+use Rattle.rom_combine.proofs.Keeping.{scan_stays, rest_same, now_of, pass_nothing, none_answered}
+use Rattle.rom_combine.proofs.Failing.{clean_needs_none, failing_refused, first_left, made_by, pass_refused, passed_refused, none_refused, core_refused, core_spent, batch_done, passed_published}
+use Rattle.rom_combine.proofs.Refusing.{is_refused, may_spend}
+use Rattle.rom_combine.proofs.Writing.{keeps_by, keeps_then}
+use Rattle.rom_combine.proofs.locked.Core.pass.Goals as goal
+
+pub invariant_of-self : goal.invariant_of-self
+invariant_of-self g c = let v : View = c.self.inside.seat.token.me.0 in let w : View = c.scan.new.seat.token.me.0 in let inv = c.self.invariant in let sc = c.scan.ensures.scanned in
+    let base : w.base ≡ v.base = ap (λ (z : View). z.base) c.scan.ensures.same.2 in
+    let zero : length c.scan.new.found.items ≡ 0 = search rules in
+    let now = rest_same g.O.Object.Contents (on_words g.O.Object.machine) g.D.Device.shown c.self.inside.twin v w inv base (scan_stays (plan_of v) (plan_of w) sc.rest) (none_answered g.O.Object.Contents (on_words g.O.Object.machine) v.base (plan_of v) (plan_of w) _ c.scan.new.found.items sc zero) in
+    now
+
+pub returns-then-is_empty-clause-passed : goal.returns-then-is_empty-clause-passed
+returns-then-is_empty-clause-passed g c = let v : View = c.self.inside.seat.token.me.0 in let w : View = c.scan.new.seat.token.me.0 in let inv = c.self.invariant in let sc = c.scan.ensures.scanned in
+    let base : w.base ≡ v.base = ap (λ (z : View). z.base) c.scan.ensures.same.2 in
+    let zero : length c.scan.new.found.items ≡ 0 = search rules in
+    let x = pass_nothing g.O.Object.Contents (on_words g.O.Object.machine) v.base (plan_of v) (plan_of w) c.args.shared.now.layout.callers (g.D.Device.shown.faults c.self.inside.twin.device) (g.D.Device.shown.faults c.self.inside.twin.device) c.scan.new.found.items inv.start inv.count (λ s₁ s₂ j k. g.met.O.Object.one_contents v.base.order v.base.image s₁ s₂ j k) inv.opening sc zero
+    (none_answered g.O.Object.Contents (on_words g.O.Object.machine) v.base (plan_of v) (plan_of w) _ c.scan.new.found.items sc zero) in
+    subst (λ z. (y : IsPass g.O.Object.Contents (on_words g.O.Object.machine) z.view.base (plan_of z.view) (plan_of w) c.args.shared.now.layout.callers (g.D.Device.shown.faults z.twin.device) (g.D.Device.shown.faults c.self.inside.twin.device) (record { found = 0; done = 0; outcome = Rattle.rom_combine.specs.declared.passed.Outcome.TheVariants.Nothing }))
+    × (Rattle.std.proofs.Common.IsTrue g.D.Device.shown.tells_images → (s : g.O.Object.State) (n : ℕ) → g.O.Object.Contents z.view.base.order z.view.base.image s n →
+    Rattle.rom_device.specs.Device.Runs g.D.Device.shown (Rattle.rom_device.specs.Device.Becomes (PassMakes g.O.Object.Contents (on_words g.O.Object.machine) z.view.base s n fate.Published (plan_of z.view).history y.more)) z.twin.device c.self.inside.twin.device))
+    c.self.view_is (x, (λ told s n op. becomes_none g.D.Device.shown (PassMakes g.O.Object.Contents (on_words g.O.Object.machine) v.base s n fate.Published (plan_of v).history x.more) c.self.inside.twin.device))
+
+pub returns-then-is_empty-clause-now : goal.returns-then-is_empty-clause-now
+returns-then-is_empty-clause-now g c told s n op i left = let v : View = c.self.inside.seat.token.me.0 in let w : View = c.scan.new.seat.token.me.0 in let inv = c.self.invariant in let sc = c.scan.ensures.scanned in
+    let base : w.base ≡ v.base = ap (λ (z : View). z.base) c.scan.ensures.same.2 in
+    let zero : length c.scan.new.found.items ≡ 0 = search rules in
+    let now = rest_same g.O.Object.Contents (on_words g.O.Object.machine) g.D.Device.shown c.self.inside.twin v w inv base (scan_stays (plan_of v) (plan_of w) sc.rest) (none_answered g.O.Object.Contents (on_words g.O.Object.machine) v.base (plan_of v) (plan_of w) _ c.scan.new.found.items sc zero) in
+    let same : w.base ≡ c.args.self.now.view.base = base ∙ ap (λ z. z.view.base) c.self.view_is in
+    subst (λ (z : Base). ImageAt g.O.Object.Contents (on_words g.O.Object.machine) z s n c.self.inside.twin.phase (plan_of w) i) same
+    (now_of g.O.Object.Contents (on_words g.O.Object.machine) g.D.Device.shown c.self.inside.twin w s n (λ s₁ s₂ j k. g.met.O.Object.one_contents w.base.order w.base.image s₁ s₂ j k) now told (subst (λ (z : Base). g.O.Object.Contents z.order z.image s n) (sym same) op) i left)
+
+pub answer_all-requires-clause-left : goal.answer_all-requires-clause-left
+answer_all-requires-clause-left g c = let v : View = c.self.inside.seat.token.me.0 in let w : View = c.scan.new.seat.token.me.0 in let inv = c.self.invariant in let sc = c.scan.ensures.scanned in
+    let base : w.base ≡ v.base = ap (λ (z : View). z.base) c.scan.ensures.same.2 in
+    let x : View = c.load_main-place.new.seat.token.me.0 in let q : Plan = plan_of w in let st = scan_stays (plan_of v) q sc.rest in let before : ℕ = c.fault_count-before.result in
+    let plan_x : plan_of x ≡ q = ap plan_of c.load_main-place.ensures.still.2 in let base_x : x.base ≡ v.base = ap (λ (z : View). z.base) c.load_main-place.ensures.still.2 ∙ base in
+    let held : rule.Held g.O.Object.Contents (on_words g.O.Object.machine) v.base inv.start inv.count q.main q.history = subst (λ (z : List ℕ × List Entry). rule.Held g.O.Object.Contents (on_words g.O.Object.machine) v.base inv.start inv.count z.0 z.1) (λ j. (sym st.main j, sym st.history j)) inv.held in
+    let word : slice_index q.main 2 ≡ inv.count + length q.history = (g.met.O.Object.contents_within v.base.order q.main _ _ held).1 in
+    let full : inv.count + length q.history ≡ LAST_COUNT = omega (arith, word, c.load_main-place.ensures.word, c.if-place-eq-LAST_COUNT.true) in
+    let of : v.base ≡ base_of c.args.shared.now.table.shared.key = ap (λ z. z.view.base) c.self.view_is ∙ c.requires.of.1 in
+    let callers : c.args.shared.now.layout.callers ≡ v.base.callers = ap (λ l. l.callers) c.args.shared.now.laid ∙ sym (ap (λ (z : Base). z.callers) of) in
+    let fresh : Each (λ _ f. IsFresh (IsCall (on_words g.O.Object.machine) v.base) f) q.requests = λ j f e. (sc.fresh j f e).1 in
+    let from : faults_after v.base.faults q.records ≤ before = subst (λ (z : List PassRecord × ℕ). faults_after v.base.faults z.0 ≤ z.1) (λ j. (sym (ap (λ (z : Plan). z.records) sc.rest) j, sym c.fault_count-before.ensures j)) inv.counts in (
+      fate.Published,
+      subst (λ (z : Base × Plan × List Answer). IsLeft g.O.Object.Contents (on_words g.O.Object.machine) z.0 fate.Published before before z.1 0 z.2) (λ j. (sym base_x j, sym plan_x j, sym c.as_slice-then-place-eq-LAST_COUNT.ensures.value j))
+          (is_refused g.O.Object.Contents (on_words g.O.Object.machine) v.base (2 ^ 62) fate.Published q before before c.as_slice.result.now c.refuse.new.answers.items refl refl
+          (may_spend g.O.Object.Contents (on_words g.O.Object.machine) v.base q before before inv.start inv.count full (ap (λ (z : Plan). z.mine) sc.rest) fresh from (omega arith) inv.opening)
+          (subst (λ (k : ℕ). AreScanned 0 k (Rattle.std.proofs.Common.map caller_in q.requests)) callers sc.rising) fresh (c.as_slice.ensures.value ∙ sc.items_are) c.refuse.ensures),
+    )
+
+pub publish-outcome-requires-clause-fresh : goal.publish-outcome-requires-clause-fresh
+publish-outcome-requires-clause-fresh g c = let v : View = c.self.inside.seat.token.me.0 in let w : View = c.scan.new.seat.token.me.0 in let inv = c.self.invariant in let sc = c.scan.ensures.scanned in
+    let base : w.base ≡ v.base = ap (λ (z : View). z.base) c.scan.ensures.same.2 in
+    let x : View = c.load_main-place.new.seat.token.me.0 in let plan_x : plan_of x ≡ plan_of w = ap plan_of c.load_main-place.ensures.still.2 in let base_x : x.base ≡ v.base = ap (λ (z : View). z.base) c.load_main-place.ensures.still.2 ∙ base in
+    subst (λ (z : Base × Plan). Each (λ _ f. IsFresh (IsCall (on_words g.O.Object.machine) z.0) f) z.1.requests) (λ j. (sym base_x j, sym plan_x j)) (λ j f e. (sc.fresh j f e).1)
+
+pub invariant_of-self-then-place-eq-LAST_COUNT : goal.invariant_of-self-then-place-eq-LAST_COUNT
+invariant_of-self-then-place-eq-LAST_COUNT g c = let v : View = c.self.inside.seat.token.me.0 in let w : View = c.scan.new.seat.token.me.0 in let inv = c.self.invariant in let sc = c.scan.ensures.scanned in
+    let x : View = c.load_main-place.new.seat.token.me.0 in let q : Plan = plan_of x in let plan_x : q ≡ plan_of w = ap plan_of c.load_main-place.ensures.still.2 in
+    let base_x : x.base ≡ v.base = ap (λ (z : View). z.base) c.load_main-place.ensures.still.2 ∙ ap (λ (z : View). z.base) c.scan.ensures.same.2 in
+    let scan : but_requests q ≡ but_requests (beginning (plan_of v)) = ap but_requests plan_x ∙ sc.rest in
+    let before : ℕ = c.fault_count-before.result in let items : List Posted = c.scan.new.found.items in let some_found : 0 < length items = search rules in
+    let found : 0 < length q.requests = omega (arith, some_found, ap length sc.items_are, length_map posted_of (plan_of w).requests, ap (λ (z : Plan). length z.requests) plan_x) in
+    let op : g.O.Object.Contents x.base.order x.base.image inv.start inv.count = subst (λ (z : Base). g.O.Object.Contents z.order z.image inv.start inv.count) (sym base_x) inv.opening in
+    let u : View = c.answer_all.new.seat.token.me.0 in let base_u : u.base ≡ v.base = ap (λ (z : View). z.base) c.answer_all.ensures.same.2 ∙ base_x in
+    let held : rule.Held g.O.Object.Contents (on_words g.O.Object.machine) x.base inv.start inv.count q.main q.history = subst (λ (z : Base × List ℕ × List Entry). rule.Held g.O.Object.Contents (on_words g.O.Object.machine) z.0 inv.start inv.count z.1 z.2) (λ j. (sym base_x j, sym (ap (λ (z : Plan). z.main) scan) j, sym (ap (λ (z : Plan). z.history) scan) j)) inv.held in
+    let word : slice_index q.main 2 ≡ inv.count + length q.history = (g.met.O.Object.contents_within x.base.order q.main _ _ held).1 in
+    let full : inv.count + length q.history ≡ LAST_COUNT = omega (arith, word, ap (λ (z : Plan). slice_index z.main 2) plan_x, c.load_main-place.ensures.word, c.if-place-eq-LAST_COUNT.true) in
+    let first = at_some items 0 some_found in
+    let at : get_elem? c.as_slice-then-place-eq-LAST_COUNT.result.now 0 ≡ some (refused (2 ^ 62) first.0) = ap (λ (l : List Answer). get_elem? l 0) (c.as_slice-then-place-eq-LAST_COUNT.ensures.value ∙ (c.refuse.ensures ∙ ap (map (refused (2 ^ 62))) c.as_slice.ensures.value)) ∙ at_map (refused (2 ^ 62)) items 0 first.0 first.1 in
+    let made = made_by g.O.Object.Contents (on_words g.O.Object.machine) x.base q (plan_of u) before before c.as_slice-then-place-eq-LAST_COUNT.result.now fate.Published (refused (2 ^ 62) first.0) at refl (ap (λ (z : Plan). z.mine) scan) c.answer_all.ensures.recorded in
+    let batched = made.2 inv.start inv.count op in
+    let none : made.1 ≡ [] = batched.1 ∙ full_batch (on_words g.O.Object.machine) x.base.order (after (on_words g.O.Object.machine) x.base.order inv.start inv.count q.history) made.0 (map found_of q.requests) (batched.0 ∙ full) in
+    core_spent g.O.Object.Contents (on_words g.O.Object.machine) g.D.Device.shown c.self.inside.twin v u q before made.0 made.1 inv base_u scan made.3 none found c.answer_all.ensures.answered (omega (arith, c.fault_count-before.ensures))
+
+pub returns-then-place-eq-LAST_COUNT-clause-passed : goal.returns-then-place-eq-LAST_COUNT-clause-passed
+returns-then-place-eq-LAST_COUNT-clause-passed g c = let v : View = c.self.inside.seat.token.me.0 in let w : View = c.scan.new.seat.token.me.0 in let inv = c.self.invariant in let sc = c.scan.ensures.scanned in
+    let x : View = c.load_main-place.new.seat.token.me.0 in let q : Plan = plan_of x in let plan_x : q ≡ plan_of w = ap plan_of c.load_main-place.ensures.still.2 in
+    let base_x : x.base ≡ v.base = ap (λ (z : View). z.base) c.load_main-place.ensures.still.2 ∙ ap (λ (z : View). z.base) c.scan.ensures.same.2 in
+    let scan : but_requests q ≡ but_requests (beginning (plan_of v)) = ap but_requests plan_x ∙ sc.rest in
+    let before : ℕ = c.fault_count-before.result in let items : List Posted = c.scan.new.found.items in let some_found : 0 < length items = search rules in
+    let found : 0 < length q.requests = omega (arith, some_found, ap length sc.items_are, length_map posted_of (plan_of w).requests, ap (λ (z : Plan). length z.requests) plan_x) in
+    let op : g.O.Object.Contents x.base.order x.base.image inv.start inv.count = subst (λ (z : Base). g.O.Object.Contents z.order z.image inv.start inv.count) (sym base_x) inv.opening in
+    let u : View = c.answer_all.new.seat.token.me.0 in let base_u : u.base ≡ v.base = ap (λ (z : View). z.base) c.answer_all.ensures.same.2 ∙ base_x in
+    let held : rule.Held g.O.Object.Contents (on_words g.O.Object.machine) x.base inv.start inv.count q.main q.history = subst (λ (z : Base × List ℕ × List Entry). rule.Held g.O.Object.Contents (on_words g.O.Object.machine) z.0 inv.start inv.count z.1 z.2) (λ j. (sym base_x j, sym (ap (λ (z : Plan). z.main) scan) j, sym (ap (λ (z : Plan). z.history) scan) j)) inv.held in
+    let word : slice_index q.main 2 ≡ inv.count + length q.history = (g.met.O.Object.contents_within x.base.order q.main _ _ held).1 in
+    let full : inv.count + length q.history ≡ LAST_COUNT = omega (arith, word, ap (λ (z : Plan). slice_index z.main 2) plan_x, c.load_main-place.ensures.word, c.if-place-eq-LAST_COUNT.true) in
+    let first = at_some items 0 some_found in
+    let at : get_elem? c.as_slice-then-place-eq-LAST_COUNT.result.now 0 ≡ some (refused (2 ^ 62) first.0) = ap (λ (l : List Answer). get_elem? l 0) (c.as_slice-then-place-eq-LAST_COUNT.ensures.value ∙ (c.refuse.ensures ∙ ap (map (refused (2 ^ 62))) c.as_slice.ensures.value)) ∙ at_map (refused (2 ^ 62)) items 0 first.0 first.1 in
+    let made = made_by g.O.Object.Contents (on_words g.O.Object.machine) x.base q (plan_of u) before before c.as_slice-then-place-eq-LAST_COUNT.result.now fate.Published (refused (2 ^ 62) first.0) at refl (ap (λ (z : Plan). z.mine) scan) c.answer_all.ensures.recorded in
+    let batched = made.2 inv.start inv.count op in
+    let none : made.1 ≡ [] = batched.1 ∙ full_batch (on_words g.O.Object.machine) x.base.order (after (on_words g.O.Object.machine) x.base.order inv.start inv.count q.history) made.0 (map found_of q.requests) (batched.0 ∙ full) in
+    let scanned : IsScan (IsCall (on_words g.O.Object.machine) x.base) (plan_of v) q c.args.shared.now.layout.callers items = subst (λ (r : Base × Plan). IsScan (IsCall (on_words g.O.Object.machine) r.0) (plan_of v) r.1 c.args.shared.now.layout.callers items) (λ j. (sym base_x j, sym plan_x j)) sc in
+    let many : ℕ = c.len-many.result in let many_is : many ≡ length items = omega (arith, c.len-many.ensures.value) in
+    let whole = pass_refused g.O.Object.Contents (on_words g.O.Object.machine) x.base (plan_of v) q (plan_of u) c.args.shared.now.layout.callers before before made.0 many items made.1 outcome.Published scanned made.2 made.3 none some_found many_is c.answer_all.ensures.answered (λ (e : outcome.Published ≡ outcome.Nothing). cc) c.answer_all.ensures.calls in
+    let a = c.self.inside.twin.device in
+    subst (λ (r : Base × Locked g.row.D.Denot × ℕ × ℕ). (z : IsPass g.O.Object.Contents (on_words g.O.Object.machine) r.0 (plan_of r.1.view) (plan_of u) c.args.shared.now.layout.callers r.2 r.3 (record { found = many; done = 0; outcome = outcome.Published }))
+    × (IsTrue g.D.Device.shown.tells_images → (s : g.O.Object.State) (n : ℕ) → g.O.Object.Contents r.0.order r.0.image s n → Runs g.D.Device.shown (Becomes (PassMakes g.O.Object.Contents (on_words g.O.Object.machine) r.0 s n fate.Published (plan_of r.1.view).history z.more)) r.1.twin.device a))
+    (λ j. ((base_x ∙ ap (λ r. r.view.base) c.self.view_is) j, c.self.view_is j, (c.fault_count-before.ensures ∙ ap (λ r. g.D.Device.shown.faults r.twin.device) c.self.view_is) j, c.fault_count-before.ensures j))
+    (whole.0, λ told s n op'. becomes_none g.D.Device.shown (PassMakes g.O.Object.Contents (on_words g.O.Object.machine) x.base s n fate.Published (plan_of v).history whole.0.more) a)
+
+pub returns-then-place-eq-LAST_COUNT-clause-now : goal.returns-then-place-eq-LAST_COUNT-clause-now
+returns-then-place-eq-LAST_COUNT-clause-now g c told s n op i left = let v : View = c.self.inside.seat.token.me.0 in let x : View = c.load_main-place.new.seat.token.me.0 in let u : View = c.answer_all.new.seat.token.me.0 in let t = c.self.inside.twin in
+    let base_x : x.base ≡ v.base = ap (λ (z : View). z.base) c.load_main-place.ensures.still.2 ∙ ap (λ (z : View). z.base) c.scan.ensures.same.2 in
+    let same : u.base ≡ c.args.self.now.view.base = ap (λ (z : View). z.base) c.answer_all.ensures.same.2 ∙ (base_x ∙ ap (λ r. r.view.base) c.self.view_is) in
+    subst (λ (r : Base). ImageAt g.O.Object.Contents (on_words g.O.Object.machine) r s n t.phase (plan_of u) i) same
+    (now_of g.O.Object.Contents (on_words g.O.Object.machine) g.D.Device.shown t u s n (λ s₁ s₂ j k. g.met.O.Object.one_contents u.base.order u.base.image s₁ s₂ j k) (invariant_of-self-then-place-eq-LAST_COUNT g c) told (subst (λ (r : Base). g.O.Object.Contents r.order r.image s n) (sym same) op) i left)
+
+pub invariant_of-self-then-ne : goal.invariant_of-self-then-ne
+invariant_of-self-then-ne g c = let v : View = c.self.inside.seat.token.me.0 in let w : View = c.scan.new.seat.token.me.0 in let inv = c.self.invariant in let sc = c.scan.ensures.scanned in
+    let x : View = c.load_main-place.new.seat.token.me.0 in let q : Plan = plan_of x in let plan_x : q ≡ plan_of w = ap plan_of c.load_main-place.ensures.still.2 in
+    let base_x : x.base ≡ v.base = ap (λ (z : View). z.base) c.load_main-place.ensures.still.2 ∙ ap (λ (z : View). z.base) c.scan.ensures.same.2 in
+    let scan : but_requests q ≡ but_requests (beginning (plan_of v)) = ap but_requests plan_x ∙ sc.rest in
+    let before : ℕ = c.fault_count-before.result in let items : List Posted = c.scan.new.found.items in let some_found : 0 < length items = search rules in
+    let found : 0 < length q.requests = omega (arith, some_found, ap length sc.items_are, length_map posted_of (plan_of w).requests, ap (λ (z : Plan). length z.requests) plan_x) in
+    let op : g.O.Object.Contents x.base.order x.base.image inv.start inv.count = subst (λ (z : Base). g.O.Object.Contents z.order z.image inv.start inv.count) (sym base_x) inv.opening in
+    let y : View = c.publish-outcome.new.seat.token.me.0 in let o = c.publish-outcome.result in let t = c.publish-outcome.new.twin in
+    let not_published : o ≢ outcome.Published = search rules in let not_nothing = c.publish-outcome.ensures.some in let stays : plan_of y ≡ q = c.publish-outcome.ensures.stays not_published in
+    let base_y : y.base ≡ x.base = ap (λ (z : View). z.base) c.publish-outcome.ensures.same.2 in
+    let u : View = c.answer_all-then-ne.new.seat.token.me.0 in let base_u : u.base ≡ v.base = ap (λ (z : View). z.base) c.answer_all-then-ne.ensures.same.2 ∙ (base_y ∙ base_x) in
+    let now : ℕ = c.fault_count-now.result in let given : List Answer = c.as_slice-then-ne.result.now in
+    let found_y : 0 < length (plan_of y).requests = omega (arith, found, ap (λ (z : Plan). length z.requests) stays) in
+    let first = first_left g.O.Object.Contents (on_words g.O.Object.machine) x.base (fate_of o) before (g.D.Device.shown.faults t.device) (plan_of y) c.publish-outcome.new.answers.items c.publish-outcome.ensures.left found_y in
+    let at : get_elem? given 0 ≡ some first.0 = ap (λ (l : List Answer). get_elem? l 0) c.as_slice-then-ne.ensures.value ∙ first.1 in
+    let recorded : IsRecordedBy g.O.Object.Contents (on_words g.O.Object.machine) x.base q (plan_of u) before now given = subst (λ (z : Base × Plan). IsRecordedBy g.O.Object.Contents (on_words g.O.Object.machine) z.0 z.1 (plan_of u) before now given) (λ j. (base_y j, stays j)) c.answer_all-then-ne.ensures.recorded in
+    let made = made_by g.O.Object.Contents (on_words g.O.Object.machine) x.base q (plan_of u) before now given (fate_of o) first.0 at first.2 (ap (λ (z : Plan). z.mine) scan) recorded in
+    let since : IsTrue g.D.Device.shown.tells_images → (s : g.O.Object.State) (n : ℕ) → g.O.Object.Contents x.base.order x.base.image s n → Runs g.D.Device.shown (Becomes (PassMakes g.O.Object.Contents (on_words g.O.Object.machine) x.base s n (fate_of o) q.history (batch_now g.O.Object.Contents (on_words g.O.Object.machine) x.base s n q))) c.self.inside.twin.device t.device = λ told s n o'. c.publish-outcome.ensures.since told s n o' in
+    let last : now ≤ g.D.Device.shown.faults t.device = omega (arith, c.fault_count-now.ensures) in
+    core_refused g.O.Object.Contents (on_words g.O.Object.machine) g.D.Device.shown c.self.inside.twin t v u x.base q o before now made.0 made.1 inv base_x base_u not_published not_nothing scan made.3 found c.answer_all-then-ne.ensures.answered
+    c.publish-outcome.ensures.order (c.publish-outcome.ensures.committed not_published) c.publish-outcome.ensures.images c.publish-outcome.ensures.failed c.publish-outcome.ensures.doubt (failing_refused g.D.Device.shown t.device o not_published not_nothing (λ e. (c.publish-outcome.ensures.failed_cause e).last) (λ e. (c.publish-outcome.ensures.doubt_cause e).failed.last))
+    (λ told. since told inv.start inv.count op) (λ told is i left. c.publish-outcome.ensures.doubted told is inv.start inv.count op i left) last
+
+pub returns-then-ne-clause-passed : goal.returns-then-ne-clause-passed
+returns-then-ne-clause-passed g c = let v : View = c.self.inside.seat.token.me.0 in let w : View = c.scan.new.seat.token.me.0 in let inv = c.self.invariant in let sc = c.scan.ensures.scanned in
+    let x : View = c.load_main-place.new.seat.token.me.0 in let q : Plan = plan_of x in let plan_x : q ≡ plan_of w = ap plan_of c.load_main-place.ensures.still.2 in
+    let base_x : x.base ≡ v.base = ap (λ (z : View). z.base) c.load_main-place.ensures.still.2 ∙ ap (λ (z : View). z.base) c.scan.ensures.same.2 in
+    let scan : but_requests q ≡ but_requests (beginning (plan_of v)) = ap but_requests plan_x ∙ sc.rest in
+    let before : ℕ = c.fault_count-before.result in let items : List Posted = c.scan.new.found.items in let some_found : 0 < length items = search rules in
+    let found : 0 < length q.requests = omega (arith, some_found, ap length sc.items_are, length_map posted_of (plan_of w).requests, ap (λ (z : Plan). length z.requests) plan_x) in
+    let op : g.O.Object.Contents x.base.order x.base.image inv.start inv.count = subst (λ (z : Base). g.O.Object.Contents z.order z.image inv.start inv.count) (sym base_x) inv.opening in
+    let y : View = c.publish-outcome.new.seat.token.me.0 in let o = c.publish-outcome.result in let t = c.publish-outcome.new.twin in
+    let not_published : o ≢ outcome.Published = search rules in let not_nothing = c.publish-outcome.ensures.some in let stays : plan_of y ≡ q = c.publish-outcome.ensures.stays not_published in
+    let base_y : y.base ≡ x.base = ap (λ (z : View). z.base) c.publish-outcome.ensures.same.2 in
+    let u : View = c.answer_all-then-ne.new.seat.token.me.0 in let base_u : u.base ≡ v.base = ap (λ (z : View). z.base) c.answer_all-then-ne.ensures.same.2 ∙ (base_y ∙ base_x) in
+    let now : ℕ = c.fault_count-now.result in let given : List Answer = c.as_slice-then-ne.result.now in
+    let found_y : 0 < length (plan_of y).requests = omega (arith, found, ap (λ (z : Plan). length z.requests) stays) in
+    let first = first_left g.O.Object.Contents (on_words g.O.Object.machine) x.base (fate_of o) before (g.D.Device.shown.faults t.device) (plan_of y) c.publish-outcome.new.answers.items c.publish-outcome.ensures.left found_y in
+    let at : get_elem? given 0 ≡ some first.0 = ap (λ (l : List Answer). get_elem? l 0) c.as_slice-then-ne.ensures.value ∙ first.1 in
+    let recorded : IsRecordedBy g.O.Object.Contents (on_words g.O.Object.machine) x.base q (plan_of u) before now given = subst (λ (z : Base × Plan). IsRecordedBy g.O.Object.Contents (on_words g.O.Object.machine) z.0 z.1 (plan_of u) before now given) (λ j. (base_y j, stays j)) c.answer_all-then-ne.ensures.recorded in
+    let made = made_by g.O.Object.Contents (on_words g.O.Object.machine) x.base q (plan_of u) before now given (fate_of o) first.0 at first.2 (ap (λ (z : Plan). z.mine) scan) recorded in
+    let since : IsTrue g.D.Device.shown.tells_images → (s : g.O.Object.State) (n : ℕ) → g.O.Object.Contents x.base.order x.base.image s n → Runs g.D.Device.shown (Becomes (PassMakes g.O.Object.Contents (on_words g.O.Object.machine) x.base s n (fate_of o) q.history (batch_now g.O.Object.Contents (on_words g.O.Object.machine) x.base s n q))) c.self.inside.twin.device t.device = λ told s n o'. c.publish-outcome.ensures.since told s n o' in
+    let scanned : IsScan (IsCall (on_words g.O.Object.machine) x.base) (plan_of v) q c.args.shared.now.layout.callers items = subst (λ (r : Base × Plan). IsScan (IsCall (on_words g.O.Object.machine) r.0) (plan_of v) r.1 c.args.shared.now.layout.callers items) (λ j. (sym base_x j, sym plan_x j)) sc in
+    let many : ℕ = c.len-many.result in let many_is : many ≡ length items = omega (arith, c.len-many.ensures.value) in
+    let whole = passed_refused g.O.Object.Contents (on_words g.O.Object.machine) g.D.Device.shown c.self.inside.twin.device t.device x.base (plan_of v) q (plan_of u) c.args.shared.now.layout.callers before now made.0 many items made.1 o scanned made.2 made.3 (none_refused g.O.Object.Contents (on_words g.O.Object.machine) o made.1 not_published not_nothing) some_found many_is c.answer_all-then-ne.ensures.answered not_nothing (subst (λ (z : Plan). SameCalls z (plan_of u)) stays c.answer_all-then-ne.ensures.calls) since in
+    subst (λ (r : Base × Locked g.row.D.Denot × ℕ × ℕ). (z : IsPass g.O.Object.Contents (on_words g.O.Object.machine) r.0 (plan_of r.1.view) (plan_of u) c.args.shared.now.layout.callers r.2 r.3 (record { found = many; done = 0; outcome = o }))
+    × (IsTrue g.D.Device.shown.tells_images → (s : g.O.Object.State) (n : ℕ) → g.O.Object.Contents r.0.order r.0.image s n → Runs g.D.Device.shown (Becomes (PassMakes g.O.Object.Contents (on_words g.O.Object.machine) r.0 s n (fate_of o) (plan_of r.1.view).history z.more)) r.1.twin.device t.device))
+    (λ j. ((base_x ∙ ap (λ r. r.view.base) c.self.view_is) j, c.self.view_is j, (c.fault_count-before.ensures ∙ ap (λ r. g.D.Device.shown.faults r.twin.device) c.self.view_is) j, c.fault_count-now.ensures j)) whole
+
+pub returns-then-ne-clause-now : goal.returns-then-ne-clause-now
+returns-then-ne-clause-now g c told s n op i left = let v : View = c.self.inside.seat.token.me.0 in let x : View = c.load_main-place.new.seat.token.me.0 in let u : View = c.answer_all-then-ne.new.seat.token.me.0 in let t = c.publish-outcome.new.twin in
+    let base_x : x.base ≡ v.base = ap (λ (z : View). z.base) c.load_main-place.ensures.still.2 ∙ ap (λ (z : View). z.base) c.scan.ensures.same.2 in
+    let same : u.base ≡ c.args.self.now.view.base = ap (λ (z : View). z.base) c.answer_all-then-ne.ensures.same.2 ∙ (ap (λ (z : View). z.base) c.publish-outcome.ensures.same.2 ∙ (base_x ∙ ap (λ r. r.view.base) c.self.view_is)) in
+    subst (λ (r : Base). ImageAt g.O.Object.Contents (on_words g.O.Object.machine) r s n t.phase (plan_of u) i) same
+    (now_of g.O.Object.Contents (on_words g.O.Object.machine) g.D.Device.shown t u s n (λ s₁ s₂ j k. g.met.O.Object.one_contents u.base.order u.base.image s₁ s₂ j k) (invariant_of-self-then-ne g c) told (subst (λ (r : Base). g.O.Object.Contents r.order r.image s n) (sym same) op) i left)
+
+pub overflow_sub-done : goal.overflow_sub-done
+overflow_sub-done g c = let v : View = c.self.inside.seat.token.me.0 in let w : View = c.scan.new.seat.token.me.0 in let inv = c.self.invariant in let sc = c.scan.ensures.scanned in
+    let base : w.base ≡ v.base = ap (λ (z : View). z.base) c.scan.ensures.same.2 in
+    let x : View = c.load_main-place.new.seat.token.me.0 in let q : Plan = plan_of w in let st = scan_stays (plan_of v) q sc.rest in
+    let plan_x : plan_of x ≡ q = ap plan_of c.load_main-place.ensures.still.2 in let base_x : x.base ≡ v.base = ap (λ (z : View). z.base) c.load_main-place.ensures.still.2 ∙ base in
+    let y : View = c.publish-outcome.new.seat.token.me.0 in let is_pub : c.publish-outcome.result ≡ outcome.Published = search rules in let pb = c.publish-outcome.ensures.published is_pub in let ph = c.publish-outcome.ensures.held is_pub in
+    let held : rule.Held g.O.Object.Contents (on_words g.O.Object.machine) v.base inv.start inv.count q.main q.history = subst (λ (z : List ℕ × List Entry). rule.Held g.O.Object.Contents (on_words g.O.Object.machine) v.base inv.start inv.count z.0 z.1) (λ j. (sym st.main j, sym st.history j)) inv.held in
+    let word : slice_index q.main 2 ≡ inv.count + length q.history = (g.met.O.Object.contents_within v.base.order q.main _ _ held).1 in
+    let word₂ : slice_index (plan_of y).main 2 ≡ ph.1 + length (plan_of y).history = (g.met.O.Object.contents_within x.base.order (plan_of y).main _ _ ph.3).1 in
+    let same = g.met.O.Object.one_contents x.base.order x.base.image ph.0 inv.start ph.1 inv.count ph.2 (subst (λ (z : Base). g.O.Object.Contents z.order z.image inv.start inv.count) (sym base_x) inv.opening) in let counts = same.1 in
+    let history : length (plan_of y).history ≡ length (plan_of x).history + length pb.more = ap length pb.history ∙ length-append (plan_of x).history pb.more in let log_x : length (plan_of x).history ≡ length q.history = ap (λ (z : Plan). length z.history) plan_x in
+    omega (arith, word, word₂, counts, history, log_x, c.load_main-place.ensures.word, c.load_main.ensures.word)
+
+pub overflow_cast-done : goal.overflow_cast-done
+overflow_cast-done g c = let v : View = c.self.inside.seat.token.me.0 in let w : View = c.scan.new.seat.token.me.0 in let inv = c.self.invariant in let sc = c.scan.ensures.scanned in
+    let base : w.base ≡ v.base = ap (λ (z : View). z.base) c.scan.ensures.same.2 in
+    let x : View = c.load_main-place.new.seat.token.me.0 in let q : Plan = plan_of w in let st = scan_stays (plan_of v) q sc.rest in
+    let plan_x : plan_of x ≡ q = ap plan_of c.load_main-place.ensures.still.2 in let base_x : x.base ≡ v.base = ap (λ (z : View). z.base) c.load_main-place.ensures.still.2 ∙ base in
+    let y : View = c.publish-outcome.new.seat.token.me.0 in let is_pub : c.publish-outcome.result ≡ outcome.Published = search rules in let pb = c.publish-outcome.ensures.published is_pub in let ph = c.publish-outcome.ensures.held is_pub in
+    let held : rule.Held g.O.Object.Contents (on_words g.O.Object.machine) v.base inv.start inv.count q.main q.history = subst (λ (z : List ℕ × List Entry). rule.Held g.O.Object.Contents (on_words g.O.Object.machine) v.base inv.start inv.count z.0 z.1) (λ j. (sym st.main j, sym st.history j)) inv.held in
+    let word : slice_index q.main 2 ≡ inv.count + length q.history = (g.met.O.Object.contents_within v.base.order q.main _ _ held).1 in
+    let word₂ : slice_index (plan_of y).main 2 ≡ ph.1 + length (plan_of y).history = (g.met.O.Object.contents_within x.base.order (plan_of y).main _ _ ph.3).1 in
+    let same = g.met.O.Object.one_contents x.base.order x.base.image ph.0 inv.start ph.1 inv.count ph.2 (subst (λ (z : Base). g.O.Object.Contents z.order z.image inv.start inv.count) (sym base_x) inv.opening) in let counts = same.1 in
+    let history : length (plan_of y).history ≡ length (plan_of x).history + length pb.more = ap length pb.history ∙ length-append (plan_of x).history pb.more in let log_x : length (plan_of x).history ≡ length q.history = ap (λ (z : Plan). length z.history) plan_x in
+    let b = pb.batch ph.0 ph.1 ph.2 in let short = batch_short (on_words g.O.Object.machine) x.base.order (after (on_words g.O.Object.machine) x.base.order ph.0 ph.1 (plan_of x).history) pb.front (map found_of (plan_of x).requests) in
+    let more : length pb.more ≤ length (plan_of x).requests = omega (arith, ap length b.1, short, length_map found_of (plan_of x).requests) in
+    let few : length (plan_of x).requests ≤ 16 = omega (arith, ap (λ (z : Plan). length z.requests) plan_x, ap length sc.items_are, length_map posted_of q.requests, c.as_slice-2.ensures.fits, ap length c.as_slice-2.ensures.value) in
+    let small : c.load_main.result - c.load_main-place.result < 2 ^ 32 = omega (arith, word, word₂, counts, history, log_x, more, few, c.load_main-place.ensures.word, c.load_main.ensures.word) in
+    search (rules, small)
+
+pub answer_all-requires-2-clause-left : goal.answer_all-requires-2-clause-left
+answer_all-requires-2-clause-left g c = let v : View = c.self.inside.seat.token.me.0 in let w : View = c.scan.new.seat.token.me.0 in let inv = c.self.invariant in let sc = c.scan.ensures.scanned in
+    let base : w.base ≡ v.base = ap (λ (z : View). z.base) c.scan.ensures.same.2 in
+    let x : View = c.load_main-place.new.seat.token.me.0 in let q : Plan = plan_of w in let st = scan_stays (plan_of v) q sc.rest in
+    let plan_x : plan_of x ≡ q = ap plan_of c.load_main-place.ensures.still.2 in let base_x : x.base ≡ v.base = ap (λ (z : View). z.base) c.load_main-place.ensures.still.2 ∙ base in
+    let y : View = c.publish-outcome.new.seat.token.me.0 in let is_pub : c.publish-outcome.result ≡ outcome.Published = search rules in let pb = c.publish-outcome.ensures.published is_pub in let ph = c.publish-outcome.ensures.held is_pub in
+    let lm : View = c.load_main.new.seat.token.me.0 in let z : View = c.settle.new.seat.token.me.0 in let plan_lm : plan_of lm ≡ plan_of y = ap plan_of c.load_main.ensures.still.2 in
+    let end : ℕ = g.D.Device.shown.faults c.settle.new.twin.device in
+    let settled : plan_of z ≡ rested end (plan_of y) = ap plan_of c.settle.ensures.rested.2 ∙ ap (λ (r : Plan). rested end r) plan_lm in
+    let some_found : 0 < length c.scan.new.found.items = search rules in
+    let first = at_some (plan_of x).requests 0 (let e : 0 < length (plan_of x).requests = omega (arith, some_found, ap length sc.items_are, length_map posted_of q.requests, ap (λ (r : Plan). length r.requests) plan_x) in e) in
+    let made : is_made (plan_of y).mine ≡ true = ap is_made pb.mine ∙ made_some (map found_of (plan_of x).requests) _ 0 (found_of first.0) (at_map found_of (plan_of x).requests 0 first.0 first.1) in
+    let base_z : z.base ≡ x.base = ap (λ (r : View). r.base) c.settle.ensures.rested.2 ∙ (ap (λ (r : View). r.base) c.load_main.ensures.still.2 ∙ ap (λ (r : View). r.base) c.publish-outcome.ensures.same.2) in
+    let left = left_rested g.O.Object.Contents (on_words g.O.Object.machine) x.base (fate_of c.publish-outcome.result) c.fault_count-before.result _ c.fault_count-now-2.result (plan_of y) c.publish-outcome.new.answers.items made c.publish-outcome.ensures.left in (
+      fate_of c.publish-outcome.result,
+      subst (λ (r : Base × Plan × List Answer). IsLeft g.O.Object.Contents (on_words g.O.Object.machine) r.0 (fate_of c.publish-outcome.result) c.fault_count-before.result c.fault_count-now-2.result r.1 0 r.2)
+          (λ j. (sym base_z j, (ap (λ (n : ℕ). rested n (plan_of y)) c.fault_count-now-2.ensures ∙ sym settled) j, sym c.as_slice-3.ensures.value j)) left,
+    )
+
+pub invariant_of-self-2 : goal.invariant_of-self-2
+invariant_of-self-2 g c = let v : View = c.self.inside.seat.token.me.0 in let w : View = c.scan.new.seat.token.me.0 in let inv = c.self.invariant in let sc = c.scan.ensures.scanned in
+    let base : w.base ≡ v.base = ap (λ (z : View). z.base) c.scan.ensures.same.2 in
+    let x : View = c.load_main-place.new.seat.token.me.0 in let q : Plan = plan_of w in let st = scan_stays (plan_of v) q sc.rest in
+    let plan_x : plan_of x ≡ q = ap plan_of c.load_main-place.ensures.still.2 in let base_x : x.base ≡ v.base = ap (λ (z : View). z.base) c.load_main-place.ensures.still.2 ∙ base in
+    let y : View = c.publish-outcome.new.seat.token.me.0 in let is_pub : c.publish-outcome.result ≡ outcome.Published = search rules in let pb = c.publish-outcome.ensures.published is_pub in let ph = c.publish-outcome.ensures.held is_pub in
+    let lm : View = c.load_main.new.seat.token.me.0 in let z : View = c.settle.new.seat.token.me.0 in let plan_lm : plan_of lm ≡ plan_of y = ap plan_of c.load_main.ensures.still.2 in
+    let end : ℕ = g.D.Device.shown.faults c.settle.new.twin.device in
+    let settled : plan_of z ≡ rested end (plan_of y) = ap plan_of c.settle.ensures.rested.2 ∙ ap (λ (r : Plan). rested end r) plan_lm in
+    let some_found : 0 < length c.scan.new.found.items = search rules in
+    let first = at_some (plan_of x).requests 0 (let e : 0 < length (plan_of x).requests = omega (arith, some_found, ap length sc.items_are, length_map posted_of q.requests, ap (λ (r : Plan). length r.requests) plan_x) in e) in
+    let made : is_made (plan_of y).mine ≡ true = ap is_made pb.mine ∙ made_some (map found_of (plan_of x).requests) _ 0 (found_of first.0) (at_map found_of (plan_of x).requests 0 first.0 first.1) in
+    let base_z : z.base ≡ x.base = ap (λ (r : View). r.base) c.settle.ensures.rested.2 ∙ (ap (λ (r : View). r.base) c.load_main.ensures.still.2 ∙ ap (λ (r : View). r.base) c.publish-outcome.ensures.same.2) in
+    let t = c.settle.new.twin in let u : View = c.answer_all-2.new.seat.token.me.0 in let base_u : u.base ≡ x.base = ap (λ (r : View). r.base) c.answer_all-2.ensures.same.2 ∙ base_z in
+    let kept : but_requests (plan_of u) ≡ but_requests (rested end (plan_of y)) = c.answer_all-2.ensures.kept (ap (λ (r : Plan). is_made r.mine) settled ∙ made_rested end (plan_of y) made) ∙ ap but_requests settled in
+    let main : (plan_of u).main ≡ (plan_of y).main = ap (λ (r : Plan). r.main) kept in let history : (plan_of u).history ≡ (plan_of y).history = ap (λ (r : Plan). r.history) kept in
+    let order : t.order ≡ u.base.order = c.settle.ensures.order ∙ (c.publish-outcome.ensures.order ∙ (inv.order_is ∙ ap (λ (r : Base). r.order) (sym (base_u ∙ base_x)))) in
+    let held : rule.Held g.O.Object.Contents (on_words g.O.Object.machine) u.base ph.0 ph.1 (plan_of u).main (plan_of u).history = subst (λ (r : Base × List ℕ × List Entry). rule.Held g.O.Object.Contents (on_words g.O.Object.machine) r.0 ph.0 ph.1 r.1 r.2) (λ j. (sym base_u j, sym main j, sym history j)) ph.3 in
+    let committed_is : Rattle.std.proofs.Common.IsTrue g.D.Device.shown.tells_images → committed g.D.Device.shown t ≡ (plan_of u).main = λ told. c.settle.ensures.committed told ∙ (ap (λ (r : Plan). r.main) plan_lm ∙ sym main) in
+    let order_t : t.order ≡ c.self.inside.twin.order = c.settle.ensures.order ∙ c.publish-outcome.ensures.order in
+    let clear : (plan_of u).clear ≡ (plan_of z).clear = ap (λ (r : Plan). r.clear) kept ∙ sym (ap (λ (r : Plan). r.clear) settled) in let base_uz : u.base ≡ z.base = ap (λ (r : View). r.base) c.answer_all-2.ensures.same.2 in
+    let now : IsAtRest g.D.Device.shown g.O.Object.Contents (on_words g.O.Object.machine) t u = record {
+      order_is = order;
+      order_fits = subst IsOrder (sym order_t) inv.order_fits;
+      side_is = ap (λ (r : Plan). r.side) kept;
+      settled = subst (λ (r : Base × List (ℕ × ℕ)). (k : ℕ) → k < indicator_count r.0.callers → has k r.1 ≡ true) (λ j. (sym base_uz j, sym clear j)) c.settle.ensures.settled;
+      same = main ∙ sym (ap (λ (r : Plan). r.back) kept);
+      start = ph.0;
+      count = ph.1;
+      opening = subst (λ (r : Base). g.O.Object.Contents r.order r.image ph.0 ph.1) (sym base_u) ph.2;
+      held = held;
+      rests = ⊎_elim (λ e. inl e) (λ e. inr (inr (inr e))) c.settle.ensures.phase;
+      committed_is = committed_is;
+      images = λ told i left. let counts = after_region g.D.Device.shown t c.settle.ensures.phase (g.met.D.Device.reads_image t.device told) (c.settle.ensures.images told) i left in
+          inl (record { region = (plan_of u).main; current = subst (λ (r : ℕ × List ℕ). IsCurrentRegion r.0 i r.1) (λ j. (order j, committed_is told j)) counts; contents = held });
+      failed = λ needs. ⊎_elim (λ e. absurd (clean_needs_none t.phase e needs)) (λ e. (c.settle.ensures.cause e).last) c.settle.ensures.phase;
+      answered = c.answer_all-2.ensures.answered;
+      counts = let e : faults_after u.base.faults (records_of (plan_of u)) ≡ end = ap (λ (r : Plan). faults_after u.base.faults (records_of r)) kept ∙ (ap (λ (l : List PassRecord). faults_after u.base.faults ((plan_of y).records ++ map (raised end) l)) pb.mine ∙ faults_rested end u.base.faults (plan_of y).records (map found_of (plan_of x).requests) _ (sym (ap is_made pb.mine) ∙ made)) in omega (arith, e);
+    } in
+    now
+
+pub returns-clause-passed : goal.returns-clause-passed
+returns-clause-passed g c = let v : View = c.self.inside.seat.token.me.0 in let w : View = c.scan.new.seat.token.me.0 in let inv = c.self.invariant in let sc = c.scan.ensures.scanned in
+    let base : w.base ≡ v.base = ap (λ (z : View). z.base) c.scan.ensures.same.2 in
+    let x : View = c.load_main-place.new.seat.token.me.0 in let q : Plan = plan_of w in let st = scan_stays (plan_of v) q sc.rest in
+    let plan_x : plan_of x ≡ q = ap plan_of c.load_main-place.ensures.still.2 in let base_x : x.base ≡ v.base = ap (λ (z : View). z.base) c.load_main-place.ensures.still.2 ∙ base in
+    let y : View = c.publish-outcome.new.seat.token.me.0 in let is_pub : c.publish-outcome.result ≡ outcome.Published = search rules in let pb = c.publish-outcome.ensures.published is_pub in let ph = c.publish-outcome.ensures.held is_pub in
+    let lm : View = c.load_main.new.seat.token.me.0 in let z : View = c.settle.new.seat.token.me.0 in let plan_lm : plan_of lm ≡ plan_of y = ap plan_of c.load_main.ensures.still.2 in
+    let end : ℕ = g.D.Device.shown.faults c.settle.new.twin.device in
+    let settled : plan_of z ≡ rested end (plan_of y) = ap plan_of c.settle.ensures.rested.2 ∙ ap (λ (r : Plan). rested end r) plan_lm in
+    let some_found : 0 < length c.scan.new.found.items = search rules in
+    let first = at_some (plan_of x).requests 0 (let e : 0 < length (plan_of x).requests = omega (arith, some_found, ap length sc.items_are, length_map posted_of q.requests, ap (λ (r : Plan). length r.requests) plan_x) in e) in
+    let made : is_made (plan_of y).mine ≡ true = ap is_made pb.mine ∙ made_some (map found_of (plan_of x).requests) _ 0 (found_of first.0) (at_map found_of (plan_of x).requests 0 first.0 first.1) in
+    let base_z : z.base ≡ x.base = ap (λ (r : View). r.base) c.settle.ensures.rested.2 ∙ (ap (λ (r : View). r.base) c.load_main.ensures.still.2 ∙ ap (λ (r : View). r.base) c.publish-outcome.ensures.same.2) in
+    let t = c.settle.new.twin in let u : View = c.answer_all-2.new.seat.token.me.0 in let base_u : u.base ≡ x.base = ap (λ (r : View). r.base) c.answer_all-2.ensures.same.2 ∙ base_z in
+    let kept : but_requests (plan_of u) ≡ but_requests (plan_of z) = c.answer_all-2.ensures.kept (ap (λ (r : Plan). is_made r.mine) settled ∙ made_rested end (plan_of y) made) in
+    let held₀ : rule.Held g.O.Object.Contents (on_words g.O.Object.machine) v.base inv.start inv.count q.main q.history = subst (λ (z : List ℕ × List Entry). rule.Held g.O.Object.Contents (on_words g.O.Object.machine) v.base inv.start inv.count z.0 z.1) (λ j. (sym st.main j, sym st.history j)) inv.held in
+    let word : slice_index q.main 2 ≡ inv.count + length q.history = (g.met.O.Object.contents_within v.base.order q.main _ _ held₀).1 in
+    let word₂ : slice_index (plan_of y).main 2 ≡ ph.1 + length (plan_of y).history = (g.met.O.Object.contents_within x.base.order (plan_of y).main _ _ ph.3).1 in
+    let same = g.met.O.Object.one_contents x.base.order x.base.image ph.0 inv.start ph.1 inv.count ph.2 (subst (λ (z : Base). g.O.Object.Contents z.order z.image inv.start inv.count) (sym base_x) inv.opening) in let counts = same.1 in
+    let log₂ : length (plan_of y).history ≡ length (plan_of x).history + length pb.more = ap length pb.history ∙ length-append (plan_of x).history pb.more in let log_x : length (plan_of x).history ≡ length q.history = ap (λ (z : Plan). length z.history) plan_x in
+    let o = c.publish-outcome.result in let many : ℕ = c.len-many.result in let done : c.load_main.result - c.load_main-place.result ≡ length pb.more = omega (arith, word, word₂, counts, log₂, log_x, c.load_main-place.ensures.word, c.load_main.ensures.word) in
+    let scan : IsScan (IsCall (on_words g.O.Object.machine) x.base) (plan_of v) (plan_of x) c.args.shared.now.layout.callers c.scan.new.found.items = subst (λ (r : Base × Plan). IsScan (IsCall (on_words g.O.Object.machine) r.0) (plan_of v) r.1 c.args.shared.now.layout.callers c.scan.new.found.items) (λ j. (sym base_x j, sym plan_x j)) sc in
+    let many_is : many ≡ length c.scan.new.found.items = omega (arith, c.len-many.ensures.value) in let diff : ℕ = c.load_main.result - c.load_main-place.result in
+    let a = c.self.inside.twin.device in let d = c.settle.new.twin.device in
+    let run : IsTrue g.D.Device.shown.tells_images → (s : g.O.Object.State) (n : ℕ) → g.O.Object.Contents x.base.order x.base.image s n → Runs g.D.Device.shown (Becomes (PassMakes g.O.Object.Contents (on_words g.O.Object.machine) x.base s n (fate_of o) (plan_of x).history (batch_now g.O.Object.Contents (on_words g.O.Object.machine) x.base s n (plan_of x)))) a d
+    = λ told s n op. let bq : pb.more ≡ batch_now g.O.Object.Contents (on_words g.O.Object.machine) x.base s n (plan_of x) = (pb.batch s n op).1 ∙ ap (λ (k : ℕ). batch (on_words g.O.Object.machine) x.base.order (after (on_words g.O.Object.machine) x.base.order s n (plan_of x).history) k (map found_of (plan_of x).requests)) (pb.batch s n op).0 in
+    let heldm : rule.Held g.O.Object.Contents (on_words g.O.Object.machine) x.base s n (plan_of lm).main ((plan_of x).history ++ batch_now g.O.Object.Contents (on_words g.O.Object.machine) x.base s n (plan_of x)) = subst (λ (r : List ℕ × List Entry). rule.Held g.O.Object.Contents (on_words g.O.Object.machine) x.base s n r.0 r.1) (λ j. (ap (λ (r : Plan). r.main) (sym plan_lm) j, (pb.history ∙ ap (λ (l : List Entry). (plan_of x).history ++ l) bq) j))
+    (same_held g.O.Object.Contents (on_words g.O.Object.machine) x.base s n ph.0 ph.1 (plan_of y).history (plan_of y).main (g.met.O.Object.one_contents x.base.order x.base.image s ph.0 n ph.1 op ph.2) ph.3) in
+    list_settled g.O.Object.Contents (on_words g.O.Object.machine) x.base s n g.D.Device.shown (fate_of o) (plan_of x).history (batch_now g.O.Object.Contents (on_words g.O.Object.machine) x.base s n (plan_of x)) c.publish-outcome.new.twin.order (plan_of lm).main a c.publish-outcome.new.twin.device d
+    (c.publish-outcome.ensures.order ∙ (inv.order_is ∙ ap (λ (r : Base). r.order) (sym base_x))) (subst (λ w. MayPublish (fate_of w)) (sym is_pub) tt) heldm (c.publish-outcome.ensures.since told s n op) (c.settle.ensures.since told) in
+    let whole = passed_published g.O.Object.Contents (on_words g.O.Object.machine) g.D.Device.shown a d x.base (plan_of v) (plan_of x) (plan_of y) (plan_of z) (plan_of u) c.args.shared.now.layout.callers c.fault_count-before.result (g.D.Device.shown.faults c.publish-outcome.new.twin.device) end many diff c.scan.new.found.items o scan pb settled kept some_found many_is done c.answer_all-2.ensures.answered is_pub c.publish-outcome.ensures.calls c.answer_all-2.ensures.calls run in
+    subst (λ (r : Base × Locked g.row.D.Denot × ℕ). (z' : IsPass g.O.Object.Contents (on_words g.O.Object.machine) r.0 (plan_of r.1.view) (plan_of u) c.args.shared.now.layout.callers r.2 end (record { found = many; done = diff; outcome = o }))
+    × (IsTrue g.D.Device.shown.tells_images → (s : g.O.Object.State) (n : ℕ) → g.O.Object.Contents r.0.order r.0.image s n → Runs g.D.Device.shown (Becomes (PassMakes g.O.Object.Contents (on_words g.O.Object.machine) r.0 s n (fate_of o) (plan_of r.1.view).history z'.more)) r.1.twin.device d))
+    (λ j. ((base_x ∙ ap (λ r. r.view.base) c.self.view_is) j, c.self.view_is j, (c.fault_count-before.ensures ∙ ap (λ r. g.D.Device.shown.faults r.twin.device) c.self.view_is) j)) whole
+
+pub returns-clause-now : goal.returns-clause-now
+returns-clause-now g c told s n op i left = let v : View = c.self.inside.seat.token.me.0 in let w : View = c.scan.new.seat.token.me.0 in let x : View = c.load_main-place.new.seat.token.me.0 in let u : View = c.answer_all-2.new.seat.token.me.0 in let t = c.settle.new.twin in
+    let base_x : x.base ≡ v.base = ap (λ (z : View). z.base) c.load_main-place.ensures.still.2 ∙ ap (λ (z : View). z.base) c.scan.ensures.same.2 in
+    let base_u : u.base ≡ x.base = ap (λ (r : View). r.base) c.answer_all-2.ensures.same.2 ∙ (ap (λ (r : View). r.base) c.settle.ensures.rested.2 ∙ (ap (λ (r : View). r.base) c.load_main.ensures.still.2 ∙ ap (λ (r : View). r.base) c.publish-outcome.ensures.same.2)) in
+    let same : u.base ≡ c.args.self.now.view.base = base_u ∙ (base_x ∙ ap (λ r. r.view.base) c.self.view_is) in
+    subst (λ (r : Base). ImageAt g.O.Object.Contents (on_words g.O.Object.machine) r s n t.phase (plan_of u) i) same
+    (now_of g.O.Object.Contents (on_words g.O.Object.machine) g.D.Device.shown t u s n (λ s₁ s₂ j k. g.met.O.Object.one_contents u.base.order u.base.image s₁ s₂ j k) (invariant_of-self-2 g c) told (subst (λ (r : Base). g.O.Object.Contents r.order r.image s n) (sym same) op) i left)
+
+pub returns-clause-spent : goal.returns-clause-spent
+returns-clause-spent g c published none = let v : View = c.self.inside.seat.token.me.0 in let w : View = c.scan.new.seat.token.me.0 in let inv = c.self.invariant in let sc = c.scan.ensures.scanned in
+    let x : View = c.load_main-place.new.seat.token.me.0 in let q : Plan = plan_of x in let plan_x : q ≡ plan_of w = ap plan_of c.load_main-place.ensures.still.2 in let y : View = c.publish-outcome.new.seat.token.me.0 in
+    let base_x : x.base ≡ v.base = ap (λ (z : View). z.base) c.load_main-place.ensures.still.2 ∙ ap (λ (z : View). z.base) c.scan.ensures.same.2 in
+    let is_pub : c.publish-outcome.result ≡ outcome.Published = search rules in let pb = c.publish-outcome.ensures.published is_pub in let ph = c.publish-outcome.ensures.held is_pub in
+    let op : g.O.Object.Contents x.base.order x.base.image inv.start inv.count = subst (λ (z : Base). g.O.Object.Contents z.order z.image inv.start inv.count) (sym base_x) inv.opening in
+    let held : rule.Held g.O.Object.Contents (on_words g.O.Object.machine) x.base inv.start inv.count q.main q.history = subst (λ (z : Base × List ℕ × List Entry). rule.Held g.O.Object.Contents (on_words g.O.Object.machine) z.0 inv.start inv.count z.1 z.2) (λ j. (sym base_x j, sym (ap (λ (z : Plan). z.main) (ap but_requests plan_x ∙ sc.rest)) j, sym (ap (λ (z : Plan). z.history) (ap but_requests plan_x ∙ sc.rest)) j)) inv.held in
+    let word : slice_index q.main 2 ≡ inv.count + length q.history = (g.met.O.Object.contents_within x.base.order q.main _ _ held).1 in
+    let word₂ : slice_index (plan_of y).main 2 ≡ ph.1 + length (plan_of y).history = (g.met.O.Object.contents_within x.base.order (plan_of y).main _ _ ph.3).1 in
+    let same = g.met.O.Object.one_contents x.base.order x.base.image ph.0 inv.start ph.1 inv.count ph.2 op in let counts = same.1 in
+    let history : length (plan_of y).history ≡ length q.history + length pb.more = ap length pb.history ∙ length-append q.history pb.more in
+    let some_found : 0 < length c.scan.new.found.items = search rules in
+    let found : 0 < length q.requests = omega (arith, some_found, ap length sc.items_are, length_map posted_of (plan_of w).requests, ap (λ (z : Plan). length z.requests) plan_x) in
+    let fresh : Each (λ _ f. IsFresh (IsCall (on_words g.O.Object.machine) x.base) f) q.requests = subst (λ (z : Base × Plan). Each (λ _ f. IsFresh (IsCall (on_words g.O.Object.machine) z.0) f) z.1.requests) (λ j. (sym base_x j, sym plan_x j)) (λ j f e. (sc.fresh j f e).1) in
+    let within = (g.met.O.Object.contents_within x.base.order q.main _ _ held).2 in
+    let low : inv.count + length q.history < LAST_COUNT = omega (arith, within, word, ap (λ (z : Plan). slice_index z.main 2) plan_x, c.load_main-place.ensures.word, c.if-place-eq-LAST_COUNT.false) in
+    let some_done : 0 < length pb.more = batch_done g.O.Object.Contents (on_words g.O.Object.machine) x.base q inv.start inv.count pb.front pb.more op pb.batch fresh found low in
+    let done : c.load_main.result - c.load_main-place.result ≡ length pb.more = omega (arith, word, word₂, counts, history, ap (λ (z : Plan). slice_index z.main 2) plan_x, c.load_main-place.ensures.word, c.load_main.ensures.word) in
+    absurd (omega (arith, none, done, some_done))
+
+pub returns-clause-does : goal.returns-clause-does
+returns-clause-does g c =
+    let shown = g.D.Device.shown in let old = c.args.self.now.twin in let mid = c.publish-outcome.new.twin in
+    let first : Does shown (WithinHeap old.order) old.device mid.device = search rules in
+    let order_is : mid.order ≡ old.order = search rules in
+    within_then shown old.order old.device mid.device c.settle.new.twin.device first (subst (λ (n : ℕ). Does shown (WithinHeap n) mid.device c.settle.new.twin.device) order_is c.settle.ensures.does)
+
+pub returns-then-is_empty-clause-kept : goal.returns-then-is_empty-clause-kept
+returns-then-is_empty-clause-kept g c = let v : View = c.self.inside.seat.token.me.0 in let w : View = c.scan.new.seat.token.me.0 in
+    subst (λ r. w ≡ record r.view { plan = Some (plan_of w); steps = w.steps }) c.self.view_is (c.scan.ensures.same.2)
+
+pub returns-then-place-eq-LAST_COUNT-clause-kept : goal.returns-then-place-eq-LAST_COUNT-clause-kept
+returns-then-place-eq-LAST_COUNT-clause-kept g c = let v : View = c.self.inside.seat.token.me.0 in let w : View = c.scan.new.seat.token.me.0 in let x : View = c.load_main-place.new.seat.token.me.0 in let u : View = c.answer_all.new.seat.token.me.0 in
+    subst (λ r. u ≡ record r.view { plan = Some (plan_of u); steps = u.steps }) c.self.view_is (keeps_then v w u c.scan.ensures.same.2 (keeps_then w x u (keeps_by w x (plan_of w) c.load_main-place.ensures.still.2) c.answer_all.ensures.same.2))
+
+pub returns-then-ne-clause-kept : goal.returns-then-ne-clause-kept
+returns-then-ne-clause-kept g c = let v : View = c.self.inside.seat.token.me.0 in let w : View = c.scan.new.seat.token.me.0 in let x : View = c.load_main-place.new.seat.token.me.0 in let y : View = c.publish-outcome.new.seat.token.me.0 in let u : View = c.answer_all-then-ne.new.seat.token.me.0 in
+    subst (λ r. u ≡ record r.view { plan = Some (plan_of u); steps = u.steps }) c.self.view_is (keeps_then v w u c.scan.ensures.same.2 (keeps_then w x u (keeps_by w x (plan_of w) c.load_main-place.ensures.still.2) (keeps_then x y u c.publish-outcome.ensures.same.2 c.answer_all-then-ne.ensures.same.2)))
+
+pub returns-clause-kept : goal.returns-clause-kept
+returns-clause-kept g c = let v : View = c.self.inside.seat.token.me.0 in let w : View = c.scan.new.seat.token.me.0 in let x : View = c.load_main-place.new.seat.token.me.0 in let y : View = c.publish-outcome.new.seat.token.me.0 in let l : View = c.load_main.new.seat.token.me.0 in let z : View = c.settle.new.seat.token.me.0 in let u : View = c.answer_all-2.new.seat.token.me.0 in
+    subst (λ r. u ≡ record r.view { plan = Some (plan_of u); steps = u.steps }) c.self.view_is (keeps_then v w u c.scan.ensures.same.2 (keeps_then w x u (keeps_by w x (plan_of w) c.load_main-place.ensures.still.2) (keeps_then x y u c.publish-outcome.ensures.same.2 (keeps_then y l u (keeps_by y l (plan_of y) c.load_main.ensures.still.2) (keeps_then l z u (keeps_by l z _ c.settle.ensures.rested.2) c.answer_all-2.ensures.same.2)))))

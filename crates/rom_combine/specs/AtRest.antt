@@ -1,0 +1,45 @@
+-- What a contract sees of a core, and what holds whenever no pass is under way.
+use Rattle.std.specs.Prelude.{◌≡◌, ℕ, ◌≤◌, List, Option, true, IsTrue}
+use Rattle.atomic_table.specs.Seated.{TableId}
+use Rattle.rom_model.specs.Blocks.{IsOrder}
+use Rattle.rom_model.specs.Passes.{faults_after}
+use Rattle.rom_device.specs.Device.{ShownDevice}
+use Rattle.rom_twin.specs.Seen.{NeedsRepair, Rests, Seen, committed}
+use Rattle.rom_combine.specs.Histories.{ImageAt}
+use Rattle.rom_rule.specs.Readers.{Held, Settled}
+use Rattle.rom_rule.specs.Views.{Each, base_of, plan_of, records_of}
+use Rattle.rom_rule.specs.declared.law.Key.{Key}
+use Rattle.rom_rule.specs.declared.views.View.{View}
+
+-- the twin, the table and the number of the writer's seat, and what the writer knows
+pub record Locked (D : Type 0) : Type 0 where
+  pub twin : Seen D
+  pub table_id : TableId
+  pub id : ℕ
+  pub view : View
+
+-- the core's seat is of this table
+abbrev pub IsIn : {D : Type 0} → TableId → Key → Locked D → Type 0
+IsIn table key c = (c.table_id ≡ table) × (c.view.base ≡ base_of key)
+
+-- What holds of the twin and the writer's view.
+pub record IsAtRest {D S : Type 0} (shown : ShownDevice D) (Contents : ℕ → List ℕ → S → ℕ → Type 0) (step : ℕ → S → ℕ → List ℕ → Option (S × List ℕ)) (twin : Seen D) (view : View) : Type 0 where
+  pub order_is : twin.order ≡ view.base.order
+  pub order_fits : IsOrder twin.order
+  -- Readers are sent to back, nobody reads main, and both sides are the same and stand for the published history.
+  pub side_is : (plan_of view).side ≡ 1
+  pub settled : Settled view.base (plan_of view)
+  pub same : (plan_of view).main ≡ (plan_of view).back
+  pub start : S
+  pub count : ℕ
+  pub opening : Contents view.base.order view.base.image start count
+  pub held : Held Contents step view.base start count (plan_of view).main (plan_of view).history
+  -- That is also the committed image, and what a stop leaves holds that history, or, in doubt, that with the batch in doubt.
+  pub rests : Rests twin.phase
+  pub committed_is : IsTrue shown.tells_images → committed shown twin ≡ (plan_of view).main
+  pub images : IsTrue shown.tells_images → (i : List ℕ) → shown.leaves twin.device i → ImageAt Contents step view.base start count twin.phase (plan_of view) i
+  -- A repair is needed only where the last call failed.
+  pub failed : NeedsRepair twin.phase → IsTrue (shown.failing twin.device)
+  -- Each call that was found is answered, and the device's count of faults is not below the records'.
+  pub answered : Each (λ _ f. f.answered ≡ true) (plan_of view).requests
+  pub counts : faults_after view.base.faults (records_of (plan_of view)) ≤ shown.faults twin.device

@@ -1,0 +1,85 @@
+//! The found calls, done on shared main.
+ghost use Rattle.std.specs.Prelude.{◌≡◌, ℕ, ◌+◌, ◌^◌, ◌<◌, ◌≤◌, List, [], ◌∷◌, map, length};
+ghost use Rattle.rom_model.specs.History.{LAST_COUNT};
+ghost use Rattle.rom_model.specs.Machine.{on_words};
+ghost use Rattle.rom_combine.specs.Applying.{IsApplied, IsDoneOne};
+ghost use Rattle.rom_combine.specs.Scanning.{IsFresh, posted_of};
+ghost use Rattle.rom_lr.specs.Seats.{IsWriterOf};
+ghost use Rattle.rom_lr.specs.Writing.{NobodyReads, Writes};
+ghost use Rattle.rom_lr.specs.declared.side.Side.TheVariants.{Main};
+ghost use Rattle.rom_rule.specs.Readers.{Held};
+ghost use Rattle.rom_rule.specs.Records.{IsCall};
+ghost use Rattle.rom_rule.specs.Views.{Each, plan_of};
+
+use crate::answering::{Answer, SPENT};
+use crate::apply::LAST_COUNT;
+use crate::scanning::Posted;
+use arrayvec::ArrayVec;
+use rom_lr::{Shared, WriterSeat, apply_main};
+use rom_model::{Back, Object};
+
+/// Does each found call on shared main in turn, and says what each is to be told; `place` is the
+/// count before. Past the count's limit a call is not done. Nobody reads main meanwhile.
+pub(crate) fn apply_all<O: Object>(
+    shared: &Shared<O>,
+    seat: &mut WriterSeat,
+    place: u64,
+    found: &[Posted],
+    answers: &mut ArrayVec<Answer, 16>,
+)
+    requires of { IsWriterOf shared.now.table.shared.table_id shared.now.table.shared.key seat.old }
+    requires unread { NobodyReads seat.old.token.me.0 Main }
+    requires found { found.now ≡ map posted_of (plan_of seat.old.token.me.0).requests }
+    requires few { length found.now ≤ 16 }
+    requires none { answers.old.items ≡ [] }
+    requires fresh { let v = seat.old.token.me.0 in
+        Each (λ _. IsFresh (IsCall (on_words O.machine) v.base)) (plan_of v).requests }
+    requires held { let b = seat.old.token.me.0.base in let p = plan_of seat.old.token.me.0 in
+        (s : O.State) × (n : ℕ) × O.Contents b.order b.image s n
+        × Held O.Contents (on_words O.machine) b s n p.main p.history
+        × (place ≡ n + length p.history) }
+    ensures kept { let p = plan_of seat.old.token.me.0 in
+        Writes seat.old seat.new (record p { main = (plan_of seat.new.token.me.0).main }) }
+    ensures applied { let b = seat.old.token.me.0.base in let p = plan_of seat.old.token.me.0 in
+        (s : O.State) × (n : ℕ) × O.Contents b.order b.image s n
+        × IsApplied O.Contents (on_words O.machine) b s n p (plan_of seat.new.token.me.0).main
+        (length found.now) answers.new.items }
+{
+    for i in 0..found.len() {
+        let one = apply_one(shared, seat, place + i as u64, &found[i]);
+        answers.push(one);
+    }
+}
+
+fn apply_one<O: Object>(
+    shared: &Shared<O>,
+    seat: &mut WriterSeat,
+    place: u64,
+    one: &Posted,
+) -> Answer
+    requires of { IsWriterOf shared.now.table.shared.table_id shared.now.table.shared.key seat.old }
+    requires unread { NobodyReads seat.old.token.me.0 Main }
+    requires call { IsCall (on_words O.machine) seat.old.token.me.0.base one.now.args }
+    requires held { let v = seat.old.token.me.0 in
+        (s : O.State) × (place < LAST_COUNT → O.Contents v.base.order (plan_of v).main s place) }
+    ensures kept { let p = plan_of seat.old.token.me.0 in
+        Writes seat.old seat.new (record p { main = (plan_of seat.new.token.me.0).main }) }
+    ensures done { let v = seat.old.token.me.0 in
+        IsDoneOne O.Contents (on_words O.machine) v.base one.now place (plan_of v).main
+        (plan_of seat.new.token.me.0).main result }
+{
+    if place < LAST_COUNT {
+        let call = O::words_call(&one.args).unwrap();
+        let reply = apply_main(shared, seat, &call);
+        return Answer {
+            caller: one.caller,
+            place,
+            reply: O::reply_words(&reply),
+        };
+    }
+    Answer {
+        caller: one.caller,
+        place: SPENT,
+        reply: Back::new(),
+    }
+}

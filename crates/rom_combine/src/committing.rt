@@ -1,0 +1,160 @@
+//! A batch from the found calls to the store of `side` that publishes it.
+ghost use Rattle.std.specs.Prelude.{◌≡◌, ◌≢◌, ◌⊎◌, ℕ, ◌+◌, ◌<◌, ◌≤◌, List, [], map, length, IsTrue};
+ghost use Rattle.rom_model.specs.Blocks.{IsOrder};
+ghost use Rattle.rom_model.specs.History.{LAST_COUNT, after, batch};
+ghost use Rattle.rom_model.specs.Machine.{on_words};
+ghost use Rattle.rom_model.specs.Passes.{faults_after};
+ghost use Rattle.rom_model.specs.declared.record.Fate.TheVariants as fate;
+ghost use Rattle.rom_device.specs.Device.{Becomes, Does, Runs};
+ghost use Rattle.rom_twin.specs.Seen.{InPhase, NeedsRepair, Rests, committed, main_now};
+ghost use Rattle.rom_combine.specs.Answering.{IsLeft, SameCalls};
+ghost use Rattle.rom_combine.specs.Causes.{FailsAtCommit, FailsBeforeCommit};
+ghost use Rattle.rom_combine.specs.Costs.{OnlyWrites, Spends, SpendsAtMost, WithinHeap, syncs_before_commit, writes_before_commit};
+ghost use Rattle.rom_combine.specs.Histories.{PassMakes};
+ghost use Rattle.rom_combine.specs.Published.{IsPublished};
+ghost use Rattle.rom_combine.specs.Scanning.{IsFresh, posted_of};
+ghost use Rattle.rom_combine.specs.Told.{fate_of};
+ghost use Rattle.rom_lr.specs.Seats.{IsWriterOf};
+ghost use Rattle.rom_lr.specs.Writing.{NobodyReads, Writes};
+ghost use Rattle.rom_lr.specs.declared.side.Side.TheVariants.{Main};
+ghost use Rattle.rom_rule.specs.Calls.{AreScanned, caller_in, found_of};
+ghost use Rattle.rom_rule.specs.Readers.{Held};
+ghost use Rattle.rom_rule.specs.Records.{IsCall};
+ghost use Rattle.rom_rule.specs.Views.{Each, plan_of};
+
+use crate::answering::{Answer, DOUBT, FAILED, refuse};
+use crate::applying::apply_all;
+use crate::looking::{begin_on, commit_on};
+use crate::passed::Outcome;
+use crate::scanning::Posted;
+use crate::sides::put_back;
+use arrayvec::ArrayVec;
+use rom_device::Device;
+use rom_lr::{Shared, Side, WriterSeat};
+use rom_model::Object;
+use rom_twin::{Phase, Twin};
+
+/// Makes the device ready, does the found calls on shared main, commits them, and sends readers to
+/// main. Where the device fails, shared main is put back from shared back, and each found call is to be
+/// told the code of that. `before` is the device's count of faults at the pass's start, `place` the
+/// count of updates. It answers nobody, and takes no memory.
+pub(crate) fn publish<D: Device, O: Object>(
+    twin: &mut Twin<D>,
+    shared: &Shared<O>,
+    seat: &mut WriterSeat,
+    before: u64,
+    place: u64,
+    found: &[Posted],
+    answers: &mut ArrayVec<Answer, 16>,
+) -> Outcome
+    // The table and the device at rest.
+    requires of { IsWriterOf shared.now.table.shared.table_id shared.now.table.shared.key seat.old }
+    requires unread { NobodyReads seat.old.token.me.0 Main }
+    requires order { twin.old.order ≡ seat.old.token.me.0.base.order }
+    requires order_fits { IsOrder twin.old.order }
+    requires same { (plan_of seat.old.token.me.0).main ≡ (plan_of seat.old.token.me.0).back }
+    requires rests { Rests twin.old.phase }
+    requires committed { IsTrue D.shown.tells_images →
+        committed D.shown twin.old ≡ (plan_of seat.old.token.me.0).main }
+    requires held { let b = seat.old.token.me.0.base in let p = plan_of seat.old.token.me.0 in
+        (s : O.State) × (n : ℕ) × O.Contents b.order b.image s n
+        × Held O.Contents (on_words O.machine) b s n p.main p.history
+        × (place ≡ n + length p.history) }
+
+    // What the scan found.
+    requires found { found.now ≡ map posted_of (plan_of seat.old.token.me.0).requests }
+    requires few { length found.now ≤ 16 }
+    requires some { 0 < length found.now }
+    requires none { answers.old.items ≡ [] }
+    requires below { place < LAST_COUNT }
+    requires rising { let v = seat.old.token.me.0 in
+        AreScanned 0 v.base.callers (map caller_in (plan_of v).requests) }
+    requires fresh { let v = seat.old.token.me.0 in
+        Each (λ _. IsFresh (IsCall (on_words O.machine) v.base)) (plan_of v).requests }
+    requires unmade { (plan_of seat.old.token.me.0).mine ≡ [] }
+    requires before { before ≡ D.shown.faults twin.old.device }
+    requires counts { let v = seat.old.token.me.0 in
+        faults_after v.base.faults (plan_of v).records ≤ before }
+
+    // Published: the batch is committed on the device before readers are sent to main.
+    ensures some { result ≢ Outcome.Nothing }
+    ensures same { Writes seat.old seat.new (plan_of seat.new.token.me.0) }
+    ensures calls { SameCalls (plan_of seat.old.token.me.0) (plan_of seat.new.token.me.0) }
+    ensures order { twin.new.order ≡ twin.old.order }
+    ensures phase { result ≡ Outcome.Published → twin.new.phase ≡ Phase.Committed }
+    ensures main { result ≡ Outcome.Published → IsTrue D.shown.tells_images →
+        main_now D.shown twin.new ≡ (plan_of seat.new.token.me.0).main }
+    ensures published { result ≡ Outcome.Published → let v = seat.old.token.me.0 in
+        IsPublished O.Contents (on_words O.machine) v.base (plan_of v)
+        (plan_of seat.new.token.me.0) before (D.shown.faults twin.new.device) }
+    ensures held { result ≡ Outcome.Published →
+        let b = seat.old.token.me.0.base in let q = plan_of seat.new.token.me.0 in
+        (s : O.State) × (n : ℕ) × O.Contents b.order b.image s n
+        × Held O.Contents (on_words O.machine) b s n q.main q.history }
+
+    // Or all is as it was.
+    ensures stays { result ≢ Outcome.Published →
+        plan_of seat.new.token.me.0 ≡ plan_of seat.old.token.me.0 }
+    ensures committed { result ≢ Outcome.Published → IsTrue D.shown.tells_images →
+        committed D.shown twin.new ≡ committed D.shown twin.old }
+    ensures failed { result ≡ Outcome.Failed → (twin.new.phase ≡ Phase.Undo)
+        ⊎ ((twin.new.phase ≡ twin.old.phase) × NeedsRepair twin.old.phase) }
+    ensures doubt { result ≡ Outcome.Doubt → twin.new.phase ≡ Phase.Doubt }
+    ensures left { let b = seat.old.token.me.0.base in
+        IsLeft O.Contents (on_words O.machine) b (fate_of result) before
+        (D.shown.faults twin.new.device) (plan_of seat.new.token.me.0) 0 answers.new.items }
+
+    // What a stop leaves.
+    ensures images { IsTrue D.shown.tells_images → InPhase D.shown twin.new }
+    ensures since { IsTrue D.shown.tells_images → let b = seat.old.token.me.0.base in
+        let p = plan_of seat.old.token.me.0 in
+        (s : O.State) (n : ℕ) → O.Contents b.order b.image s n →
+        let k = n + length p.history in
+        let more = batch (on_words O.machine) b.order (after (on_words O.machine) b.order s n p.history) k (map found_of p.requests) in
+        Runs D.shown (Becomes (PassMakes O.Contents (on_words O.machine) b s n (fate_of result)
+        p.history more)) twin.old.device twin.new.device }
+    ensures doubted { IsTrue D.shown.tells_images → result ≡ Outcome.Doubt →
+        let b = seat.old.token.me.0.base in let p = plan_of seat.old.token.me.0 in
+        (s : O.State) (n : ℕ) → O.Contents b.order b.image s n →
+        let k = n + length p.history in
+        let more = batch (on_words O.machine) b.order (after (on_words O.machine) b.order s n p.history) k (map found_of p.requests) in
+        (i : List ℕ) → D.shown.leaves twin.new.device i →
+        PassMakes O.Contents (on_words O.machine) b s n fate.Doubt p.history more i }
+
+    // Who failed, and how many writes and syncs were made.
+    ensures only { OnlyWrites D.shown twin.old.device twin.new.device }
+    ensures does { Does D.shown (WithinHeap twin.old.order) twin.old.device twin.new.device }
+    ensures later { D.shown.faults twin.old.device ≤ D.shown.faults twin.new.device }
+    ensures failed_cause { result ≡ Outcome.Failed →
+        FailsBeforeCommit D.shown twin.old.phase twin.old.order (plan_of seat.old.token.me.0).main
+        twin.old.device twin.new.device }
+    ensures doubt_cause { result ≡ Outcome.Doubt →
+        FailsAtCommit D.shown twin.old.phase twin.old.order (plan_of seat.old.token.me.0).main
+        twin.old.device twin.new.device }
+    ensures spends { result ≡ Outcome.Published →
+        Spends D.shown (writes_before_commit twin.old.phase twin.old.order + 1)
+        (syncs_before_commit twin.old.phase + 1) twin.old.device twin.new.device }
+    ensures most { SpendsAtMost D.shown (writes_before_commit twin.old.phase twin.old.order + 1)
+        (syncs_before_commit twin.old.phase + 1) twin.old.device twin.new.device }
+    ensures failed_most { result ≡ Outcome.Failed →
+        SpendsAtMost D.shown (writes_before_commit twin.old.phase twin.old.order)
+        (syncs_before_commit twin.old.phase) twin.old.device twin.new.device }
+{
+    if begin_on(twin, shared, seat).is_err() {
+        refuse(found, FAILED, answers);
+        return Outcome::Failed;
+    }
+    apply_all(shared, seat, place, found, answers);
+    if commit_on(twin, shared, seat).is_ok() {
+        let now = twin.fault_count();
+        shared.switch(seat, Side::Main, before, now);
+        return Outcome::Published;
+    }
+    put_back(shared, seat);
+    if twin.phase() == Phase::Doubt {
+        refuse(found, DOUBT, answers);
+        return Outcome::Doubt;
+    }
+    refuse(found, FAILED, answers);
+    Outcome::Failed
+}

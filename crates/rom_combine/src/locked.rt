@@ -1,0 +1,230 @@
+//! What the lock holds: the device with its heap, and the writer's seat.
+ghost use Rattle.std.specs.Prelude.{Some, ◌≡◌, ◌≢◌, ◌⊎◌, ℕ, ◌<◌, ◌≤◌, List, length, IsTrue};
+ghost use Rattle.rom_model.specs.Blocks.{IsOrder};
+ghost use Rattle.rom_model.specs.Machine.{on_words};
+ghost use Rattle.rom_model.specs.Passes.{HasFault};
+ghost use Rattle.rom_device.specs.Device.{Becomes, Does, Runs};
+ghost use Rattle.rom_twin.specs.Seen.{NeedsRepair, committed};
+ghost use Rattle.rom_combine.specs.AtRest.{IsAtRest, IsIn};
+ghost use Rattle.rom_combine.specs.Causes.{FailsAtCommit, FailsBeforeCommit};
+ghost use Rattle.rom_combine.specs.Costs.{IsUnfailed, OnlyWrites, Spends, SpendsAtMost, WithinHeap, batch_syncs, batch_writes, syncs_before_commit, writes_before_commit};
+ghost use Rattle.rom_combine.specs.Histories.{ImageAt, PassMakes};
+ghost use Rattle.rom_combine.specs.Passing.{IsPass};
+ghost use Rattle.rom_combine.specs.Told.{fate_of};
+ghost use Rattle.rom_rule.specs.Views.{opening_plan, plan_of};
+
+use crate::answering::{Answer, SPENT, answer_all, refuse};
+use crate::apply::LAST_COUNT;
+use crate::committing::publish;
+use crate::gate::Gate;
+use crate::passed::{Outcome, Passed};
+use crate::resting::settle;
+use crate::scanning::{Posted, scan};
+use arrayvec::ArrayVec;
+use rom_device::Device;
+use rom_lr::{Shared, WriterSeat};
+use rom_model::{COUNT, Object};
+use rom_twin::{Phase, Twin};
+use std::marker::{Model, PhantomData};
+use std::sync::Wait;
+
+/// A heap on a device, and the writer's seat at the table whose sides are its images. It stands behind
+/// the one lock, and runs the passes. Whenever no pass is under way, both sides are the published
+/// image, which is also the committed one of a device that tells its images; readers are sent to back,
+/// nobody reads main, and each call that was found is answered.
+#[derive(Drop)]
+pub struct Core<D: Device, O: Object> {
+    twin: Twin<D>,
+    seat: WriterSeat,
+    // What a pass finds and answers. They stand here, so that no pass fills them anew.
+    found: ArrayVec<Posted, 16>,
+    answers: ArrayVec<Answer, 16>,
+    of: PhantomData<O>,
+}
+
+impl<D: Device, O: Object> Model for Core<D, O> {
+    ghost use Rattle.rom_model.specs.Machine.{on_words};
+    ghost use Rattle.rom_combine.specs.AtRest.{IsAtRest, Locked};
+
+    ghost Value = { Locked D };
+
+    ghost view = { λ c. record {
+      twin = c.twin;
+      table_id = c.seat.token.table_id;
+      id = c.seat.token.id;
+      view = c.seat.token.me.0;
+    } };
+
+    ghost invariant = { λ c. IsAtRest D.shown O.Contents (on_words O.machine) c.twin c.seat.token.me.0 };
+}
+
+impl<D: Device, O: Object> Core<D, O> {
+    /// The core of a table that was just opened on the committed image of this device.
+    pub fn new(twin: Twin<D>, seat: WriterSeat) -> Core<D, O>
+        requires phase { twin.phase ≡ Phase.Clean }
+        requires order { twin.order ≡ seat.token.me.0.base.order }
+        requires order_fits { IsOrder twin.order }
+        requires opening { let v = seat.token.me.0 in
+            plan_of v ≡ record (opening_plan v.base) { dealt = (plan_of v).dealt } }
+        requires formed { let b = seat.token.me.0.base in
+            (s : O.State) × (k : ℕ) × O.Contents b.order b.image s k }
+        requires committed { IsTrue D.shown.tells_images →
+            committed D.shown twin ≡ seat.token.me.0.base.image }
+        requires faults { seat.token.me.0.base.faults ≤ D.shown.faults twin.device }
+        ensures twin { result.twin ≡ twin }
+        ensures seat { (result.table_id ≡ seat.token.table_id) × (result.id ≡ seat.token.id)
+            × (result.view ≡ seat.token.me.0) }
+    {
+        // Its contract tells what images a stop may leave now.
+        let _ = twin.phase();
+        Core {
+            twin,
+            seat,
+            found: ArrayVec::new(),
+            answers: ArrayVec::new(),
+            of: PhantomData,
+        }
+    }
+
+    /// The twin and the writer's seat as they stand.
+    pub fn into_parts(self) -> (Twin<D>, WriterSeat)
+        ensures twin { result.0 ≡ self.twin }
+        ensures seat { (result.1.token.table_id ≡ self.table_id) × (result.1.token.id ≡ self.id)
+            × (result.1.token.me.0 ≡ self.view) }
+        ensures rest { IsAtRest D.shown O.Contents (on_words O.machine) result.0
+            result.1.token.me.0 }
+    {
+        let Core {
+            twin,
+            seat,
+            found: _,
+            answers: _,
+            of: _,
+        } = self;
+        (twin, seat)
+    }
+
+    /// Finds the posted calls, does them as one batch, and answers each. The device is repaired first
+    /// where it needs it. Where it fails up to the commit, no call is done; later faults are told to
+    /// none, and the twin's phase says what they left to do, if anything. It waits for readers alone, and takes no
+    /// memory.
+    pub fn pass<R: Wait, G: Gate>(&mut self, rt: &R, shared: &Shared<O>, gate: &G) -> Passed
+        requires of { IsIn shared.now.table.shared.table_id shared.now.table.shared.key self.old }
+        ensures same { (self.new.table_id ≡ self.old.table_id) × (self.new.id ≡ self.old.id)
+            × (self.new.view.base ≡ self.old.view.base)
+            × (self.new.twin.order ≡ self.old.twin.order) }
+        ensures kept { self.new.view ≡ record self.old.view {
+          plan = Some (plan_of self.new.view);
+          steps = self.new.view.steps;
+        } }
+
+        // What it did and answered; and what a stop since its start leaves, whose batch `more` is.
+        ensures passed { let b = self.old.view.base in let p = plan_of self.old.view in
+            (x : IsPass O.Contents (on_words O.machine) b p (plan_of self.new.view)
+            shared.now.layout.callers (D.shown.faults self.old.twin.device)
+            (D.shown.faults self.new.twin.device) result)
+            × (IsTrue D.shown.tells_images →
+            (s : O.State) (n : ℕ) → O.Contents b.order b.image s n →
+            Runs D.shown (Becomes (PassMakes O.Contents (on_words O.machine) b s n
+            (fate_of result.outcome) p.history x.more))
+            self.old.twin.device self.new.twin.device) }
+        ensures spent { result.outcome ≡ Outcome.Published → result.done ≡ 0 →
+            self.new.twin ≡ self.old.twin }
+        ensures untouched { result.outcome ≡ Outcome.Nothing → self.new.twin ≡ self.old.twin }
+
+        // What a stop leaves now.
+        ensures now { IsTrue D.shown.tells_images → let b = self.old.view.base in
+            (s : O.State) (n : ℕ) → O.Contents b.order b.image s n →
+            (i : List ℕ) → D.shown.leaves self.new.twin.device i →
+            ImageAt O.Contents (on_words O.machine) b s n self.new.twin.phase
+            (plan_of self.new.view) i }
+
+        // What the device needs afterwards.
+        ensures repaired { 0 < result.done → (self.new.twin.phase ≡ Phase.Clean)
+            ⊎ (self.new.twin.phase ≡ Phase.Redo) }
+        ensures failed { result.outcome ≡ Outcome.Failed → (self.new.twin.phase ≡ Phase.Undo)
+            ⊎ ((self.new.twin.phase ≡ self.old.twin.phase) × NeedsRepair self.old.twin.phase) }
+        ensures doubt { result.outcome ≡ Outcome.Doubt → self.new.twin.phase ≡ Phase.Doubt }
+
+        // Who failed, and how many writes and syncs were made.
+        ensures only { OnlyWrites D.shown self.old.twin.device self.new.twin.device }
+        ensures does { Does D.shown (WithinHeap self.old.twin.order)
+            self.old.twin.device self.new.twin.device }
+        ensures later { D.shown.faults self.old.twin.device ≤ D.shown.faults self.new.twin.device }
+        ensures cause { HasFault (fate_of result.outcome) (D.shown.faults self.old.twin.device)
+            (D.shown.faults self.new.twin.device) }
+        ensures failed_cause { result.outcome ≡ Outcome.Failed →
+            FailsBeforeCommit D.shown self.old.twin.phase self.old.twin.order
+            (plan_of self.old.view).main self.old.twin.device self.new.twin.device }
+        ensures doubt_cause { result.outcome ≡ Outcome.Doubt →
+            FailsAtCommit D.shown self.old.twin.phase self.old.twin.order
+            (plan_of self.old.view).main self.old.twin.device self.new.twin.device }
+        ensures spends { 0 < result.done →
+            IsUnfailed D.shown self.old.twin.device self.new.twin.device →
+            Spends D.shown (batch_writes self.old.twin.phase self.old.twin.order)
+            (batch_syncs self.old.twin.phase) self.old.twin.device self.new.twin.device }
+        ensures most { SpendsAtMost D.shown (batch_writes self.old.twin.phase self.old.twin.order)
+            (batch_syncs self.old.twin.phase) self.old.twin.device self.new.twin.device }
+        ensures failed_most { result.outcome ≡ Outcome.Failed →
+            SpendsAtMost D.shown (writes_before_commit self.old.twin.phase self.old.twin.order)
+            (syncs_before_commit self.old.twin.phase)
+            self.old.twin.device self.new.twin.device }
+    {
+        self.found.clear();
+        self.answers.clear();
+        let before = self.twin.fault_count();
+        scan(shared, &mut self.seat, &mut self.found);
+        if self.found.is_empty() {
+            return Passed {
+                found: 0,
+                done: 0,
+                outcome: Outcome::Nothing,
+            };
+        }
+        let many = self.found.len() as u32;
+        let place = shared.load_main(&mut self.seat, COUNT);
+        if place == LAST_COUNT {
+            refuse(self.found.as_slice(), SPENT, &mut self.answers);
+            answer_all(
+                shared,
+                &mut self.seat,
+                self.answers.as_slice(),
+                before,
+                before,
+            );
+            return Passed {
+                found: many,
+                done: 0,
+                outcome: Outcome::Published,
+            };
+        }
+        let outcome = publish(
+            &mut self.twin,
+            shared,
+            &mut self.seat,
+            before,
+            place,
+            self.found.as_slice(),
+            &mut self.answers,
+        );
+        if outcome != Outcome::Published {
+            let now = self.twin.fault_count();
+            answer_all(shared, &mut self.seat, self.answers.as_slice(), before, now);
+            return Passed {
+                found: many,
+                done: 0,
+                outcome,
+            };
+        }
+        let done = (shared.load_main(&mut self.seat, COUNT) - place) as u32;
+        gate.published(rt, done);
+        settle(rt, &mut self.twin, shared, &mut self.seat, before);
+        let now = self.twin.fault_count();
+        answer_all(shared, &mut self.seat, self.answers.as_slice(), before, now);
+        Passed {
+            found: many,
+            done,
+            outcome,
+        }
+    }
+}

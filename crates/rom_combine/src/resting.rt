@@ -1,0 +1,73 @@
+//! How a published batch comes to rest.
+ghost use Rattle.std.specs.Prelude.{◌≡◌, ◌⊎◌, ℕ, ◌+◌, ◌≤◌, IsTrue};
+ghost use Rattle.rom_model.specs.Blocks.{region_len};
+ghost use Rattle.rom_model.specs.Faults.{FailedLast};
+ghost use Rattle.rom_model.specs.Machine.{on_words};
+ghost use Rattle.rom_device.specs.Device.{Becomes, Does, Runs};
+ghost use Rattle.rom_twin.specs.Seen.{InPhase, committed, main_now};
+ghost use Rattle.rom_combine.specs.Costs.{IsUnfailed, OnlyWrites, Spends, SpendsAtMost, WithinHeap};
+ghost use Rattle.rom_combine.specs.Images.{Counting};
+ghost use Rattle.rom_combine.specs.Resting.{rested};
+ghost use Rattle.rom_lr.specs.Seats.{IsWriterOf};
+ghost use Rattle.rom_lr.specs.Writing.{Writes};
+ghost use Rattle.rom_rule.specs.Kinds.{MayRaise};
+ghost use Rattle.rom_rule.specs.Readers.{Held, Settled};
+ghost use Rattle.rom_rule.specs.Views.{plan_of};
+
+use crate::looking::finish_on;
+use crate::sides::copy_back;
+use rom_device::Device;
+use rom_lr::{Shared, Side, WriterSeat};
+use rom_model::Object;
+use rom_twin::{Phase, Twin};
+use std::sync::Wait;
+
+/// Waits until nobody reads back, makes back what main is, in memory and on the device, sends readers
+/// to back, and waits until nobody reads main. A fault of the device here changes no answer. No word
+/// of a posted call is stored, so its answer may be given before this or after it.
+pub(crate) fn settle<D: Device, O: Object, R: Wait>(
+    rt: &R,
+    twin: &mut Twin<D>,
+    shared: &Shared<O>,
+    seat: &mut WriterSeat,
+    before: u64,
+)
+    requires of { IsWriterOf shared.now.table.shared.table_id shared.now.table.shared.key seat.old }
+    requires side { (plan_of seat.old.token.me.0).side ≡ 0 }
+    requires phase { twin.old.phase ≡ Phase.Committed }
+    requires order { twin.old.order ≡ seat.old.token.me.0.base.order }
+    requires main { IsTrue D.shown.tells_images →
+        main_now D.shown twin.old ≡ (plan_of seat.old.token.me.0).main }
+    requires raises { MayRaise before (D.shown.faults twin.old.device)
+        (plan_of seat.old.token.me.0).mine }
+    requires held { let b = seat.old.token.me.0.base in let p = plan_of seat.old.token.me.0 in
+        (s : O.State) × (n : ℕ) × O.Contents b.order b.image s n
+        × Held O.Contents (on_words O.machine) b s n p.main p.history }
+    ensures rested { Writes seat.old seat.new
+        (rested (D.shown.faults twin.new.device) (plan_of seat.old.token.me.0)) }
+    ensures settled { Settled seat.new.token.me.0.base (plan_of seat.new.token.me.0) }
+    ensures phase { (twin.new.phase ≡ Phase.Clean) ⊎ (twin.new.phase ≡ Phase.Redo) }
+    ensures order { twin.new.order ≡ twin.old.order }
+    ensures committed { IsTrue D.shown.tells_images →
+        committed D.shown twin.new ≡ (plan_of seat.old.token.me.0).main }
+    ensures images { IsTrue D.shown.tells_images → InPhase D.shown twin.new }
+    ensures since { IsTrue D.shown.tells_images →
+        Runs D.shown (Becomes (Counting twin.old.order (plan_of seat.old.token.me.0).main))
+        twin.old.device twin.new.device }
+    ensures spends { IsUnfailed D.shown twin.old.device twin.new.device →
+        Spends D.shown (region_len twin.old.order + 1) 1 twin.old.device twin.new.device }
+    ensures most { SpendsAtMost D.shown (region_len twin.old.order + 1) 1
+        twin.old.device twin.new.device }
+    ensures only { OnlyWrites D.shown twin.old.device twin.new.device }
+    ensures does { Does D.shown (WithinHeap twin.old.order) twin.old.device twin.new.device }
+    ensures later { D.shown.faults twin.old.device ≤ D.shown.faults twin.new.device }
+    ensures cause { twin.new.phase ≡ Phase.Redo → FailedLast (D.shown.faults twin.old.device)
+        (D.shown.faults twin.new.device) (D.shown.failing twin.new.device) }
+{
+    shared.settle(rt, seat);
+    copy_back(shared, seat);
+    finish_on(twin, shared, seat);
+    let now = twin.fault_count();
+    shared.switch(seat, Side::Back, before, now);
+    shared.settle(rt, seat);
+}

@@ -1,0 +1,75 @@
+//! How a pass finds the posted calls.
+ghost use Rattle.std.specs.Prelude.{◌≡◌, ℕ, ◌+◌, ◌<◌, ◌≤◌, List, [], ◌∷◌, length, true};
+ghost use Rattle.rom_model.specs.Machine.{on_words};
+ghost use Rattle.rom_announce.specs.Scanning.{MayScan, scanned_from};
+ghost use Rattle.rom_combine.specs.Scanning.{IsScan, IsVisit};
+ghost use Rattle.rom_lr.specs.Seats.{IsWriterOf};
+ghost use Rattle.rom_lr.specs.Writing.{Writes};
+ghost use Rattle.rom_rule.specs.Records.{IsCall};
+ghost use Rattle.rom_rule.specs.Views.{Each, plan_of};
+
+use arrayvec::ArrayVec;
+use rom_announce::{arguments, posted};
+use rom_lr::{Shared, WriterSeat};
+use rom_model::{Args, Object};
+
+/// A posted call that a scan found: whose it is, and its words.
+#[derive(Clone, Copy)]
+pub struct Posted {
+    pub caller: u32,
+    pub args: Args,
+}
+
+impl Default for Posted {
+    fn default() -> Self {
+        Posted {
+            caller: 0,
+            args: Args::new(),
+        }
+    }
+}
+
+/// Begins a pass: it looks at each caller's turn once, from the first caller to the last, and takes
+/// the words of each call that is posted. Callers are in rising order, each at most once.
+pub(crate) fn scan<O: Object>(
+    shared: &Shared<O>,
+    seat: &mut WriterSeat,
+    found: &mut ArrayVec<Posted, 16>,
+)
+    requires of { IsWriterOf shared.now.table.shared.table_id shared.now.table.shared.key seat.old }
+    requires answered { Each (λ _ f. f.answered ≡ true) (plan_of seat.old.token.me.0).requests }
+    requires empty { found.old.items ≡ [] }
+    ensures scanned { let v = seat.old.token.me.0 in
+        IsScan (IsCall (on_words O.machine) v.base) (plan_of v) (plan_of seat.new.token.me.0)
+        shared.now.layout.callers found.new.items }
+    ensures same { Writes seat.old seat.new (plan_of seat.new.token.me.0) }
+{
+    visit(shared, seat, 1, found);
+    for caller in 2..shared.layout.callers() + 1 {
+        visit(shared, seat, caller, found);
+    }
+}
+
+// One caller's turn and, where it has a call posted, its words.
+fn visit<O: Object>(
+    shared: &Shared<O>,
+    seat: &mut WriterSeat,
+    caller: u32,
+    found: &mut ArrayVec<Posted, 16>,
+)
+    requires of { IsWriterOf shared.now.table.shared.table_id shared.now.table.shared.key seat.old }
+    requires within { (1 ≤ caller) × (caller ≤ shared.now.layout.callers) }
+    requires next { MayScan (plan_of seat.old.token.me.0) caller }
+    requires others { Each (λ _ f. f.caller < caller)
+        (scanned_from caller (plan_of seat.old.token.me.0)).requests }
+    requires room { length found.old.items < 16 }
+    ensures visited { let v = seat.old.token.me.0 in
+        IsVisit (IsCall (on_words O.machine) v.base) (scanned_from caller (plan_of v))
+        (plan_of seat.new.token.me.0) caller found.old.items found.new.items }
+    ensures same { Writes seat.old seat.new (plan_of seat.new.token.me.0) }
+{
+    if posted(shared, seat, caller) {
+        let args = arguments(shared, seat, caller);
+        found.push(Posted { caller, args });
+    }
+}
