@@ -88,3 +88,7 @@ at_back v w n u e = rests_on v w _ n e (after_back v.base (plan_of v) u)
 pub at_opening : (v : View) (b : Base) (n : ℕ) → v ≡ dealt_view b n → b.faults ≡ 0 → Contents b.order b.image empty 0 → AtRest v
 at_opening v b n e none held = subst AtRest (sym e)
     record { opening = held; faults = none; history = refl; records = refl; mine = refl; requests = refl; main = refl; back = refl }
+
+-- main stands for an empty heap
+pub main_held : (v : View) → AtRest v → Contents v.base.order (plan_of v).main empty 0
+main_held v u = subst (λ (m : List ℕ). Contents v.base.order m empty 0) (sym u.main) u.opening

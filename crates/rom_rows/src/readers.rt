@@ -12,8 +12,9 @@ ghost use Rattle.rom_rows.specs.Untouched.{AtRest, IsReady};
 ghost use Rattle.rom_rule.specs.declared.views.Position.TheVariants.{Out};
 
 use crate::job::Job;
+use crate::turns::{to_back, to_main};
 use rom_heap::Trio;
-use rom_lr::{Seat, Shared, Side, WriterSeat};
+use rom_lr::{Seat, Shared, WriterSeat};
 use rom_model::{VecSpace, new_region};
 use std::alloc::{AllocError, Global};
 use std::sync::Wait;
@@ -25,28 +26,6 @@ use std::thread::Threads;
 const READS: u64 = 2000;
 
 const TURNS: u64 = 500;
-
-/// Sends readers to main, and waits until back is left.
-fn to_main<R: Wait>(rt: &R, shared: &Shared<Trio>, writer: &mut WriterSeat)
-    requires of { IsWriterOf shared.now.table.shared.table_id shared.now.table.shared.key writer.old }
-    requires rests { AtRest writer.old.token.me.0 }
-    ensures of { IsWriterOf shared.now.table.shared.table_id shared.now.table.shared.key writer.new }
-    ensures rests { AtRest writer.new.token.me.0 }
-{
-    shared.switch(writer, Side::Main, 0, 0);
-    shared.settle(rt, writer);
-}
-
-/// Sends readers to back, and waits until main is left.
-fn to_back<R: Wait>(rt: &R, shared: &Shared<Trio>, writer: &mut WriterSeat)
-    requires of { IsWriterOf shared.now.table.shared.table_id shared.now.table.shared.key writer.old }
-    requires rests { AtRest writer.old.token.me.0 }
-    ensures of { IsWriterOf shared.now.table.shared.table_id shared.now.table.shared.key writer.new }
-    ensures rests { AtRest writer.new.token.me.0 }
-{
-    shared.switch(writer, Side::Back, 0, 0);
-    shared.settle(rt, writer);
-}
 
 /// Whether all words of the image that the seat enters are those given.
 fn finds(shared: &Shared<Trio>, seat: &mut Seat, image: &[u64]) -> bool

@@ -1,0 +1,134 @@
+//! Callers who post beside the thread that runs the passes.
+ghost use Rattle.std.specs.Prelude.{◌≡◌, ◌+◌, ℕ, All, IfSome, length};
+ghost use Rattle.rom_combine.specs.AtRest.{IsIn};
+ghost use Rattle.rom_lr.specs.Seats.{IsSeatOf};
+ghost use Rattle.rom_rows.specs.Callers.{HasCalls, IsManned};
+
+use crate::callers::{post_call, take_answer, told};
+use crate::cores::{read_count, seated_on};
+use crate::work::Work;
+use crossbeam_utils::Backoff;
+use rom_combine::{Core, NoGate};
+use rom_device::Ram;
+use rom_heap::Trio;
+use rom_lr::{Seat, Shared};
+use rom_model::{Back, Call, Reply, Updated};
+use rom_store::format_device;
+use std::alloc::Global;
+use std::sync::Wait;
+use std::test::Fail;
+use std::thread;
+use std::thread::Threads;
+
+/// How many calls each of two callers posts.
+const CALLS: u32 = 300;
+
+/// How often a thread looks before it gives up.
+const TURNS: u64 = 10_000_000;
+
+/// Looks for the answer until it is there.
+fn await_answer(shared: &Shared<Trio>, seat: &mut Seat) -> Option<(u64, Back)>
+    requires of { IsSeatOf shared.now.table.shared.table_id shared.now.table.shared.key seat.old }
+    requires posted { length seat.old.token.me.0.calls ≡ length seat.old.token.me.0.outcomes + 1 }
+    ensures of { IsSeatOf shared.now.table.shared.table_id shared.now.table.shared.key seat.new }
+    ensures position { seat.new.token.me.0.position ≡ seat.old.token.me.0.position }
+    ensures calls { length seat.new.token.me.0.calls ≡ length seat.old.token.me.0.calls }
+    ensures answered { IfSome result (λ _. length seat.new.token.me.0.outcomes ≡ length seat.old.token.me.0.outcomes + 1) }
+{
+    let backoff = Backoff::new();
+    for _ in 0..TURNS {
+        let answer = take_answer(shared, seat);
+        if answer.is_some() {
+            return answer;
+        }
+        backoff.snooze();
+    }
+    None
+}
+
+/// Posts a number of the map's calls, one after the other, and tells whether each was done, at a place
+/// after that of the one before.
+fn post_all(shared: &Shared<Trio>, seat: &mut Seat) -> bool
+    requires new { HasCalls shared.now.table.shared.table_id shared.now.table.shared.key 0 0 seat.old }
+{
+    let mut least = 0;
+    for i in 0..CALLS {
+        post_call(shared, seat, Call::Put(1, u64::from(i)));
+        let Some((place, words)) = await_answer(shared, seat) else {
+            return false;
+        };
+        let Some(Updated::Done(_, _)) = told(place, &words) else {
+            return false;
+        };
+        if place < least {
+            return false;
+        }
+        least = place.saturating_add(1);
+    }
+    true
+}
+
+/// Runs passes until so many calls are done.
+fn pass_until<R: Wait>(rt: &R, shared: &Shared<Trio>, core: &mut Core<Ram, Trio>, many: u32) -> bool
+    requires of { IsIn shared.now.table.shared.table_id shared.now.table.shared.key core.old }
+{
+    let backoff = Backoff::new();
+    let mut done: u32 = 0;
+    for _ in 0..TURNS {
+        if done >= many {
+            return done == many;
+        }
+        let passed = core.pass(rt, shared, &NoGate);
+        done = done.saturating_add(passed.done);
+        if passed.found == 0 {
+            backoff.snooze();
+        }
+    }
+    false
+}
+
+fn work<R: Wait>(rt: &R, shared: &Shared<Trio>, job: &mut Work)
+    requires ready { IsManned shared.now.table.shared.table_id shared.now.table.shared.key job.old }
+{
+    match job {
+        Work::Posts(seat, right) => *right = post_all(shared, seat),
+        Work::Passes(core, right) => *right = pass_until(rt, shared, core, 2 * CALLS),
+    }
+}
+
+fn work_all<R: Threads + Wait + Sync>(rt: &R, shared: &Shared<Trio>, jobs: &mut [Work])
+    requires ready { All (λ job. IsManned shared.now.table.shared.table_id shared.now.table.shared.key job) jobs.old }
+{
+    thread::for_each_mut(rt, jobs, 3, &|_, job| work(rt, shared, job));
+}
+
+fn is_right(job: &Work) -> bool {
+    match job {
+        Work::Posts(_, right) | Work::Passes(_, right) => *right,
+    }
+}
+
+/// A new heap on a device that does not fail.
+fn new_heap(alloc: Global) -> Result<Ram, Fail> {
+    let mut ram = Ram::zeroed(alloc, 232)?;
+    match format_device::<Ram, Trio>(alloc, &mut ram, 4) {
+        Ok(()) => Ok(ram),
+        Err(_) => Err("not formatted".into()),
+    }
+}
+
+#[test]
+fn callers_are_answered_at_rising_places_beside_the_passes(rt: HostRuntime) -> Result<(), Fail> {
+    let alloc = rt.alloc();
+    let (core, shared, (first, second, mut third)) = seated_on(alloc, new_heap(alloc)?)?;
+    let mut jobs = Vec::with_capacity(alloc, 3)?;
+    jobs.push(Work::Posts(first, false))?;
+    jobs.push(Work::Passes(core, false))?;
+    jobs.push(Work::Posts(second, false))?;
+    work_all(&rt, &shared, jobs.as_mut_slice());
+    for job in &jobs {
+        assert!(rt; is_right(job));
+    }
+    assert_eq!(rt; read_count(&shared, &mut third), 2 * u64::from(CALLS));
+    Ok(())
+}

@@ -1,0 +1,118 @@
+//! Passes over posted calls, by one thread.
+ghost use Rattle.std.specs.Prelude.{◌≡◌, ℕ};
+
+use crate::cores::{post_three, read_count, seated_on, take_three};
+use crate::heaps::{OPENING, device};
+use rom_combine::{Gate, NoGate, Outcome, Passed};
+use rom_device::{CallKind, Device, Trip};
+use rom_model::{Reply, Updated};
+use rom_twin::Phase;
+use std::cell::Cell;
+use std::sync::Wait;
+use std::test::Fail;
+
+/// How many calls a pass makes that does what it found: 227 writes and 4 syncs.
+const PASS: u64 = 227 + 4;
+
+/// The count at which no update is done any more.
+const LAST: u64 = 4_611_686_018_427_387_904;
+
+/// It keeps how often a batch was published, and how many calls these batches did.
+#[derive(Drop)]
+struct Heard {
+    times: Cell<u32>,
+    done: Cell<u32>,
+}
+
+impl Gate for Heard {
+    fn before<R: Wait>(&self, _rt: &R, _caller: u32, _line: u64) {}
+
+    fn published<R: Wait>(&self, _rt: &R, count: u32) {
+        self.times.set(self.times.get().saturating_add(1));
+        self.done.set(self.done.get().saturating_add(count));
+    }
+}
+
+/// The call of that number fails, whatever the word.
+fn trip(call: CallKind, nth: u64) -> Trip {
+    Trip {
+        call,
+        from: 0,
+        to: 232,
+        nth,
+        keeps_new: false,
+    }
+}
+
+#[test]
+fn a_pass_does_the_posted_calls_and_answers_each(rt: HostRuntime) -> Result<(), Fail> {
+    let alloc = rt.alloc();
+    // The opening makes 341 reads and a sync. So a read of a pass would fail, or a fifth sync.
+    let trips = [trip(CallKind::Read, 342), trip(CallKind::Sync, 6)];
+    let (mut core, shared, (mut first, mut second, mut third)) = seated_on(
+        alloc,
+        device(alloc, 0, &trips)?,
+    )?;
+    let gate = Heard {
+        times: Cell::new(0),
+        done: Cell::new(0),
+    };
+    post_three(&shared, &mut first, &mut second, &mut third);
+    let passed = core.pass(&rt, &shared, &gate);
+    let told = take_three(&shared, &mut first, &mut second, &mut third)?;
+    let want = Passed {
+        found: 3,
+        done: 3,
+        outcome: Outcome::Published,
+    };
+    assert_eq!(rt; passed, want);
+    assert_eq!(rt; told[0], Some(Updated::Done(Reply::Queued, 0)));
+    assert_eq!(rt; told[1], Some(Updated::Done(Reply::Added, 1)));
+    assert_eq!(rt; told[2], Some(Updated::Done(Reply::NoPrior, 2)));
+    assert_eq!(rt; read_count(&shared, &mut second), 3);
+
+    // The next one finds nothing.
+    let passed = core.pass(&rt, &shared, &gate);
+    let want = Passed {
+        found: 0,
+        done: 0,
+        outcome: Outcome::Nothing,
+    };
+    assert_eq!(rt; passed, want);
+    assert_eq!(rt; (gate.times.get(), gate.done.get()), (1, 3));
+    let (twin, _writer) = core.into_parts();
+    assert_eq!(rt; twin.phase(), Phase::Clean);
+    let memory = twin.into_device();
+    assert_eq!(rt; memory.fault_count(), 0);
+    assert_eq!(rt; memory.calls_made(), OPENING + PASS);
+    Ok(())
+}
+
+#[test]
+fn calls_at_the_limit_of_the_count_are_answered_as_spent(rt: HostRuntime) -> Result<(), Fail> {
+    let alloc = rt.alloc();
+    let first_done = Some(Updated::Done(Reply::Queued, LAST - 1));
+    let spent = Some(Updated::Spent);
+    // How many calls are done, the count before, and what the first call is told.
+    for (done, count, answer) in [(1u32, LAST - 1, first_done), (0, LAST, spent)] {
+        let (mut core, shared, (mut first, mut second, mut third)) = seated_on(
+            alloc,
+            device(alloc, count, &[])?,
+        )?;
+        post_three(&shared, &mut first, &mut second, &mut third);
+        let passed = core.pass(&rt, &shared, &NoGate);
+        let told = take_three(&shared, &mut first, &mut second, &mut third)?;
+        let want = Passed {
+            found: 3,
+            done,
+            outcome: Outcome::Published,
+        };
+        assert_eq!(rt; passed, want);
+        assert_eq!(rt; told, [answer, spent, spent]);
+        assert_eq!(rt; read_count(&shared, &mut third), LAST);
+        let (twin, _writer) = core.into_parts();
+        let memory = twin.into_device();
+        assert_eq!(rt; memory.calls_made(), OPENING + u64::from(done) * PASS);
+    }
+    Ok(())
+}

@@ -1,0 +1,96 @@
+//! What the writer does at a table beside its readers, and what one reader tells another. It is no
+//! test itself, so that what it asks for is tried by edits too.
+ghost use Rattle.std.specs.Prelude.{◌≡◌, ℕ, ◌<◌};
+ghost use Rattle.rom_model.specs.Blocks.{region_len};
+ghost use Rattle.rom_model.specs.Seen.{StartsWith};
+ghost use Rattle.rom_lr.specs.Seats.{IsSeatOf, IsWriterOf};
+ghost use Rattle.rom_rows.specs.Untouched.{AtRest};
+ghost use Rattle.rom_rule.specs.declared.views.Position.TheVariants.{Out};
+
+use rom_heap::Trio;
+use rom_lr::{Seat, Shared, Side, WriterSeat};
+use std::sync::Wait;
+
+/// Sends readers to main, and waits until back is left.
+pub fn to_main<R: Wait>(rt: &R, shared: &Shared<Trio>, writer: &mut WriterSeat)
+    requires of { IsWriterOf shared.now.table.shared.table_id shared.now.table.shared.key writer.old }
+    requires rests { AtRest writer.old.token.me.0 }
+    ensures of { IsWriterOf shared.now.table.shared.table_id shared.now.table.shared.key writer.new }
+    ensures rests { AtRest writer.new.token.me.0 }
+{
+    shared.switch(writer, Side::Main, 0, 0);
+    shared.settle(rt, writer);
+}
+
+/// Sends readers to back, and waits until main is left.
+pub fn to_back<R: Wait>(rt: &R, shared: &Shared<Trio>, writer: &mut WriterSeat)
+    requires of { IsWriterOf shared.now.table.shared.table_id shared.now.table.shared.key writer.old }
+    requires rests { AtRest writer.old.token.me.0 }
+    ensures of { IsWriterOf shared.now.table.shared.table_id shared.now.table.shared.key writer.new }
+    ensures rests { AtRest writer.new.token.me.0 }
+{
+    shared.switch(writer, Side::Back, 0, 0);
+    shared.settle(rt, writer);
+}
+
+/// Sends readers to main, stores a word on back once that is left, and tells what the word was before
+/// and is then.
+pub fn change_back<R: Wait>(
+    rt: &R,
+    shared: &Shared<Trio>,
+    writer: &mut WriterSeat,
+    at: u64,
+    value: u64,
+) -> (u64, u64)
+    requires of { IsWriterOf shared.now.table.shared.table_id shared.now.table.shared.key writer.old }
+    requires rests { AtRest writer.old.token.me.0 }
+    requires inside { at < region_len shared.now.layout.order }
+    ensures of { IsWriterOf shared.now.table.shared.table_id shared.now.table.shared.key writer.new }
+    ensures stored { result.1 ≡ value }
+{
+    shared.switch(writer, Side::Main, 0, 0);
+    shared.settle(rt, writer);
+    let before = shared.load_back(writer, at);
+    shared.store_back(writer, at, value);
+    (before, shared.load_back(writer, at))
+}
+
+/// Sends readers to main and to back again, stores a word on main once that is left, and tells what
+/// the word is then.
+pub fn change_main<R: Wait>(
+    rt: &R,
+    shared: &Shared<Trio>,
+    writer: &mut WriterSeat,
+    at: u64,
+    value: u64,
+) -> u64
+    requires of { IsWriterOf shared.now.table.shared.table_id shared.now.table.shared.key writer.old }
+    requires rests { AtRest writer.old.token.me.0 }
+    requires inside { at < region_len shared.now.layout.order }
+    ensures of { IsWriterOf shared.now.table.shared.table_id shared.now.table.shared.key writer.new }
+    ensures stored { result ≡ value }
+{
+    to_main(rt, shared, writer);
+    shared.switch(writer, Side::Back, 0, 0);
+    // Whoever still reads main leaves it.
+    shared.settle(rt, writer);
+    // Now nobody reads it.
+    shared.store_main(writer, at, value);
+    shared.load_main(writer, at)
+}
+
+/// Tells the second caller what the first has seen.
+pub fn tell(shared: &Shared<Trio>, first: &mut Seat, second: &mut Seat)
+    requires first { IsSeatOf shared.now.table.shared.table_id shared.now.table.shared.key first.old }
+    requires second { IsSeatOf shared.now.table.shared.table_id shared.now.table.shared.key second.old }
+    requires first_out { first.old.token.me.0.position ≡ Out }
+    requires second_out { second.old.token.me.0.position ≡ Out }
+    ensures first { IsSeatOf shared.now.table.shared.table_id shared.now.table.shared.key first.new }
+    ensures second { IsSeatOf shared.now.table.shared.table_id shared.now.table.shared.key second.new }
+    ensures first_out { first.new.token.me.0.position ≡ Out }
+    ensures second_out { second.new.token.me.0.position ≡ Out }
+    ensures told { StartsWith second.new.token.me.0.seen first.old.token.me.0.seen }
+{
+    let note = shared.note(first);
+    shared.learn(second, note);
+}
