@@ -1,3 +1,4 @@
 -- What the functions of this crate tell each other.
 pub mod Holds
 pub mod Ready
+pub mod Posting

@@ -1,5 +1,6 @@
 //! The command line.
 use crate::calls::Calls;
+use crate::combining::{Combining, Passes};
 use crate::reads::{Reading, Way};
 use rom_header::{Geometry, State};
 
@@ -27,6 +28,8 @@ pub enum Command {
     Count(Calls, u64),
     /// Reads by threads beside each other.
     Read(Reading),
+    /// Passes or batches on a heap in memory.
+    Combine(Combining),
 }
 
 /// The action of that name with that number.
@@ -56,10 +59,20 @@ impl Command {
             Some(word) => Some(number_of(&word)?),
             None => None,
         };
+        let rounds = match words.next() {
+            Some(word) => Some(number_of(&word)?),
+            None => None,
+        };
         if words.next().is_some() {
             return None;
         }
+        if let Some(rounds) = rounds {
+            let passes = Passes::of(number_of(&second)?, number?, rounds)?;
+            let wanted = Command::Combine(Combining::Passes(passes));
+            return (name.as_str() == "pass").then_some(wanted);
+        }
         match name.as_str() {
+            "batch" => Some(Command::Combine(Combining::Batches(number_of(&second)?))),
             "count" => Some(Command::Count(Calls::of(second.as_str())?, number?)),
             "read" => Some(Command::Read(Reading::Once(Way::of(second.as_str())?, number?))),
             "reads" => Some(Command::Read(Reading::Timed(number_of(&second)?, number?))),

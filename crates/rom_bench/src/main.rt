@@ -7,10 +7,15 @@
 #![tactic(auto)]
 
 mod bare;
+mod batches;
 mod calls;
+mod combining;
 mod command;
 mod heap;
+mod memory;
+mod passes;
 mod plain;
+mod poster;
 mod reads;
 mod rounds;
 mod seated;
@@ -28,7 +33,8 @@ const USAGE: &str =
 rom_bench count CALL CALLS
 a CALL is enq, deq, add, add-middle, rem, rem-middle, put, again, del, move, has, has-middle, get, peek, len, total
 or nothing, and at most 1000 are made
-rom_bench read seats READS | read bare READS | reads READS ROUNDS";
+rom_bench read seats READS | read bare READS | reads READS ROUNDS
+rom_bench pass CALLERS POSTING ROUNDS | batch ROUNDS";
 
 /// Sees to it that the descriptors 0 to 2 are taken. One that was closed when the program began
 /// would be given to the heap's file, and what is printed would go into that heap. So `/dev/null`
@@ -102,8 +108,9 @@ fn main(rt: HostRuntime) -> io::Result<ExitCode> {
     let done = match command {
         Command::OnFile(action, path) => done_on(&rt, action, path.as_str())?,
         Command::Count(calls, most) => count(&rt, calls, most)?,
-        // Threads are started with the handle that `main` alone has.
+        // Threads are started, and readers waited for, with the handle that `main` alone has.
         Command::Read(reading) => reads::make(&rt, rt.alloc(), reading)?,
+        Command::Combine(combining) => combining::make(&rt, rt.alloc(), combining)?,
     };
     if done {
         Ok(ExitCode::SUCCESS)

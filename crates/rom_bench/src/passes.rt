@@ -1,0 +1,159 @@
+//! Passes, before each of which some callers post a call each.
+ghost use Rattle.std.specs.Prelude.{◌≡◌, ℕ, All, IfOk};
+ghost use Rattle.rom_combine.specs.AtRest.{IsIn};
+ghost use Rattle.rom_lr.specs.Opening.{AreNew, IsNew, dealt_view};
+ghost use Rattle.rom_lr.specs.Seats.{IsWriterOf};
+ghost use Rattle.rom_model.specs.Region.{Contents};
+ghost use Rattle.rom_model.specs.State.{empty};
+ghost use Rattle.rom_rule.specs.Places.{AreCallers};
+ghost use Rattle.rom_rule.specs.Views.{base_of};
+ghost use Rattle.rom_bench.specs.Posting.{IsPosterOf};
+
+use crate::memory::{ORDER, counted, twin_of};
+use crate::poster::{Poster, post_call, take_answer};
+use rom_combine::{Core, NoGate};
+use rom_device::Ram;
+use rom_heap::Trio;
+use rom_lr::{Seat, Shared, WriterSeat};
+use rom_model::new_region;
+use rom_twin::{Phase, Twin};
+use std::alloc::{AllocError, Global};
+use std::sync::Wait;
+
+/// The count's limit. The places of calls that were done are below it, and codes are not.
+const LAST_COUNT: u64 = 1 << 62;
+
+/// Posts a caller's next call, unless one waits.
+fn post_next(shared: &Shared<Trio>, poster: &mut Poster, number: u64)
+    requires of { IsPosterOf shared.now.table.shared.table_id shared.now.table.shared.key poster.old }
+    ensures of { IsPosterOf shared.now.table.shared.table_id shared.now.table.shared.key poster.new }
+{
+    if !poster.waits && poster.seat.posted < LAST_COUNT {
+        post_call(shared, &mut poster.seat, number);
+        poster.waits = true;
+    }
+}
+
+/// Takes a caller's answer, and tells whether its call was done.
+fn take_next(shared: &Shared<Trio>, poster: &mut Poster) -> bool
+    requires of { IsPosterOf shared.now.table.shared.table_id shared.now.table.shared.key poster.old }
+    ensures of { IsPosterOf shared.now.table.shared.table_id shared.now.table.shared.key poster.new }
+{
+    if !poster.waits {
+        return false;
+    }
+    match take_answer(shared, &mut poster.seat) {
+        Some((place, _reply)) => {
+            poster.waits = false;
+            place < LAST_COUNT
+        }
+        None => false,
+    }
+}
+
+fn post_all(shared: &Shared<Trio>, posters: &mut [Poster], number: u64)
+    requires of { All (IsPosterOf shared.now.table.shared.table_id shared.now.table.shared.key) posters.old }
+    ensures of { All (IsPosterOf shared.now.table.shared.table_id shared.now.table.shared.key) posters.new }
+{
+    for poster in posters.iter_mut() {
+        post_next(shared, poster, number);
+    }
+}
+
+/// Takes all answers, and tells how many calls were done.
+fn take_all(shared: &Shared<Trio>, posters: &mut [Poster]) -> u64
+    requires of { All (IsPosterOf shared.now.table.shared.table_id shared.now.table.shared.key) posters.old }
+    ensures of { All (IsPosterOf shared.now.table.shared.table_id shared.now.table.shared.key) posters.new }
+{
+    let mut done = 0u64;
+    for poster in posters.iter_mut() {
+        if take_next(shared, poster) {
+            done = done.wrapping_add(1);
+        }
+    }
+    done
+}
+
+/// Makes so many passes, and tells how many calls were done.
+fn pass_all<R: Wait>(
+    rt: &R,
+    shared: &Shared<Trio>,
+    core: &mut Core<Ram, Trio>,
+    posters: &mut [Poster],
+    rounds: u64,
+) -> u64
+    requires core { IsIn shared.now.table.shared.table_id shared.now.table.shared.key core.old }
+    requires of { All (IsPosterOf shared.now.table.shared.table_id shared.now.table.shared.key) posters.old }
+{
+    let mut done = 0u64;
+    for round in 0..rounds {
+        post_all(shared, posters, round);
+        core.pass(rt, shared, &NoGate);
+        done = done.wrapping_add(take_all(shared, posters));
+    }
+    done
+}
+
+/// The first so many of these callers.
+fn posters_of(
+    alloc: Global,
+    shared: &Shared<Trio>,
+    seats: Vec<Seat>,
+    posting: u32,
+) -> Result<Vec<Poster>, AllocError>
+    requires seats { AreNew shared.now.table.shared.table_id shared.now.table.shared.key seats.items }
+    ensures of { IfOk result (λ posters. All (IsPosterOf shared.now.table.shared.table_id shared.now.table.shared.key) posters.items) }
+{
+    let mut posters = Vec::with_capacity(alloc, seats.len())?;
+    for seat in seats {
+        if seat.number <= posting {
+            posters.push(new_poster(shared, seat))?;
+        }
+    }
+    Ok(posters)
+}
+
+/// A caller at its new seat.
+fn new_poster(shared: &Shared<Trio>, seat: Seat) -> Poster
+    requires new { (number : ℕ) × IsNew shared.now.table.shared.table_id shared.now.table.shared.key number seat }
+    ensures of { IsPosterOf shared.now.table.shared.table_id shared.now.table.shared.key result }
+{
+    Poster::of(seat)
+}
+
+/// The core of a table that was opened on this twin's image, of an empty heap.
+fn core_of(shared: &Shared<Trio>, twin: Twin<Ram>, seat: WriterSeat) -> Core<Ram, Trio>
+    requires phase { twin.phase ≡ Phase.Clean }
+    requires order { twin.order ≡ 4 }
+    requires of { IsWriterOf shared.now.table.shared.table_id shared.now.table.shared.key seat }
+    requires writer { let b = base_of shared.now.table.shared.key in seat.token.me.0 ≡ dealt_view b b.callers }
+    requires order_is { (base_of shared.now.table.shared.key).order ≡ 4 }
+    requires faults { (base_of shared.now.table.shared.key).faults ≡ 0 }
+    requires made { Contents 4 (base_of shared.now.table.shared.key).image empty 0 }
+    ensures of { IsIn shared.now.table.shared.table_id shared.now.table.shared.key result }
+{
+    Core::new(twin, seat)
+}
+
+/// Makes so many passes at a table of so many callers, the first of which, so many, post. It tells how
+/// many calls were done and how many the device has counted, or `None` where no heap was made.
+pub fn make<R: Wait>(
+    rt: &R,
+    alloc: Global,
+    callers: u32,
+    posting: u32,
+    rounds: u64,
+) -> Result<Option<(u64, u64)>, AllocError>
+    requires callers { AreCallers callers }
+{
+    let region = new_region::<Trio>(alloc, ORDER)?;
+    let Some(twin) = twin_of(alloc, &region)? else {
+        return Ok(None);
+    };
+    let (shared, writer, seats) = Shared::<Trio>::new(alloc, ORDER, callers, region.words(), 0)?;
+    let mut core = core_of(&shared, twin, writer);
+    let mut posters = posters_of(alloc, &shared, seats, posting)?;
+    let done = pass_all(rt, &shared, &mut core, posters.as_mut_slice(), rounds);
+    let (twin, _writer) = core.into_parts();
+    Ok(Some((done, counted(twin.into_device()))))
+}
