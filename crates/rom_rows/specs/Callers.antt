@@ -5,7 +5,7 @@ use Rattle.rom_combine.specs.AtRest.{IsIn}
 use Rattle.rom_lr.specs.Seats.{IsSeatOf}
 use Rattle.rom_lr.specs.declared.seats.Seat.{Seat}
 use Rattle.rom_rows.specs.declared.work.Work.{Work}
-use Rattle.rom_rows.specs.declared.work.Work.TheVariants.{Passes, Posts}
+use Rattle.rom_rows.specs.declared.work.Work.TheVariants.{Passes, Posts, Reads}
 use Rattle.rom_rule.specs.declared.law.Key.{Key}
 use Rattle.rom_rule.specs.declared.views.Position.TheVariants.{Out}
 
@@ -18,8 +18,9 @@ pub record HasCalls (table : TableId) (key : Key) (posted told : ℕ) (s : Seat)
 
 abbrev pub MayWork : TableId → Key → Work → Type 0
 MayWork table key (Posts seat right) = HasCalls table key 0 0 seat
+MayWork table key (Reads seat right) = HasCalls table key 0 0 seat
 MayWork table key (Passes core right) = IsIn table key core
 
--- the job's caller has posted nothing yet, or its core is of this table
+-- the job's caller has posted nothing, or its core is of this table
 pub record IsManned (table : TableId) (key : Key) (job : Work) : Type 0 where
   pub may : MayWork table key job

@@ -1,18 +1,22 @@
-//! Callers who post beside the thread that runs the passes.
-ghost use Rattle.std.specs.Prelude.{◌≡◌, ◌+◌, ℕ, All, IfSome, length};
+//! Callers who post and read beside the thread that runs the passes.
+ghost use Rattle.std.specs.Prelude.{◌≡◌, ◌+◌, ℕ, All, IfSome, IsTrue, length};
+ghost use Rattle.rom_model.specs.Region.{Contents};
+ghost use Rattle.rom_model.specs.State.{State};
+ghost use Rattle.rom_rule.specs.Views.{image_of, is_reading};
 ghost use Rattle.rom_combine.specs.AtRest.{IsIn};
 ghost use Rattle.rom_lr.specs.Seats.{IsSeatOf};
 ghost use Rattle.rom_rows.specs.Callers.{HasCalls, IsManned};
+ghost use Rattle.rom_rule.specs.declared.views.Position.TheVariants.{Out};
 
 use crate::callers::{post_call, take_answer, told};
-use crate::cores::{read_count, seated_on};
+use crate::cores::seated_on;
 use crate::work::Work;
 use crossbeam_utils::Backoff;
 use rom_combine::{Core, NoGate};
-use rom_device::Ram;
+use rom_device::{Device, Ram};
 use rom_heap::Trio;
-use rom_lr::{Seat, Shared};
-use rom_model::{Back, Call, Reply, Updated};
+use rom_lr::{Seat, Shared, ask};
+use rom_model::{Answer, Back, Call, Query, Reply, Updated};
 use rom_store::format_device;
 use std::alloc::Global;
 use std::sync::Wait;
@@ -22,6 +26,15 @@ use std::thread::Threads;
 
 /// How many calls each of two callers posts.
 const CALLS: u32 = 300;
+
+/// The keys that these calls put and remove.
+const KEYS: u64 = 5;
+
+/// How often a caller reads.
+const READS: u32 = 1000;
+
+/// Where the count of updates stands in main on the device.
+const COUNTED: u64 = 10;
 
 /// How often a thread looks before it gives up.
 const TURNS: u64 = 10_000_000;
@@ -46,14 +59,20 @@ fn await_answer(shared: &Shared<Trio>, seat: &mut Seat) -> Option<(u64, Back)>
     None
 }
 
-/// Posts a number of the map's calls, one after the other, and tells whether each was done, at a place
-/// after that of the one before.
+/// Posts calls that put and remove keys of the map in turn, one after the other, and tells whether each
+/// was done, at a place after that of the one before.
 fn post_all(shared: &Shared<Trio>, seat: &mut Seat) -> bool
     requires new { HasCalls shared.now.table.shared.table_id shared.now.table.shared.key 0 0 seat.old }
 {
     let mut least = 0;
     for i in 0..CALLS {
-        post_call(shared, seat, Call::Put(1, u64::from(i)));
+        let key = u64::from(i / 2) % KEYS;
+        let call = if i % 2 == 0 {
+            Call::Put(key, u64::from(i))
+        } else {
+            Call::Del(key)
+        };
+        post_call(shared, seat, call);
         let Some((place, words)) = await_answer(shared, seat) else {
             return false;
         };
@@ -66,6 +85,60 @@ fn post_all(shared: &Shared<Trio>, seat: &mut Seat) -> bool
         least = place.saturating_add(1);
     }
     true
+}
+
+/// What a query is told in the image that the seat has entered.
+fn asked(shared: &Shared<Trio>, seat: &mut Seat, query: Query) -> Answer
+    requires of { IsSeatOf shared.now.table.shared.table_id shared.now.table.shared.key seat.old }
+    requires entered { IsTrue (is_reading seat.old.token.me.0.position) }
+    requires region { let v = seat.old.token.me.0 in (s : State) × (k : ℕ) × Contents v.base.order (image_of v.position) s k }
+    ensures of { IsSeatOf shared.now.table.shared.table_id shared.now.table.shared.key seat.new }
+    ensures entered { IsTrue (is_reading seat.new.token.me.0.position) }
+    ensures region { let v = seat.new.token.me.0 in (s : State) × (k : ℕ) × Contents v.base.order (image_of v.position) s k }
+{
+    ask(shared, seat, &query)
+}
+
+/// Whether, in the image that the seat enters, the map has as many keys as are found there.
+fn is_whole(shared: &Shared<Trio>, seat: &mut Seat) -> bool
+    requires of { IsSeatOf shared.now.table.shared.table_id shared.now.table.shared.key seat.old }
+    requires out { seat.old.token.me.0.position ≡ Out }
+    ensures of { IsSeatOf shared.now.table.shared.table_id shared.now.table.shared.key seat.new }
+    ensures out { seat.new.token.me.0.position ≡ Out }
+{
+    shared.enter(seat);
+    let first = asked(shared, seat, Query::Get(0));
+    let second = asked(shared, seat, Query::Get(1));
+    let third = asked(shared, seat, Query::Get(2));
+    let fourth = asked(shared, seat, Query::Get(3));
+    let fifth = asked(shared, seat, Query::Get(4));
+    let sizes = asked(shared, seat, Query::Len);
+    shared.leave(seat);
+    let mut found: u64 = 0;
+    for answer in [first, second, third, fourth, fifth] {
+        if answer != Answer::Missing {
+            found = found.saturating_add(1);
+        }
+    }
+    let want = Answer::Sizes {
+        queue: 0,
+        set: 0,
+        map: found,
+    };
+    sizes == want
+}
+
+/// Reads, and tells whether each image was whole.
+fn read_all(shared: &Shared<Trio>, seat: &mut Seat) -> bool
+    requires of { IsSeatOf shared.now.table.shared.table_id shared.now.table.shared.key seat.old }
+    requires out { seat.old.token.me.0.position ≡ Out }
+{
+    let mut right = true;
+    for _ in 0..READS {
+        let whole = is_whole(shared, seat);
+        right = right && whole;
+    }
+    right
 }
 
 /// Runs passes until so many calls are done.
@@ -92,6 +165,7 @@ fn work<R: Wait>(rt: &R, shared: &Shared<Trio>, job: &mut Work)
 {
     match job {
         Work::Posts(seat, right) => *right = post_all(shared, seat),
+        Work::Reads(seat, right) => *right = read_all(shared, seat),
         Work::Passes(core, right) => *right = pass_until(rt, shared, core, 2 * CALLS),
     }
 }
@@ -99,12 +173,12 @@ fn work<R: Wait>(rt: &R, shared: &Shared<Trio>, job: &mut Work)
 fn work_all<R: Threads + Wait + Sync>(rt: &R, shared: &Shared<Trio>, jobs: &mut [Work])
     requires ready { All (λ job. IsManned shared.now.table.shared.table_id shared.now.table.shared.key job) jobs.old }
 {
-    thread::for_each_mut(rt, jobs, 3, &|_, job| work(rt, shared, job));
+    thread::for_each_mut(rt, jobs, 4, &|_, job| work(rt, shared, job));
 }
 
 fn is_right(job: &Work) -> bool {
     match job {
-        Work::Posts(_, right) | Work::Passes(_, right) => *right,
+        Work::Posts(_, right) | Work::Reads(_, right) | Work::Passes(_, right) => *right,
     }
 }
 
@@ -118,17 +192,26 @@ fn new_heap(alloc: Global) -> Result<Ram, Fail> {
 }
 
 #[test]
-fn callers_are_answered_at_rising_places_beside_the_passes(rt: HostRuntime) -> Result<(), Fail> {
+fn callers_are_answered_at_rising_places_and_read_whole_states_beside_the_passes(
+    rt: HostRuntime,
+) -> Result<(), Fail> {
     let alloc = rt.alloc();
-    let (core, shared, (first, second, mut third)) = seated_on(alloc, new_heap(alloc)?)?;
-    let mut jobs = Vec::with_capacity(alloc, 3)?;
+    let (core, shared, (first, second, third)) = seated_on(alloc, new_heap(alloc)?)?;
+    let mut jobs = Vec::with_capacity(alloc, 4)?;
     jobs.push(Work::Posts(first, false))?;
     jobs.push(Work::Passes(core, false))?;
     jobs.push(Work::Posts(second, false))?;
+    jobs.push(Work::Reads(third, false))?;
     work_all(&rt, &shared, jobs.as_mut_slice());
     for job in &jobs {
         assert!(rt; is_right(job));
     }
-    assert_eq!(rt; read_count(&shared, &mut third), 2 * u64::from(CALLS));
+    for job in jobs {
+        if let Work::Passes(core, _) = job {
+            let (twin, _writer) = core.into_parts();
+            let counted = twin.into_device().read(COUNTED);
+            assert_eq!(rt; counted, Ok(2 * u64::from(CALLS)));
+        }
+    }
     Ok(())
 }

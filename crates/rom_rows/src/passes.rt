@@ -1,11 +1,12 @@
 //! Passes over posted calls, by one thread.
 ghost use Rattle.std.specs.Prelude.{◌≡◌, ℕ};
 
-use crate::cores::{post_three, read_count, seated_on, take_three};
+use crate::callers::post_call;
+use crate::cores::{post_three, read_count, seated_on, take_three, take_told};
 use crate::heaps::{OPENING, device};
 use rom_combine::{Gate, NoGate, Outcome, Passed};
 use rom_device::{CallKind, Device, Trip};
-use rom_model::{Reply, Updated};
+use rom_model::{Call, Reply, Updated};
 use rom_twin::Phase;
 use std::cell::Cell;
 use std::sync::Wait;
@@ -114,5 +115,24 @@ fn calls_at_the_limit_of_the_count_are_answered_as_spent(rt: HostRuntime) -> Res
         let memory = twin.into_device();
         assert_eq!(rt; memory.calls_made(), OPENING + u64::from(done) * PASS);
     }
+    Ok(())
+}
+
+#[test]
+fn what_one_caller_read_after_a_pass_another_learns(rt: HostRuntime) -> Result<(), Fail> {
+    let alloc = rt.alloc();
+    let (mut core, shared, (mut first, mut second, mut third)) = seated_on(
+        alloc,
+        device(alloc, 0, &[])?,
+    )?;
+    post_call(&shared, &mut first, Call::Put(1, 1));
+    let passed = core.pass(&rt, &shared, &NoGate);
+    assert_eq!(rt; passed.done, 1);
+    let told = take_told(&shared, &mut first)?;
+    assert_eq!(rt; told, Some(Updated::Done(Reply::NoPrior, 0)));
+    assert_eq!(rt; read_count(&shared, &mut second), 1);
+    let note = shared.note(&mut second);
+    shared.learn(&mut third, note);
+    assert_eq!(rt; read_count(&shared, &mut third), 1);
     Ok(())
 }

@@ -11,6 +11,8 @@ use rom_lr::Seat;
 pub enum Work {
     /// Posts calls, one after the other, and takes each answer.
     Posts(Seat, bool),
+    /// Reads, and tells whether each time the answers fit together.
+    Reads(Seat, bool),
     /// Runs passes until all calls are done.
     Passes(Core<Ram, Trio>, bool),
 }
