@@ -1,10 +1,11 @@
 -- What a seat reads.
-use Rattle.std.specs.Prelude.{◌≡◌, ℕ, ◌+◌, List, Option}
+use Rattle.std.specs.Prelude.{◌≡◌, ℕ, ◌+◌, List, length, Option}
 use Rattle.rom_model.specs.Seen.{StartsWith}
 use Rattle.rom_model.specs.declared.entry.Entry.{Entry}
 use Rattle.rom_lr.specs.declared.seats.Seat.{Seat}
 use Rattle.rom_rule.specs.Kinds.{entering}
 use Rattle.rom_rule.specs.Readers.{Stands}
+use Rattle.rom_rule.specs.Records.{KnowsEntries}
 use Rattle.rom_rule.specs.Views.{front_of, image_of, indicator_in, side_read}
 use Rattle.rom_rule.specs.declared.views.View.{View}
 
@@ -17,9 +18,10 @@ abbrev pub but_steps : View → View
 but_steps v = record v { steps = 0 }
 
 module _ {S : Type 0} (Contents : ℕ → List ℕ → S → ℕ → Type 0) (step : ℕ → S → ℕ → List ℕ → Option (S × List ℕ)) where
-  -- In three steps the seat comes to read a side. What it has then seen begins with what it had seen; its front is the count after that history, and is kept among its fronts; the image stands for the state there. Nothing else of its view changes.
+  -- In three steps the seat comes to read a side. What it has then seen begins with what it had seen; its front is the count after that history, and is kept among its fronts; the image stands for the state there. With no call posted, it knows which entries of that history are its own. Nothing else of its view changes.
   pub record HasEntered (s : Seat) (t : Seat) : Type 0 where
     pub seen : List Entry
     pub begins : StartsWith seen s.token.me.0.seen
     pub stands : Stands Contents step t.token.me.0.base (image_of t.token.me.0.position) seen (front_of t.token.me.0.position)
     pub view : (let q = t.token.me.0.position in t.token.me.0 ≡ record (entering s.token.me.0 (indicator_in q) (side_read q) (front_of q) (image_of q) seen) { steps = s.token.me.0.steps + 3 })
+    pub own : (let v = s.token.me.0 in length v.calls ≡ length v.outcomes → (x : S) (n : ℕ) → Contents v.base.order v.base.image x n → KnowsEntries v.base.callers n t.token.me.0)

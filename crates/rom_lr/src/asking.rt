@@ -1,66 +1,84 @@
 //! The side that a caller reads as words, of which a query can be asked.
 ghost use Rattle.std.specs.Prelude.{◌≡◌, ℕ, ◌+◌, ◌≤◌, IsTrue, length};
 ghost use Rattle.rom_model.specs.Blocks.{region_len};
-ghost use Rattle.rom_lr.specs.Reading.{but_steps};
 ghost use Rattle.rom_lr.specs.Seats.{IsSameSeat, IsSeatOf};
 ghost use Rattle.rom_rule.specs.Views.{image_of, is_reading};
-ghost use Rattle.rom_rule.specs.declared.views.View.{View};
 
 use crate::seats::Seat;
 use crate::shared::Shared;
+use crate::steps::Steps;
 use rom_model::{Look, Object};
+use std::sync::ledger::Ledger;
 
 /// The side that a seat reads. Its words are those of the seat's image, which nobody changes, and
-/// each load is one of the seat's steps.
-pub struct SideLook<'a, O: Object> {
+/// each load is one of the seat's steps and is counted.
+struct SideLook<'a, 'b, O: Object, L: Ledger> {
     shared: &'a Shared<O>,
     seat: &'a mut Seat,
+    steps: &'b mut Steps<L>,
     ghost of: { IsSeatOf shared.now.table.shared.table_id shared.now.table.shared.key seat.now },
     ghost entered: { IsTrue (is_reading seat.now.token.me.0.position) },
     ghost sized: { length (image_of seat.now.token.me.0.position) ≡ region_len shared.now.layout.order },
 }
 
-impl<'a, O: Object> Look for SideLook<'a, O> {
-    ghost use Rattle.std.specs.Prelude.{ℕ, true, false};
+impl<'a, 'b, O: Object, L: Ledger> Look for SideLook<'a, 'b, O, L> {
+    ghost use Rattle.std.specs.Prelude.{ℕ, ◌-◌, true, false};
     ghost use Rattle.atomic_table.specs.Seated.{TableId};
     ghost use Rattle.rom_lr.specs.Reading.{but_steps};
     ghost use Rattle.rom_rule.specs.Views.{image_of};
     ghost use Rattle.rom_rule.specs.declared.views.View.{View};
 
+    // The counter and the seat's steps rise together, so neither difference changes.
     ghost shown = { record {
       image = λ s. image_of s.seat.now.token.me.0.position;
       tells_loads = true;
-      loads = λ s. s.seat.now.token.me.0.steps;
+      loads = λ s. s.steps.now;
       tells_stores = false;
       stores = λ _. 0;
       has_limit = false;
       limit = λ _. 0;
-      Rest = ℕ × TableId × ℕ × View;
-      rest = λ s. (s.seat.ghost_name, s.seat.now.token.table_id, s.seat.now.number, but_steps s.seat.now.token.me.0);
+      Rest = ((ℕ × ℕ) × TableId × ℕ × View) × ℕ × ℕ;
+      rest = λ s. let v = s.seat.now.token.me.0 in
+          (((s.seat.ghost_name, s.steps.ghost_name), s.seat.now.token.table_id, s.seat.now.number, but_steps v), s.steps.now - v.steps, v.steps - s.steps.now);
     } };
 
     fn load(&mut self, at: u64) -> u64 {
+        self.steps.add(1);
         self.shared.load(self.seat, at)
     }
 
     ghost limit_counts = { λ no. no };
 }
 
-/// Answers a query from the side that the seat reads, in at most as many steps as the query costs. It
-/// neither waits nor takes memory.
-pub fn ask<O: Object>(shared: &Shared<O>, seat: &mut Seat, query: &O::Query) -> O::Answer
+/// Answers a query from the side that the seat reads, in at most as many steps as the query costs,
+/// and counts them. It neither waits nor takes memory.
+pub fn ask<O: Object, L: Ledger>(
+    shared: &Shared<O>,
+    seat: &mut Seat,
+    query: &O::Query,
+    steps: &mut Steps<L>,
+) -> O::Answer
     requires of { IsSeatOf shared.now.table.shared.table_id shared.now.table.shared.key seat.old }
     requires entered { IsTrue (is_reading seat.old.token.me.0.position) }
     requires region { let v = seat.old.token.me.0 in (s : O.State) × (k : ℕ) × O.Contents v.base.order (image_of v.position) s k }
     ensures same { IsSameSeat seat.old seat.new }
     ensures still { seat.new.token.me.0 ≡ record seat.old.token.me.0 { steps = seat.new.token.me.0.steps } }
     ensures told { let v = seat.old.token.me.0 in (s : O.State) (k : ℕ) → O.Contents v.base.order (image_of v.position) s k → result ≡ O.machine.tell s query.now }
-    ensures least { seat.old.token.me.0.steps ≤ seat.new.token.me.0.steps }
-    ensures most { let v = seat.old.token.me.0 in (s : O.State) (k : ℕ) → O.Contents v.base.order (image_of v.position) s k → seat.new.token.me.0.steps ≤ v.steps + O.machine.cost v.base.order s query.now }
+    ensures counted { steps.new + seat.old.token.me.0.steps ≡ steps.old + seat.new.token.me.0.steps }
+    ensures least { steps.old ≤ steps.new }
+    ensures most { let v = seat.old.token.me.0 in (s : O.State) (k : ℕ) → O.Contents v.base.order (image_of v.position) s k → steps.new ≤ steps.old + O.machine.cost v.base.order s query.now }
 {
     let order = shared.layout.order();
-    let mut side = SideLook { shared, seat };
+    let mut side = SideLook {
+        shared,
+        seat,
+        steps,
+    };
     let answer = O::answer(&mut side, order, query);
-    let SideLook { shared: _, seat: _ } = side;
+    let SideLook {
+        shared: _,
+        seat: _,
+        steps: _,
+    } = side;
     answer
 }

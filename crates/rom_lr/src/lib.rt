@@ -4,10 +4,11 @@
 //! A [`Shared`] is a table of shared words with two sides, main and back. A caller's [`Seat`]
 //! enters a side, loads its words or asks a query of them, and leaves. The [`WriterSeat`] switches
 //! readers to a side that is whole, and settles: it waits until nobody reads the side that they left.
-//! Then it may store words there, one by one or, on main, by a whole update. A [`Note`] hands what one
-//! caller has seen to another. A call makes steps of one word each, and its contract tells how many, or
-//! at most how many, but for `settle`, which alone waits, and an update on main. The opening alone takes
-//! memory.
+//! Then it may store words there, one by one or, on main, by a whole update. A [`Note`] hands what
+//! one caller has seen to another, and [`Steps`] counts the loads of queries. When callers are done,
+//! the writer takes in their seats, and reviews what they knew against its records. A call makes
+//! steps of one word each, and its contract tells how many, or at most how many, but for `settle`,
+//! which alone waits, and an update on main. The opening alone takes memory.
 //!
 //! `specs/Opening.antt` has the seats as they are handed out, `specs/Reading.antt` what a seat reads
 //! from then on, `specs/Switch.antt` what a store of `side` asks for and leaves, `specs/Writing.antt`
@@ -17,6 +18,7 @@
 #![tactic(auto)]
 
 mod asking;
+mod closing;
 mod note;
 mod notes;
 mod opening;
@@ -25,12 +27,14 @@ mod seats;
 mod shared;
 mod side;
 mod space;
+mod steps;
 mod words;
 mod writing;
 
-pub use asking::{SideLook, ask};
+pub use asking::ask;
 pub use note::Note;
 pub use seats::{Seat, WriterSeat};
 pub use shared::Shared;
 pub use side::Side;
-pub use space::{MainSpace, apply_main};
+pub use space::apply_main;
+pub use steps::Steps;

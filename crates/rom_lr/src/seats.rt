@@ -1,5 +1,5 @@
 //! Seats at the shared words.
-ghost use Rattle.std.specs.Prelude.{◌≡◌, ◌^◌, ◌<◌, ◌≤◌, [], IsTrue, length};
+ghost use Rattle.std.specs.Prelude.{◌≡◌, ◌^◌, ◌<◌, ◌≤◌, [], IsTrue, None, length};
 ghost use Rattle.rom_model.specs.Blocks.{region_len};
 ghost use Rattle.rom_lr.specs.Side.{side_number};
 ghost use Rattle.rom_rule.specs.Places.{indicator_of, word_at};
@@ -23,6 +23,7 @@ pub struct Seat {
     /// How many calls it has posted.
     pub posted: u64,
     ghost bare: { token.me.1 ≡ [] },
+    ghost plain: { token.me.0.plan ≡ None },
     ghost own: { number ≡ token.me.0.number },
     ghost counted: { posted ≡ length token.me.0.calls },
     ghost numbered: { 0 < token.me.0.number },

@@ -14,7 +14,7 @@ use rom_model::{Look, Object, Space};
 /// Shared main while nobody reads it, as a space. Its words are those of main in the writer's plan.
 /// There is no limit on its stores, and it counts nothing: each load and store is one of the writer's
 /// steps.
-pub struct MainSpace<'a, O: Object> {
+struct MainSpace<'a, O: Object> {
     shared: &'a Shared<O>,
     seat: &'a mut WriterSeat,
     ghost of: { IsWriterOf shared.now.table.shared.table_id shared.now.table.shared.key seat.now },

@@ -7,12 +7,13 @@ use lib.ListN.{get_elem?}
 use Rattle.atomic_table.specs.Table.{State, Me, step, keeps, Allows}
 use Rattle.atomic_table.proofs.Lists.{at_map}
 use Rattle.rom_model.specs.declared.entry.Entry.{Entry}
+use Rattle.rom_model.specs.declared.record.Found.{Found}
 use Rattle.rom_model.specs.declared.record.PassRecord.{PassRecord}
 use Rattle.rom_model.specs.declared.call.Updated.{Updated}
 use Rattle.rom_model.specs.Seen.{StartsWith}
 use Rattle.rom_model.specs.History.{after, batch}
-use Rattle.rom_model.specs.Passes.{published, fate_told, history_of}
-use Rattle.rom_model.proofs.Recorded.{history_more}
+use Rattle.rom_model.specs.Passes.{all_told, published, fate_told, history_of}
+use Rattle.rom_model.proofs.Recorded.{history_more, told_more}
 use Rattle.rom_rule.specs.CallKinds.{CanPost, CanStoreArgument, HasNonePosted, HasPosted, IsTold, loaded_answer, loaded_turn, longer, posted, posting, stored_argument}
 use Rattle.rom_rule.specs.Calls.{Announced, IsLater, slot_word_at, told_to}
 use Rattle.rom_rule.specs.Places.{Shown, shown, slot_at, slots_at}
@@ -33,7 +34,8 @@ use Rattle.rom_rule.proofs.Learning.{learns, takes}
 use Rattle.rom_rule.proofs.Posting.{lays, posts}
 use Rattle.rom_model.specs.Passes.{AreInOrder}
 use Rattle.std.specs.List.{AllByRecursion}
-use Rattle.rom_rule.proofs.Books.{all_inside, fault_inside, source, told_at, history_starts, longer_begins, fate_entry, entry_of}
+use Rattle.rom_rule.proofs.Books.{all_inside, fault_inside, source, told_at, history_starts, longer_begins, fate_entry, entry_of, told_by}
+use Rattle.rom_rule.proofs.Own.{GoesTo, knows_next, knows_told}
 use Rattle.rom_rule.proofs.Readers.{caller_step, still, remembered_of, announced_on, reload}
 use Rattle.rom_rule.proofs.Writes.{base_is}
 
@@ -118,8 +120,9 @@ module _ {S : Type 0} (Contents : ℕ → List ℕ → S → ℕ → Type 0) (go
   -- what the records told of a call
   told_of : (s : St) (r : R s) (v : View) (x : Told) (i : ℕ) → get_elem? (told_to r.plan.told v.number) i ≡ some x → IsLater r.count v.since x → StartsWith r.plan.history v.seen
       → (seen : List Entry) × StartsWith r.plan.history seen × IsTold Contents go b x v.since v.seen seen
+      × GoesTo Contents go b s r x seen
   told_of s r v x i here late begins = let p : Plan = r.plan in let j = told_at p.told v.number i x here in let f = source go b.order r.start r.count (records_of p) j.0 x (subst (λ (l : List Told). get_elem? l j.0 ≡ some x) r.recorded.told j.1) in
-      let first : List PassRecord = f.earlier ++ f.pass ∷ [] in let hist : List Entry = history_of go b.order r.start r.count first in let h : List Entry = history_of go b.order r.start r.count f.earlier in
+      let first : List PassRecord = f.earlier ++ f.pass ∷ [] in let hist : List Entry = history_of go b.order r.start r.count first in let h : List Entry = history_of go b.order r.start r.count f.earlier in let told : List Told = all_told go b.order r.start r.count f.earlier in
       let whole : StartsWith p.history hist = subst (λ (l : List Entry). StartsWith l hist) (sym (r.recorded.made ∙ ap (history_of go b.order r.start r.count) (f.split ∙ sym (append_assoc f.earlier (f.pass ∷ []) f.rest)))) (history_starts go b.order r.start r.count first f.rest) in
       let both = longer_begins p.history v.seen hist begins whole in (
         longer v.seen hist,
@@ -143,35 +146,44 @@ module _ {S : Type 0} (Contents : ℕ → List ℕ → S → ℕ → Type 0) (go
               = subst (λ (l : List Entry). get_elem? l (length h + e.0) ≡ some (entry_of x.0 reply)) (sym (history_more go b.order r.start r.count f.earlier f.pass)) (at_longer_of h (published f.pass.fate (batch go b.order (after go b.order r.start r.count h) (r.count + length h) f.pass.found)) e.0 (entry_of x.0 reply) e.3) in
               (length h + e.0, omega (arith, e.1), e.2, starts_at (longer v.seen hist) hist (length h + e.0) (entry_of x.0 reply) both.2 there);
         },
+        record {
+          first = first;
+          rest = f.rest;
+          split = f.split ∙ sym (append_assoc f.earlier (f.pass ∷ []) f.rest);
+          begins = both.2;
+          at = length told + f.at;
+          told = subst (λ (l : List Told). get_elem? l (length told + f.at) ≡ some x) (sym (told_more go b.order r.start r.count f.earlier f.pass)) (at_longer_of told (told_by go b.order r.start r.count f.earlier f.pass) f.at x f.told);
+        },
       )
 
   even_or_odd : (n : ℕ) → n % 2 ≢ 0 → n % 2 ≡ 1
   even_or_odd n ne = omega arith
 
-  -- it loads its turn
-  pub loads_turn : (slots id : ℕ) (me : M) → HasPosted me.0 → Allows R slots id me (slot_at b.callers me.0.number 0) (λ n. n) (loaded_turn Contents go (step slots (slot_at b.callers me.0.number 0) 0 0 none) me)
-  loads_turn slots id me can s r _ at _ = let pos = can.0 in let open_now = can.1 in let v = me.0 in let low = number_low s r id v at in let i : ℕ = slot_at b.callers v.number 0 in let turn : ℕ = get_or s.words i 0 in let m = remembered_of Contents go b s r id v at in
-      let word = slot_word s r v.number 0 pos low.0 (omega arith) in let base = base_is Contents go b s r id v at in dite (ℕ_discrete (turn % 2) 0)
-      (λ even. let l = learns (IsCall go b) b.callers r.count (shown b s.words).slots (plan_calls r.plan) s.views r.announced id v at pos low.0 open_now (ap (λ (n : ℕ). n % 2) (sym word) ∙ even) in let y : Told = l.0 in
-      let t = told_of s r v y (length v.outcomes) l.1 l.3 m.seen in let w : View = record v { outcomes = v.outcomes ++ y ∷ []; seen = t.0; steps = v.steps + 1 } in (
-        w,
-        keeps,
-        tt,
-        reload Contents go b s i id w (caller_step Contents go b s r id v w s.words at refl refl refl refl (still Contents go b s r id v w at (λ _. refl)) (on_from v.position v.seen t.0 t.2.begins (r.images id (reading_in v) (at_map reading_in s.views id v at))) r.written (r.named id v.position (at_map position_in s.views id v at))
-            record { seen = t.1; fronts = m.fronts; joined = m.joined } (l.4 w refl) (λ _. pos) (λ _ none. absurd (omega arith))),
-        ((λ odd. absurd (omega arith)), λ _. record { told = y; seen = t.0; found = l.2; is_told = subst (λ (z : Base). IsTold Contents go z y v.since v.seen t.0) (sym base) t.2; view = refl }),
-      ))
-      (λ odd. let w : View = record v { steps = v.steps + 1 } in (
-        w,
-        keeps,
-        tt,
-        reload Contents go b s i id w (caller_step Contents go b s r id v w s.words at refl refl refl refl (still Contents go b s r id v w at (λ _. refl)) (r.images id (reading_in v) (at_map reading_in s.views id v at)) r.written (r.named id v.position (at_map position_in s.views id v at)) m
-            (announced_on Contents go b s r id v w (shown b s.words).slots at refl refl) (λ _. pos) (λ h. h)),
-        ((λ _. refl), λ even. absurd (odd even)),
-      ))
-    where
-      on_from : (q : Position) (seen seen' : List Entry) → StartsWith seen' seen → KeepsImage Contents go b r.plan.main r.plan.back q seen → KeepsImage Contents go b r.plan.main r.plan.back q seen'
-      on_from Out seen seen' h k = tt
-      on_from (Holds n) seen seen' h k = tt
-      on_from (Arrived n) seen seen' h k = tt
-      on_from (Reads n side f image) seen seen' h k = (k.0, k.1, k.2, (let g = k.3 in (g.0 ++ h.0, h.1 ∙ (ap (λ (l : List Entry). l ++ h.0) g.1 ∙ append_assoc k.2 g.0 h.0))), k.4)
+  module _ (one : (order : ℕ) (words : List ℕ) (s t : S) (j k : ℕ) → Contents order words s j → Contents order words t k → (s ≡ t) × (j ≡ k)) where
+    -- it loads its turn
+    pub loads_turn : (slots id : ℕ) (me : M) → HasPosted me.0 → Allows R slots id me (slot_at b.callers me.0.number 0) (λ n. n) (loaded_turn Contents go (step slots (slot_at b.callers me.0.number 0) 0 0 none) me)
+    loads_turn slots id me can s r _ at _ = let pos = can.0 in let open_now = can.1 in let v = me.0 in let low = number_low s r id v at in let i : ℕ = slot_at b.callers v.number 0 in let turn : ℕ = get_or s.words i 0 in let m = remembered_of Contents go b s r id v at in
+        let word = slot_word s r v.number 0 pos low.0 (omega arith) in let base = base_is Contents go b s r id v at in dite (ℕ_discrete (turn % 2) 0)
+        (λ even. let l = learns (IsCall go b) b.callers r.count (shown b s.words).slots (plan_calls r.plan) s.views r.announced id v at pos low.0 open_now (ap (λ (n : ℕ). n % 2) (sym word) ∙ even) in let y : Told = l.0 in
+        let t = told_of s r v y (length v.outcomes) l.1 l.3 m.seen in let w : View = record v { outcomes = v.outcomes ++ y ∷ []; seen = t.0; steps = v.steps + 1 } in (
+          w,
+          keeps,
+          tt,
+          reload Contents go b s i id w (caller_step Contents go b s r id v w s.words at refl refl refl refl (still Contents go b s r id v w at (λ _. refl)) (on_from v.position v.seen t.0 t.2.begins (r.images id (reading_in v) (at_map reading_in s.views id v at))) r.written (r.named id v.position (at_map position_in s.views id v at))
+              record { seen = t.1; fronts = m.fronts; joined = m.joined } (l.4 w refl) (λ _. pos) (λ _ none. absurd (omega arith))),
+          ((λ odd. absurd (omega arith)), λ _. record { told = y; seen = t.0; found = l.2; is_told = subst (λ (z : Base). IsTold Contents go z y v.since v.seen t.0) (sym base) t.2; view = refl; own = knows_told Contents go b s r one v.base w base (knows_next Contents go b s r id v y t.0 at pos open_now l.1 (ap (λ (f : Found). f.caller) l.2) (ap (λ (f : Found). f.seq) l.2) t.1 t.3) }),
+        ))
+        (λ odd. let w : View = record v { steps = v.steps + 1 } in (
+          w,
+          keeps,
+          tt,
+          reload Contents go b s i id w (caller_step Contents go b s r id v w s.words at refl refl refl refl (still Contents go b s r id v w at (λ _. refl)) (r.images id (reading_in v) (at_map reading_in s.views id v at)) r.written (r.named id v.position (at_map position_in s.views id v at)) m
+              (announced_on Contents go b s r id v w (shown b s.words).slots at refl refl) (λ _. pos) (λ h. h)),
+          ((λ _. refl), λ even. absurd (odd even)),
+        ))
+      where
+        on_from : (q : Position) (seen seen' : List Entry) → StartsWith seen' seen → KeepsImage Contents go b r.plan.main r.plan.back q seen → KeepsImage Contents go b r.plan.main r.plan.back q seen'
+        on_from Out seen seen' h k = tt
+        on_from (Holds n) seen seen' h k = tt
+        on_from (Arrived n) seen seen' h k = tt
+        on_from (Reads n side f image) seen seen' h k = (k.0, k.1, k.2, (let g = k.3 in (g.0 ++ h.0, h.1 ∙ (ap (λ (l : List Entry). l ++ h.0) g.1 ∙ append_assoc k.2 g.0 h.0))), k.4)

@@ -27,6 +27,7 @@ use Rattle.rom_rule.proofs.Crowd.{crowd}
 use Rattle.rom_rule.proofs.Told.{all_append}
 use Rattle.rom_rule.proofs.Joining.{same_calls}
 use Rattle.rom_rule.proofs.Books.{front_now}
+use Rattle.rom_rule.proofs.Own.{knows_told, knows_whole, told_all}
 
 -- facts on positions
 stands_one : (i v : ℕ) → i ≢ v → hit v i ≡ 0
@@ -178,32 +179,34 @@ module _ {S : Type 0} (Contents : ℕ → List ℕ → S → ℕ → Type 0) (go
         ap (λ (p : Position). let z : M = (moved u (Arrived (version_of p)), me.1) in z) (sym holds),
       )
 
-  -- it loads `side`
-  pub loads_side : (slots id : ℕ) (me : M) (v : ℕ) → HasArrived me.0 v → Allows R slots id me side_at (λ n. n) (loaded_side Contents go (step slots side_at 0 0 none) me)
-  unfolding shown
-  loads_side slots id me v can s r _ at _ = let arrived_at = can.0 in let v_low = can.1 in let mark = can.2 in let u = me.0 in let k = r.written in let found : ℕ = get_or s.words 0 0 in let p = r.plan in let is : found ≡ p.side = k.side in let low = k.side_low in let image : List ℕ = side_of p.side p.main p.back in
-      let f : ℕ = r.count + length p.history in let w : View = entering u v found f image p.history in let same : u.base ≡ b = each_at (λ _ c. c ≡ b) base_in s.views id u at r.bases in let m = remembered_of s r id u at in
-      let whole : Stands Contents go b image p.history f = record { start = r.start; count = r.count; opening = r.opening; front_is = refl; held = k.published } in (
-        w,
-        keeps,
-        tt,
-        reload s 0 id w (caller_step s r id u w s.words at refl refl refl refl (still s r id u w at (λ i. ap (λ (q : Position). stands i q) arrived_at)) (ap (λ (z : ℕ). side_of z p.main p.back) (sym is), omega arith, p.history, ([], sym (mathlib.Core.List.append-nil p.history)), whole) r.written (v_low, λ _. is)
-            record {
-              seen = ([], sym (mathlib.Core.List.append-nil p.history));
-              fronts = all_append (IsFront r.count (records_of p)) u.fronts (f ∷ []) m.fronts (front_now Contents go b r.start r.count (book_in p) r.recorded, tt);
-              joined = m.joined;
-            }
-            (announced_on s r id u w (shown b s.words).slots at refl refl) (λ _. mark) (λ _ none. absurd (omega arith))),
-        (
-          f,
-          image,
-          p.history,
-          omega arith,
-          m.seen,
-          subst (λ (z : Base). Stands Contents go z image p.history f) (sym same) whole,
-          ap (λ (q : Position). let z : M = (entering u (indicator_in q) found f image p.history, me.1) in z) (sym arrived_at),
-        ),
-      )
+  module _ (one : (order : ℕ) (words : List ℕ) (s t : S) (j k : ℕ) → Contents order words s j → Contents order words t k → (s ≡ t) × (j ≡ k)) where
+    -- it loads `side`
+    pub loads_side : (slots id : ℕ) (me : M) (v : ℕ) → HasArrived me.0 v → Allows R slots id me side_at (λ n. n) (loaded_side Contents go (step slots side_at 0 0 none) me)
+    unfolding shown
+    loads_side slots id me v can s r _ at _ = let arrived_at = can.0 in let v_low = can.1 in let mark = can.2 in let u = me.0 in let k = r.written in let found : ℕ = get_or s.words 0 0 in let p = r.plan in let is : found ≡ p.side = k.side in let low = k.side_low in let image : List ℕ = side_of p.side p.main p.back in
+        let f : ℕ = r.count + length p.history in let w : View = entering u v found f image p.history in let same : u.base ≡ b = each_at (λ _ c. c ≡ b) base_in s.views id u at r.bases in let m = remembered_of s r id u at in
+        let whole : Stands Contents go b image p.history f = record { start = r.start; count = r.count; opening = r.opening; front_is = refl; held = k.published } in (
+          w,
+          keeps,
+          tt,
+          reload s 0 id w (caller_step s r id u w s.words at refl refl refl refl (still s r id u w at (λ i. ap (λ (q : Position). stands i q) arrived_at)) (ap (λ (z : ℕ). side_of z p.main p.back) (sym is), omega arith, p.history, ([], sym (mathlib.Core.List.append-nil p.history)), whole) r.written (v_low, λ _. is)
+              record {
+                seen = ([], sym (mathlib.Core.List.append-nil p.history));
+                fronts = all_append (IsFront r.count (records_of p)) u.fronts (f ∷ []) m.fronts (front_now Contents go b r.start r.count (book_in p) r.recorded, tt);
+                joined = m.joined;
+              }
+              (announced_on s r id u w (shown b s.words).slots at refl refl) (λ _. mark) (λ _ none. absurd (omega arith))),
+          (
+            f,
+            image,
+            p.history,
+            omega arith,
+            m.seen,
+            subst (λ (z : Base). Stands Contents go z image p.history f) (sym same) whole,
+            ap (λ (q : Position). let z : M = (entering u (indicator_in q) found f image p.history, me.1) in z) (sym arrived_at),
+            λ none_open. knows_told Contents go b s r one u.base w same (knows_whole Contents go b s r w refl (told_all Contents go b s r id u at none_open)),
+          ),
+        )
 
   -- the word of a side
   pub side_word : (s : St) (r : R s) (side at i : ℕ) → side < 2 → at < region_len b.order → i ≡ word_at b.order b.callers side at → get_or s.words i 0 ≡ get_or (side_of side r.plan.main r.plan.back) at 0

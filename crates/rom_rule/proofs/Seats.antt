@@ -12,7 +12,7 @@ use Rattle.rom_rule.specs.Calls.{Announced, told_to}
 use Rattle.rom_rule.specs.Kinds.{CanDeal, CanJoin, caught_up, dealing, informed, newcomer, note_of, noting, planned, reviewed, spent_as}
 use Rattle.rom_rule.specs.Places.{shown}
 use Rattle.rom_rule.specs.Readers.{CountsArrivals, Differ, HoldsNothing, IsNumbered, IsWritten, KeepsImage, ReadsNamedSide, stands, total}
-use Rattle.rom_rule.specs.Records.{IsCall, IsKept, Recorded, Remembers}
+use Rattle.rom_rule.specs.Records.{IsCall, IsKept, KnowsEntries, Recorded, Remembers}
 use Rattle.rom_rule.specs.Rule.{IsOnlyPlan, IsRuled}
 use Rattle.rom_rule.specs.Views.{Book, CallerCalls, Each, IsWriter, base_in, book_in, calls_in, kept_of, number_in, plan_calls, plan_in, plan_of, position_in, reading_in, remembered_in}
 use Rattle.rom_rule.specs.declared.views.Base.{Base}
@@ -23,6 +23,7 @@ use Rattle.rom_rule.specs.declared.views.View.{View}
 use Rattle.rom_rule.proofs.Frames.{each_set, frame, unseen}
 use Rattle.rom_rule.proofs.Readers.{caller_step, still, remembered_of, announced_on, reload}
 use Rattle.rom_rule.proofs.Told.{all_append, all_map}
+use Rattle.rom_rule.proofs.Own.{knows_on, told_all}
 use Rattle.rom_rule.proofs.Joining.{notes, deals, merges, all_told_whole}
 use Rattle.rom_rule.proofs.Writes.{plan_is, base_is, writer_step, announced_with}
 
@@ -202,7 +203,14 @@ module _ {S : Type 0} (Contents : ℕ → List ℕ → S → ℕ → Type 0) (go
     keeps,
     tt,
     reload Contents go b s 0 id w (steps_out s r id v w at out out refl refl refl record { seen = ([], sym (mathlib.Core.List.append-nil r.plan.history)); fronts = m.fronts; joined = m.joined } refl (λ h. h)),
-    (r.plan.history, m.seen, all_map (IsKept r.count (book_in r.plan)) (λ k. StartsWith r.plan.history k.seen) v.joined (λ k h. h.0) m.joined, refl),
+    (
+      r.plan.history,
+      m.seen,
+      all_map (IsKept r.count (book_in r.plan)) (λ k. StartsWith r.plan.history k.seen) v.joined (λ k h. h.0) m.joined,
+      refl,
+      λ n none_open knew. subst (λ (z : Base). KnowsEntries z.callers n w) (sym (base_is Contents go b s r id v at))
+          (knows_on Contents go b s r w n v.seen ([], sym (mathlib.Core.List.append-nil r.plan.history)) m.seen knew.own (told_all Contents go b s r id v at none_open)),
+    ),
   )
 
   module _ (one : (order : ℕ) (words : List ℕ) (s t : S) (j k : ℕ) → Contents order words s j → Contents order words t k → (s ≡ t) × (j ≡ k)) where

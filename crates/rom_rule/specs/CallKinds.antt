@@ -17,7 +17,7 @@ use Rattle.rom_model.specs.declared.record.PassRecord.{PassRecord}
 use Rattle.rom_rule.specs.Calls.{IsLater, IsWhole, answer_words, found_of, packed, told_to}
 use Rattle.rom_rule.specs.Kinds.{IsBatch, Seated, TellsEach, making, planned}
 use Rattle.rom_rule.specs.Places.{slot_at}
-use Rattle.rom_rule.specs.Records.{IsCall}
+use Rattle.rom_rule.specs.Records.{IsCall, KnowsEntries}
 use Rattle.rom_rule.specs.Views.{Each, Told, is_made, plan_of}
 use Rattle.rom_rule.specs.declared.views.Base.{Base}
 use Rattle.rom_rule.specs.declared.views.Plan.{Plan}
@@ -180,7 +180,7 @@ module _ {S : Type 0} (Contents : ℕ → List ℕ → S → ℕ → Type 0) (st
     pub since_is : IsLater count since x
     pub entry : (reply : List ℕ) (place : ℕ) → x.1 ≡ Done reply place → HasEntry count seen' x.0 reply place
 
-  -- A caller loads its turn. Even tells what its call was told; odd tells nothing.
+  -- A caller loads its turn. Even tells what its call was told, and then it knows which entries that it has seen are its own; odd tells nothing.
   -- When: it has a call posted.
   pub record Learnt (m : Seated) (m' : Seated) : Type 0 where
     pub told : Told
@@ -188,6 +188,7 @@ module _ {S : Type 0} (Contents : ℕ → List ℕ → S → ℕ → Type 0) (st
     pub found : told.0 ≡ record { caller = m.0.number; seq = length m.0.outcomes; args = slice_index_or m.0.calls (length m.0.outcomes) [] }
     pub is_told : IsTold m.0.base told m.0.since m.0.seen seen
     pub view : m' ≡ (record m.0 { outcomes = m.0.outcomes ++ told ∷ []; seen = seen; steps = m.0.steps + 1 }, m.1)
+    pub own : (s : S) (n : ℕ) → Contents m.0.base.order m.0.base.image s n → KnowsEntries m.0.base.callers n m'.0
 
   abbrev pub loaded_turn : Step ℕ → Seated → ℕ → Seated → Type 0
   loaded_turn st m turn m' = (turn % 2 ≡ 1 → m' ≡ (record m.0 { steps = m.0.steps + 1 }, m.1)) × (turn % 2 ≡ 0 → Learnt m m')

@@ -16,7 +16,7 @@ use Rattle.rom_model.specs.declared.record.PassRecord.{PassRecord}
 use Rattle.rom_rule.specs.Calls.{IsWhole, found_of, told_to}
 use Rattle.rom_rule.specs.Places.{back_at, indicator_at, indicator_count, indicator_of, main_at, version_of_indicator, word_at}
 use Rattle.rom_rule.specs.Readers.{Held, Settled, Stands, stands}
-use Rattle.rom_rule.specs.Records.{IsKept, Recorded}
+use Rattle.rom_rule.specs.Records.{IsKept, KnowsEntries, Recorded}
 use Rattle.rom_rule.specs.Views.{Each, IsWriter, Told, book_in, fresh_view, image_of, indicator_in, is_reading, kept_of, plan_of, side_of, side_read, version_of}
 use Rattle.rom_rule.specs.declared.views.Base.{Base}
 use Rattle.rom_rule.specs.declared.views.Plan.{Plan}
@@ -49,7 +49,7 @@ HoldsVersion v version = (v.position ≡ Holds version) × (version < 2) × (0 <
 abbrev pub arrived : Step ℕ → Seated → ℕ → Seated → Type 0
 arrived st m found m' = m' ≡ (moved m.0 (Arrived (indicator_of m.0.number (version_of m.0.position))), m.1)
 
--- A caller loads `side`. What it has seen becomes a published history that begins with what it had seen, and its front is that history's count, which it keeps among its fronts.
+-- A caller loads `side`. What it has seen becomes a published history that begins with what it had seen, and its front is that history's count, which it keeps among its fronts. With no call posted, it knows which entries of that history are its own.
 -- When: it has arrived.
 abbrev pub HasArrived : View → ℕ → Type 0
 HasArrived v k = (v.position ≡ Arrived k) × (k < indicator_count v.base.callers) × (0 < v.number)
@@ -61,6 +61,7 @@ module _ {S : Type 0} (Contents : ℕ → List ℕ → S → ℕ → Type 0) (st
   abbrev pub loaded_side : Step ℕ → Seated → ℕ → Seated → Type 0
   loaded_side st m found m' = (front : ℕ) × (image : List ℕ) × (seen : List Entry) × (found < 2) × StartsWith seen m.0.seen × Stands Contents step m.0.base image seen front
       × (m' ≡ (entering m.0 (indicator_in m.0.position) found front image seen, m.1))
+      × (length m.0.calls ≡ length m.0.outcomes → (s : S) (n : ℕ) → Contents m.0.base.order m.0.base.image s n → KnowsEntries m.0.base.callers n m'.0)
 
 -- A caller loads a word of the side that it reads: it is the word of its image.
 -- When: it reads.
@@ -220,10 +221,11 @@ informed v w = record v { joined = v.joined ++ kept_of w ∷ w.joined; steps = v
 abbrev pub spent_as : Base → View
 spent_as b = fresh_view b
 
--- A caller loads word 0, and has seen from then on what it had seen and what each view had that it keeps.
+-- A caller loads word 0, and has seen from then on what it had seen and what each view had that it keeps. With no call posted, it knows its own entries in it, where it knew them before.
 -- When: it is out.
 abbrev pub caught_up : Step ℕ → Seated → ℕ → Seated → Type 0
 caught_up st m found m' = (seen : List Entry) × StartsWith seen m.0.seen × AllByRecursion (λ k. StartsWith seen k.seen) m.0.joined × (m' ≡ (record m.0 { seen = seen; steps = m.0.steps + 1 }, m.1))
+    × ((n : ℕ) → length m.0.calls ≡ length m.0.outcomes → KnowsEntries m.0.base.callers n m.0 → KnowsEntries m.0.base.callers n m'.0)
 
 module _ {S : Type 0} (Contents : ℕ → List ℕ → S → ℕ → Type 0) (step : ℕ → S → ℕ → List ℕ → Option (S × List ℕ)) where
   -- The writer loads word 0, and what it keeps of joined views agrees with the records: each of them was told what the records told it, and what it had seen begins the history. Nobody else's calls are in the records, and the history is theirs.

@@ -1,12 +1,13 @@
 -- What the rule says of the published history: it is that of the records, and what views know of it is true.
-use Rattle.std.specs.Prelude.{◌≡◌, ℕ, ◌+◌, ◌≤◌, List, take, length, Option, IsSome}
-use Rattle.std.specs.List.{AllByRecursion}
+use Rattle.std.specs.Prelude.{◌≡◌, ℕ, ◌+◌, ◌<◌, ◌≤◌, List, filter, take, length, Option, IsSome, ◌==◌}
+use Rattle.std.specs.List.{AllByRecursion, enumerate_from}
 use Rattle.rom_model.specs.Passes.{history_of, all_told, AreInOrder}
-use Rattle.rom_model.specs.Seen.{StartsWith}
+use Rattle.rom_model.specs.Seen.{StartsWith, done_in}
 use Rattle.rom_model.specs.Story.{len_after}
 use Rattle.rom_model.specs.declared.kept.Kept.{Kept}
 use Rattle.rom_model.specs.declared.record.PassRecord.{PassRecord}
 use Rattle.rom_rule.specs.declared.views.Base.{Base}
+use Rattle.rom_rule.specs.declared.views.View.{View}
 use Rattle.rom_rule.specs.Views.{Book, Remembered}
 
 -- a front is the count at the opening or after a pass
@@ -22,6 +23,11 @@ pub record Remembers (count : ℕ) (book : Book) (m : Remembered) : Type 0 where
   pub seen : StartsWith book.history m.seen
   pub fronts : AllByRecursion (IsFront count book.records) m.fronts
   pub joined : AllByRecursion (IsKept count book) m.joined
+
+-- What a view has seen of callers' updates, where the count at the opening was this one: each entry is of a caller numbered from 1 to their number, and its own entries, with their places, are those of its calls that were done, in their order.
+pub record KnowsEntries (callers count : ℕ) (v : View) : Type 0 where
+  pub known : AllByRecursion (λ e. (0 < e.caller) × (e.caller ≤ callers)) v.seen
+  pub own : filter (λ x. x.1.caller == v.number) (enumerate_from count v.seen) ≡ done_in v.outcomes
 
 module _ {S : Type 0} (step : ℕ → S → ℕ → List ℕ → Option (S × List ℕ)) where
   -- the words are those of a call

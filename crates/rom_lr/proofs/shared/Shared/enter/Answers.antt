@@ -15,7 +15,7 @@ pub load-side-requires : goal.load-side-requires
 load-side-requires g c = let did = c.load-version.ensures.2.1 in let went = c.fetch_add.ensures.2 in let low : version_of c.load-version.new.seat.me.0.position < 2 = rw (ap (λ m. m.0.position) did) c.load-version.ensures.2.0 in (
   search rules,
   search rules,
-  rw c.side.ensures.is (loads_side g.O.Object.Contents (on_words g.O.Object.machine) (base_of c.args.self.now.table.shared.key) _ _ _ _ (
+  rw c.side.ensures.is (loads_side g.O.Object.Contents (on_words g.O.Object.machine) (base_of c.args.self.now.table.shared.key) g.met.O.Object.one_contents _ _ _ _ (
     ap (λ m. m.0.position) went,
     low,
     rw (ap (λ m. m.0.number) went) (rw (ap (λ m. m.0.number) did) c.args.seat.now.numbered),

@@ -1,9 +1,10 @@
 use Rattle.rom_model.specs.Machine.{on_words}
-use Rattle.std.proofs.Common.{rules, arith, ◌≡◌, ◌+◌, List, [], ◌∷◌, ◌++◌, ap, ◌∙◌, subst}
+use Rattle.std.proofs.Common.{rules, arith, ◌≡◌, ℕ, ◌+◌, List, [], ◌∷◌, ◌++◌, length, ap, ◌∙◌, subst}
 use Rattle.std.specs.List.{AllByRecursion}
 use Rattle.rom_model.specs.Seen.{StartsWith}
 use Rattle.rom_model.specs.declared.kept.Kept.{Kept}
 use Rattle.rom_rule.specs.Kinds.{informed}
+use Rattle.rom_rule.specs.Records.{KnowsEntries}
 use Rattle.rom_rule.specs.Views.{base_of, kept_of}
 use Rattle.rom_rule.specs.declared.views.View.{View}
 use Rattle.rom_rule.proofs.Seats.{joins_views, catches_up}
@@ -25,4 +26,5 @@ returns-clause-learnt g c = let v : View = c.args.seat.now.token.me.0 in let n :
   begins = subst (λ (z : View). StartsWith did.0 z.seen) now did.1;
   learns = middle (λ k. StartsWith did.0 k.seen) v.joined n.joined (kept_of n) (subst (λ (z : View). AllByRecursion (λ k. StartsWith did.0 k.seen) z.joined) now did.2);
   view = ap (λ m. m.0) did.3 ∙ ap (λ (z : View). let y : View = record z { seen = did.0; steps = z.steps + 1 } in y) now ∙ (λ i. record v { seen = did.0; joined = v.joined ++ kept_of n ∷ n.joined; steps = (let two : v.steps + 1 + 1 ≡ v.steps + 2 = omega arith in two) i });
+  own = λ k none_open knew. subst (λ (z : View). (j : ℕ) → length z.calls ≡ length z.outcomes → KnowsEntries z.base.callers j z → KnowsEntries z.base.callers j c.load.new.seat.me.0) now did.4 k none_open record { known = knew.known; own = knew.own };
 }

@@ -1,0 +1,63 @@
+//! How the writer takes in what callers knew, and sees that the records agree with it.
+ghost use Rattle.std.specs.Prelude.{◌≡◌, ℕ, ◌<◌, ◌≤◌, length};
+ghost use Rattle.std.specs.List.{AllByRecursion};
+ghost use Rattle.rom_model.specs.Machine.{on_words};
+ghost use Rattle.rom_lr.specs.Seats.{IsSeatOf, IsWriterOf};
+ghost use Rattle.rom_rule.specs.Calls.{told_to};
+ghost use Rattle.rom_rule.specs.Kinds.{informed, planned};
+ghost use Rattle.rom_rule.specs.Records.{IsKept, Recorded};
+ghost use Rattle.rom_rule.specs.Views.{book_in, plan_of};
+ghost use Rattle.rom_rule.specs.declared.views.Position.TheVariants.{Out};
+
+use crate::seats::{Seat, WriterSeat};
+use crate::shared::Shared;
+use rom_model::Object;
+use rom_rule::{JoinsViews, Origin, Reviews};
+use std::marker::Brand;
+
+impl<O: Object> Shared<O> {
+    /// The writer keeps what a caller knew, in one step. The caller is out and has no call posted,
+    /// and its seat is spent. It takes no memory.
+    pub fn take_in(&self, writer: &mut WriterSeat, seat: Seat)
+        requires of { IsWriterOf self.now.table.shared.table_id self.now.table.shared.key writer.old }
+        requires caller { IsSeatOf self.now.table.shared.table_id self.now.table.shared.key seat }
+        requires out { seat.token.me.0.position ≡ Out }
+        requires none_posted { length seat.token.me.0.calls ≡ length seat.token.me.0.outcomes }
+        ensures same { (writer.new.token.table_id ≡ writer.old.token.table_id) × (writer.new.token.id ≡ writer.old.token.id) }
+        ensures joined { writer.new.token.me.0 ≡ informed writer.old.token.me.0 seat.token.me.0 }
+    {
+        self.take_in_as::<Brand>(writer, seat);
+    }
+
+    // The caller's view is spent, and then it is as the opening left every other one.
+    fn take_in_as<N: Origin>(&self, writer: &mut WriterSeat, seat: Seat)
+        requires picked { N.base ≡ writer.old.token.me.0.base }
+        requires of { IsWriterOf self.now.table.shared.table_id self.now.table.shared.key writer.old }
+        requires caller { IsSeatOf self.now.table.shared.table_id self.now.table.shared.key seat }
+        requires out { seat.token.me.0.position ≡ Out }
+        requires none_posted { length seat.token.me.0.calls ≡ length seat.token.me.0.outcomes }
+        ensures same { (writer.new.token.table_id ≡ writer.old.token.table_id) × (writer.new.token.id ≡ writer.old.token.id) }
+        ensures joined { writer.new.token.me.0 ≡ informed writer.old.token.me.0 seat.token.me.0 }
+    {
+        self.table
+            .shared
+            .join_seat::<JoinsViews<N>>(&mut writer.token, seat.token);
+    }
+
+    /// Sees, in one step, that the records of all passes agree with what the writer keeps of
+    /// callers: each was told what they told it, and what it had seen begins the published history,
+    /// which is theirs. They have no calls but those of the table's callers.
+    pub fn review(&self, writer: &mut WriterSeat)
+        requires of { IsWriterOf self.now.table.shared.table_id self.now.table.shared.key writer.old }
+        ensures same { (writer.new.token.table_id ≡ writer.old.token.table_id) × (writer.new.token.id ≡ writer.old.token.id) }
+        ensures still { let v = writer.old.token.me.0 in writer.new.token.me.0 ≡ planned v (plan_of v) }
+        ensures told { let v = writer.new.token.me.0 in AllByRecursion (λ k. 0 < k.number → told_to (plan_of v).told k.number ≡ k.told) v.joined }
+        ensures known { let v = writer.new.token.me.0 in AllByRecursion (λ x. (0 < x.0.caller) × (x.0.caller ≤ v.base.callers)) (plan_of v).told }
+        ensures kept { let v = writer.new.token.me.0 in (s : O.State) (n : ℕ) → O.Contents v.base.order v.base.image s n
+            → Recorded (on_words O.machine) v.base s n (book_in (plan_of v)) × AllByRecursion (IsKept n (book_in (plan_of v))) v.joined }
+    {
+        self.table
+            .shared
+            .load::<Reviews<O>>(&mut writer.token, self.layout.side() as usize);
+    }
+}
