@@ -1,14 +1,10 @@
--- Lemmas on batches that are applied call by call, and on the images of a pass.
-pub mod Batches
+-- Lemmas on passes: what they find, apply, answer and record, and what a stop during one leaves.
 pub mod Outcomes
 pub mod Since
 pub mod Outside
 pub mod Counting
 pub mod Before
-pub mod Passing
-pub mod Rising
 pub mod Sessions
-pub mod GoingOn
 pub mod Writing
 pub mod Scans
 pub mod Limits

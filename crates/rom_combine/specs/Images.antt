@@ -32,8 +32,3 @@ module _ {S : Type 0} (Contents : ℕ → List ℕ → S → ℕ → Type 0) (or
   -- the region that counts in the image stands for this state and count
   abbrev pub HoldsIn : S → ℕ → List ℕ → Type 0
   HoldsIn s k i = Holds Contents order i s k
-
-  -- Each image that a pass with this fate makes holds the state and count before it, or those after its batch.
-  abbrev pub PassImage : (ℕ → S → ℕ → List ℕ → Option (S × List ℕ)) → Fate → S → ℕ → List Found → List ℕ → Type 0
-  PassImage step fate s k found i = let b = batch step order s k found in
-      HoldsIn s k i ⊎ (MayPublish fate × HoldsIn (after step order s k b) (k + length b) i)

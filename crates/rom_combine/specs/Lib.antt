@@ -1,11 +1,9 @@
--- What a batch tells and costs, what a stop during it leaves, and how a session goes on with it.
+-- What a pass tells and costs, and what a stop during it and over a session leaves.
 pub mod Told
 pub mod Images
 pub mod Causes
 pub mod Costs
-pub mod Plain
 pub mod Session
-pub mod Laws
 pub mod Scanning
 pub mod Applying
 pub mod Answering

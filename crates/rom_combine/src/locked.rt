@@ -14,7 +14,7 @@ ghost use Rattle.rom_combine.specs.Told.{fate_of};
 ghost use Rattle.rom_rule.specs.Views.{opening_plan, plan_of};
 
 use crate::answering::{Answer, SPENT, answer_all, refuse};
-use crate::apply::LAST_COUNT;
+use crate::applying::LAST_COUNT;
 use crate::committing::publish;
 use crate::gate::Gate;
 use crate::passed::{Outcome, Passed};

@@ -1,5 +1,6 @@
-//! The device through a batch, with the words of shared main.
-ghost use Rattle.std.specs.Prelude.{◌≡◌, ◌⊎◌, ◌+◌, ◌≤◌, ℕ, List, OnOk, OnErr, IsTrue};
+//! Shared main as words that are only loaded: queries of it, and the device through a batch with
+//! these words.
+ghost use Rattle.std.specs.Prelude.{◌≡◌, ◌⊎◌, ◌+◌, ◌≤◌, [], ◌∷◌, ℕ, List, OnOk, OnErr, IsTrue};
 ghost use Rattle.rom_model.specs.Blocks.{region_len};
 ghost use Rattle.rom_model.specs.Faults.{FailedLast};
 ghost use Rattle.rom_device.specs.Device.{Becomes, Does, Makes, Runs};
@@ -12,12 +13,23 @@ ghost use Rattle.rom_lr.specs.Seats.{IsWriterOf};
 ghost use Rattle.rom_lr.specs.Writing.{Writes};
 ghost use Rattle.rom_rule.specs.Views.{plan_of};
 
-use crate::publishing::whole;
 use crate::steps::{begin_batch, commit_batch, finish_batch};
 use rom_device::{Device, Failed};
+use rom_header::Geometry;
 use rom_lr::{Shared, WriterSeat};
 use rom_model::{Look, Object};
+use rom_ranges::Range;
 use rom_twin::{Phase, Twin};
+
+// All offsets of a region.
+fn whole(geometry: Geometry) -> [Range; 1]
+    ensures { result ≡ record { start = 0; end = region_len geometry } ∷ [] }
+{
+    [Range {
+        start: 0,
+        end: geometry.region(),
+    }]
+}
 
 /// Shared main as words that are only loaded, whichever side is named. Each load is one of the
 /// writer's steps.
@@ -51,6 +63,22 @@ impl<'a, O: Object> Look for MainLook<'a, O> {
     }
 
     ghost limit_counts = { λ no. no };
+}
+
+/// Answers a query from shared main, whichever side is named. It neither waits nor takes memory.
+pub fn ask_main<O: Object>(shared: &Shared<O>, seat: &mut WriterSeat, query: &O::Query) -> O::Answer
+    requires of { IsWriterOf shared.now.table.shared.table_id shared.now.table.shared.key seat.old }
+    requires region { let v = seat.old.token.me.0 in (s : O.State) × (k : ℕ) ×
+        O.Contents v.base.order (plan_of v).main s k }
+    ensures same { Writes seat.old seat.new (plan_of seat.old.token.me.0) }
+    ensures told { let v = seat.old.token.me.0 in (s : O.State) (k : ℕ) →
+        O.Contents v.base.order (plan_of v).main s k → result ≡ O.machine.tell s query.now }
+{
+    let order = shared.layout.order();
+    let mut look = MainLook { shared, seat };
+    let answer = O::answer(&mut look, order, query);
+    let MainLook { shared: _, seat: _ } = look;
+    answer
 }
 
 /// Repairs the device where it needs it, and begins. Shared main is the committed image.
