@@ -1,3 +1,18 @@
--- What words hold is one, and what an inspection tells of them.
+-- What words hold is one, what an inspection tells of them, what the opening and a pass keep, and what callers in threads do and are told.
+-- What words hold is one, and what an inspection tells of them; what callers are that have done nothing; what the opening and a pass keep under the lock; what an update was told, what a closing says; what callers in threads do and are told, and what a thread may be lent.
 pub mod Holding
 pub mod Inspected
+pub mod Beginning
+pub mod Mending
+pub mod Passed
+pub mod Telling
+pub mod Stories
+pub mod Ending
+pub mod Closings
+pub mod Each
+pub mod Places
+pub mod Placing
+pub mod Dealing
+pub mod Gathering
+pub mod Spans
+pub mod Sharing

@@ -1,8 +1,10 @@
 -- What the making of a heap answers and leaves.
-use Rattle.std.specs.Prelude.{◌≢◌, ◌⊎◌, ℕ, List, slice_index, Result, Ok, Err}
+use Rattle.std.specs.Prelude.{◌≡◌, ◌≢◌, ◌⊎◌, ℕ, Bool, List, slice_index, Result, Ok, Err}
+use Rattle.rom_model.specs.Faults.{FailedLast}
 use Rattle.rom_header.specs.Fresh.{IsNew, HasTooFewFor}
 use Rattle.rom_header.specs.Layout.{MAGIC}
 use Rattle.rom_header.specs.declared.fresh.FormatRefused.{FormatRefused}
+use Rattle.rom_header.specs.declared.fresh.FormatRefused.TheVariants as format
 use Rattle.rom_header.specs.Held.{Holds}
 use Rattle.rom_store.specs.declared.new_heap.NotFormatted.{NotFormatted}
 use Rattle.rom_store.specs.declared.new_heap.NotFormatted.TheVariants.{Refused, OutOfMemory}
@@ -25,3 +27,8 @@ IsNewWith Contents order state words = (image : List ℕ) × Contents order imag
 -- no heap stands there, or one of this order that holds this state and the count 0
 abbrev pub NoneOrHolds : {S : Type 0} → (ℕ → List ℕ → S → ℕ → Type 0) → ℕ → S → List ℕ → Type 0
 NoneOrHolds Contents order state words = (slice_index words 0 ≢ MAGIC) ⊎ Holds Contents order words state 0
+
+-- Where no heap was made, the device failed where that is the reason, at its last call, and else it didn't.
+abbrev pub HasFaultsUnmade : NotFormatted → ℕ → ℕ → Bool → Type 0
+HasFaultsUnmade (Refused format.Device) before now failing = FailedLast before now failing
+HasFaultsUnmade other before now failing = now ≡ before

@@ -1,23 +1,56 @@
-//! A heap on a device: the opening of one that is there, and the making of a new one.
+//! A heap on a device that callers share: its opening, their reads and updates, and its closing.
 //!
 //! What the words of a device hold is an order, and a state and a count of the object: the header
 //! names the order and the region that counts, and that region stands for the state and the count.
-//! The contract of `open_device` promises that the device is recovered, that its image stands for
-//! what the device held, and that each refusal comes exactly where its test fails and none before it
-//! did. That of `format_device` promises a heap that holds the empty state and the count 0. Whatever
-//! they answer, a stop at any moment leaves what it might have left before, or the same region that
-//! counts, or while a heap is made no heap or the whole new one.
+//! `open_device` and `format_device` open the heap that stands there and make a new one; their
+//! contracts say what each refusal comes from and what a stop leaves.
+//!
+//! [`open_store`] opens a heap for 1 to 16 callers, and [`Opening::start`] makes the [`Store`] that they
+//! share and a [`Pass`] for each. A caller reads by `read`, or by `enter`, `ask` and `leave`, without a
+//! lock; it updates by `update`, which posts the call and has whoever holds the lock do all that are
+//! posted; by a note one caller tells another what it has seen. `close` ends the session. [`play`] and
+//! [`play_new`] do all of that for scripts, one caller each, in threads. Their contract says that the
+//! results are those of one history, and what a stop at any moment leaves of it.
 #![tactic(auto)]
 
+mod begun;
+mod closed;
+mod closing;
 mod from_device;
+mod held;
 mod image;
+mod label;
 mod new_heap;
+mod notes;
+mod opening;
+mod pass;
+mod playing;
+mod playing_new;
+mod reading;
 mod ready;
 mod reasons;
+mod rooms;
+mod running;
+mod seated;
+mod session;
+mod store;
+mod updating;
+mod work;
 
+pub use closed::Closed;
 pub use from_device::{Opened, Refused, open_device};
+pub use label::Label;
 pub use new_heap::{NotFormatted, format_device, write_heap};
+pub use opening::{Opening, open_store};
+pub use pass::Pass;
+pub use playing::play;
+pub use playing_new::{Unmade, play_new};
+pub use reading::Reading;
 pub use reasons::Why;
+pub use rom_lr::{Note, Steps};
+pub use running::Played;
+pub use session::Session;
+pub use store::Store;
 
 #[cfg(test)]
 mod tests;

@@ -1,0 +1,301 @@
+-- What a pass keeps of what lies behind the lock.
+use Rattle.std.proofs.Common.{◌≡◌, ◌≢◌, ◌⊎◌, inl, inr, ⊎_elim, ℕ, zero, suc, ◌+◌, ◌-◌, ◌*◌, ◌<◌, ◌≤◌, IsTrue, List, [], ◌∷◌, ◌++◌, map, length, take, Option, Some, refl, sym, ap, ◌∙◌, subst, arith, append_assoc, append-nil, length-append}
+use Rattle.std.proofs.lemmas.List.{take-append-le}
+use Rattle.std.specs.List.{AllByRecursion}
+use Rattle.rom_model.specs.History.{after, batch}
+use Rattle.rom_model.specs.Passes.{published}
+use Rattle.rom_model.specs.Story.{state_at, len_after}
+use Rattle.rom_model.specs.declared.entry.Entry.{Entry}
+use Rattle.rom_model.specs.declared.record.Fate.{Fate}
+use Rattle.rom_model.specs.declared.record.Fate.TheVariants as fate
+use Rattle.rom_model.specs.declared.record.Found.{Found}
+use Rattle.rom_model.specs.declared.record.PassRecord.{PassRecord}
+use Rattle.rom_model.proofs.Recorded.{after_append}
+use Rattle.rom_device.specs.Device.{ShownDevice, After, Becomes, Does, Runs}
+use Rattle.rom_header.specs.Layout.{MAIN}
+use Rattle.rom_model.specs.Blocks.{region_len}
+use Rattle.rom_twin.specs.Seen.{NeedsRepair, Seen}
+use Rattle.rom_twin.specs.declared.phase.Phase.{Phase}
+use Rattle.rom_twin.specs.declared.phase.Phase.TheVariants as phase
+use Rattle.rom_twin.proofs.Repairs.{state_or_joins}
+use Rattle.rom_combine.proofs.Sessions.{len_more}
+use Rattle.rom_combine.specs.AtRest.{Locked}
+use Rattle.rom_combine.specs.Costs.{WithinHeap}
+use Rattle.rom_combine.specs.Histories.{Doubted, HoldsHistory, ImageAt, PassMakes}
+use Rattle.rom_combine.specs.Images.{HoldsIn, MayPublish}
+use Rattle.rom_combine.proofs.Sessions.{state_whole}
+use Rattle.rom_combine.specs.Passing.{IsPass}
+use Rattle.rom_combine.specs.Session.{SessionImage}
+use Rattle.rom_combine.specs.Told.{fate_of}
+use Rattle.rom_combine.specs.declared.passed.Outcome.{Outcome}
+use Rattle.rom_combine.specs.declared.passed.Outcome.TheVariants as outcome
+use Rattle.rom_combine.specs.declared.passed.Passed.{Passed}
+use Rattle.rom_combine.specs.declared.scanning.Posted.{Posted}
+use Rattle.rom_combine.specs.Scanning.{posted_of}
+use Rattle.rom_rule.specs.Calls.{found_of}
+use Rattle.rom_rule.specs.Kinds.{record_list}
+use Rattle.rom_rule.specs.Views.{plan_of, records_of}
+use Rattle.rom_rule.specs.declared.views.Base.{Base}
+use Rattle.rom_rule.specs.declared.views.Plan.{Plan}
+use Rattle.rom_rule.specs.declared.views.Request.{Request}
+use Rattle.rom_rule.specs.declared.views.View.{View}
+use Rattle.rom_store.specs.Held.{IsHeld, Start, story_at}
+
+-- none of these is in doubt
+abbrev NoDoubt : List PassRecord → Type 0
+NoDoubt rs = AllByRecursion (λ r. r.fate ≢ fate.Doubt) rs
+
+no_doubt_join : (rs more : List PassRecord) → NoDoubt rs → NoDoubt more → NoDoubt (rs ++ more)
+no_doubt_join [] more h m = m
+no_doubt_join (r ∷ rs) more h m = (h.0, no_doubt_join rs more h.1 m)
+
+no_doubt_list : (fs : List Found) (r : PassRecord) → r.fate ≢ fate.Doubt → NoDoubt (record_list fs r)
+no_doubt_list [] r other = tt
+no_doubt_list (f ∷ fs) r other = (other, tt)
+
+-- no call was found where none was handed out
+none_found : (items : List Posted) (fs : List Request) → length items ≡ 0 → items ≡ map posted_of fs → map found_of fs ≡ []
+none_found items [] none e = refl
+none_found items (f ∷ fs) none e = let long = ap length e in absurd (omega arith)
+
+some_found : (items : List Posted) (fs : List Request) → (length items ≡ 0 → ⊥) → items ≡ map posted_of fs → (r : PassRecord) → record_list (map found_of fs) r ≡ r ∷ []
+some_found items [] some e r = absurd (some (ap length e))
+some_found items (f ∷ fs) some e r = refl
+
+none_of_none : (xs : List Entry) → length xs ≡ 0 → xs ≡ []
+none_of_none [] e = refl
+none_of_none (x ∷ xs) e = absurd (omega (arith, e))
+
+module _ {S : Type 0} (Contents : ℕ → List ℕ → S → ℕ → Type 0) (step : ℕ → S → ℕ → List ℕ → Option (S × List ℕ)) (b : Base) where
+  module _ (s : S) (k : ℕ) where
+    abbrev Image : Plan → List ℕ → Type 0
+    Image p i = SessionImage Contents step (story_at b s k p) i
+
+    -- An image that holds the published history is one of the session, where the last record ends there.
+    pub at_end : (p : Plan) → len_after 0 (records_of p) ≡ length p.history → (i : List ℕ) → HoldsHistory Contents step b s k p.history i → SessionImage Contents step (story_at b s k p) i
+    at_end p ends i holds = inl (record {
+      len = length p.history;
+      boundary = (records_of p, [], sym (append-nil _), sym ends);
+      reached = omega arith;
+      holds = subst (λ (z : S × ℕ). HoldsIn Contents b.order z.0 z.1 i) (λ j. (sym (state_whole step (story_at b s k p)) j, (let e : k + length p.history ≡ k + length p.history + 0 = omega arith in e) j)) holds;
+    })
+
+    -- So is one that holds it with the batch in doubt.
+    pub at_doubt : (p : Plan) (d : List Entry) → Doubted Contents step b s k p d → (i : List ℕ) → HoldsHistory Contents step b s k (p.history ++ d) i → SessionImage Contents step (story_at b s k p) i
+    at_doubt p d is i holds =
+        let h : List Entry = p.history in
+        let st : S = after step b.order s k h in
+        let at : S × ℕ → List Entry = λ z. batch step b.order z.0 z.1 is.pass.found in
+        let same : k + length h ≡ k + is.pass.len = omega (arith, is.unmoved) in
+        let state : st ≡ state_at step (story_at b s k p) (k + is.pass.len) = sym (state_whole step (story_at b s k p)) ∙ ap (λ (n : ℕ). state_at step (story_at b s k p) n) same in
+        let long : k + length (h ++ d) ≡ k + length h + length d = omega (arith, length-append h d) in
+        let apart : HoldsIn Contents b.order (after step b.order st (k + length h) d) (k + length h + length d) i = subst (λ (z : S × ℕ). HoldsIn Contents b.order z.0 z.1 i) (λ j. (after_append step b.order s k h d j, long j)) holds in
+        let made : HoldsIn Contents b.order (after step b.order st (k + length h) (at (st, k + length h))) (k + length h + length (at (st, k + length h))) i = subst (λ (l : List Entry). HoldsIn Contents b.order (after step b.order st (k + length h) l) (k + length h + length l) i) is.batch_is apart in
+        inr (record {
+          before = is.earlier;
+          pass = is.pass;
+          since = is.later;
+          stands = is.stands;
+          fate_is = is.fate_is;
+          reached = omega (arith, is.unmoved);
+          holds = subst (λ (z : S × ℕ). let l = batch step b.order z.0 z.1 is.pass.found in HoldsIn Contents b.order (after step b.order z.0 z.1 l) (z.1 + length l) i) (λ j. (state j, same j)) made;
+        })
+
+    -- Each image that a stop leaves now is one of the session.
+    pub image_now : (at : Phase) (p : Plan) → len_after 0 (records_of p) ≡ length p.history → (i : List ℕ) → ImageAt Contents step b s k at p i → SessionImage Contents step (story_at b s k p) i
+    image_now at p ends i (inl holds) = at_end p ends i holds
+    image_now at p ends i (inr (doubt, d, is, holds)) = at_doubt p d is i holds
+
+    -- Where the history and the records go on, an image of the session stays one.
+    pub image_stays : (p q : Plan) (more : List Entry) (rs : List PassRecord) → q.history ≡ p.history ++ more → records_of q ≡ records_of p ++ rs → (i : List ℕ) → SessionImage Contents step (story_at b s k p) i → SessionImage Contents step (story_at b s k q) i
+    image_stays p q more rs history records i = stays
+      where
+        state_stays : (len : ℕ) → len ≤ length p.history → state_at step (story_at b s k p) (k + len) ≡ state_at step (story_at b s k q) (k + len)
+        state_stays len reached = ap (λ (l : List Entry). after step b.order s k l)
+            (sym (take-append-le (k + len - k) p.history more (omega (arith, reached))) ∙ ap (λ (l : List Entry). take (k + len - k) l) (sym history))
+
+        stays : SessionImage Contents step (story_at b s k p) i → SessionImage Contents step (story_at b s k q) i
+        stays (inl at) = inl (record {
+          len = at.len;
+          boundary = let e = at.boundary in (e.0, e.1 ++ rs, records ∙ (ap (λ (z : List PassRecord). z ++ rs) e.2 ∙ append_assoc e.0 e.1 rs), e.3);
+          reached = omega (arith, at.reached, length-append p.history more, ap length history);
+          holds = subst (λ (x : S). HoldsIn Contents b.order x (k + at.len + 0) i) (state_stays at.len at.reached) at.holds;
+        })
+        stays (inr at) = inr (record {
+          before = at.before;
+          pass = at.pass;
+          since = at.since ++ rs;
+          stands = records ∙ (ap (λ (z : List PassRecord). z ++ rs) at.stands ∙ append_assoc at.before (at.pass ∷ at.since) rs);
+          fate_is = at.fate_is;
+          reached = omega (arith, at.reached, length-append p.history more, ap length history);
+          holds = subst (λ (x : S). let n = k + at.pass.len in let l = batch step b.order x n at.pass.found in HoldsIn Contents b.order (after step b.order x n l) (n + length l) i) (state_stays at.pass.len at.reached) at.holds;
+        })
+
+    -- A batch in doubt stays in doubt where nothing is published and no later pass is in doubt.
+    pub doubt_stays : (p q : Plan) (rs : List PassRecord) → q.history ≡ p.history → records_of q ≡ records_of p ++ rs → NoDoubt rs → (d : List Entry) → Doubted Contents step b s k p d → Doubted Contents step b s k q d
+    doubt_stays p q rs history records none d is = record {
+      earlier = is.earlier;
+      pass = is.pass;
+      later = is.later ++ rs;
+      stands = records ∙ (ap (λ (l : List PassRecord). l ++ rs) is.stands ∙ append_assoc is.earlier (is.pass ∷ is.later) rs);
+      fate_is = is.fate_is;
+      last = no_doubt_join is.later rs is.last none;
+      unmoved = is.unmoved ∙ ap length (sym history);
+      batch_is = subst (λ (l : List Entry). d ≡ batch step b.order (after step b.order s k l) (k + length l) is.pass.found) (sym history) is.batch_is;
+    }
+
+published_none : (f : Fate) → published f [] ≡ []
+published_none fate.Published = refl
+published_none fate.Failed = refl
+published_none fate.Doubt = refl
+
+module _ {S : Type 0} (Contents : ℕ → List ℕ → S → ℕ → Type 0) (step : ℕ → S → ℕ → List ℕ → Option (S × List ℕ)) (b : Base) (p q : Plan) (callers before now : ℕ) (r : Passed)
+    (x : IsPass Contents step b p q callers before now r) where
+  abbrev founds : List Found
+  founds = map found_of x.scanned.requests
+
+  abbrev mine : PassRecord
+  mine = record { found = founds; fate = fate_of r.outcome; faults_before = before; faults_after = now; len = length q.history }
+
+  -- the batch goes on where the history ends
+  batch_now : (s : S) (k : ℕ) → Contents b.order b.image s k → x.more ≡ batch step b.order (after step b.order s k p.history) (k + length p.history) founds
+  batch_now s k op =
+      let h = x.batch s k op in
+      let same : x.scanned.history ≡ p.history = ap (λ (z : Plan). z.history) x.scan.rest in
+      let at : x.front ≡ k + length p.history = h.0 ∙ ap (λ (l : List Entry). k + length l) same in
+      h.1 ∙ (λ j. batch step b.order (after step b.order s k (same j)) (at j) founds)
+
+  none_done : r.done ≡ 0 → q.history ≡ p.history
+  none_done e = x.history ∙ (ap (λ (l : List Entry). p.history ++ l) (none_of_none (published (fate_of r.outcome) x.more) (sym x.done ∙ e)) ∙ append-nil p.history)
+
+  none_batch : (s : S) (k : ℕ) → Contents b.order b.image s k → founds ≡ [] → x.more ≡ []
+  none_batch s k op none = batch_now s k op ∙ ap (λ (fs : List Found). batch step b.order (after step b.order s k p.history) (k + length p.history) fs) none
+
+  -- The last record ends where the history does.
+  pub ends_on : (formed : (s : S) × (k : ℕ) × Contents b.order b.image s k) → len_after 0 (records_of p) ≡ length p.history → len_after 0 (records_of q) ≡ length q.history
+  ends_on formed ends = by founds refl
+    where
+      by : (fs : List Found) → founds ≡ fs → len_after 0 (records_of q) ≡ length q.history
+      by [] e =
+          let more : x.more ≡ [] = none_batch formed.0 formed.1 formed.2 e in
+          let same : q.history ≡ p.history = x.history ∙ (ap (λ (l : List Entry). p.history ++ published (fate_of r.outcome) l) more ∙ (ap (λ (l : List Entry). p.history ++ l) (published_none (fate_of r.outcome)) ∙ append-nil p.history)) in
+          ap (len_after 0) (x.records ∙ (ap (λ (l : List Found). records_of p ++ record_list l mine) e ∙ append-nil (records_of p))) ∙ (ends ∙ sym (ap length same))
+      by (f ∷ fs) e = ap (len_after 0) (x.records ∙ ap (λ (l : List Found). records_of p ++ record_list l mine) e) ∙ len_more 0 (records_of p) mine
+
+  module _ (s : S) (k : ℕ) (op : Contents b.order b.image s k) where
+    -- A pass in doubt leaves its batch in doubt.
+    doubt_new : r.outcome ≡ outcome.Doubt → Doubted Contents step b s k q x.more
+    doubt_new e =
+        let same : q.history ≡ p.history = x.history ∙ (ap (λ (o : Outcome). p.history ++ published (fate_of o) x.more) e ∙ append-nil p.history) in
+        record {
+          earlier = records_of p;
+          pass = mine;
+          later = [];
+          stands = x.records ∙ ap (λ (l : List PassRecord). records_of p ++ l) (some_found x.items x.scanned.requests (λ zero. let no : outcome.Doubt ≡ outcome.Nothing = sym e ∙ x.nothing.1 zero in cc) x.scan.items_are mine);
+          fate_is = ap fate_of e;
+          unmoved = refl;
+          last = tt;
+          batch_is = batch_now s k op ∙ (λ j. batch step b.order (after step b.order s k (sym same j)) (k + length (sym same j)) founds);
+        }
+
+    -- On a device in doubt a batch is in doubt.
+    pub in_doubt_on : {D : Type 0} (t u : Seen D) → (r.outcome ≡ outcome.Published → r.done ≡ 0 → u ≡ t) → (r.outcome ≡ outcome.Nothing → u ≡ t) → (0 < r.done → (u.phase ≡ phase.Clean) ⊎ (u.phase ≡ phase.Redo))
+        → (r.outcome ≡ outcome.Failed → (u.phase ≡ phase.Undo) ⊎ ((u.phase ≡ t.phase) × NeedsRepair t.phase)) → (t.phase ≡ phase.Doubt → (d : List Entry) × Doubted Contents step b s k p d)
+        → u.phase ≡ phase.Doubt → (d : List Entry) × Doubted Contents step b s k q d
+    in_doubt_on {D} t u spent untouched repaired failed was doubt = by r.outcome refl
+      where
+        Result : Type 0
+        Result = (d : List Entry) × Doubted Contents step b s k q d
+
+        stays : u.phase ≡ t.phase → r.done ≡ 0 → fate_of r.outcome ≢ fate.Doubt → Result
+        stays same none other =
+            let w : (d : List Entry) × Doubted Contents step b s k p d = was (sym same ∙ doubt) in
+            (w.0, doubt_stays Contents step b s k p q (record_list founds mine) (none_done none) x.records (no_doubt_list founds mine other) w.0 w.1)
+
+        done_by : (o : Outcome) → r.outcome ≡ o → published (fate_of o) x.more ≡ [] → r.done ≡ 0
+        done_by o e none = x.done ∙ (ap (λ (z : Outcome). length (published (fate_of z) x.more)) e ∙ ap length none)
+
+        published_by : (n : ℕ) → r.outcome ≡ outcome.Published → r.done ≡ n → Result
+        published_by zero e none = stays (ap (λ (z : Seen D). z.phase) (spent e none)) none (λ f. let no : fate.Published ≡ fate.Doubt = sym (ap fate_of e) ∙ f in cc)
+        published_by (suc n) e some = ⊎_elim
+            (λ clean. absurd (let no : phase.Clean ≡ phase.Doubt = sym clean ∙ doubt in cc))
+            (λ redo. absurd (let no : phase.Redo ≡ phase.Doubt = sym redo ∙ doubt in cc))
+            (repaired (omega (arith, some)))
+
+        by : (o : Outcome) → r.outcome ≡ o → Result
+        by outcome.Nothing e =
+            let none : x.more ≡ [] = none_batch s k op (none_found x.items x.scanned.requests (x.nothing.0 e) x.scan.items_are) in
+            stays (ap (λ (z : Seen D). z.phase) (untouched e)) (done_by outcome.Nothing e none) (λ f. let no : fate.Published ≡ fate.Doubt = sym (ap fate_of e) ∙ f in cc)
+        by outcome.Published e = published_by r.done e refl
+        by outcome.Failed e = ⊎_elim
+            (λ undo. absurd (let no : phase.Undo ≡ phase.Doubt = sym undo ∙ doubt in cc))
+            (λ same. stays same.0 (done_by outcome.Failed e refl) (λ f. let no : fate.Failed ≡ fate.Doubt = sym (ap fate_of e) ∙ f in cc))
+            (failed e)
+        by outcome.Doubt e = (x.more, doubt_new e)
+
+    -- Each image that the pass makes is one of the session with it.
+    pub made_on : len_after 0 (records_of p) ≡ length p.history → (i : List ℕ) → PassMakes Contents step b s k (fate_of r.outcome) p.history x.more i → SessionImage Contents step (story_at b s k q) i
+    made_on ends i (inl holds) = image_stays Contents step b s k p q (published (fate_of r.outcome) x.more) (record_list founds mine) x.history x.records i (at_end Contents step b s k p ends i holds)
+    made_on ends i (inr (may, holds)) = by r.outcome refl may
+      where
+        by : (o : Outcome) → r.outcome ≡ o → MayPublish (fate_of o) → SessionImage Contents step (story_at b s k q) i
+        by outcome.Failed e allowed = absurd allowed
+        by outcome.Doubt e allowed =
+            let same : q.history ≡ p.history = x.history ∙ (ap (λ (o : Outcome). p.history ++ published (fate_of o) x.more) e ∙ append-nil p.history) in
+            at_doubt Contents step b s k q x.more (doubt_new e) i (subst (λ (l : List Entry). HoldsHistory Contents step b s k (l ++ x.more) i) (sym same) holds)
+        by outcome.Nothing e allowed = at_end Contents step b s k q (ends_on (s, k, op) ends) i
+            (subst (λ (l : List Entry). HoldsHistory Contents step b s k l i) (sym (x.history ∙ ap (λ (o : Outcome). p.history ++ published (fate_of o) x.more) e)) holds)
+        by outcome.Published e allowed = at_end Contents step b s k q (ends_on (s, k, op) ends) i
+            (subst (λ (l : List Entry). HoldsHistory Contents step b s k l i) (sym (x.history ∙ ap (λ (o : Outcome). p.history ++ published (fate_of o) x.more) e)) holds)
+
+module _ {S : Type 0} (Contents : ℕ → List ℕ → S → ℕ → Type 0) (step : ℕ → S → ℕ → List ℕ → Option (S × List ℕ)) {D : Type 0} (shown : ShownDevice D) (start : Start) (test : ℕ → List ℕ → Type 0)
+    (c d : Locked D) (callers before now : ℕ) (r : Passed) where
+  -- What the lock keeps is kept by a pass.
+  pub held_on : IsHeld shown Contents step c.table_id c.view.base start test c
+      → (d.table_id ≡ c.table_id) × (d.id ≡ c.id) × (d.view.base ≡ c.view.base) × (d.twin.order ≡ c.twin.order)
+      → d.view ≡ record c.view { plan = Some (plan_of d.view); steps = d.view.steps }
+      → (x : IsPass Contents step c.view.base (plan_of c.view) (plan_of d.view) callers before now r)
+      → (let b = c.view.base in IsTrue shown.tells_images → (s : S) (n : ℕ) → Contents b.order b.image s n → Runs shown (Becomes (PassMakes Contents step b s n (fate_of r.outcome) (plan_of c.view).history x.more)) c.twin.device d.twin.device)
+      → (r.outcome ≡ outcome.Published → r.done ≡ 0 → d.twin ≡ c.twin) → (r.outcome ≡ outcome.Nothing → d.twin ≡ c.twin) → (0 < r.done → (d.twin.phase ≡ phase.Clean) ⊎ (d.twin.phase ≡ phase.Redo))
+      → (r.outcome ≡ outcome.Failed → (d.twin.phase ≡ phase.Undo) ⊎ ((d.twin.phase ≡ c.twin.phase) × NeedsRepair c.twin.phase))
+      → (let b = c.view.base in IsTrue shown.tells_images → (s : S) (n : ℕ) → Contents b.order b.image s n → (i : List ℕ) → shown.leaves d.twin.device i → ImageAt Contents step b s n d.twin.phase (plan_of d.view) i)
+      → Does shown (WithinHeap c.twin.order) c.twin.device d.twin.device
+      → IsHeld shown Contents step c.table_id c.view.base start test d
+  held_on h same kept x runs spent untouched repaired failed now_is does = record {
+    table_is = same.0;
+    base_is = same.2;
+    order_is = same.3 ∙ h.order_is;
+    formed = h.formed;
+    alone = ap (λ (v : View). v.joined) kept ∙ h.alone;
+    ends = ends_on Contents step b p q callers before now r x h.formed h.ends;
+    in_doubt = λ doubt s k op. in_doubt_on Contents step b p q callers before now r x s k op c.twin d.twin spent untouched repaired failed (λ was. h.in_doubt was s k op) doubt;
+    now = now_is;
+    size_is = does.size ∙ h.size_is;
+    outside = λ told. state_or_joins MAIN (2 * region_len b.order) start.words (shown.words c.twin.device) (shown.words d.twin.device) (h.outside told)
+        (subst (λ (n : ℕ). WithinHeap n (shown.words c.twin.device) (shown.words d.twin.device)) h.order_is (does.words told));
+    later = λ told. let on = (does.images told).later in omega (arith, on, h.later told);
+    keeps = λ told t i le was. (does.images told).keeps t i (omega (arith, le, h.later told)) (h.keeps told t i le was);
+    since = λ told s k op t i left. ⊎_elim (past told s k op t i) (here told s k op t i) ((runs told s k op).nothing_else t i left);
+  }
+    where
+      b : Base
+      b = c.view.base
+
+      p : Plan
+      p = plan_of c.view
+
+      q : Plan
+      q = plan_of d.view
+
+      stays : (s : S) (k : ℕ) (i : List ℕ) → SessionImage Contents step (story_at b s k p) i → SessionImage Contents step (story_at b s k q) i
+      stays s k i = image_stays Contents step b s k p q _ _ x.history x.records i
+
+      past : IsTrue shown.tells_images → (s : S) (k : ℕ) → Contents b.order b.image s k → (t : ℕ) (i : List ℕ) → shown.left_since c.twin.device t i → test t i ⊎ SessionImage Contents step (story_at b s k q) i
+      past told s k op t i left = ⊎_elim (λ passes. inl passes) (λ is. inr (stays s k i is)) (h.since told s k op t i left)
+
+      here : IsTrue shown.tells_images → (s : S) (k : ℕ) → Contents b.order b.image s k → (t : ℕ) (i : List ℕ)
+          → After (Becomes (PassMakes Contents step b s k (fate_of r.outcome) p.history x.more)) (shown.leaves c.twin.device) i → test t i ⊎ SessionImage Contents step (story_at b s k q) i
+      here told s k op t i made = inr (⊎_elim
+          (λ as_it_was. stays s k i (image_now Contents step b s k c.twin.phase p h.ends i (h.now told s k op i (subst (λ (l : List ℕ). shown.leaves c.twin.device l) (sym as_it_was) made.was))))
+          (λ is. made_on Contents step b p q callers before now r x s k op h.ends i is)
+          made.by)

@@ -1,0 +1,43 @@
+-- What stops leave of a device over two stretches of calls, one after the other.
+use Rattle.std.specs.Prelude.{◌≡◌, ◌⊎◌, ℕ, ◌+◌, ◌-◌, ◌≤◌, List, [], take, Option}
+use Rattle.std.proofs.Common.{inl, inr, ⊎_elim, refl, sym, ap, subst, arith}
+use Rattle.rom_model.specs.History.{after}
+use Rattle.rom_model.specs.Story.{Story, state_at}
+use Rattle.rom_device.specs.Device.{ShownDevice, Leaves}
+use Rattle.rom_header.specs.Held.{Holds}
+use Rattle.rom_combine.specs.Session.{SessionImage}
+use Rattle.rom_store.specs.Closing.{HasLeftSince}
+use Rattle.rom_store.specs.Held.{Start}
+
+-- each image of the one and then of the other has R
+pub leaves_both : {D : Type 0} (shown : ShownDevice D) (P Q R : List ℕ → Type 0) (a b c : D) → ((i : List ℕ) → P i → R i) → ((i : List ℕ) → Q i → R i) → Leaves shown P a b → Leaves shown Q b c → Leaves shown R a c
+leaves_both shown P Q R a b c first second one two = record {
+  later = omega (arith, one.later, two.later);
+  nothing_else = λ t i le left. ⊎_elim (λ old. before t i le old) (λ q. inr (second i q)) (two.nothing_else t i (omega (arith, le, one.later)) left);
+  keeps = λ t i le left. two.keeps t i (omega (arith, le, one.later)) (one.keeps t i le left);
+}
+  where
+    before : (t : ℕ) (i : List ℕ) → t ≤ shown.clock a → shown.left_since b t i → shown.left_since a t i ⊎ R i
+    before t i le left = ⊎_elim (λ old. inl old) (λ p. inr (first i p)) (one.nothing_else t i le left)
+
+-- what was left since a start is what was left since this device
+pub leaves_since : {D : Type 0} (shown : ShownDevice D) (start : Start) (P : List ℕ → Type 0) (a b : D) → start.clock ≡ shown.clock a → HasLeftSince shown start (shown.left_since a) P b → Leaves shown P a b
+leaves_since shown start P a b same left = record {
+  later = subst (λ (n : ℕ). n ≤ shown.clock b) same left.later;
+  nothing_else = λ t i le now. left.nothing_else t i now;
+  keeps = λ t i le was. left.keeps t i (omega (arith, le, same)) was;
+}
+
+-- what holds the opening is an image of the session
+pub held_opening : {S : Type 0} (Contents : ℕ → List ℕ → S → ℕ → Type 0) (step : ℕ → S → ℕ → List ℕ → Option (S × List ℕ)) (story : Story S) (i : List ℕ) →
+    Holds Contents story.order i story.opening story.opening_count → SessionImage Contents step story i
+held_opening {S} Contents step story i held =
+    let none : story.opening_count + 0 - story.opening_count ≡ 0 = omega arith in
+    let count_is : story.opening_count ≡ story.opening_count + 0 + 0 = omega arith in
+    let state_is : story.opening ≡ state_at step story (story.opening_count + 0) = sym (ap (λ (n : ℕ). after step story.order story.opening story.opening_count (take n story.history)) none) in
+    inl (record {
+      len = 0;
+      boundary = ([], story.records, refl, refl);
+      reached = omega arith;
+      holds = subst (λ (z : S × ℕ). Holds Contents story.order i z.0 z.1) (λ j. (state_is j, count_is j)) held;
+    })

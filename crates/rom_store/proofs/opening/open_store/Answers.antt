@@ -1,0 +1,73 @@
+use Rattle.std.proofs.Common.{rules, arith, ◌≡◌, ℕ, List, inr, sym, subst}
+use Rattle.std.specs.Prelude.{Err, IfErr, IsTrue}
+use Rattle.std.proofs.lemmas.Grind.{common_steps}
+use Rattle.rom_combine.specs.Costs.{WithinHeap}
+use Rattle.rom_device.specs.Device.{IsSynced, Leaves}
+use Rattle.rom_header.specs.Held.{Holds}
+use Rattle.rom_header.specs.Regions.{IsCurrentRegion}
+use Rattle.rom_recover.specs.Recovered.{Mended}
+use Rattle.rom_rule.specs.Views.{base_of}
+use Rattle.rom_rule.specs.declared.views.Base.{Base}
+use Rattle.rom_store.specs.Calls.{is_late}
+use Rattle.rom_store.specs.Refusals.{named_order}
+use Rattle.rom_store.proofs.Mending.{mends_within}
+use Rattle.rom_store.proofs.opening.open_store.Goals as goal
+
+pub returns-in-Ok-clause-held_images : goal.returns-in-Ok-clause-held_images
+returns-in-Ok-clause-held_images g c told s k contents =
+    let Contents = g.O.Object.Contents in
+    let shown = g.D.Device.shown in
+    let opened = c.in_ok-device.field-0 in
+    let b : Base = base_of c.of.result.key in
+    let device_is : c.of.result.device ≡ opened.device = search rules in
+    let order_is : b.order ≡ opened.geometry = search rules in
+    let image_is : b.image ≡ opened.image.items = search rules in
+    let held : Contents opened.geometry opened.image.items s k = subst (λ (z : ℕ × List ℕ). Contents z.0 z.1 s k) (λ j. (order_is j, image_is j)) contents in
+    subst (λ d. Leaves shown (λ i. Holds Contents b.order i s k) c.args.device d) (sym device_is)
+    (subst (λ (n : ℕ). Leaves shown (λ i. Holds Contents n i s k) c.args.device opened.device) (sym order_is) (c.in_ok-device.ensures.held_images told s k held))
+
+pub returns-in-Ok-clause-holds : goal.returns-in-Ok-clause-holds
+returns-in-Ok-clause-holds g c told s k contents =
+    let Contents = g.O.Object.Contents in
+    let words = g.D.Device.shown.words in
+    let opened = c.in_ok-device.field-0 in
+    let b : Base = base_of c.of.result.key in
+    let device_is : c.of.result.device ≡ opened.device = search rules in
+    let order_is : b.order ≡ opened.geometry = search rules in
+    let image_is : b.image ≡ opened.image.items = search rules in
+    let held : Contents opened.geometry opened.image.items s k = subst (λ (z : ℕ × List ℕ). Contents z.0 z.1 s k) (λ j. (order_is j, image_is j)) contents in
+    subst (λ d. Holds Contents b.order (words d) s k) (sym device_is)
+    (subst (λ (n : ℕ). Holds Contents n (words opened.device) s k) (sym order_is) (c.in_ok-device.ensures.holds told s k held))
+
+pub returns-in-Ok-clause-images : goal.returns-in-Ok-clause-images
+returns-in-Ok-clause-images g c told =
+    let shown = g.D.Device.shown in
+    let words = shown.words c.args.device in
+    let device_is : c.of.result.device ≡ c.in_ok-device.field-0.device = search rules in
+    subst (λ d. Leaves shown (Mended (named_order words) words) c.args.device d) (sym device_is) (c.in_ok-device.ensures.images told)
+
+pub returns-in-Ok-clause-outside : goal.returns-in-Ok-clause-outside
+returns-in-Ok-clause-outside g c told =
+    let words = g.D.Device.shown.words in
+    let device_is : c.of.result.device ≡ c.in_ok-device.field-0.device = search rules in
+    subst (λ d. WithinHeap (named_order (words c.args.device)) (words c.args.device) (words d)) (sym device_is)
+    (mends_within (named_order (words c.args.device)) (words c.args.device) (words c.in_ok-device.field-0.device) (c.in_ok-device.ensures.left.words told))
+
+pub returns-clause-refused : goal.returns-clause-refused
+returns-clause-refused g c told =
+    let opened = c.in_ok-device.field-0 in
+    let words = g.D.Device.shown.words c.args.device in
+    let current = c.in_ok-device.ensures.answer told in
+    let order_is : opened.geometry ≡ named_order words = sym current.heap.header.order_is in
+    inr (opened.image.items, subst (λ (n : ℕ). IsCurrentRegion n words opened.image.items) order_is current, tt)
+
+pub returns-clause-refused_outside : goal.returns-clause-refused_outside
+returns-clause-refused_outside g c told =
+    let words = g.D.Device.shown.words in
+    mends_within (named_order (words c.args.device)) (words c.args.device) (words c.in_ok-device.field-0.device) (c.in_ok-device.ensures.left.words told)
+
+pub returns-in_err-device-clause-refused_certain : goal.returns-in_err-device-clause-refused_certain
+returns-in_err-device-clause-refused_certain g c =
+    let refused = c.in_err-device.field-0.0 in
+    let is : c.from_residual.result ≡ Err refused = grind (arith, common_steps) in
+    subst (λ r. IfErr r (λ e. IsTrue (is_late e.why) → IsSynced g.D.Device.shown e.device)) (sym is) c.in_err-device.ensures.certain

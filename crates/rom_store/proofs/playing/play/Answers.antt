@@ -1,0 +1,37 @@
+use Rattle.std.proofs.Common.{◌≡◌, ◌∙◌, ℕ, List, subst, sym}
+use Rattle.rom_combine.specs.Session.{SessionImage}
+use Rattle.rom_header.specs.Held.{Holds}
+use Rattle.rom_model.specs.Machine.{on_words}
+use Rattle.rom_rule.specs.Views.{base_of}
+use Rattle.rom_rule.specs.declared.views.Base.{Base}
+use Rattle.rom_store.proofs.Spans.{held_opening, leaves_both}
+use Rattle.rom_store.proofs.playing.play.Goals as goal
+
+pub returns-clause-since : goal.returns-clause-since
+returns-clause-since g c = λ told story is.
+    let Contents = g.O.Object.Contents in
+    let step = on_words g.O.Object.machine in
+    let opening = c.in_ok-opening.opening in
+    let closed = c.play_on.result.closed in
+    let b : Base = base_of opening.key in
+    let order_is : closed.session.order ≡ b.order = c.play_on.ensures.order in
+    let image_is : closed.session.image ≡ b.image = c.play_on.ensures.image in
+    let same : story.order ≡ b.order = is.order_is ∙ order_is in
+    let at : Contents b.order b.image story.opening story.opening_count = subst (λ (z : ℕ × List ℕ). Contents z.0 z.1 story.opening story.opening_count) (λ j. (order_is j, image_is j)) is.opening in
+    leaves_both g.D.Device.shown (λ i. Holds Contents b.order i story.opening story.opening_count) (SessionImage Contents step story) (SessionImage Contents step story) c.args.device opening.device closed.device
+    (λ i held. held_opening Contents step story i (subst (λ (n : ℕ). Holds Contents n i story.opening story.opening_count) (sym same) held))
+    (λ i image. image)
+    (c.in_ok-opening.ensures.held_images told story.opening story.opening_count at)
+    (c.play_on.ensures.since told story is)
+
+pub returns-clause-held : goal.returns-clause-held
+returns-clause-held g c = λ told story is.
+    let Contents = g.O.Object.Contents in
+    let opening = c.in_ok-opening.opening in
+    let closed = c.play_on.result.closed in
+    let b : Base = base_of opening.key in
+    let order_is : closed.session.order ≡ b.order = c.play_on.ensures.order in
+    let image_is : closed.session.image ≡ b.image = c.play_on.ensures.image in
+    let same : story.order ≡ b.order = is.order_is ∙ order_is in
+    let at : Contents b.order b.image story.opening story.opening_count = subst (λ (z : ℕ × List ℕ). Contents z.0 z.1 story.opening story.opening_count) (λ j. (order_is j, image_is j)) is.opening in
+    subst (λ (n : ℕ). Holds Contents n (g.D.Device.shown.words c.args.device) story.opening story.opening_count) (sym same) (c.in_ok-opening.ensures.held told story.opening story.opening_count at)

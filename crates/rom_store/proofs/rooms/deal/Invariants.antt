@@ -1,0 +1,18 @@
+use Rattle.std.proofs.Common.{◌≡◌, ◌≤◌, ◌+◌, map, length, vec_len, vec_capacity}
+use Rattle.rom_store.specs.Callers.{IsNewCaller}
+use Rattle.rom_store.specs.Indexed.{Indexed}
+use Rattle.rom_store.specs.Working.{IsRoom, IsNext}
+use Rattle.rom_store.proofs.rooms.deal.Given as goal
+
+abbrev pub invariant-loop : goal.invariant-loop
+invariant-loop g l = record {
+  passes_many : vec_len l.passes + l.counter ≡ length l.scripts;
+  rooms_many : vec_len l.rooms + l.counter ≡ length l.scripts;
+  jobs_many : vec_len l.jobs ≡ l.counter;
+  fresh : Indexed (IsNewCaller g.O.Object.Contents g.N.Label.table g.N.Label.base) l.passes.items;
+  rooms : Indexed (λ i room. IsRoom (map (λ v. v.items) l.scripts) i room.items (vec_capacity room)) l.rooms.items;
+  jobs : Indexed (λ j job. IsNext g.O.Object.Contents g.N.Label.table g.N.Label.base (map (λ v. v.items) l.scripts) j job.pass job.results.items (vec_capacity job.results)) l.jobs.items;
+  space : length l.scripts ≤ vec_capacity l.jobs;
+  passes_space : vec_capacity l.passes ≡ vec_capacity l.fn.passes;
+  rooms_space : vec_capacity l.rooms ≡ vec_capacity l.fn.rooms;
+}

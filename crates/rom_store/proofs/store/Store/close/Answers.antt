@@ -1,0 +1,91 @@
+use Rattle.std.proofs.Common.{◌≡◌, ℕ, ◌+◌, List, length, refl, ap, sym, ◌∙◌, subst}
+use Rattle.rom_model.specs.Machine.{on_words}
+use Rattle.rom_model.specs.VecSpace.{words_of}
+use Rattle.rom_rule.specs.Readers.{Held}
+use Rattle.rom_rule.specs.Views.{base_of, plan_of, records_of}
+use Rattle.rom_rule.specs.declared.views.Base.{Base}
+use Rattle.rom_rule.specs.declared.views.Plan.{Plan}
+use Rattle.rom_store.specs.Callers.{IsCallerOf}
+use Rattle.rom_store.specs.Held.{start_of}
+use Rattle.rom_store.specs.Sessions.{SessionSeen}
+use Rattle.rom_store.proofs.Closings.{Ended, count_held, ended, ended_closed, ended_kept, ended_now, ended_since, ended_story, plan_at_end, session_is, writer_at_end}
+use Rattle.rom_store.proofs.Stories.{session_of}
+use Rattle.rom_store.proofs.store.Store.close.Given as given
+use Rattle.rom_store.proofs.store.Store.close.Goals as goal
+
+at_end : (g : given.Over) (c : goal.After-load_main-count g) → Ended g.O.Object.machine g.O.Object.Contents g.D.Device.shown g.N.Label.base (plan_of c.review.new.writer.token.me.0) c.into_parts-twin.result.0 c.args.passes.items
+at_end g c = ended g.O.Object.machine g.O.Object.Contents g.D.Device.shown g.met.O.Object.one_contents g.N.Label.table g.N.Label.base
+    (start_of g.N.Label.size g.N.Label.words g.N.Label.clock) g.N.Label.since c.into_core.result c.into_parts-twin.result.0 c.into_parts-twin.result.1.token.me.0
+    c.take_in_all.new.writer.token.me.0 c.review.new.writer.token.me.0 c.args.passes.items
+    c.into_core.ensures.held c.into_parts-twin.ensures.twin c.into_parts-twin.ensures.seat.2 c.into_parts-twin.ensures.rest c.take_in_all.ensures.joined c.review.ensures.still c.review.ensures.told
+    c.review.ensures.known c.review.ensures.kept
+
+last_plan : (g : given.Over) (c : goal.After-load_main-count g) → plan_of c.load_main-count.new.seat.token.me.0 ≡ plan_of c.review.new.writer.token.me.0
+last_plan g c = ap plan_of c.load_main-count.ensures.still.2
+
+abbrev session_at : (g : given.Over) (c : goal.After-load_main-count g) → SessionSeen
+session_at g c = record {
+  order = c.args.self.begun.order;
+  image = words_of c.args.self.begun.image.value;
+  faults = c.args.self.begun.faults;
+  history = (plan_of c.load_main-count.new.seat.token.me.0).history;
+  records = records_of (plan_of c.load_main-count.new.seat.token.me.0);
+  phase = c.into_parts-twin.result.0.phase;
+}
+
+is_session : (g : given.Over) (c : goal.After-load_main-count g) → session_at g c ≡ session_of g.N.Label.base (plan_of c.review.new.writer.token.me.0) c.into_parts-twin.result.0.phase
+is_session g c = let same = last_plan g c in
+    session_is g.N.Label.base (plan_of c.review.new.writer.token.me.0) c.into_parts-twin.result.0.phase (session_at g c) c.args.self.ordered c.args.self.imaged c.args.self.counted
+    (ap (λ (p : Plan). p.history) same) (ap records_of same) refl
+
+pub take_in_all-requires-clause-passes : goal.take_in_all-requires-clause-passes
+take_in_all-requires-clause-passes g c =
+    let table = c.args.self.shared.table.shared in
+    record {
+      at = λ i p there. let is = (c.requires.passes.at i p there).of in
+          subst (λ base. IsCallerOf g.O.Object.Contents table.table_id base p) (sym c.args.self.based) (subst (λ named. IsCallerOf g.O.Object.Contents named g.N.Label.base p) (sym c.args.self.named) is);
+    }
+
+pub returns-clause-story : goal.returns-clause-story
+returns-clause-story g c = ended_story g.O.Object.machine g.O.Object.Contents g.D.Device.shown g.N.Label.base (plan_of c.review.new.writer.token.me.0) c.into_parts-twin.result.0 c.args.passes.items (at_end g c) (session_at g c) (is_session g c)
+
+pub returns-clause-closed : goal.returns-clause-closed
+returns-clause-closed g c =
+    ended_closed g.O.Object.machine g.O.Object.Contents g.D.Device.shown g.N.Label.base (plan_of c.review.new.writer.token.me.0) c.into_parts-twin.result.0 c.args.passes.items (at_end g c) (session_at g c) (is_session g c)
+    (length c.args.passes.items) c.requires.all
+
+pub returns-clause-kept : goal.returns-clause-kept
+returns-clause-kept g c =
+    ended_kept g.O.Object.machine g.O.Object.Contents g.D.Device.shown g.N.Label.base (plan_of c.review.new.writer.token.me.0) c.into_parts-twin.result.0 c.args.passes.items (at_end g c) (session_at g c) (is_session g c)
+    g.N.Label.table c.requires.passes
+
+pub returns-clause-now : goal.returns-clause-now
+returns-clause-now g c =
+    ended_now g.O.Object.machine g.O.Object.Contents g.D.Device.shown g.N.Label.base (plan_of c.review.new.writer.token.me.0) c.into_parts-twin.result.0 c.args.passes.items (at_end g c) (session_at g c) (is_session g c)
+
+pub returns-clause-since : goal.returns-clause-since
+returns-clause-since g c =
+    ended_since g.O.Object.machine g.O.Object.Contents g.D.Device.shown g.N.Label.base (plan_of c.review.new.writer.token.me.0) c.into_parts-twin.result.0 c.args.passes.items (at_end g c) (session_at g c) (is_session g c)
+    g.N.Label.table (start_of g.N.Label.size g.N.Label.words g.N.Label.clock) g.N.Label.since c.into_core.result c.into_core.ensures.held c.into_parts-twin.ensures.twin
+    (plan_at_end c.into_core.result.view c.into_parts-twin.result.1.token.me.0 c.take_in_all.new.writer.token.me.0 c.review.new.writer.token.me.0 c.args.passes.items
+    c.into_parts-twin.ensures.seat.2 c.take_in_all.ensures.joined c.review.ensures.still)
+
+pub invariant_of-result : goal.invariant_of-result
+invariant_of-result g c =
+    let self = c.args.self in let base = g.N.Label.base in let contents = g.O.Object.Contents in
+    let e = at_end g c in
+    let same = last_plan g c in
+    let key : base_of self.shared.table.shared.key ≡ base = self.based in
+    let opened : (s : g.O.Object.State) (k : ℕ) → contents self.begun.order (words_of self.begun.image.value) s k → contents base.order base.image s k
+    = λ s k op. subst (λ (z : ℕ × List ℕ). contents z.0 z.1 s k) (λ i. (self.ordered i, self.imaged i)) op in
+    record {
+      of = writer_at_end self.shared.table.shared.table_id g.N.Label.table self.shared.table.shared.key base c.into_core.result c.into_parts-twin.result.1 c.take_in_all.new.writer c.review.new.writer c.load_main-count.new.seat
+          c.args.passes.items c.into_parts-twin.ensures.seat c.take_in_all.ensures.same.0 c.take_in_all.ensures.joined c.review.ensures.same.0 c.review.ensures.still c.load_main-count.ensures.still
+          c.into_core.ensures.held.table_is c.into_core.ensures.held.base_is self.named key;
+      order_is = self.ordered ∙ sym (ap (λ (z : Base). z.order) key);
+      image_is = self.imaged ∙ sym (ap (λ (z : Base). z.image) key);
+      formed = (e.start, e.count, subst (λ (z : ℕ × List ℕ). contents z.0 z.1 e.start e.count) (λ i. (sym self.ordered i, sym self.imaged i)) e.opening);
+      held = λ s k op. subst (λ (z : Base × Plan). Held contents (on_words g.O.Object.machine) z.0 s k z.1.main z.1.history) (λ i. (sym key i, sym same i)) (e.holds s k (opened s k op));
+      count_is = λ s k op. count_held contents (on_words g.O.Object.machine) base s k c.load_main-count.result (plan_of c.review.new.writer.token.me.0).main (plan_of c.review.new.writer.token.me.0).history
+          (λ order words t j h. (g.met.O.Object.contents_within order words t j h).1) (e.holds s k (opened s k op)) c.load_main-count.ensures.word ∙ ap (λ (p : Plan). k + length p.history) (sym same);
+    }

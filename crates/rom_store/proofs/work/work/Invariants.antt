@@ -1,0 +1,4 @@
+use Rattle.rom_store.proofs.work.work.Given as goal
+
+abbrev pub ghosts-take_counted : goal.ghosts-take_counted
+ghosts-take_counted g a = record { name = a.blank.name; parts = a.blank.parts }

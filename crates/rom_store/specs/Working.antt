@@ -1,0 +1,52 @@
+-- A caller's work on its script.
+use Rattle.std.specs.Prelude.{◌≡◌, ℕ, ◌+◌, ◌-◌, ◌<◌, ◌≤◌, List, [], length, unwrap_or, slice_get}
+use Rattle.atomic_table.specs.Seated.{TableId}
+use Rattle.rom_model.specs.declared.kept.Kept.{Kept}
+use Rattle.rom_model.specs.declared.line.Step.{Step}
+use Rattle.rom_model.specs.declared.line.LineResult.{LineResult}
+use Rattle.rom_model.specs.Heard.{HasHeard}
+use Rattle.rom_model.specs.Machine.{Machine}
+use Rattle.rom_rule.specs.declared.views.Base.{Base}
+use Rattle.rom_store.specs.Callers.{Caller, IsCallerOf}
+use Rattle.rom_store.specs.Closing.{kept_in}
+
+-- the lines of the caller with this number; callers are numbered from 1
+abbrev pub script_of : {X : Type 0} → List (List X) → ℕ → List X
+script_of scripts number = unwrap_or (slice_get scripts (number - 1)) []
+
+-- what a caller keeps that has seen nothing
+pub record IsFirst (v : Kept) : Type 0 where
+  pub seen : v.seen ≡ []
+  pub fronts : v.fronts ≡ []
+  pub told : v.told ≡ []
+
+-- The list at this place is empty, and has room for a result of each line of its script.
+pub record IsRoom {X Y : Type 0} (scripts : List (List X)) (i : ℕ) (results : List Y) (room : ℕ) : Type 0 where
+  pub none : results ≡ []
+  pub fits : length (script_of scripts (i + 1)) ≤ room
+
+-- A pass and a list of results are those of a caller that hasn't begun, and the list has room for each of its lines.
+pub record IsReady {S X Y : Type 0} (Contents : ℕ → List ℕ → S → ℕ → Type 0) (table : TableId) (base : Base) (scripts : List (List X)) (pass : Caller) (results : List Y) (room : ℕ) : Type 0 where
+  pub of : IsCallerOf Contents table base pass
+  pub from_one : 0 < pass.view.number
+  pub known : pass.view.number ≤ length scripts
+  pub first : IsFirst (kept_in pass)
+  pub none : results ≡ []
+  pub fits : length (script_of scripts pass.view.number) ≤ room
+
+-- The job at this place of a list that has the last caller first: of so many callers, one that hasn't begun.
+pub record IsNext {S X Y : Type 0} (Contents : ℕ → List ℕ → S → ℕ → Type 0) (table : TableId) (base : Base) (scripts : List (List X)) (j : ℕ) (pass : Caller) (results : List Y) (room : ℕ) : Type 0 where
+  pub ready : IsReady Contents table base scripts pass results room
+  pub place : pass.view.number + j ≡ length scripts
+
+-- Of an object, and of a heap's order and image at opening:
+module _ {S C Q R A : Type 0} (m : Machine S C Q R A) (Contents : ℕ → List ℕ → S → ℕ → Type 0) (base : Base) where
+  -- what the caller of this pass was told of these lines is what it keeps
+  pub record HasDone (pass : Caller) (lines : List (Step C Q)) (results : List (LineResult R A)) : Type 0 where
+    pub heard : (s : S) (k : ℕ) → Contents base.order base.image s k → HasHeard m base.order s k (kept_in pass) lines results
+
+  -- the job at this place, once its caller is done
+  pub record IsPast (table : TableId) (scripts : List (List (Step C Q))) (j : ℕ) (pass : Caller) (results : List (LineResult R A)) : Type 0 where
+    pub of : IsCallerOf Contents table base pass
+    pub place : pass.view.number + j ≡ length scripts
+    pub done : HasDone pass (script_of scripts pass.view.number) results

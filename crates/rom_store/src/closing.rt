@@ -1,0 +1,90 @@
+//! How a store is closed.
+ghost use Rattle.std.specs.Prelude.{◌≡◌, ℕ, ◌≤◌, ◌++◌, List, IsTrue, length, map};
+ghost use Rattle.rom_model.specs.Leaving.{IsClosed, IsKept};
+ghost use Rattle.rom_model.specs.Machine.{on_words};
+ghost use Rattle.rom_model.specs.Passes.{faults_after};
+ghost use Rattle.rom_combine.specs.Costs.{WithinHeap};
+ghost use Rattle.rom_combine.specs.Session.{ImageNow, SessionImage};
+ghost use Rattle.rom_lr.specs.Seats.{IsWriterOf};
+ghost use Rattle.rom_rule.specs.Views.{base_of};
+ghost use Rattle.rom_store.specs.Callers.{IsCallerOf, IsNumbered};
+ghost use Rattle.rom_store.specs.Closing.{HasLeftSince, joined_of, kept_in};
+ghost use Rattle.rom_store.specs.Held.{start_of};
+ghost use Rattle.rom_store.specs.Indexed.{Indexed};
+ghost use Rattle.rom_store.specs.Sessions.{EachStory, HasStory};
+
+use crate::closed::Closed;
+use crate::label::Label;
+use crate::pass::Pass;
+use crate::store::Store;
+use rom_device::Device;
+use rom_lr::{Shared, WriterSeat};
+use rom_model::{COUNT, Object};
+use std::sync::Wait;
+
+// The writer keeps what each of these callers knew, in their order.
+fn take_in_all<O: Object>(shared: &Shared<O>, writer: &mut WriterSeat, passes: Vec<Pass>)
+    requires of { IsWriterOf shared.now.table.shared.table_id shared.now.table.shared.key writer.old }
+    requires passes { Indexed (λ _ p. IsCallerOf O.Contents shared.now.table.shared.table_id
+        (base_of shared.now.table.shared.key) p) passes.items }
+    ensures same { (writer.new.token.table_id ≡ writer.old.token.table_id)
+        × (writer.new.token.id ≡ writer.old.token.id) }
+    ensures joined { let v = writer.old.token.me.0 in writer.new.token.me.0 ≡ record v {
+      joined = v.joined ++ joined_of passes.items;
+      steps = writer.new.token.me.0.steps;
+    } }
+{
+    for pass in passes {
+        let Pass { seat } = pass;
+        shared.take_in(writer, seat);
+    }
+}
+
+impl<D: Device, O: Object, N: Label> Store<D, O, N> {
+    /// Takes the passes back, which are those of this store in the order of their numbers, and ends the
+    /// session. A note that is still out is of no use afterwards. It takes no memory.
+    pub fn close<R: Wait>(self, _rt: &R, passes: Vec<Pass>) -> Closed<D, O>
+        requires passes { Indexed (IsNumbered O.Contents N.table N.base) passes.items }
+        requires all { length passes.items ≡ N.base.callers }
+        ensures order { result.session.order ≡ N.base.order }
+        ensures image { result.session.image ≡ N.base.image }
+        ensures opening_faults { result.session.faults ≡ N.base.faults }
+        ensures story { HasStory O.machine O.Contents result.session }
+
+        // The history and the records are those of the session, and have of each caller what it keeps.
+        ensures closed { EachStory O.machine O.Contents result.session (λ story.
+            IsClosed O.machine story (length passes.items)) }
+        ensures kept { EachStory O.machine O.Contents result.session (λ story.
+            Indexed (λ _ v. IsKept O.machine story v) (map kept_in passes.items)) }
+
+        // What a stop leaves now, and what it might have left since the start.
+        ensures now { IsTrue D.shown.tells_images → EachStory O.machine O.Contents result.session
+            (λ story. (i : List ℕ) → D.shown.leaves result.device i →
+            ImageNow O.Contents (on_words O.machine) story i) }
+        ensures since { IsTrue D.shown.tells_images → EachStory O.machine O.Contents result.session
+            (λ story. HasLeftSince D.shown (start_of N.size N.words N.clock) N.since
+            (SessionImage O.Contents (on_words O.machine) story) result.device) }
+        ensures size { D.shown.size result.device ≡ N.size }
+        ensures outside { IsTrue D.shown.tells_words →
+            WithinHeap N.base.order N.words (D.shown.words result.device) }
+        ensures faults { faults_after result.session.faults result.session.records
+            ≤ D.shown.faults result.device }
+    {
+        let Store {
+            shared,
+            held,
+            begun,
+        } = self;
+        let (twin, mut seat) = held.into_inner().into_core().into_parts();
+        take_in_all(&shared, &mut seat, passes);
+        shared.review(&mut seat);
+        let count = shared.load_main(&mut seat, COUNT);
+        Closed {
+            twin,
+            shared,
+            seat,
+            begun,
+            count,
+        }
+    }
+}

@@ -1,0 +1,43 @@
+//! Notes, by which one caller tells another what it has seen.
+ghost use Rattle.std.specs.Prelude.{◌≡◌, ◌+◌};
+ghost use Rattle.rom_model.specs.Seen.{StartsWith};
+ghost use Rattle.rom_store.specs.Callers.{IsCallerOf, IsSameCaller};
+
+use crate::label::Label;
+use crate::pass::Pass;
+use crate::store::Store;
+use rom_device::Device;
+use rom_lr::Note;
+use rom_model::Object;
+
+impl<D: Device, O: Object, N: Label> Store<D, O, N> {
+    /// What this caller has seen, for another to learn. It takes no memory.
+    pub fn note(&self, pass: &mut Pass) -> Note
+        requires of { IsCallerOf O.Contents N.table N.base pass.old }
+        ensures of { IsCallerOf O.Contents N.table N.base pass.new }
+        ensures same { IsSameCaller pass.old pass.new }
+        ensures still { pass.new.view ≡ record pass.old.view { steps = pass.new.view.steps } }
+        ensures note { result.token.table_id ≡ N.table }
+        ensures seen { result.token.me.0.seen ≡ pass.old.view.seen }
+    {
+        self.shared.note(&mut pass.seat)
+    }
+
+    /// From now on this caller has seen at least what the note's caller had as it made it. So what it
+    /// reads later is no older than what that caller had read or done. It takes no memory.
+    pub fn learn(&self, pass: &mut Pass, note: Note)
+        requires of { IsCallerOf O.Contents N.table N.base pass.old }
+        requires note { note.token.table_id ≡ N.table }
+        ensures of { IsCallerOf O.Contents N.table N.base pass.new }
+        ensures same { IsSameCaller pass.old pass.new }
+        ensures later { StartsWith pass.new.view.seen pass.old.view.seen }
+        ensures learnt { StartsWith pass.new.view.seen note.token.me.0.seen }
+        ensures still { pass.new.view ≡ record pass.old.view {
+          seen = pass.new.view.seen;
+          joined = pass.new.view.joined;
+          steps = pass.new.view.steps;
+        } }
+    {
+        self.shared.learn(&mut pass.seat, note);
+    }
+}

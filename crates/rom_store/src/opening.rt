@@ -1,0 +1,209 @@
+//! A heap that is opened for callers, whose lock isn't made yet.
+ghost use Rattle.std.specs.Prelude.{◌≡◌, ℕ, ◌≤◌, List, IfErr, IfOk, IsTrue, length};
+ghost use Rattle.rom_model.specs.Blocks.{IsOrder};
+ghost use Rattle.rom_model.specs.VecSpace.{words_of};
+ghost use Rattle.rom_device.specs.Device.{IsSynced, Leaves};
+ghost use Rattle.rom_header.specs.Held.{Holds};
+ghost use Rattle.rom_header.specs.Layout.{back_of, main_of, words_needed};
+ghost use Rattle.rom_header.specs.Regions.{IsHeap};
+ghost use Rattle.rom_lr.specs.Opening.{dealt_view};
+ghost use Rattle.rom_lr.specs.Seats.{IsWriterOf};
+ghost use Rattle.rom_recover.specs.Recovered.{IsDone, Mended};
+ghost use Rattle.rom_combine.specs.Costs.{WithinHeap};
+ghost use Rattle.rom_rule.specs.Places.{AreCallers};
+ghost use Rattle.rom_rule.specs.Views.{base_of};
+ghost use Rattle.rom_store.specs.Callers.{IsNewCaller};
+ghost use Rattle.rom_store.specs.Calls.{HasFaults, is_late};
+ghost use Rattle.rom_store.specs.Indexed.{Indexed};
+ghost use Rattle.rom_store.specs.Refusals.{IsRefusal, NamesTooFew, named_order};
+
+use crate::begun::Begun;
+use crate::from_device::{Opened, Refused, open_device};
+use crate::held::Held;
+use crate::label::Label;
+use crate::pass::Pass;
+use crate::reasons::Why;
+use crate::seated::Seated;
+use crate::store::Store;
+use rom_combine::Core;
+use rom_device::Device;
+use rom_header::Geometry;
+use rom_lr::Shared;
+use rom_model::{Object, VecSpace};
+use rom_twin::Twin;
+use std::alloc::Global;
+use std::marker::Model;
+use std::sync::Mutex;
+
+/// A heap that is opened for a number of callers. What is left is to start it, which takes no memory
+/// and cannot be refused.
+#[derive(Drop)]
+pub struct Opening<D: Device, O: Object> {
+    core: Core<D, O>,
+    shared: Shared<O>,
+    passes: Vec<Pass>,
+    begun: Begun,
+}
+
+impl<D: Device, O: Object> Model for Opening<D, O> {
+    ghost use Rattle.rom_store.specs.Openings.{IsOpening, Started};
+
+    ghost Value = { Started D };
+
+    ghost view = { λ o. record {
+      table_id = o.shared.table.shared.table_id;
+      key = o.shared.table.shared.key;
+      device = o.core.twin.device;
+      passes = o.passes.items;
+    } };
+
+    ghost invariant = { λ o. IsOpening D.shown O.Contents o.shared.table.shared.table_id o.shared.table.shared.key o.core o.begun };
+}
+
+impl<D: Device, O: Object> Opening<D, O> {
+    /// The heap of a device at rest, both of whose regions are the words of this table.
+    pub(crate) fn of(device: D, geometry: Geometry, seated: Seated<O>) -> Self
+        requires order { IsOrder geometry }
+        requires fits { words_needed geometry ≤ D.shown.size device }
+        requires heap { IsTrue D.shown.tells_words → IsHeap geometry (D.shown.words device) }
+        requires main { IsTrue D.shown.tells_words →
+            main_of geometry (D.shown.words device) ≡ words_of seated.begun.image.value }
+        requires back { IsTrue D.shown.tells_words →
+            back_of geometry (D.shown.words device) ≡ words_of seated.begun.image.value }
+        requires certain { IsSynced D.shown device }
+        requires of { IsWriterOf seated.shared.table.shared.table_id
+            seated.shared.table.shared.key seated.writer }
+        requires writer { let b = base_of seated.shared.table.shared.key in
+            seated.writer.token.me.0 ≡ dealt_view b b.callers }
+        requires begun { let b = base_of seated.shared.table.shared.key in
+            (seated.begun.order ≡ b.order) × (words_of seated.begun.image.value ≡ b.image)
+            × (seated.begun.faults ≡ b.faults) × (b.order ≡ geometry) }
+        requires formed { let b = base_of seated.shared.table.shared.key in
+            (s : O.State) × (k : ℕ) × O.Contents b.order b.image s k }
+        requires faults { seated.begun.faults ≤ D.shown.faults device }
+        ensures opening { result ≡ record {
+          table_id = seated.shared.table.shared.table_id;
+          key = seated.shared.table.shared.key;
+          device = device;
+          passes = seated.passes.items;
+        } }
+    {
+        let Seated {
+            shared,
+            writer,
+            passes,
+            begun,
+        } = seated;
+        Opening {
+            core: Core::new(Twin::new(device, geometry), writer),
+            shared,
+            passes,
+            begun,
+        }
+    }
+
+    /// The store and its passes, numbered from 1 in order. It takes no memory and is never refused.
+    pub fn start<N: Label>(self) -> (Store<D, O, N>, Vec<Pass>)
+        requires table { N.table ≡ self.table_id }
+        requires base { N.base ≡ base_of self.key }
+        requires size { N.size ≡ D.shown.size self.device }
+        requires words { IsTrue D.shown.tells_words → N.words ≡ D.shown.words self.device }
+        requires clock { IsTrue D.shown.tells_images → N.clock ≡ D.shown.clock self.device }
+        requires since { IsTrue D.shown.tells_images → (t : ℕ) (i : List ℕ) →
+            (N.since t i → D.shown.left_since self.device t i)
+            × (D.shown.left_since self.device t i → N.since t i) }
+        ensures passes { result.1.items ≡ self.passes }
+    {
+        let Opening {
+            core,
+            shared,
+            passes,
+            begun,
+        } = self;
+        let held = Mutex::new(Held::new(core));
+        (
+            Store {
+                shared,
+                held,
+                begun,
+            },
+            passes,
+        )
+    }
+}
+
+/// Opens the heap on a device for 1 to 16 callers. The refusals are those of `open_device`; want of memory
+/// may come after it too, and then the heap has been recovered.
+pub fn open_store<D: Device + Send, O: Object>(
+    alloc: Global,
+    device: D,
+    callers: u32,
+) -> Result<Opening<D, O>, Refused<D>>
+    requires callers { AreCallers callers }
+
+    // The callers are new, and what the opening stands for is what the device held, and holds.
+    ensures many { IfOk result (λ o.
+        (length o.passes ≡ callers) × ((base_of o.key).callers ≡ callers)) }
+    ensures passes { IfOk result (λ o.
+        Indexed (IsNewCaller O.Contents o.table_id (base_of o.key)) o.passes) }
+    ensures formed { IfOk result (λ o. let b = base_of o.key in
+        (s : O.State) × (k : ℕ) × O.Contents b.order b.image s k) }
+    ensures order { IsTrue D.shown.tells_words → IfOk result (λ o.
+        (base_of o.key).order ≡ named_order (D.shown.words device)) }
+    ensures held { IsTrue D.shown.tells_words → IfOk result (λ o. let b = base_of o.key in
+        (s : O.State) (k : ℕ) → O.Contents b.order b.image s k →
+        Holds O.Contents b.order (D.shown.words device) s k) }
+    ensures held_images { IsTrue D.shown.tells_images → IfOk result (λ o. let b = base_of o.key in
+        (s : O.State) (k : ℕ) → O.Contents b.order b.image s k →
+        Leaves D.shown (λ i. Holds O.Contents b.order i s k) device o.device) }
+    ensures holds { IsTrue D.shown.tells_words → IfOk result (λ o. let b = base_of o.key in
+        (s : O.State) (k : ℕ) → O.Contents b.order b.image s k →
+        Holds O.Contents b.order (D.shown.words o.device) s k) }
+    ensures images { IsTrue D.shown.tells_images → IfOk result (λ o.
+        Leaves D.shown (Mended (named_order (D.shown.words device)) (D.shown.words device))
+        device o.device) }
+    ensures certain { IfOk result (λ o. IsSynced D.shown o.device) }
+    ensures size { IfOk result (λ o. D.shown.size o.device ≡ D.shown.size device) }
+    ensures outside { IsTrue D.shown.tells_words → IfOk result (λ o.
+        WithinHeap (named_order (D.shown.words device)) (D.shown.words device)
+        (D.shown.words o.device)) }
+    ensures faults { IfOk result (λ o. (D.shown.faults o.device ≡ D.shown.faults device)
+        × ((base_of o.key).faults ≡ D.shown.faults device)) }
+
+    // Else the device is refused by the first test that fails, and handed back.
+    ensures refused { IsTrue D.shown.tells_words → IfErr result (λ refused.
+        IsRefusal O.Contents O.FirstBreak (D.shown.words device) refused.why) }
+    ensures refused_sizes { IfErr result (λ refused.
+        NamesTooFew (D.shown.size device) refused.why) }
+    ensures refused_size { IfErr result (λ refused.
+        D.shown.size refused.device ≡ D.shown.size device) }
+    ensures refused_outside { IsTrue D.shown.tells_words → IfErr result (λ refused.
+        WithinHeap (named_order (D.shown.words device)) (D.shown.words device)
+        (D.shown.words refused.device)) }
+    ensures refused_images { IsTrue D.shown.tells_images → IfErr result (λ refused.
+        Leaves D.shown (Mended (named_order (D.shown.words device)) (D.shown.words device))
+        device refused.device) }
+    ensures refused_recovered { IsTrue D.shown.tells_words → IfErr result (λ refused.
+        IsTrue (is_late refused.why) → IsDone (named_order (D.shown.words device))
+        (D.shown.words device) (D.shown.words refused.device)) }
+    ensures refused_certain { IfErr result (λ refused.
+        IsTrue (is_late refused.why) → IsSynced D.shown refused.device) }
+    ensures refused_faults { IfErr result (λ refused. HasFaults {T = Unit {0}} (Err refused.why)
+        (D.shown.faults device) (D.shown.faults refused.device)
+        (D.shown.failing refused.device)) }
+{
+    let Opened {
+        device,
+        geometry,
+        image,
+    } = open_device::<D, O>(alloc, device)?;
+    let image = VecSpace::of(image);
+    let faults = device.fault_count();
+    match Seated::new(alloc, geometry.order(), callers, &image, faults) {
+        Ok(seated) => Ok(Opening::of(device, geometry, seated)),
+        Err(_) => Err(Refused {
+            device,
+            why: Why::OutOfMemory,
+        }),
+    }
+}

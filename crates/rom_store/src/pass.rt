@@ -1,0 +1,34 @@
+//! A caller's right to call.
+ghost use Rattle.std.specs.Prelude.{◌≡◌, ◌<◌};
+
+use rom_lr::Seat;
+use std::marker::Model;
+
+/// One caller's right to call. A store makes it as it is started, one for each caller, and a thread may
+/// take it along. It keeps what its caller has seen and was told. Between two calls nothing is entered
+/// and nothing is posted.
+#[derive(Drop)]
+pub struct Pass {
+    pub(crate) seat: Seat,
+}
+
+impl Model for Pass {
+    ghost use Rattle.rom_rule.specs.Kinds.{IsIdle};
+    ghost use Rattle.rom_store.specs.Callers.{Caller};
+
+    ghost Value = { Caller };
+
+    ghost view = { λ p. record { table_id = p.seat.token.table_id; view = p.seat.token.me.0 } };
+
+    ghost invariant = { λ p. IsIdle p.seat.token.me.0 };
+}
+
+impl Pass {
+    /// The caller's number; callers are numbered from 1.
+    pub fn number(&self) -> u32
+        ensures number { result ≡ self.now.view.number }
+        ensures from_one { 0 < result }
+    {
+        self.seat.number
+    }
+}

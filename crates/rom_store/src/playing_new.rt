@@ -1,0 +1,193 @@
+//! Scripts on a heap that is made for them.
+ghost use Rattle.std.specs.Prelude.{◌≡◌, ◌≢◌, ◌⊎◌, slice_index, Err, Ok, ℕ, ◌+◌, ◌<◌, ◌≤◌, [], List, length, map, All, vec_len, vec_capacity, IfErr, IfOk, IsTrue};
+ghost use Rattle.rom_model.specs.Blocks.{IsOrder};
+ghost use Rattle.rom_model.specs.History.{LAST_COUNT};
+ghost use Rattle.rom_model.specs.Lawful.{IsLawful};
+ghost use Rattle.rom_model.specs.Machine.{on_words};
+ghost use Rattle.rom_model.specs.Passes.{faults_after};
+ghost use Rattle.rom_model.specs.Space.{ChangesOnly};
+ghost use Rattle.rom_model.specs.VecSpace.{words_of};
+ghost use Rattle.rom_device.specs.Device.{Does, Leaves, Stays};
+ghost use Rattle.rom_header.specs.Fresh.{HasTooFewFor, IsFormatAnswer, IsRefused};
+ghost use Rattle.rom_header.specs.Layout.{MAGIC, words_needed};
+ghost use Rattle.rom_header.specs.declared.fresh.FormatRefused.{FormatRefused};
+ghost use Rattle.rom_lr.specs.Opening.{dealt_view};
+ghost use Rattle.rom_lr.specs.Seats.{IsWriterOf};
+ghost use Rattle.rom_combine.specs.Session.{ImageNow, SessionImage};
+ghost use Rattle.rom_rule.specs.Views.{base_of};
+ghost use Rattle.rom_store.specs.Callers.{IsNewCaller};
+ghost use Rattle.rom_store.specs.Indexed.{Indexed};
+ghost use Rattle.rom_store.specs.Making.{HasFaultsUnmade, NoneOrHolds};
+ghost use Rattle.rom_store.specs.Sessions.{EachStory, HasStory};
+ghost use Rattle.rom_store.specs.Working.{IsRoom};
+ghost use Rattle.rom_store.specs.declared.new_heap.NotFormatted.TheVariants as unmade;
+
+use crate::from_device::Refused;
+use crate::new_heap::{NotFormatted, write_heap};
+use crate::opening::Opening;
+use crate::rooms::Rooms;
+use crate::running::{Played, play_on};
+use crate::seated::Seated;
+use rom_combine::Gate;
+use rom_device::Device;
+use rom_header::Geometry;
+use rom_model::{Object, Step, VecSpace, new_region};
+use std::alloc::{AllocError, Global};
+use std::sync::Wait;
+use std::thread::Threads;
+
+/// A device on which no heap was made for scripts, and why.
+#[derive(Drop)]
+pub struct Unmade<D> {
+    pub device: D,
+    pub why: NotFormatted,
+}
+
+// All that scripts need of memory on a new heap, before its device is called.
+#[derive(Drop)]
+struct Ready<O: Object, R: Drop, A: Drop> {
+    rooms: Rooms<R, A>,
+    region: VecSpace,
+    seated: Seated<O>,
+}
+
+// Takes it, with the words of the new heap in memory.
+fn make_ready<O: Object>(
+    alloc: Global,
+    order: u32,
+    scripts: &[Vec<Step<O::Call, O::Query>>],
+    faults: u64,
+) -> Result<Ready<O, O::Reply, O::Answer>, AllocError>
+where
+    O::Reply: Drop,
+    O::Answer: Drop,
+    requires order { IsOrder order }
+    requires callers { (0 < length scripts.now) × (length scripts.now ≤ 16) }
+    ensures rooms { IfOk result (λ made. Indexed (λ i room.
+        IsRoom (map (λ v. v.items) scripts.now) i room.items (vec_capacity room))
+        made.rooms.results.items) }
+    ensures rooms_many { IfOk result (λ made. vec_len made.rooms.results ≡ length scripts.now) }
+    ensures jobs { IfOk result (λ made. (made.rooms.jobs.items ≡ [])
+        × (length scripts.now ≤ vec_capacity made.rooms.jobs)) }
+    ensures region { IfOk result (λ made.
+        O.Contents order (words_of made.region) O.machine.empty 0) }
+    ensures of { IfOk result (λ made. IsWriterOf made.seated.shared.table.shared.table_id
+        made.seated.shared.table.shared.key made.seated.writer) }
+    ensures base { IfOk result (λ made. base_of made.seated.shared.table.shared.key ≡ record {
+      order = order;
+      callers = length scripts.now;
+      image = words_of made.region;
+      faults = faults;
+    }) }
+    ensures writer { IfOk result (λ made. made.seated.writer.token.me.0
+        ≡ dealt_view (base_of made.seated.shared.table.shared.key) (length scripts.now)) }
+    ensures many { IfOk result (λ made. length made.seated.passes.items ≡ length scripts.now) }
+    ensures passes { IfOk result (λ made. Indexed (IsNewCaller O.Contents
+        made.seated.shared.table.shared.table_id (base_of made.seated.shared.table.shared.key))
+        made.seated.passes.items) }
+    ensures begun { IfOk result (λ made. (made.seated.begun.order ≡ order)
+        × (words_of made.seated.begun.image.value ≡ words_of made.region)
+        × (made.seated.begun.faults ≡ faults)) }
+{
+    let rooms = Rooms::for_scripts(alloc, scripts)?;
+    let region = new_region::<O>(alloc, order)?;
+    let seated = Seated::new(alloc, order, scripts.len() as u32, &region, faults)?;
+    Ok(Ready {
+        rooms,
+        region,
+        seated,
+    })
+}
+
+/// Makes a heap of this order on a device, where none stands, and runs the scripts on it as [`play`]
+/// does. All memory is taken before the device is called.
+pub fn play_new<
+    D: Device + Send,
+    O: Object + Send + Sync,
+    R: Threads + Wait + Sync,
+    G: Gate + Sync,
+>(
+    rt: &R,
+    alloc: Global,
+    device: D,
+    order: u32,
+    scripts: &[Vec<Step<O::Call, O::Query>>],
+    gate: &G,
+) -> Result<Played<D, O, O::Reply, O::Answer>, Unmade<D>>
+where
+    O::Call: Send + Sync,
+    O::Query: Send + Sync,
+    O::Reply: Drop + Send + Sync,
+    O::Answer: Drop + Send + Sync,
+    requires order { IsOrder order }
+    requires callers { (0 < length scripts.now) × (length scripts.now ≤ 16) }
+    requires few { All (λ v. length v.items ≤ LAST_COUNT) scripts.now }
+
+    // The results are those of one history, from the empty state.
+    ensures story { IfOk result (λ played. HasStory O.machine O.Contents played.closed.session) }
+    ensures lawful { IfOk result (λ played. EachStory O.machine O.Contents played.closed.session
+        (λ story. IsLawful O.machine story (map (λ v. v.items) scripts.now)
+        (map (λ v. v.items) played.results.items))) }
+    ensures order { IfOk result (λ played. played.closed.session.order ≡ order) }
+    ensures empty { IfOk result (λ played. EachStory O.machine O.Contents played.closed.session
+        (λ story. (story.opening ≡ O.machine.empty) × (story.opening_count ≡ 0))) }
+    ensures accepted { IsTrue D.shown.tells_words → IfOk result (λ played.
+        IsFormatAnswer order (D.shown.words device) (Ok tt)) }
+
+    // What a stop leaves now and since the call began, and what the device counts.
+    ensures now { IsTrue D.shown.tells_images → IfOk result (λ played. EachStory O.machine O.Contents
+        played.closed.session (λ story. (i : List ℕ) → D.shown.leaves played.closed.device i →
+        ImageNow O.Contents (on_words O.machine) story i)) }
+    ensures since { IsTrue D.shown.tells_images → IfOk result (λ played. EachStory O.machine
+        O.Contents played.closed.session (λ story. Leaves D.shown (λ i.
+        (slice_index i 0 ≢ MAGIC) ⊎ SessionImage O.Contents (on_words O.machine) story i)
+        device played.closed.device)) }
+    ensures size { IfOk result (λ played.
+        D.shown.size played.closed.device ≡ D.shown.size device) }
+    ensures outside { IsTrue D.shown.tells_words → IfOk result (λ played.
+        ChangesOnly 0 (words_needed order) (D.shown.words device)
+        (D.shown.words played.closed.device)) }
+    ensures faults { IfOk result (λ played.
+        (D.shown.faults device ≤ played.closed.session.faults)
+        × (faults_after played.closed.session.faults played.closed.session.records
+        ≤ D.shown.faults played.closed.device)) }
+
+    // Else no heap was made.
+    ensures memory { IfErr result (λ failed.
+        failed.why ≡ unmade.OutOfMemory → failed.device ≡ device) }
+    ensures refused { IsTrue D.shown.tells_words → IfErr result (λ failed. (why : FormatRefused) →
+        failed.why ≡ unmade.Refused why → IsFormatAnswer order (D.shown.words device) (Err why)) }
+    ensures unmade_sizes { IfErr result (λ failed. (why : FormatRefused) →
+        failed.why ≡ unmade.Refused why → HasTooFewFor order (D.shown.size device) why) }
+    ensures unmade_size { IfErr result (λ failed.
+        D.shown.size failed.device ≡ D.shown.size device) }
+    ensures unmade_outside { IsTrue D.shown.tells_words → IfErr result (λ failed.
+        ChangesOnly 0 (words_needed order) (D.shown.words device) (D.shown.words failed.device)) }
+    ensures unmade_images { IsTrue D.shown.tells_images → IfErr result (λ failed.
+        Leaves D.shown (NoneOrHolds O.Contents order O.machine.empty) device failed.device) }
+    ensures spared { IsTrue D.shown.tells_words → IsRefused order (D.shown.words device) →
+        IfErr result (λ failed. Does D.shown Stays device failed.device) }
+    ensures unmade_faults { IfErr result (λ failed. HasFaultsUnmade failed.why
+        (D.shown.faults device) (D.shown.faults failed.device) (D.shown.failing failed.device)) }
+{
+    let Ok(made) = make_ready::<O>(alloc, order, scripts, device.fault_count()) else {
+        return Err(Unmade {
+            device,
+            why: NotFormatted::OutOfMemory,
+        });
+    };
+    let Ready {
+        rooms,
+        region,
+        seated,
+    } = made;
+    let mut device = device;
+    if let Err(refused) = write_heap::<D, O>(&mut device, order, &region) {
+        return Err(Unmade {
+            device,
+            why: NotFormatted::Refused(refused),
+        });
+    }
+    let opening = Opening::of(device, Geometry::of_order(order), seated);
+    Ok(play_on(rt, opening, rooms, scripts, gate))
+}

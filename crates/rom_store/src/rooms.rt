@@ -1,0 +1,115 @@
+//! Room for what callers are told, and who takes it to work.
+ghost use Rattle.std.specs.Prelude.{◌≡◌, ◌+◌, ◌≤◌, [], length, map, IfOk, vec_len, vec_capacity};
+ghost use Rattle.rom_store.specs.Callers.{IsNewCaller, IsNumbered};
+ghost use Rattle.rom_store.specs.Indexed.{Both, Indexed};
+ghost use Rattle.rom_store.specs.Working.{HasDone, IsNext, IsPast, IsRoom, script_of};
+
+use crate::label::Label;
+use crate::pass::Pass;
+use crate::work::Job;
+use rom_model::{LineResult, Object, Step};
+use std::alloc::{AllocError, Global};
+
+/// Room for a result of each line of each script, and for a job of each.
+#[derive(Drop)]
+pub(crate) struct Rooms<R: Drop, A: Drop> {
+    pub results: Vec<Vec<LineResult<R, A>>>,
+    pub jobs: Vec<Job<R, A>>,
+}
+
+// Room for a result of each line.
+fn reserve<C, Q, R: Drop, A: Drop>(
+    alloc: Global,
+    scripts: &[Vec<Step<C, Q>>],
+) -> Result<Vec<Vec<LineResult<R, A>>>, AllocError>
+    ensures many { IfOk result (λ rooms. vec_len rooms ≡ length scripts.now) }
+    ensures rooms { IfOk result (λ rooms. Indexed (λ i room.
+        IsRoom (map (λ v. v.items) scripts.now) i room.items (vec_capacity room)) rooms.items) }
+{
+    let mut rooms = Vec::with_capacity(alloc, scripts.len())?;
+    for script in scripts {
+        let room = Vec::with_capacity(alloc, script.len())?;
+        rooms.push_reserved(room);
+    }
+    Ok(rooms)
+}
+
+impl<R: Drop, A: Drop> Rooms<R, A> {
+    /// As much as these scripts need.
+    pub fn for_scripts<C, Q>(alloc: Global, scripts: &[Vec<Step<C, Q>>]) -> Result<Self, AllocError>
+        ensures many { IfOk result (λ rooms. vec_len rooms.results ≡ length scripts.now) }
+        ensures rooms { IfOk result (λ rooms. Indexed (λ i room.
+            IsRoom (map (λ v. v.items) scripts.now) i room.items (vec_capacity room))
+            rooms.results.items) }
+        ensures jobs { IfOk result (λ rooms. (rooms.jobs.items ≡ [])
+            × (length scripts.now ≤ vec_capacity rooms.jobs)) }
+    {
+        let results = reserve(alloc, scripts)?;
+        let jobs = Vec::with_capacity(alloc, scripts.len())?;
+        Ok(Rooms { results, jobs })
+    }
+}
+
+/// Each pass becomes a job with its room, the last first.
+pub(crate) fn deal<O: Object, N: Label>(
+    scripts: &[Vec<Step<O::Call, O::Query>>],
+    passes: &mut Vec<Pass>,
+    rooms: &mut Vec<Vec<LineResult<O::Reply, O::Answer>>>,
+    jobs: &mut Vec<Job<O::Reply, O::Answer>>,
+)
+where
+    O::Reply: Drop,
+    O::Answer: Drop,
+    requires passes_many { vec_len passes.old ≡ length scripts.now }
+    requires rooms_many { vec_len rooms.old ≡ length scripts.now }
+    requires none { jobs.old.items ≡ [] }
+    requires space { length scripts.now ≤ vec_capacity jobs.old }
+    requires fresh { Indexed (IsNewCaller O.Contents N.table N.base) passes.old.items }
+    requires rooms { Indexed (λ i room. IsRoom (map (λ v. v.items) scripts.now) i room.items
+        (vec_capacity room)) rooms.old.items }
+    ensures many { vec_len jobs.new ≡ length scripts.now }
+    ensures jobs { Indexed (λ j job. IsNext O.Contents N.table N.base
+        (map (λ v. v.items) scripts.now) j job.pass job.results.items (vec_capacity job.results))
+        jobs.new.items }
+    ensures passes { (passes.new.items ≡ [])
+        × (vec_capacity passes.new ≡ vec_capacity passes.old) }
+    ensures none_left { (rooms.new.items ≡ []) × (vec_capacity rooms.new ≡ vec_capacity rooms.old) }
+{
+    for _ in 0..scripts.len() {
+        let pass = passes.take_last();
+        let results = rooms.take_last();
+        jobs.push_reserved(Job { pass, results });
+    }
+}
+
+/// The passes and the results of the jobs, in the order of their callers.
+pub(crate) fn gather<O: Object, N: Label>(
+    scripts: &[Vec<Step<O::Call, O::Query>>],
+    jobs: &mut Vec<Job<O::Reply, O::Answer>>,
+    passes: &mut Vec<Pass>,
+    results: &mut Vec<Vec<LineResult<O::Reply, O::Answer>>>,
+)
+where
+    O::Reply: Drop,
+    O::Answer: Drop,
+    requires many { vec_len jobs.old ≡ length scripts.now }
+    requires jobs { Indexed (λ j job. IsPast O.machine O.Contents N.base N.table
+        (map (λ v. v.items) scripts.now) j job.pass job.results.items) jobs.old.items }
+    requires passes { (passes.old.items ≡ []) × (length scripts.now ≤ vec_capacity passes.old) }
+    requires results { (results.old.items ≡ []) × (length scripts.now ≤ vec_capacity results.old) }
+    ensures passes_many { length passes.new.items ≡ length scripts.now }
+    ensures results_many { length results.new.items ≡ length scripts.now }
+    ensures passes { Indexed (IsNumbered O.Contents N.table N.base) passes.new.items }
+    ensures done { Both (λ i pass told. HasDone O.machine O.Contents N.base pass
+        (script_of (map (λ v. v.items) scripts.now) (i + 1)) told.items)
+        passes.new.items results.new.items }
+{
+    for _ in 0..scripts.len() {
+        let Job {
+            pass,
+            results: told,
+        } = jobs.take_last();
+        passes.push_reserved(pass);
+        results.push_reserved(told);
+    }
+}

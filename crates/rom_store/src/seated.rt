@@ -1,0 +1,84 @@
+//! A table whose callers have their seats.
+ghost use Rattle.std.specs.Prelude.{◌≡◌, ℕ, ◌≤◌, All, IfOk, length, map};
+ghost use Rattle.rom_model.specs.Blocks.{IsOrder, region_len};
+ghost use Rattle.rom_model.specs.VecSpace.{words_of};
+ghost use Rattle.rom_lr.specs.Opening.{AreNew, dealt_view};
+ghost use Rattle.rom_lr.specs.Seats.{IsWriterOf};
+ghost use Rattle.rom_rule.specs.Kinds.{IsIdle};
+ghost use Rattle.rom_rule.specs.Places.{AreCallers};
+ghost use Rattle.rom_rule.specs.Views.{base_of};
+ghost use Rattle.rom_store.specs.Callers.{IsNewCaller, caller_at};
+ghost use Rattle.rom_store.specs.Indexed.{Indexed};
+
+use crate::begun::Begun;
+use crate::pass::Pass;
+use rom_lr::{Seat, Shared, WriterSeat};
+use rom_model::{Object, VecSpace};
+use std::alloc::{AllocError, Global};
+use std::snapshot::Snapshot;
+
+/// The table of a heap's words, with the writer's seat and a pass for each caller. The device is still
+/// to come; nothing takes memory from here on.
+#[derive(Drop)]
+pub(crate) struct Seated<O: Object> {
+    pub shared: Shared<O>,
+    pub writer: WriterSeat,
+    pub passes: Vec<Pass>,
+    pub begun: Begun,
+}
+
+// A pass for each seat, in their order.
+fn passes_of(alloc: Global, seats: Vec<Seat>) -> Result<Vec<Pass>, AllocError>
+    requires idle { All (λ s. IsIdle s.token.me.0) seats.items }
+    ensures passes { IfOk result (λ passes. passes.items ≡ map caller_at seats.items) }
+{
+    let mut passes = Vec::with_capacity(alloc, seats.len())?;
+    for seat in seats {
+        passes.push_reserved(Pass { seat });
+    }
+    Ok(passes)
+}
+
+impl<O: Object> Seated<O> {
+    /// The table of this image, for so many callers. `faults` is the device's count of faults.
+    pub fn new(
+        alloc: Global,
+        order: u32,
+        callers: u32,
+        image: &VecSpace,
+        faults: u64,
+    ) -> Result<Self, AllocError>
+        requires order { IsOrder order }
+        requires callers { AreCallers callers }
+        requires formed { (s : O.State) × (k : ℕ) × O.Contents order (words_of image.now) s k }
+        ensures of { IfOk result (λ t.
+            IsWriterOf t.shared.table.shared.table_id t.shared.table.shared.key t.writer) }
+        ensures base { IfOk result (λ t. base_of t.shared.table.shared.key ≡ record {
+          order = order;
+          callers = callers;
+          image = words_of image.now;
+          faults = faults;
+        }) }
+        ensures writer { IfOk result (λ t. t.writer.token.me.0
+            ≡ dealt_view (base_of t.shared.table.shared.key) callers) }
+        ensures many { IfOk result (λ t. length t.passes.items ≡ callers) }
+        ensures passes { IfOk result (λ t. Indexed (IsNewCaller O.Contents
+            t.shared.table.shared.table_id (base_of t.shared.table.shared.key)) t.passes.items) }
+        ensures begun { IfOk result (λ t. (t.begun.order ≡ order)
+            × (words_of t.begun.image.value ≡ words_of image.now) × (t.begun.faults ≡ faults)) }
+    {
+        let (shared, writer, seats) = Shared::new(alloc, order, callers, image.words(), faults)?;
+        let passes = passes_of(alloc, seats)?;
+        let begun = Begun {
+            order,
+            image: Snapshot::of(image),
+            faults,
+        };
+        Ok(Seated {
+            shared,
+            writer,
+            passes,
+            begun,
+        })
+    }
+}

@@ -1,0 +1,25 @@
+//! The store: a heap that callers share.
+ghost use Rattle.std.specs.Prelude.{◌≡◌};
+ghost use Rattle.rom_model.specs.VecSpace.{words_of};
+ghost use Rattle.rom_rule.specs.Views.{base_of};
+
+use crate::begun::Begun;
+use crate::held::Held;
+use crate::label::Label;
+use rom_device::Device;
+use rom_lr::Shared;
+use rom_model::Object;
+use std::sync::Mutex;
+
+/// A heap that callers share, each by its [`Pass`](crate::Pass). Reads take no lock and wait for nobody.
+/// Updates are posted, and whoever has the lock does all that are posted in one batch.
+pub struct Store<D: Device, O: Object, N: Label> {
+    pub(crate) shared: Shared<O>,
+    pub(crate) held: Mutex<Held<D, O, N>>,
+    pub(crate) begun: Begun,
+    ghost named: { shared.table.shared.table_id ≡ N.table },
+    ghost based: { base_of shared.table.shared.key ≡ N.base },
+    ghost ordered: { begun.order ≡ N.base.order },
+    ghost imaged: { words_of begun.image.value ≡ N.base.image },
+    ghost counted: { begun.faults ≡ N.base.faults },
+}

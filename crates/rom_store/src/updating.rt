@@ -1,0 +1,142 @@
+//! How callers update.
+ghost use Rattle.std.specs.Prelude.{◌≡◌, ℕ, ◌+◌, ◌<◌, ◌≤◌, ◌++◌, ◌∷◌, [], List, length};
+ghost use Rattle.std.specs.Bool.{OnFalse, OnTrue};
+ghost use Rattle.rom_model.specs.History.{LAST_COUNT};
+ghost use Rattle.rom_model.specs.Lawful.{as_words};
+ghost use Rattle.rom_model.specs.Machine.{on_words};
+ghost use Rattle.rom_model.specs.Seen.{StartsWith, next_call};
+ghost use Rattle.rom_model.specs.declared.call.Updated.{Updated};
+ghost use Rattle.rom_lr.specs.Seats.{IsSameSeat, IsSeatOf};
+ghost use Rattle.rom_rule.specs.CallKinds.{IsTold};
+ghost use Rattle.rom_rule.specs.Calls.{answer_words, packed};
+ghost use Rattle.rom_rule.specs.Views.{kept_of};
+ghost use Rattle.rom_store.specs.Callers.{IsCallerOf, IsSameCaller};
+ghost use Rattle.rom_store.specs.Updating.{HasBeenTold, IsDoneIn, IsWithinPlaces};
+
+use crate::label::Label;
+use crate::pass::Pass;
+use crate::store::Store;
+use rom_announce::{answered, post, take};
+use rom_combine::Gate;
+use rom_device::Device;
+use rom_lr::Seat;
+use rom_model::{Back, Object, Updated};
+use std::sync::Wait;
+
+/// The greatest count, and the most calls of one caller.
+const LAST: u64 = 1 << 62;
+
+/// What stands for a place where a call was not done.
+const SPENT: u64 = 1 << 62;
+
+const FAILED: u64 = (1 << 62) + 1;
+
+const DOUBT: u64 = (1 << 62) + 2;
+
+/// What a caller was told, by its words.
+fn told_by<O: Object>(place: u64, words: &Back) -> Updated<O::Reply>
+    requires told { (u : Updated O.Reply) × IsWithinPlaces u
+        × (answer_words (as_words O.machine u) ≡ place ∷ packed words.now) }
+    ensures within { IsWithinPlaces result }
+    ensures told { answer_words (as_words O.machine result) ≡ place ∷ packed words.now }
+{
+    match place {
+        SPENT => Updated::Spent,
+        FAILED => Updated::Failed,
+        DOUBT => Updated::Doubt,
+        place => match O::words_reply(words) {
+            Some(reply) => Updated::Done(reply, place),
+            None => unreachable!(),
+        },
+    }
+}
+
+impl<D: Device, O: Object, N: Label> Store<D, O, N> {
+    /// Does an update in one pass with those of other callers, and tells its reply and place, or
+    /// why it was not done. `Failed` and `Doubt` come only where the device failed in the pass that
+    /// took it, and `Spent` only where the count stood at 2^62, or this caller has posted 2^62
+    /// calls: then nothing is posted. It may wait for the lock, and a pass that it runs waits for
+    /// readers.
+    pub fn update<R: Wait, G: Gate>(
+        &self,
+        rt: &R,
+        pass: &mut Pass,
+        call: &O::Call,
+        gate: &G,
+    ) -> Updated<O::Reply>
+        requires of { IsCallerOf O.Contents N.table N.base pass.old }
+        ensures of { IsCallerOf O.Contents N.table N.base pass.new }
+        ensures same { IsSameCaller pass.old pass.new }
+        ensures later { StartsWith pass.new.view.seen pass.old.view.seen }
+        ensures fronts { pass.new.view.fronts ≡ pass.old.view.fronts }
+        ensures joined { pass.new.view.joined ≡ pass.old.view.joined }
+        ensures unposted { LAST_COUNT ≤ length pass.old.view.outcomes →
+            (result ≡ Updated.Spent) × (pass.new ≡ pass.old) }
+        ensures posted { length pass.old.view.outcomes < LAST_COUNT →
+            pass.new.view.calls ≡ pass.old.view.calls ++ O.machine.call_words call.now ∷ [] }
+        ensures told { length pass.old.view.outcomes < LAST_COUNT →
+            pass.new.view.outcomes ≡ pass.old.view.outcomes
+            ++ (
+              next_call (kept_of pass.old.view) (O.machine.call_words call.now),
+              as_words O.machine result,
+            ) ∷ [] }
+
+        // What one pass told of it, in whose record the device's counts of faults stand.
+        ensures taken { length pass.old.view.outcomes < LAST_COUNT →
+            IsTold O.Contents (on_words O.machine) N.base
+            (next_call (kept_of pass.old.view) (O.machine.call_words call.now), as_words O.machine result)
+            (length pass.old.view.seen) pass.old.view.seen pass.new.view.seen }
+
+        // Where it is done, the caller has seen a legal history that ends with the batch of that
+        // pass and has the update's entry at its place.
+        ensures done { (s : O.State) (k : ℕ) → O.Contents N.base.order N.base.image s k →
+            (reply : O.Reply) (place : ℕ) → result ≡ Updated.Done reply place →
+            IsDoneIn (on_words O.machine) N.base.order s k
+            (next_call (kept_of pass.old.view) (O.machine.call_words call.now))
+            (O.machine.reply_words reply) place pass.old.view.seen pass.new.view.seen }
+    {
+        if pass.seat.posted >= LAST {
+            return Updated::Spent;
+        }
+        post(&self.shared, &mut pass.seat, &O::call_words(call));
+        self.await_answer(rt, &mut pass.seat, gate);
+        let (place, reply) = take(&self.shared, &mut pass.seat);
+        told_by::<O>(place, &reply)
+    }
+
+    // Until the posted call is answered, takes the lock, looks, and runs a pass where it is not.
+    fn await_answer<R: Wait, G: Gate>(&self, rt: &R, seat: &mut Seat, gate: &G)
+        requires of { IsSeatOf N.table self.now.shared.table.shared.key seat.old }
+        requires posted { length seat.old.token.me.0.calls
+            ≡ length seat.old.token.me.0.outcomes + 1 }
+        ensures same { IsSameSeat seat.old seat.new }
+        ensures told { HasBeenTold O.Contents (on_words O.machine) seat.old.token.me.0
+            seat.new.token.me.0 }
+    {
+        for _ in rt.forever() {
+            if self.look_or_pass(rt, seat, gate) {
+                break;
+            }
+        }
+    }
+
+    // Under the lock: whether the posted call is answered, after a pass where it was not.
+    fn look_or_pass<R: Wait, G: Gate>(&self, rt: &R, seat: &mut Seat, gate: &G) -> bool
+        requires of { IsSeatOf N.table self.now.shared.table.shared.key seat.old }
+        requires posted { length seat.old.token.me.0.calls
+            ≡ length seat.old.token.me.0.outcomes + 1 }
+        ensures same { IsSameSeat seat.old seat.new }
+        ensures not_yet { OnFalse result (seat.new.token.me.0 ≡ record seat.old.token.me.0 {
+          steps = seat.new.token.me.0.steps;
+        }) }
+        ensures told { OnTrue result (HasBeenTold O.Contents (on_words O.machine)
+            seat.old.token.me.0 seat.new.token.me.0) }
+    {
+        let mut held = self.held.lock(rt);
+        if answered(&self.shared, seat) {
+            return true;
+        }
+        held.pass(rt, &self.shared, gate);
+        answered(&self.shared, seat)
+    }
+}

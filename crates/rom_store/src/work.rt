@@ -1,0 +1,203 @@
+//! Callers in threads.
+ghost use Rattle.std.specs.Prelude.{◌≡◌, ℕ, ◌+◌, ◌<◌, ◌≤◌, [], ◌∷◌, ◌++◌, List, length, map, slice_get, Some, All, vec_capacity, vec_len};
+ghost use Rattle.rom_model.specs.History.{LAST_COUNT};
+ghost use Rattle.rom_model.specs.declared.line.LineResult.{LineResult};
+ghost use Rattle.rom_model.specs.declared.line.Step.{Step};
+ghost use Rattle.rom_store.specs.Callers.{IsCallerOf};
+ghost use Rattle.rom_store.specs.Closing.{kept_in};
+ghost use Rattle.rom_store.specs.Indexed.{Indexed};
+ghost use Rattle.rom_store.specs.Working.{HasDone, IsFirst, IsNext, IsPast, IsReady, script_of};
+
+use crate::label::Label;
+use crate::pass::Pass;
+use crate::store::Store;
+use rom_combine::Gate;
+use rom_device::Device;
+use rom_lr::Steps;
+use rom_model::{LineResult, Object, Step};
+use std::marker::Brand;
+use std::sync::Wait;
+use std::sync::ledger::{Blank, Ledger};
+use std::thread;
+use std::thread::Threads;
+
+/// The store, and what its callers are to do.
+#[derive(Clone, Copy)]
+pub(crate) struct Room<'a, D: Device, O: Object, N: Label, G: Gate> {
+    pub store: &'a Store<D, O, N>,
+    pub scripts: &'a [Vec<Step<O::Call, O::Query>>],
+    pub gate: &'a G,
+}
+
+/// A caller, with what its lines were told.
+#[derive(Drop)]
+pub(crate) struct Job<R: Drop, A: Drop> {
+    pub pass: Pass,
+    pub results: Vec<LineResult<R, A>>,
+}
+
+// One line. It takes no memory.
+fn take_line<D: Device, O: Object, N: Label, R: Wait, G: Gate, L: Ledger>(
+    rt: &R,
+    store: &Store<D, O, N>,
+    pass: &mut Pass,
+    line: &Step<O::Call, O::Query>,
+    gate: &G,
+    steps: &mut Steps<L>,
+) -> LineResult<O::Reply, O::Answer>
+    requires of { IsCallerOf O.Contents N.table N.base pass.old }
+    requires few { length (kept_in pass.old).told < LAST_COUNT }
+    ensures of { IsCallerOf O.Contents N.table N.base pass.new }
+    ensures number { pass.new.view.number ≡ pass.old.view.number }
+    ensures done { (lines : List (Step O.Call O.Query))
+        (results : List (LineResult O.Reply O.Answer)) →
+        HasDone O.machine O.Contents N.base pass.old lines results →
+        HasDone O.machine O.Contents N.base pass.new (lines ++ line.now ∷ []) (results ++ result ∷ []) }
+{
+    match line {
+        Step::Update(call) => LineResult::Update(store.update(rt, pass, call, gate)),
+        Step::Ask(query) => {
+            let (answer, front) = store.read(pass, query, steps);
+            LineResult::Read(answer, front)
+        }
+        Step::Unread => LineResult::Unread,
+    }
+}
+
+// A caller's lines, in order. It takes no memory.
+fn take_lines<D: Device, O: Object, N: Label, R: Wait, G: Gate, L: Ledger>(
+    rt: &R,
+    room: &Room<'_, D, O, N, G>,
+    pass: &mut Pass,
+    lines: &[Step<O::Call, O::Query>],
+    results: &mut Vec<LineResult<O::Reply, O::Answer>>,
+    steps: &mut Steps<L>,
+)
+    requires of { IsCallerOf O.Contents N.table N.base pass.old }
+    requires opened { (s : O.State) × (k : ℕ) × O.Contents N.base.order N.base.image s k }
+    requires few { length lines.now ≤ LAST_COUNT }
+    requires first { IsFirst (kept_in pass.old) }
+    requires none { results.old.items ≡ [] }
+    requires fits { length lines.now ≤ vec_capacity results.old }
+    ensures of { IsCallerOf O.Contents N.table N.base pass.new }
+    ensures number { pass.new.view.number ≡ pass.old.view.number }
+    ensures done { HasDone O.machine O.Contents N.base pass.new lines.now results.new.items }
+{
+    for line in lines {
+        room.gate
+            .before(rt, pass.number(), results.len() as u64 + 1);
+        let told = take_line(rt, room.store, pass, line, room.gate, steps);
+        results.push_reserved(told);
+    }
+}
+
+// A caller's lines, with a counter of its steps, which nobody reads here.
+fn take_counted<D: Device, O: Object, N: Label, R: Wait, G: Gate, L: Ledger>(
+    rt: &R,
+    blank: Blank,
+    room: &Room<'_, D, O, N, G>,
+    pass: &mut Pass,
+    lines: &[Step<O::Call, O::Query>],
+    results: &mut Vec<LineResult<O::Reply, O::Answer>>,
+)
+    requires name { blank.name ≡ L.name }
+    requires parts { (blank.parts ≡ L.parts) × (0 < blank.parts) }
+    requires of { IsCallerOf O.Contents N.table N.base pass.old }
+    requires opened { (s : O.State) × (k : ℕ) × O.Contents N.base.order N.base.image s k }
+    requires few { length lines.now ≤ LAST_COUNT }
+    requires first { IsFirst (kept_in pass.old) }
+    requires none { results.old.items ≡ [] }
+    requires fits { length lines.now ≤ vec_capacity results.old }
+    ensures of { IsCallerOf O.Contents N.table N.base pass.new }
+    ensures number { pass.new.view.number ≡ pass.old.view.number }
+    ensures done { HasDone O.machine O.Contents N.base pass.new lines.now results.new.items }
+{
+    let mut steps = Steps::<L>::of(blank);
+    take_lines(rt, room, pass, lines, results, &mut steps);
+}
+
+// What a caller's thread does.
+fn work<D: Device, O: Object, N: Label, R: Wait, G: Gate>(
+    rt: &R,
+    room: &Room<'_, D, O, N, G>,
+    job: &mut Job<O::Reply, O::Answer>,
+)
+where
+    O::Reply: Drop,
+    O::Answer: Drop,
+    requires opened { (s : O.State) × (k : ℕ) × O.Contents N.base.order N.base.image s k }
+    requires few { All (λ v. length v.items ≤ LAST_COUNT) room.now.scripts.now }
+    requires ready { IsReady O.Contents N.table N.base (map (λ v. v.items) room.now.scripts.now)
+        job.old.pass job.old.results.items (vec_capacity job.old.results) }
+    ensures of { IsCallerOf O.Contents N.table N.base job.new.pass }
+    ensures number { job.new.pass.view.number ≡ job.old.pass.view.number }
+    ensures done { HasDone O.machine O.Contents N.base job.new.pass
+        (script_of (map (λ v. v.items) room.now.scripts.now) job.old.pass.view.number)
+        job.new.results.items }
+{
+    let script = &room.scripts[job.pass.number() as usize - 1];
+    take_counted::<D, O, N, R, G, Brand>(
+        rt,
+        Blank::new(1),
+        room,
+        &mut job.pass,
+        script,
+        &mut job.results,
+    );
+}
+
+// Each caller in a thread of its own, where one can be made.
+fn work_all<
+    'a,
+    D: Device + Send,
+    O: Object + Send + Sync,
+    N: Label + Send + Sync,
+    R: Threads + Wait + Sync,
+    G: Gate + Sync,
+>(rt: &R, room: &Room<'a, D, O, N, G>, jobs: &mut [Job<O::Reply, O::Answer>])
+where
+    O::Call: Send + Sync,
+    O::Query: Send + Sync,
+    O::Reply: Drop + Send + Sync,
+    O::Answer: Drop + Send + Sync,
+    requires opened { (s : O.State) × (k : ℕ) × O.Contents N.base.order N.base.image s k }
+    requires few { All (λ v. length v.items ≤ LAST_COUNT) room.now.scripts.now }
+    requires ready { All (λ j. IsReady O.Contents N.table N.base
+        (map (λ v. v.items) room.now.scripts.now) j.pass j.results.items (vec_capacity j.results))
+        jobs.old }
+    ensures of { (i : ℕ) (c : _) → slice_get jobs.new i ≡ Some c →
+        IsCallerOf O.Contents N.table N.base c.pass }
+    ensures number { (i : ℕ) (a : _) (c : _) → slice_get jobs.old i ≡ Some a →
+        slice_get jobs.new i ≡ Some c → c.pass.view.number ≡ a.pass.view.number }
+    ensures done { (i : ℕ) (a : _) (c : _) → slice_get jobs.old i ≡ Some a →
+        slice_get jobs.new i ≡ Some c → HasDone O.machine O.Contents N.base c.pass
+        (script_of (map (λ v. v.items) room.now.scripts.now) a.pass.view.number) c.results.items }
+{
+    thread::for_each_mut(rt, jobs, 16, &|_, job| work(rt, room, job));
+}
+
+/// Has each caller work on its script, in a thread of its own where one can be made.
+pub(crate) fn work_jobs<
+    'a,
+    D: Device + Send,
+    O: Object + Send + Sync,
+    N: Label + Send + Sync,
+    R: Threads + Wait + Sync,
+    G: Gate + Sync,
+>(rt: &R, room: &Room<'a, D, O, N, G>, jobs: &mut Vec<Job<O::Reply, O::Answer>>)
+where
+    O::Call: Send + Sync,
+    O::Query: Send + Sync,
+    O::Reply: Drop + Send + Sync,
+    O::Answer: Drop + Send + Sync,
+    requires opened { (s : O.State) × (k : ℕ) × O.Contents N.base.order N.base.image s k }
+    requires few { All (λ v. length v.items ≤ LAST_COUNT) room.now.scripts.now }
+    requires next { Indexed (λ j job. IsNext O.Contents N.table N.base
+        (map (λ v. v.items) room.now.scripts.now) j job.pass job.results.items
+        (vec_capacity job.results)) jobs.old.items }
+    ensures many { vec_len jobs.new ≡ vec_len jobs.old }
+    ensures past { Indexed (λ j job. IsPast O.machine O.Contents N.base N.table
+        (map (λ v. v.items) room.now.scripts.now) j job.pass job.results.items) jobs.new.items }
+{
+    work_all(rt, room, jobs.as_mut_slice());
+}
