@@ -84,6 +84,14 @@ module _ {O : Type 0} (shown : ShownSink O) where
     rest = some.rest ∙ first.rest;
   }
 
+  -- the first text is printed, and the second
+  pub printed_both : (a b c : O) (xs ys : List ℕ) → Printed a b xs → Printed b c ys → Printed a c (xs ++ ys)
+  printed_both a b c xs ys first second = record {
+    bytes = Appends-trans _ _ _ xs ys first.bytes second.bytes;
+    faults = second.faults ∙ first.faults;
+    rest = second.rest ∙ first.rest;
+  }
+
   -- a list of texts stops in one of them
   pub stopped_in : {X : Type 0} (f : X → List ℕ) (a b c : O) (xs : List X) (i : ℕ) (d : X) → i < length xs →
       Printed a b (flat_map f (take i xs)) → Stopped b c (f (get_or xs i d)) → Stopped a c (flat_map f xs)

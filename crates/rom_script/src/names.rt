@@ -81,4 +81,11 @@ impl Names {
         let name = self.words.get(i as usize)?;
         Some(name.as_str())
     }
+
+    /// All words, in order.
+    pub fn as_slice(&self) -> &[Name]
+        ensures { result.now ≡ self.now }
+    {
+        &self.words
+    }
 }

@@ -1,8 +1,8 @@
 //! The text of a run: what each line was told, and the count at closing.
-ghost use Rattle.std.specs.Prelude.{◌≡◌, [], ◌∷◌, drop, OnOk};
+ghost use Rattle.std.specs.Prelude.{◌≡◌, ◌++◌, [], codes, decimal, drop, map, OnOk};
 ghost use Rattle.std.specs.List.{AllByRecursion};
 ghost use Rattle.rom_script.specs.Streams.{Prints};
-ghost use Rattle.rom_script.specs.Text.{AreOfType, ResultFits, line_text, result_text, results_text, text, texts_of};
+ghost use Rattle.rom_script.specs.Text.{AreOfType, ResultFits, callers_text, line_text, result_text, results_text, text, texts_of};
 
 use crate::gathered::Gathered;
 use crate::print::{print_answer, print_pieces, print_text, print_update};
@@ -60,49 +60,77 @@ fn print_results<R: Told, A: Told, O: Sink>(
     Ok(())
 }
 
+/// Prints a caller's number, and the lines of its results.
+fn print_caller<R: Told, A: Told, O: Sink>(
+    out: &mut O,
+    caller: u64,
+    results: &[LineResult<R, A>],
+) -> Result<(), IoFailed>
+    ensures prints { Prints O.shown out.old out.new result
+        (line_text (codes "caller " ++ decimal caller) ++ results_text (texts_of R.shown A.shown) results.now) }
+    ensures of_type { OnOk result (AllByRecursion (ResultFits (texts_of R.shown A.shown)) results.now) }
+{
+    print_pieces(out, &["caller ", Buffer::new().format(caller), "\n"])?;
+    print_results(out, results)
+}
+
+/// Prints the results of all callers.
+fn print_callers<R: Told, A: Told, O: Sink>(
+    out: &mut O,
+    results: &[Vec<LineResult<R, A>>],
+) -> Result<(), IoFailed>
+    ensures prints { Prints O.shown out.old out.new result
+        (callers_text (texts_of R.shown A.shown) 1 (map (λ v. v.items) results.now)) }
+    ensures of_type { OnOk result (AreOfType (texts_of R.shown A.shown) (map (λ v. v.items) results.now)) }
+{
+    for (i, own) in results.iter().enumerate() {
+        print_caller(out, i as u64 + 1, own)?;
+    }
+    Ok(())
+}
+
 /// Prints the whole text, piece by piece.
 fn print_whole<R: Told, A: Told, O: Sink>(
     out: &mut O,
-    results: &[LineResult<R, A>],
+    results: &[Vec<LineResult<R, A>>],
     count: u64,
 ) -> Result<(), IoFailed>
     ensures prints { Prints O.shown out.old out.new result
-        (text (texts_of R.shown A.shown) (results.now ∷ []) count) }
-    ensures of_type { OnOk result (AreOfType (texts_of R.shown A.shown) (results.now ∷ [])) }
+        (text (texts_of R.shown A.shown) (map (λ v. v.items) results.now) count) }
+    ensures of_type { OnOk result (AreOfType (texts_of R.shown A.shown) (map (λ v. v.items) results.now)) }
 {
-    print_text(out, "caller 1\n")?;
-    print_results(out, results)?;
+    print_callers(out, results)?;
     print_pieces(out, &["count ", Buffer::new().format(count), "\n"])
 }
 
 /// Prints the whole text into a block, and hands the rest of it over.
 fn print_through<R: Told, A: Told, O: Sink>(
     out: &mut Gathered<O>,
-    results: &[LineResult<R, A>],
+    results: &[Vec<LineResult<R, A>>],
     count: u64,
 ) -> Result<(), IoFailed>
     requires none { drop out.old.handed out.old.block.items ≡ [] }
     requires opened { O.shown.taken out.old.opened.value ≡ O.shown.taken out.old.out.now }
     ensures prints { Prints O.shown out.old.out.now out.new.out.now result
-        (text (texts_of R.shown A.shown) (results.now ∷ []) count) }
-    ensures of_type { OnOk result (AreOfType (texts_of R.shown A.shown) (results.now ∷ [])) }
+        (text (texts_of R.shown A.shown) (map (λ v. v.items) results.now) count) }
+    ensures of_type { OnOk result (AreOfType (texts_of R.shown A.shown) (map (λ v. v.items) results.now)) }
     ensures same_sink { out.new.out.ghost_name ≡ out.old.out.ghost_name }
 {
     print_whole(out, results, count)?;
     out.hand_over()
 }
 
-/// Prints the text of a run of one caller: its results and the count at closing. It leaves in
-/// blocks of 4,096 bytes, and nothing of it waits after the call. It takes no memory. After
+/// Prints the text of a run: the results of each caller in order, and the count at closing. It leaves
+/// in blocks of 4,096 bytes, and nothing of it waits after the call. It takes no memory. After
 /// `IoFailed` the sink has taken some of the text, from its front.
 pub fn print_run<R: Told, A: Told, O: Sink>(
     out: &mut O,
-    results: &[LineResult<R, A>],
+    results: &[Vec<LineResult<R, A>>],
     count: u64,
 ) -> Result<(), IoFailed>
     ensures prints { Prints O.shown out.old out.new result
-        (text (texts_of R.shown A.shown) (results.now ∷ []) count) }
-    ensures of_type { OnOk result (AreOfType (texts_of R.shown A.shown) (results.now ∷ [])) }
+        (text (texts_of R.shown A.shown) (map (λ v. v.items) results.now) count) }
+    ensures of_type { OnOk result (AreOfType (texts_of R.shown A.shown) (map (λ v. v.items) results.now)) }
 {
     let mut gathered = Gathered::over(out);
     print_through(&mut gathered, results, count)

@@ -37,6 +37,14 @@ impl Script {
     {
         &self.lines
     }
+
+    /// All lines, for whoever keeps them.
+    pub fn into_lines(self) -> Vec<Line>
+        ensures { result.items ≡ steps_of self }
+    {
+        let Script { lines } = self;
+        lines
+    }
 }
 
 /// What the lines of some bytes ask for.

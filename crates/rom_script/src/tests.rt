@@ -6,7 +6,7 @@ use crate::{
     read_line, read_script,
 };
 use rom_model::{Answer, Call, LineResult, Query, Reply, Updated};
-use std::alloc::Global;
+use std::alloc::{AllocError, Global};
 use std::fs::File;
 use std::test::Fail;
 use std::{env, fs, process};
@@ -234,6 +234,16 @@ fn updates_and_answers_have_their_texts(rt: HostRuntime) -> Result<(), Fail> {
     Ok(())
 }
 
+/// The results of all callers of a run of one.
+fn one_caller(
+    alloc: Global,
+    results: Vec<LineResult<Reply, Answer>>,
+) -> Result<Vec<Vec<LineResult<Reply, Answer>>>, AllocError> {
+    let mut callers = Vec::new(alloc);
+    callers.push(results)?;
+    Ok(callers)
+}
+
 /// A run that fills a queue of fifteen, and its text.
 fn full_queue(alloc: Global) -> Result<(Vec<LineResult<Reply, Answer>>, &'static str), Fail> {
     let mut results = Vec::new(alloc);
@@ -252,12 +262,13 @@ fn full_queue(alloc: Global) -> Result<(Vec<LineResult<Reply, Answer>>, &'static
 fn a_sink_without_room_has_the_front_of_the_text(rt: HostRuntime) -> Result<(), Fail> {
     let alloc = rt.alloc();
     let (results, text) = full_queue(alloc)?;
+    let callers = one_caller(alloc, results)?;
     let text = text.as_bytes();
     for room in 0..=text.len() {
         for piece in [1, 7, 4096] {
             let mut out = Collect::with_room(alloc, room as u64, piece)?;
             assert!(rt; out.bytes().is_empty());
-            let done = print_run(&mut out, &results, 18);
+            let done = print_run(&mut out, &callers, 18);
             let wanted = if room < text.len() {
                 Err(IoFailed)
             } else {
@@ -317,13 +328,13 @@ fn texts_of_runs_leave_in_whole_blocks(rt: HostRuntime) -> Result<(), Fail> {
         (2000, &[4096, 4096, 4096, 1729]),
     ];
     for (lines, widths) in runs {
-        let results = vec![in alloc; UNREAD; lines]?;
+        let callers = one_caller(alloc, vec![in alloc; UNREAD; lines]?)?;
         let mut out = Widths {
             widths: Vec::new(alloc),
             faults: 0,
             failing: false,
         };
-        print_run(&mut out, &results, 5)?;
+        print_run(&mut out, &callers, 5)?;
         assert!(rt; out.widths.as_slice() == widths, "at {lines} lines");
     }
 
@@ -335,8 +346,35 @@ fn texts_of_runs_leave_in_whole_blocks(rt: HostRuntime) -> Result<(), Fail> {
     }
     text.push_str("empty #0\ncount 0\n")?;
     let mut out = Collect::with_room(alloc, 100_000, 1000)?;
-    print_run(&mut out, &results, 0)?;
+    print_run(&mut out, &one_caller(alloc, results)?, 0)?;
     assert!(rt; out.bytes() == text.as_bytes());
+    Ok(())
+}
+
+#[test]
+fn each_caller_has_its_part_of_the_text(rt: HostRuntime) -> Result<(), Fail> {
+    let alloc = rt.alloc();
+    let mut first = Vec::new(alloc);
+    first.push(LineResult::Update(Updated::Done(Reply::Queued, 1)))?;
+    first.push(UNREAD)?;
+    let mut second = Vec::new(alloc);
+    second.push(LineResult::Read(Answer::Empty, 0))?;
+    second.push(LineResult::Update(Updated::Done(Reply::Added, 0)))?;
+    let mut callers = one_caller(alloc, first)?;
+    callers.push(Vec::new(alloc))?;
+    callers.push(second)?;
+    let text =
+        b"caller 1\nqueued @1\nunread\ncaller 2\ncaller 3\nempty #0\nadded @0\ncount 2\n".as_slice();
+    for room in 0..=text.len() {
+        let mut out = Collect::with_room(alloc, room as u64, 5)?;
+        let done = print_run(&mut out, &callers, 2);
+        assert_eq!(rt; done.is_ok(), room == text.len(), "with room for {room}");
+        assert!(rt; out.bytes() == &text[..room], "with room for {room}");
+    }
+    let mut out = Collect::with_room(alloc, 100, 5)?;
+    let none: [Vec<LineResult<Reply, Answer>>; 0] = [];
+    print_run(&mut out, &none, 7)?;
+    assert!(rt; out.bytes() == b"count 7\n".as_slice());
     Ok(())
 }
 
@@ -365,7 +403,7 @@ fn files_are_sources_and_sinks(rt: HostRuntime) -> Result<(), Fail> {
     let name = format!(in alloc; "rom_script_{}", process::id(rt.process()))?;
     let path = env::temp_dir(&rt)?.join(alloc, &name)?;
     let mut out = Adapted::new(fs::create(&rt, &path)?);
-    print_run(&mut out, &results, 18)?;
+    print_run(&mut out, &one_caller(alloc, results)?, 18)?;
     let mut source = Adapted::new(fs::open(&rt, &path)?);
     let bytes = read_bytes(alloc, &mut source)?;
     fs::remove_file(&rt, &path)?;

@@ -5,6 +5,9 @@ use Rattle.std.proofs.lemmas.List.{append_assoc}
 pub two_pieces : (a b : List ℕ) → a ++ (b ++ []) ≡ a ++ b
 two_pieces a b = ap (λ bs. a ++ bs) (append-nil b)
 
+pub three_pieces : (a b c : List ℕ) → a ++ (b ++ (c ++ [])) ≡ a ++ b ++ c
+three_pieces a b c = simp (append_assoc, append-nil) refl
+
 pub four_pieces : (a b c d : List ℕ) → a ++ (b ++ (c ++ (d ++ []))) ≡ a ++ b ++ c ++ d
 four_pieces a b c d = simp (append_assoc, append-nil) refl
 

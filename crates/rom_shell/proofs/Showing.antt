@@ -1,10 +1,8 @@
 -- What is shown of a heap that was opened, and why none was.
 use Rattle.std.specs.Prelude.{◌≡◌, ◌≢◌, ℕ, zero, suc, IsNone, ◌≤◌, Bool, true, false, IsTrue, List, [], ◌∷◌, ◌++◌, codes, if◌then◌else◌, Option, Some, None, IfSome, Result, Ok, Err}
-use Rattle.std.proofs.Common.{refl, inl, inr, subst, sym, ap, ◌∙◌, arith, append-nil}
+use Rattle.std.proofs.Common.{refl, inl, inr, subst, sym, arith, append-nil}
 use Rattle.std.proofs.lemmas.List.{append_assoc}
 use Rattle.rom_model.specs.History.{LAST_COUNT}
-use Rattle.rom_model.specs.Machine.{Machine, on_words}
-use Rattle.rom_model.specs.Passes.{history_of}
 use Rattle.rom_model.specs.Region.{Contents}
 use Rattle.rom_model.specs.State.{State}
 use Rattle.rom_model.specs.Story.{Story}
@@ -18,21 +16,18 @@ use Rattle.rom_script.specs.Runs.{IsTold}
 use Rattle.rom_script.specs.Streams.{ShownSink, ShownSource, Prints, StopsWriting}
 use Rattle.rom_script.specs.Text.{line_text}
 use Rattle.rom_store.specs.Calls.{HasFaults}
-use Rattle.rom_store.specs.Making.{IfMade}
+use Rattle.rom_store.specs.Making.{HasFaultsUnmade, IfMade}
 use Rattle.rom_store.specs.declared.new_heap.NotFormatted.{NotFormatted}
 use Rattle.rom_store.specs.declared.new_heap.NotFormatted.TheVariants as unmade
 use Rattle.rom_store.specs.declared.reasons.Why.{Why}
 use Rattle.rom_store.specs.declared.reasons.Why.TheVariants.{Device}
 use Rattle.rom_shell.specs.Devices.{HasDeviceFailed, IsOpenedFrom, IsPut, IsUnmade}
-use Rattle.rom_shell.specs.Opening.{HasFaultsUnmade}
 use Rattle.rom_shell.specs.Refusing.{refusal_line, refusal_status, unmade_line, unmade_status}
 use Rattle.rom_shell.specs.Run.{AreAnswered, HasReplies}
-use Rattle.rom_shell.specs.Sessions.{EachStory, IsStory}
-use Rattle.rom_twin.specs.declared.phase.Phase.TheVariants.{Clean}
+use Rattle.rom_store.specs.Sessions.{EachStory, SessionSeen}
 use Rattle.rom_shell.specs.Stat.{stat_text}
 use Rattle.rom_shell.specs.Statuses.{number_of}
 use Rattle.rom_shell.specs.Words.{Stat}
-use Rattle.rom_shell.specs.declared.session.Session.{Session}
 
 -- five lines as pieces, of which each begins with a name
 named_lines : (a order b count sizes f free total lf : List ℕ) →
@@ -65,9 +60,10 @@ nothing_done story none unrecorded certain few =
       within = omega (arith, few);
     })
 
--- a session without passes has no history
-pub undone : {S C Q R A : Type 0} (m : Machine S C Q R A) (Contents : ℕ → List ℕ → S → ℕ → Type 0) (order : ℕ) (image : List ℕ) (faults : ℕ) (story : Story S) → IsStory m Contents order image faults [] Clean story → story.history ≡ []
-undone m Contents order image faults story is = is.history ∙ ap (history_of (on_words m) story.order story.opening story.opening_count) is.records
+-- of each story of a session, with what holds anyway
+pub and_each : (session : Option SessionSeen) (P : Type 0) (Q : Story State → Type 0) → P → IfSome session (λ z. EachStory trio Contents z Q) → IfSome session (λ z. EachStory trio Contents z (λ story. P × Q story))
+and_each None P Q p each = tt
+and_each (Some z) P Q p each = λ story of. (p, each story of)
 
 module _ {O : Type 0} (sink : ShownSink O) where
   -- a text that was printed, whatever became of it
@@ -95,7 +91,7 @@ module _ {D O : Type 0} (shown : ShownDevice D) (sink : ShownSink O) (was now : 
 
 module _ {S O : Type 0} (source : ShownSource S) (sink : ShownSink O) (old new : O) where
   -- what is said of a heap that was shown, if it was
-  pub shown_replies : (session : Option Session) (file : List ℕ) (words : Option (List ℕ)) (status : ℕ) → (status ≢ 0 → IsNone session) →
+  pub shown_replies : (session : Option SessionSeen) (file : List ℕ) (words : Option (List ℕ)) (status : ℕ) → (status ≢ 0 → IsNone session) →
       IfSome session (λ s. EachStory trio Contents s (λ story. IfSome words (λ told. IsOpenedFrom told story))) →
       IfSome session (λ s. EachStory trio Contents s (λ story. AreAnswered trio story [] [])) →
       IfSome session (λ s. EachStory trio Contents s (λ story. IsPut sink old new (stat_text story.order story.opening story.opening_count))) →

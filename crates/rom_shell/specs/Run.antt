@@ -1,5 +1,5 @@
 -- What a run answers and prints.
-use Rattle.std.specs.Prelude.{◌≡◌, ℕ, ◌≤◌, ◌⊎◌, List, [], codes, Option, Some, None, IfSome, Ok}
+use Rattle.std.specs.Prelude.{◌≡◌, ℕ, ◌≤◌, ◌⊎◌, List, [], Option, Some, None, IfSome, Ok}
 use Rattle.rom_model.specs.declared.call.Call.{Call}
 use Rattle.rom_model.specs.declared.call.Query.{Query}
 use Rattle.rom_model.specs.declared.call.Reply.{Reply}
@@ -13,13 +13,10 @@ use Rattle.rom_model.specs.Story.{Story, count}
 use Rattle.rom_model.specs.Lawful.{IsLawful}
 use Rattle.rom_model.specs.Trio.{trio}
 use Rattle.rom_header.specs.Fresh.{IsFormatAnswer}
-use Rattle.rom_script.specs.Limits.{FailedEarly, IsTooLong}
-use Rattle.rom_script.specs.Runs.{AreScripts, IsCutShort, IsTold, IsWritten}
+use Rattle.rom_script.specs.Runs.{AreScripts, IsCutShort, IsWritten}
 use Rattle.rom_script.specs.Streams.{ShownSink, ShownSource}
 use Rattle.rom_script.specs.Text.{AreOfType, text}
 use Rattle.rom_script.specs.Trio.{trio_texts}
-use Rattle.rom_shell.specs.declared.status.Status.{Status}
-use Rattle.rom_shell.specs.declared.status.Status.TheVariants.{ScriptFailed, NoMemory, ScriptTooLong}
 use Rattle.rom_shell.specs.Devices.{IsOpenedFrom, IsPut}
 use Rattle.rom_shell.specs.Stat.{stat_text}
 use Rattle.rom_shell.specs.Statuses.{status_of}
@@ -48,6 +45,10 @@ HasNotRun (Some (Run file scripts)) status = (status ≡ 3) ⊎ (status ≡ 4) �
 HasNotRun (Some (Format file order)) status = Unit {0}
 HasNotRun (Some (Stat file)) status = (status ≡ 3) ⊎ (status ≡ 6) ⊎ (status ≡ 7)
 HasNotRun None status = Unit {0}
+
+-- With these every script was read to its end.
+abbrev pub HasRead : ℕ → Type 0
+HasRead status = (status ≡ 0) ⊎ (status ≡ 1) ⊎ (status ≡ 3) ⊎ (status ≡ 5) ⊎ (status ≡ 7)
 
 -- With these no call of the device has failed.
 abbrev pub HasNotFailed : Option Command → ℕ → Type 0
@@ -114,10 +115,3 @@ module _ {S O : Type 0} (source : ShownSource S) (sink : ShownSink O) where
     pub read : AreRun asked sources scripts
     pub answered : AreAnswered trio story scripts results
     pub printed : IsPrinted sink asked story results old new status
-
-  -- A script that isn't run, and the line that says why: the status is its cause.
-  abbrev pub IsUnread : Status → S → S → O → O → Type 0
-  IsUnread ScriptFailed was now old new = FailedEarly source was now × IsTold sink old new (codes "script 1 failed")
-  IsUnread ScriptTooLong was now old new = IsTooLong source was now × IsTold sink old new (codes "script 1 too long")
-  IsUnread NoMemory was now old new = IsTold sink old new (codes "no memory")
-  IsUnread other was now old new = ⊥

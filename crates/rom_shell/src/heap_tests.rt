@@ -1,9 +1,12 @@
 //! Heaps that are made and shown, to the byte, on devices in memory.
 use crate::{files_of, run};
+use rom_combine::NoGate;
 use rom_device::{CallKind, Device, Memory, Trip};
 use rom_script::{Bytes, Collect, Names};
 use std::alloc::{AllocError, Global};
+use std::sync::Wait;
 use std::test::Fail;
+use std::thread::Threads;
 
 /// Room for all that is printed.
 pub(crate) const AMPLE: u64 = 1024;
@@ -50,13 +53,14 @@ pub(crate) struct Told<D> {
 
 /// Runs the command that these words are on a device, with these scripts and a sink of this room.
 /// Words that name another number of scripts are not run.
-pub(crate) fn told_of<D: Device + Send + Drop>(
-    alloc: Global,
+pub(crate) fn told_of<R: Threads + Wait + Sync + AllocGlobal, D: Device + Send + Drop>(
+    rt: &R,
     words: &[&str],
     device: D,
     scripts: &[&str],
     room: u64,
 ) -> Result<Told<D>, Fail> {
+    let alloc = rt.alloc();
     let mut names = Names::new(alloc);
     for word in words {
         names.push(alloc, word)?;
@@ -70,7 +74,7 @@ pub(crate) fn told_of<D: Device + Send + Drop>(
         return Err(Fail::from("another number of scripts"));
     }
     let mut out = Collect::with_room(alloc, room, 5)?;
-    let ended = run(alloc, &names, device, sources, &mut out);
+    let ended = run(rt, alloc, &names, device, sources, &mut out, &NoGate);
     Ok(Told {
         status: ended.status,
         bytes: out.bytes().to_vec(alloc)?,
@@ -79,20 +83,22 @@ pub(crate) fn told_of<D: Device + Send + Drop>(
 }
 
 /// Makes a heap of order 4. It gives the status, the printed bytes and the device.
-fn format(alloc: Global, device: Memory, room: u64) -> Result<(u8, Vec<u8>, Memory), Fail> {
-    let told = told_of(
-        alloc,
-        &["format", "file", "--order", "4"],
-        device,
-        &[],
-        room,
-    )?;
+fn format<R: Threads + Wait + Sync + AllocGlobal>(
+    rt: &R,
+    device: Memory,
+    room: u64,
+) -> Result<(u8, Vec<u8>, Memory), Fail> {
+    let told = told_of(rt, &["format", "file", "--order", "4"], device, &[], room)?;
     Ok((told.status, told.bytes, told.device))
 }
 
 /// Shows a heap, likewise.
-fn stat(alloc: Global, device: Memory, room: u64) -> Result<(u8, Vec<u8>, Memory), Fail> {
-    let told = told_of(alloc, &["stat", "file"], device, &[], room)?;
+fn stat<R: Threads + Wait + Sync + AllocGlobal>(
+    rt: &R,
+    device: Memory,
+    room: u64,
+) -> Result<(u8, Vec<u8>, Memory), Fail> {
+    let told = told_of(rt, &["stat", "file"], device, &[], room)?;
     Ok((told.status, told.bytes, told.device))
 }
 
@@ -100,18 +106,18 @@ fn stat(alloc: Global, device: Memory, room: u64) -> Result<(u8, Vec<u8>, Memory
 fn a_heap_is_made_once_and_shown(rt: HostRuntime) -> Result<(), Fail> {
     let alloc = rt.alloc();
     let zeros = device(alloc, vec![in alloc; 0u64; 232]?, &[])?;
-    let (status, bytes, made) = format(alloc, zeros, AMPLE)?;
+    let (status, bytes, made) = format(&rt, zeros, AMPLE)?;
     assert_eq!(rt; status, 0);
     assert!(rt; bytes.as_slice() == b"formatted order 4\n".as_slice());
     assert_eq!(rt; made.words(), heap(alloc, &[])?.as_slice());
-    let (status, bytes, made) = format(alloc, made, AMPLE)?;
+    let (status, bytes, made) = format(&rt, made, AMPLE)?;
     assert_eq!(rt; status, 3);
     assert!(rt; bytes.as_slice() == b"refused: already a heap\n".as_slice());
-    let (status, bytes, _) = stat(alloc, made, AMPLE)?;
+    let (status, bytes, _) = stat(&rt, made, AMPLE)?;
     assert_eq!(rt; status, 0);
     assert!(rt; bytes.as_slice() == SHOWN.as_bytes());
     let short = device(alloc, vec![in alloc; 0u64; 231]?, &[])?;
-    let (status, bytes, _) = format(alloc, short, AMPLE)?;
+    let (status, bytes, _) = format(&rt, short, AMPLE)?;
     assert_eq!(rt; status, 3);
     assert!(rt; bytes.as_slice() == b"refused: too small, need 232, have 231\n".as_slice());
     Ok(())
@@ -126,7 +132,7 @@ fn a_torn_heap_is_recovered_and_shown(rt: HostRuntime) -> Result<(), Fail> {
             *word = 77;
         }
     }
-    let (status, bytes, after) = stat(alloc, device(alloc, words, &[])?, AMPLE)?;
+    let (status, bytes, after) = stat(&rt, device(alloc, words, &[])?, AMPLE)?;
     assert_eq!(rt; status, 0);
     assert!(rt; bytes.as_slice() == SHOWN.as_bytes());
     assert_eq!(rt; after.words(), heap(alloc, &[])?.as_slice());
@@ -160,14 +166,14 @@ fn a_refusal_is_told_by_its_line(rt: HostRuntime) -> Result<(), Fail> {
         let words = heap(alloc, changes)?;
         for room in [AMPLE, 0, 7] {
             let was = device(alloc, words.clone()?, &[])?;
-            let (status, bytes, _) = stat(alloc, was, room)?;
+            let (status, bytes, _) = stat(&rt, was, room)?;
             assert_eq!(rt; status, 3, "at {line}");
             let taken = line.len().min(room as usize);
             assert!(rt; bytes.as_slice() == &line.as_bytes()[..taken], "at {line}");
         }
     }
     let five = device(alloc, vec![in alloc; 0u64; 5]?, &[])?;
-    let (status, bytes, _) = stat(alloc, five, AMPLE)?;
+    let (status, bytes, _) = stat(&rt, five, AMPLE)?;
     assert_eq!(rt; status, 3);
     assert!(rt; bytes.as_slice() == b"refused: too small, need 8, have 5\n".as_slice());
     Ok(())
@@ -184,11 +190,11 @@ fn a_device_that_fails_is_told(rt: HostRuntime) -> Result<(), Fail> {
         nth: 1,
         keeps_new: false,
     };
-    let (status, bytes, _) = stat(alloc, device(alloc, heap(alloc, &[])?, &[sync])?, AMPLE)?;
+    let (status, bytes, _) = stat(&rt, device(alloc, heap(alloc, &[])?, &[sync])?, AMPLE)?;
     assert_eq!(rt; status, 7);
     assert!(rt; bytes.as_slice() == line);
     let zeros = device(alloc, vec![in alloc; 0u64; 232]?, &[sync])?;
-    let (status, bytes, _) = format(alloc, zeros, AMPLE)?;
+    let (status, bytes, _) = format(&rt, zeros, AMPLE)?;
     assert_eq!(rt; status, 7);
     assert!(rt; bytes.as_slice() == line);
     Ok(())
@@ -198,7 +204,7 @@ fn a_device_that_fails_is_told(rt: HostRuntime) -> Result<(), Fail> {
 fn a_full_sink_leaves_the_status(rt: HostRuntime) -> Result<(), Fail> {
     let alloc = rt.alloc();
     for room in [0, 8, 30] {
-        let (status, bytes, _) = stat(alloc, device(alloc, heap(alloc, &[])?, &[])?, room)?;
+        let (status, bytes, _) = stat(&rt, device(alloc, heap(alloc, &[])?, &[])?, room)?;
         assert_eq!(rt; status, 0, "at {room}");
         assert!(rt;
             bytes.as_slice() == &SHOWN.as_bytes()[..room as usize],
@@ -206,7 +212,7 @@ fn a_full_sink_leaves_the_status(rt: HostRuntime) -> Result<(), Fail> {
         );
     }
     let zeros = device(alloc, vec![in alloc; 0u64; 232]?, &[])?;
-    let (status, bytes, _) = format(alloc, zeros, 9)?;
+    let (status, bytes, _) = format(&rt, zeros, 9)?;
     assert_eq!(rt; status, 0);
     assert!(rt; bytes.as_slice() == b"formatted".as_slice());
     Ok(())

@@ -4,19 +4,16 @@
 //! printed reply is what one queue, set and map give at its printed place in one history, each
 //! update once and in its caller's order, each read from one committed state. A heap that is made
 //! holds the empty state whatever a stop leaves of it, one that is shown holds what it held, and
-//! what is refused is told by the very refusal of the device's words. Scripts are played on the heap
-//! of any object, of which the playing knows no more than the trait says.
+//! what is refused is told by the very refusal of the device's words. Each script has a caller of its
+//! own, in a thread, and the callers share one heap.
 #![tactic(auto)]
 
 mod format;
-mod opening;
-mod play;
 mod program;
 mod refusals;
 mod results;
 mod script;
 mod scripted;
-mod session;
 mod stat;
 mod status;
 mod tell;
@@ -24,10 +21,12 @@ mod words;
 mod worked;
 
 pub use program::{Ended, run};
-pub use session::Session;
+pub use rom_store::Session;
 pub use status::Status;
 pub use words::{DeviceWant, Wanted, files_of};
 
+#[cfg(test)]
+mod caller_tests;
 #[cfg(test)]
 mod heap_tests;
 #[cfg(test)]

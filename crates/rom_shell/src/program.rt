@@ -7,23 +7,26 @@ ghost use Rattle.rom_script.specs.Runs.{AreAskedOnce, AreAtEnd, AreWithin, IsTol
 ghost use Rattle.rom_script.specs.Streams.{StopsWriting, WriteFailed};
 ghost use Rattle.rom_script.specs.Trio.{TextDetermines};
 ghost use Rattle.rom_shell.specs.Devices.{CountsFaults, HasDeviceFailed, HasMade, IsHandedBack, IsHeapRefused, IsHeld, IsHeldNow, IsKept, IsLeft, IsLeftBySession, IsSpared};
-ghost use Rattle.rom_shell.specs.Run.{HasNotFailed, HasNotRun, HasReplies, HasRun, IsStatus};
-ghost use Rattle.rom_shell.specs.Sessions.{EachStory, HasStory};
+ghost use Rattle.rom_shell.specs.Run.{HasNotFailed, HasNotRun, HasRead, HasReplies, HasRun, IsStatus};
 ghost use Rattle.rom_shell.specs.Statuses.{number_of};
 ghost use Rattle.rom_shell.specs.Words.{command, scripts_of};
+ghost use Rattle.rom_store.specs.Sessions.{EachStory, HasStory};
 
 use crate::format::make_heap;
-use crate::script::read_one;
+use crate::script::read_scripts;
 use crate::scripted::{run_heap, try_heap};
-use crate::session::Session;
 use crate::stat::show_heap;
 use crate::status::Status;
 use crate::tell::tell;
 use crate::words::{Asked, read_command};
 use crate::worked::Worked;
+use rom_combine::Gate;
 use rom_device::Device;
 use rom_script::{Names, Sink, Source};
+use rom_store::Session;
 use std::alloc::Global;
+use std::sync::Wait;
+use std::thread::Threads;
 
 /// How a run ended, with all that it was handed.
 #[derive(Drop)]
@@ -73,17 +76,20 @@ impl<D, S> Ended<D, S> {
 
 /// Does all that the program does: runs the command that the words are on the device and the
 /// scripts that are handed in, and prints to the sink. `main` hands in what `files_of` of the same
-/// words names.
+/// words names. Each script has a caller of its own, in a thread where one can be made; the gate is
+/// told of their lines and of what is published.
 ///
 /// All memory is taken before the first update, and scripts are read before the device is called.
 /// Words that are no command, and scripts that can't be read, make no call of it. The device is handed
 /// back whatever comes.
-pub fn run<D: Device + Send, S: Source, O: Sink>(
+pub fn run<R: Threads + Wait + Sync, D: Device + Send, S: Source, O: Sink, G: Gate + Sync>(
+    rt: &R,
     alloc: Global,
     words: &Names,
     device: D,
     mut scripts: Vec<S>,
     out: &mut O,
+    gate: &G,
 ) -> Ended<D, S>
     requires { length scripts.items ≡ length (scripts_of (command words.now)) }
 
@@ -103,8 +109,8 @@ pub fn run<D: Device + Send, S: Source, O: Sink>(
         scripts.items out.old out.new result.status)) }
     ensures faults { IfSome result.session (λ session. EachStory trio Contents session (λ story.
         CountsFaults D.shown device result.device story)) }
-    ensures fit { IsSome result.session → AreWithin S.shown scripts.items }
-    ensures read { IsSome result.session → AreAtEnd S.shown result.scripts.items }
+    ensures fit { HasRead result.status → AreWithin S.shown scripts.items }
+    ensures read { HasRead result.status → AreAtEnd S.shown result.scripts.items }
     ensures sink_failed { result.status ≡ 5 → WriteFailed O.shown out.old out.new }
 
     // At the end a stop leaves the history, or that and the batch in doubt. At any moment it leaves what
@@ -155,12 +161,12 @@ pub fn run<D: Device + Send, S: Source, O: Sink>(
             tell(out, &["not a command"]);
             Ended::of(Status::NotACommand, device, scripts, None)
         }
-        Some(Asked::Try(_)) => match read_one(alloc, &mut scripts[0], out) {
-            Ok(script) => Ended::after(try_heap(alloc, device, script.lines(), out), scripts),
+        Some(Asked::Try(_)) => match read_scripts(alloc, &mut scripts, out) {
+            Ok(lines) => Ended::after(try_heap(rt, alloc, device, &lines, out, gate), scripts),
             Err(status) => Ended::of(status, device, scripts, None),
         },
-        Some(Asked::Run { file: _, script: _ }) => match read_one(alloc, &mut scripts[0], out) {
-            Ok(script) => Ended::after(run_heap(alloc, device, script.lines(), out), scripts),
+        Some(Asked::Run { .. }) => match read_scripts(alloc, &mut scripts, out) {
+            Ok(lines) => Ended::after(run_heap(rt, alloc, device, &lines, out, gate), scripts),
             Err(status) => Ended::of(status, device, scripts, None),
         },
         Some(Asked::Format { file: _, order }) => {

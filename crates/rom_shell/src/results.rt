@@ -1,5 +1,5 @@
-//! What a script was told, printed.
-ghost use Rattle.std.specs.Prelude.{◌≡◌, ◌⊎◌, ◌∷◌, []};
+//! What scripts were told, printed.
+ghost use Rattle.std.specs.Prelude.{◌≡◌, ◌⊎◌, map};
 ghost use Rattle.std.specs.List.{list_any};
 ghost use Rattle.rom_script.specs.Streams.{StopsWriting, WriteFailed};
 ghost use Rattle.rom_shell.specs.Run.{IsRunText};
@@ -22,21 +22,33 @@ fn is_faulted(told: &LineResult<Reply, Answer>) -> bool
     matches!(told, LineResult::Update(Updated::Failed | Updated::Doubt))
 }
 
-fn any_unread(results: &[LineResult<Reply, Answer>]) -> bool
+fn has_unread(results: &[LineResult<Reply, Answer>]) -> bool
     ensures { result ≡ list_any statuses.is_unread results.now }
 {
     results.iter().any(|told| is_unread(told))
 }
 
-fn any_faulted(results: &[LineResult<Reply, Answer>]) -> bool
+fn has_faulted(results: &[LineResult<Reply, Answer>]) -> bool
     ensures { result ≡ list_any statuses.is_faulted results.now }
 {
     results.iter().any(|told| is_faulted(told))
 }
 
+fn any_unread(results: &[Vec<LineResult<Reply, Answer>>]) -> bool
+    ensures { result ≡ list_any (λ v. list_any statuses.is_unread v.items) results.now }
+{
+    results.iter().any(|own| has_unread(own))
+}
+
+fn any_faulted(results: &[Vec<LineResult<Reply, Answer>>]) -> bool
+    ensures { result ≡ list_any (λ v. list_any statuses.is_faulted v.items) results.now }
+{
+    results.iter().any(|own| has_faulted(own))
+}
+
 /// The status of results that are all printed.
-fn status_of(results: &[LineResult<Reply, Answer>]) -> Status
-    ensures { number_of result ≡ statuses.status_of (results.now ∷ []) }
+fn status_of(results: &[Vec<LineResult<Reply, Answer>>]) -> Status
+    ensures { number_of result ≡ statuses.status_of (map (λ v. v.items) results.now) }
 {
     if any_faulted(results) {
         Status::DeviceFailed
@@ -47,13 +59,13 @@ fn status_of(results: &[LineResult<Reply, Answer>]) -> Status
     }
 }
 
-/// Prints the results of the one script, and the count at closing.
+/// Prints the results of all scripts, and the count at closing.
 pub(crate) fn tell_results<O: Sink>(
     out: &mut O,
-    results: &[LineResult<Reply, Answer>],
+    results: &[Vec<LineResult<Reply, Answer>>],
     count: u64,
 ) -> Status
-    ensures printed { IsRunText O.shown (results.now ∷ []) count out.old out.new (number_of result) }
+    ensures printed { IsRunText O.shown (map (λ v. v.items) results.now) count out.old out.new (number_of result) }
     ensures statuses { (result ≡ Status.Done) ⊎ (result ≡ Status.Unread)
         ⊎ (result ≡ Status.SinkFailed) ⊎ (result ≡ Status.DeviceFailed) }
     ensures sink_failed { result ≡ Status.SinkFailed → WriteFailed O.shown out.old out.new }

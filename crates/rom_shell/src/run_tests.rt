@@ -3,7 +3,9 @@ use crate::heap_tests::{AMPLE, Told, device, heap, told_of};
 use rom_device::{CallKind, Device, Fuse, Memory, Trip};
 use std::alloc::Global;
 use std::process::Abort;
+use std::sync::Wait;
 use std::test::Fail;
+use std::thread::Threads;
 
 /// The number of words of a device of order 4.
 const WORDS: usize = 232;
@@ -47,16 +49,20 @@ fn torn(alloc: Global) -> Result<Vec<u64>, Fail> {
 }
 
 /// Runs a script on a device.
-fn ran<D: Device + Send + Drop>(alloc: Global, device: D, script: &str) -> Result<Told<D>, Fail> {
-    told_of(alloc, &["run", "file", "script"], device, &[script], AMPLE)
+fn ran<R: Threads + Wait + Sync + AllocGlobal, D: Device + Send + Drop>(
+    rt: &R,
+    device: D,
+    script: &str,
+) -> Result<Told<D>, Fail> {
+    told_of(rt, &["run", "file", "script"], device, &[script], AMPLE)
 }
 
 /// What is shown of the heap in these words.
-fn shown(alloc: Global, words: Vec<u64>) -> Result<Vec<u8>, Fail> {
+fn shown<R: Threads + Wait + Sync + AllocGlobal>(rt: &R, words: Vec<u64>) -> Result<Vec<u8>, Fail> {
     let told = told_of(
-        alloc,
+        rt,
         &["stat", "file"],
-        device(alloc, words, &[])?,
+        device(rt.alloc(), words, &[])?,
         &[],
         AMPLE,
     )?;
@@ -112,7 +118,7 @@ fn faults_are_told_to_the_updates_they_meet(rt: HostRuntime) -> Result<(), Fail>
         ),
     ];
     for (trip, text, status) in rows {
-        let told = ran(alloc, device(alloc, heap(alloc, &[])?, &[trip])?, script)?;
+        let told = ran(&rt, device(alloc, heap(alloc, &[])?, &[trip])?, script)?;
         assert_eq!(rt; told.status, status, "at {trip:?}");
         assert!(rt; told.bytes.as_slice() == text.as_bytes(), "at {trip:?}");
         assert_eq!(rt; told.device.fault_count(), 1, "at {trip:?}");
@@ -125,7 +131,7 @@ fn the_last_update_there_can_be_is_done(rt: HostRuntime) -> Result<(), Fail> {
     let alloc = rt.alloc();
     let count = 4_611_686_018_427_387_903;
     let words = heap(alloc, &[(10, count), (122, count)])?;
-    let told = ran(alloc, device(alloc, words, &[])?, "enq 1\nenq 2\n")?;
+    let told = ran(&rt, device(alloc, words, &[])?, "enq 1\nenq 2\n")?;
     assert_eq!(rt; told.status, 0);
     assert!(rt;
         told.bytes.as_slice()
@@ -148,7 +154,7 @@ fn a_device_is_refused_and_stays(rt: HostRuntime) -> Result<(), Fail> {
     ];
     for (command, words, line) in &rows {
         let was = device(alloc, words.clone()?, &[])?;
-        let told = told_of(alloc, command, was, &["enq 1\n"], AMPLE)?;
+        let told = told_of(&rt, command, was, &["enq 1\n"], AMPLE)?;
         assert_eq!(rt; told.status, 3, "at {line}");
         assert!(rt; told.bytes.as_slice() == line.as_bytes(), "at {line}");
         assert_eq!(rt; told.device.words(), words.as_slice(), "at {line}");
@@ -159,14 +165,14 @@ fn a_device_is_refused_and_stays(rt: HostRuntime) -> Result<(), Fail> {
 #[test]
 fn every_stop_of_an_opening_leaves_the_heap(rt: HostRuntime) -> Result<(), Fail> {
     let alloc = rt.alloc();
-    let whole = ran(alloc, device(alloc, torn(alloc)?, &[])?, "peek\n")?;
+    let whole = ran(&rt, device(alloc, torn(alloc)?, &[])?, "peek\n")?;
     assert_eq!(rt; whole.status, 0);
     assert!(rt; whole.bytes.as_slice() == b"caller 1\nhead 9 #1\ncount 1\n".as_slice());
     let line = "order 4\ncount 1\nqueue 1 set 0 map 0\nfree 14\ntotal 0\n";
     for calls in 0..whole.device.calls_made() {
         for choice in [0, 1] {
             let fuse = Fuse::new(device(alloc, torn(alloc)?, &[])?, calls);
-            let told = ran(alloc, fuse, "peek\n")?;
+            let told = ran(&rt, fuse, "peek\n")?;
             assert_eq!(rt; told.status, 7, "at {calls}");
             assert!(rt;
                 told.bytes.as_slice() == b"device failed\n".as_slice(),
@@ -174,7 +180,7 @@ fn every_stop_of_an_opening_leaves_the_heap(rt: HostRuntime) -> Result<(), Fail>
             );
             let left = stopped(alloc, told.device.inner(), choice)?;
             assert!(rt;
-                shown(alloc, left)?.as_slice() == line.as_bytes(),
+                shown(&rt, left)?.as_slice() == line.as_bytes(),
                 "at {calls}"
             );
         }
@@ -222,7 +228,7 @@ fn is_as_told(shown: &[u8], told: &[u8]) -> bool {
 
 /// Asserts of a script that was run on a device that fails: its status, its count, and the count of
 /// the heap in what a stop at the end leaves.
-fn is_kept<R: Abort + AllocGlobal>(
+fn is_kept<R: Threads + Wait + Sync + AllocGlobal + Abort>(
     rt: &R,
     told: Told<Memory>,
     choice: u64,
@@ -237,10 +243,10 @@ fn is_kept<R: Abort + AllocGlobal>(
     let text = bytes.as_slice();
     assert!(rt; status == 0 || status == 7, "at {label}");
     assert!(rt; counts_its_places(text), "at {label}");
-    let as_read = shown(alloc, device.words().to_vec(alloc)?)?;
+    let as_read = shown(rt, device.words().to_vec(alloc)?)?;
     assert!(rt; is_as_told(&as_read, text), "at {label}");
     let left = stopped(alloc, device, choice)?;
-    assert!(rt; is_as_told(&shown(alloc, left)?, text), "at {label}");
+    assert!(rt; is_as_told(&shown(&rt, left)?, text), "at {label}");
     Ok(())
 }
 
@@ -250,7 +256,7 @@ fn a_heap_keeps_what_was_told_where_a_write_fails(rt: HostRuntime) -> Result<(),
     for nth in 1..BEYOND {
         for (keeps_new, choice) in [(false, 0), (false, 1), (true, 0), (true, 1)] {
             let trip = at_write(0, nth, keeps_new);
-            let told = ran(alloc, device(alloc, heap(alloc, &[])?, &[trip])?, UPDATES)?;
+            let told = ran(&rt, device(alloc, heap(alloc, &[])?, &[trip])?, UPDATES)?;
             if told.device.fault_count() == 0 {
                 // All writes are tried.
                 return is_kept(&rt, told, choice, nth);
@@ -267,7 +273,7 @@ fn a_heap_keeps_what_was_told_where_a_sync_fails(rt: HostRuntime) -> Result<(), 
     for nth in 2..BEYOND {
         for choice in [0, 1] {
             let was = device(alloc, heap(alloc, &[])?, &[at_sync(nth)])?;
-            let told = ran(alloc, was, UPDATES)?;
+            let told = ran(&rt, was, UPDATES)?;
             if told.device.fault_count() == 0 {
                 // All syncs are tried.
                 return is_kept(&rt, told, choice, nth);
@@ -281,7 +287,7 @@ fn a_heap_keeps_what_was_told_where_a_sync_fails(rt: HostRuntime) -> Result<(), 
 #[test]
 fn every_stop_of_a_run_leaves_a_state_of_it(rt: HostRuntime) -> Result<(), Fail> {
     let alloc = rt.alloc();
-    let whole = ran(alloc, device(alloc, heap(alloc, &[])?, &[])?, UPDATES)?;
+    let whole = ran(&rt, device(alloc, heap(alloc, &[])?, &[])?, UPDATES)?;
     assert_eq!(rt; whole.status, 0);
     assert!(rt;
         whole.bytes.as_slice() == b"caller 1\nnone @0\nqueued @1\nwas 1 @2\ncount 3\n".as_slice()
@@ -289,8 +295,8 @@ fn every_stop_of_a_run_leaves_a_state_of_it(rt: HostRuntime) -> Result<(), Fail>
     for calls in 0..whole.device.calls_made() {
         for choice in [0, 1] {
             let fuse = Fuse::new(device(alloc, heap(alloc, &[])?, &[])?, calls);
-            let told = ran(alloc, fuse, UPDATES)?;
-            let left = shown(alloc, stopped(alloc, told.device.inner(), choice)?)?;
+            let told = ran(&rt, fuse, UPDATES)?;
+            let left = shown(&rt, stopped(alloc, told.device.inner(), choice)?)?;
             let is_state = STATES
                 .iter()
                 .any(|state| state.as_bytes() == left.as_slice());

@@ -1,50 +1,98 @@
-//! A script that is read before anything is done.
-ghost use Rattle.std.specs.Prelude.{◌≡◌, ◌≢◌, ◌⊎◌, IfOk, IfErr, IfSome, OnOk, Err};
-ghost use Rattle.std.specs.Io.KnownBytes.{IsAtEnd};
-ghost use Rattle.rom_script.specs.Limits.{FitsScript};
-ghost use Rattle.rom_script.specs.Lines.{AreStepsOf};
-ghost use Rattle.rom_script.specs.Scripts.{steps_of};
-ghost use Rattle.rom_script.specs.Streams.{IsAskedOnce, StopsWriting};
-ghost use Rattle.rom_shell.specs.Run.{IsUnread};
+//! Scripts that are read before anything is done.
+ghost use Rattle.std.specs.Prelude.{◌≡◌, ◌≢◌, ◌⊎◌, ◌≤◌, All, length, map, IfErr, IfOk, OnOk, Err};
+ghost use Rattle.rom_model.specs.History.{LAST_COUNT};
+ghost use Rattle.rom_script.specs.Runs.{AreAskedOnce, AreAtEnd, AreScripts, AreWithin, IsTold};
+ghost use Rattle.rom_script.specs.Streams.{StopsWriting};
+ghost use Rattle.rom_shell.specs.Reading.{AreUnread, IsUnread, unread_line, unread_status};
 
 use crate::status::Status;
 use crate::tell::tell;
-use rom_script::{ReadRefused, Script, Sink, Source, read_script};
+use itoa::Buffer;
+use rom_script::{Line, ReadRefused, Sink, Source, read_script};
 use std::alloc::Global;
 
-/// Reads the one script. An `Err` is the status where it can't be; its line is printed then.
-pub(crate) fn read_one<S: Source, O: Sink>(
+/// Why no script is run.
+pub(crate) enum Unread {
+    /// The script of this number, counted from 1, is the first that can't be read.
+    Script(u64, ReadRefused),
+    /// There was no memory for a list of them.
+    OutOfMemory,
+}
+
+/// Reads the scripts in order, up to the first that can't be read.
+fn read_all<S: Source>(alloc: Global, sources: &mut [S]) -> Result<Vec<Vec<Line>>, Unread>
+    ensures many { length sources.new ≡ length sources.old }
+    ensures lines { IfOk result (λ read. AreScripts S.shown sources.old (map (λ v. v.items) read.items)) }
+    ensures few { IfOk result (λ read. All (λ v. length v.items ≤ LAST_COUNT) read.items) }
+    ensures each { IfOk result (λ read. length read.items ≡ length sources.old) }
+    ensures fits { OnOk result (AreWithin S.shown sources.old) }
+    ensures to_their_ends { OnOk result (AreAtEnd S.shown sources.new) }
+    ensures unread { IfErr result (λ unread. AreUnread S.shown unread sources.old sources.new) }
+    ensures unfailed { IfErr result (λ unread. unread_status unread ≢ Status.ScriptFailed →
+        map S.shown.faults sources.new ≡ map S.shown.faults sources.old) }
+    ensures unfailed_read { OnOk result (map S.shown.faults sources.new ≡ map S.shown.faults sources.old) }
+    ensures asked_once { AreAskedOnce S.shown sources.old sources.new }
+{
+    let Ok(mut scripts) = Vec::with_capacity(alloc, sources.len()) else {
+        return Err(Unread::OutOfMemory);
+    };
+    for i in 0..sources.len() {
+        match read_script(alloc, &mut sources[i]) {
+            Ok(script) => scripts.push_reserved(script.into_lines()),
+            Err(why) => return Err(Unread::Script(i as u64 + 1, why)),
+        }
+    }
+    Ok(scripts)
+}
+
+/// Prints why no script is run, and gives the status.
+fn tell_unread<O: Sink>(out: &mut O, unread: Unread) -> Status
+    ensures status { result ≡ unread_status unread }
+    ensures told { IsTold O.shown out.old out.new (unread_line unread) }
+    ensures rest { O.shown.rest out.new ≡ O.shown.rest out.old }
+{
+    match unread {
+        Unread::Script(number, ReadRefused::Failed) => {
+            tell(out, &["script ", Buffer::new().format(number), " failed"]);
+            Status::ScriptFailed
+        }
+        Unread::Script(number, ReadRefused::TooLong) => {
+            tell(out, &["script ", Buffer::new().format(number), " too long"]);
+            Status::ScriptTooLong
+        }
+        Unread::Script(_, ReadRefused::OutOfMemory) | Unread::OutOfMemory => {
+            tell(out, &["no memory"]);
+            Status::NoMemory
+        }
+    }
+}
+
+/// Reads the scripts in order. An `Err` is the status where one can't be read; the line of the first
+/// such is printed then.
+pub(crate) fn read_scripts<S: Source, O: Sink>(
     alloc: Global,
-    script: &mut S,
+    sources: &mut [S],
     out: &mut O,
-) -> Result<Script, Status>
-    ensures lines { IfOk result (λ script_read. AreStepsOf (S.shown.left script.old) (steps_of script_read)) }
+) -> Result<Vec<Vec<Line>>, Status>
+    ensures many { length sources.new ≡ length sources.old }
+    ensures lines { IfOk result (λ read. AreScripts S.shown sources.old (map (λ v. v.items) read.items)) }
+    ensures few { IfOk result (λ read. All (λ v. length v.items ≤ LAST_COUNT) read.items) }
+    ensures each { IfOk result (λ read. length read.items ≡ length sources.old) }
     ensures unprinted { OnOk result (out.new ≡ out.old) }
-    ensures fits { OnOk result (IfSome (S.shown.left script.old) FitsScript) }
-    ensures to_its_end { OnOk result (IsAtEnd (S.shown.left script.new)) }
+    ensures fits { OnOk result (AreWithin S.shown sources.old) }
+    ensures to_their_ends { OnOk result (AreAtEnd S.shown sources.new) }
     ensures statuses { IfErr result (λ status. (status ≡ Status.ScriptFailed)
         ⊎ (status ≡ Status.ScriptTooLong) ⊎ (status ≡ Status.NoMemory)) }
     ensures unread { IfErr result (λ status.
-        IsUnread S.shown O.shown status script.old script.new out.old out.new) }
+        IsUnread S.shown O.shown status sources.old sources.new out.old out.new) }
     ensures unfailed { result ≢ Err Status.ScriptFailed →
-        S.shown.faults script.new ≡ S.shown.faults script.old }
-    ensures asked_once { IsAskedOnce S.shown script.old script.new }
+        map S.shown.faults sources.new ≡ map S.shown.faults sources.old }
+    ensures asked_once { AreAskedOnce S.shown sources.old sources.new }
     ensures writing { StopsWriting O.shown out.old out.new }
     ensures rest { O.shown.rest out.new ≡ O.shown.rest out.old }
 {
-    match read_script(alloc, script) {
-        Ok(script) => Ok(script),
-        Err(ReadRefused::Failed) => {
-            tell(out, &["script 1 failed"]);
-            Err(Status::ScriptFailed)
-        }
-        Err(ReadRefused::TooLong) => {
-            tell(out, &["script 1 too long"]);
-            Err(Status::ScriptTooLong)
-        }
-        Err(ReadRefused::OutOfMemory) => {
-            tell(out, &["no memory"]);
-            Err(Status::NoMemory)
-        }
+    match read_all(alloc, sources) {
+        Ok(scripts) => Ok(scripts),
+        Err(unread) => Err(tell_unread(out, unread)),
     }
 }

@@ -1,13 +1,16 @@
-//! A script on the heap of a device.
-ghost use Rattle.std.specs.Prelude.{◌≡◌, ◌≢◌, ◌⊎◌, ◌≤◌, ◌∷◌, [], ℕ, List, length, vec_capacity, count_by, codes, IfSome, IsNone, IsSome, IsTrue};
-ghost use Rattle.rom_device.specs.Device.{Becomes, Does, Leaves, Runs, Stays, told_words};
-ghost use Rattle.rom_header.specs.Fresh.{IsRefused};
+//! Scripts on the heap of a device.
+ghost use Rattle.std.specs.Prelude.{◌≡◌, ◌≢◌, ◌⊎◌, ◌<◌, ◌≤◌, ℕ, All, List, length, map, codes, IfSome, IsNone, IsSome, IsTrue, Some};
+ghost use Rattle.rom_device.specs.Device.{Leaves, told_words};
+ghost use Rattle.rom_model.specs.History.{LAST_COUNT};
+ghost use Rattle.rom_model.specs.Lawful.{IsLawful};
 ghost use Rattle.rom_model.specs.Machine.{on_words};
 ghost use Rattle.rom_model.specs.Region.{Contents};
 ghost use Rattle.rom_model.specs.State.{empty};
 ghost use Rattle.rom_model.specs.Trio.{trio};
-ghost use Rattle.rom_model.specs.VecSpace.{words_of};
 ghost use Rattle.rom_model.specs.Space.{ChangesOnly};
+ghost use Rattle.rom_model.specs.declared.call.Call.{Call};
+ghost use Rattle.rom_model.specs.declared.call.Query.{Query};
+ghost use Rattle.rom_model.specs.declared.line.Step.{Step};
 ghost use Rattle.rom_header.specs.Layout.{words_needed};
 ghost use Rattle.rom_combine.specs.Costs.{WithinHeap};
 ghost use Rattle.rom_combine.specs.Session.{ImageNow, SessionImage};
@@ -15,85 +18,65 @@ ghost use Rattle.rom_recover.specs.Recovered.{Mended};
 ghost use Rattle.rom_script.specs.Runs.{IsTold};
 ghost use Rattle.rom_script.specs.Streams.{StopsWriting, WriteFailed};
 ghost use Rattle.rom_shell.specs.Devices.{CountsFaults, HasDeviceFailed, IsNoHeap, IsOpenedFrom, IsSparedBy, IsUnmade, IsUnopened};
-ghost use Rattle.rom_shell.specs.Opening.{IsReady};
-ghost use Rattle.rom_shell.specs.Playing.{is_update};
 ghost use Rattle.rom_shell.specs.Run.{HavePlayed, IsNewHeap};
-ghost use Rattle.rom_shell.specs.Sessions.{EachStory, HasStory};
 ghost use Rattle.rom_shell.specs.Statuses.{number_of};
 ghost use Rattle.rom_store.specs.Making.{NoneOrHolds};
 ghost use Rattle.rom_store.specs.Refusals.{named_order};
+ghost use Rattle.rom_store.specs.Sessions.{EachStory, HasStory};
 
-use crate::opening::{Ready, TRY_ORDER, Unmade, new_heap, open_heap};
-use crate::play::{Played, Room, play};
 use crate::refusals::{refusal_status, tell_refusal, tell_unmade, unmade_status};
 use crate::results::tell_results;
-use crate::session::Session;
 use crate::status::Status;
-use crate::tell::tell;
 use crate::worked::Worked;
+use rom_combine::Gate;
 use rom_device::Device;
 use rom_heap::Trio;
 use rom_model::{Answer, Reply};
 use rom_script::{Line, Sink};
-use rom_store::Refused;
+use rom_store::{Played, Refused, Unmade, play, play_new};
 use std::alloc::Global;
+use std::sync::Wait;
+use std::thread::Threads;
 
-/// A device on whose heap a script was run.
-struct Ran<D> {
-    device: D,
-    status: Status,
-    session: Session,
-}
+/// The order of the heap of a `try`.
+pub(crate) const TRY_ORDER: u32 = 4;
 
-/// Runs the lines on an open heap, and prints what they were told.
-fn run_on<D: Device, O: Sink>(
-    heap: Ready<D, Trio>,
-    room: Room<Reply, Answer>,
-    lines: &[Line],
-    out: &mut O,
-) -> Ran<D>
-    requires ready { IsReady trio Contents D.shown heap.plain (words_of heap.image.value) }
-    requires results { (room.results.items ≡ []) × (length lines.now ≤ vec_capacity room.results) }
-    requires passes { (room.passes.items ≡ []) × (count_by is_update lines.now ≤ vec_capacity room.passes) }
-    ensures does { Does D.shown (WithinHeap heap.plain.order) heap.plain.device result.device }
+/// Prints what the scripts were told, and ends the session.
+fn end_of<D: Device, O: Sink>(played: Played<D, Trio, Reply, Answer>, out: &mut O) -> Worked<D>
+    ensures device { result.device ≡ played.closed.device }
+    ensures session { result.session ≡ Some played.closed.session }
     ensures statuses { (result.status ≡ Status.Done) ⊎ (result.status ≡ Status.Unread)
         ⊎ (result.status ≡ Status.SinkFailed) ⊎ (result.status ≡ Status.DeviceFailed) }
-    ensures story { HasStory trio Contents result.session }
-    ensures opened { EachStory trio Contents result.session (λ story.
-        (story.order ≡ heap.plain.order) × Contents heap.plain.order heap.plain.image story.opening story.opening_count) }
-    ensures played { EachStory trio Contents result.session (λ story.
-        HavePlayed O.shown story (lines.now ∷ []) out.old out.new (number_of result.status)) }
-    ensures now { IsTrue D.shown.tells_images → EachStory trio Contents result.session (λ story.
-        (i : List ℕ) → D.shown.leaves result.device i → ImageNow Contents (on_words trio) story i) }
-    ensures images { IsTrue D.shown.tells_images → EachStory trio Contents result.session (λ story.
-        Runs D.shown (Becomes (SessionImage Contents (on_words trio) story)) heap.plain.device result.device) }
-    ensures faults { EachStory trio Contents result.session (λ story.
-        CountsFaults D.shown heap.plain.device result.device story) }
+    ensures played { (scripts : List (List (Step Call Query))) →
+        EachStory trio Contents played.closed.session (λ story.
+        IsLawful trio story scripts (map (λ v. v.items) played.results.items)
+        → HavePlayed O.shown story scripts out.old out.new (number_of result.status)) }
     ensures sink_failed { result.status ≡ Status.SinkFailed → WriteFailed O.shown out.old out.new }
     ensures writing { StopsWriting O.shown out.old out.new }
     ensures rest { O.shown.rest out.new ≡ O.shown.rest out.old }
 {
-    let Played {
+    let Played { results, closed } = played;
+    let status = tell_results(out, &results, closed.count());
+    let (device, session) = closed.parts();
+    Worked {
         device,
-        session,
-        results,
-        count,
-    } = play(heap.plain, heap.image, room, lines);
-    Ran {
-        device,
-        status: tell_results(out, &results, count),
-        session,
+        status,
+        session: Some(session),
     }
 }
 
-/// Runs the lines on the heap that the device has, and prints what they were told, or why there is
-/// no heap. Memory for them is taken before the device is called.
-pub(crate) fn run_heap<D: Device, O: Sink>(
+/// Runs the scripts on the heap that the device has, one caller each, and prints what they were told,
+/// or why there is no heap. Memory for them is taken before the device is called.
+pub(crate) fn run_heap<R: Threads + Wait + Sync, D: Device + Send, O: Sink, G: Gate + Sync>(
+    rt: &R,
     alloc: Global,
     device: D,
-    lines: &[Line],
+    scripts: &[Vec<Line>],
     out: &mut O,
+    gate: &G,
 ) -> Worked<D>
+    requires callers { (0 < length scripts.now) × (length scripts.now ≤ 16) }
+    requires few { All (λ v. length v.items ≤ LAST_COUNT) scripts.now }
     ensures size { D.shown.size result.device ≡ D.shown.size device }
     ensures outside { IsTrue D.shown.tells_words →
         WithinHeap (named_order (D.shown.words device)) (D.shown.words device) (D.shown.words result.device) }
@@ -108,7 +91,7 @@ pub(crate) fn run_heap<D: Device, O: Sink>(
     ensures opening { IfSome result.session (λ session. EachStory trio Contents session (λ story.
         IfSome (told_words D.shown device) (λ words. IsOpenedFrom words story))) }
     ensures played { IfSome result.session (λ session. EachStory trio Contents session (λ story.
-        HavePlayed O.shown story (lines.now ∷ []) out.old out.new (number_of result.status))) }
+        HavePlayed O.shown story (map (λ v. v.items) scripts.now) out.old out.new (number_of result.status))) }
     ensures now { IsTrue D.shown.tells_images → IfSome result.session (λ session.
         EachStory trio Contents session (λ story.
         (i : List ℕ) → D.shown.leaves result.device i → ImageNow Contents (on_words trio) story i)) }
@@ -130,27 +113,8 @@ pub(crate) fn run_heap<D: Device, O: Sink>(
     ensures writing { StopsWriting O.shown out.old out.new }
     ensures rest { O.shown.rest out.new ≡ O.shown.rest out.old }
 {
-    let Ok(room) = Room::for_lines(alloc, lines) else {
-        tell(out, &["no memory"]);
-        return Worked {
-            device,
-            status: Status::NoMemory,
-            session: None,
-        };
-    };
-    match open_heap::<D, Trio>(alloc, device) {
-        Ok(heap) => {
-            let Ran {
-                device,
-                status,
-                session,
-            } = run_on(heap, room, lines, out);
-            Worked {
-                device,
-                status,
-                session: Some(session),
-            }
-        }
+    match play::<D, Trio, R, G>(rt, alloc, device, scripts, gate) {
+        Ok(played) => end_of(played, out),
         Err(Refused { device, why }) => {
             tell_refusal(out, why);
             Worked {
@@ -162,14 +126,18 @@ pub(crate) fn run_heap<D: Device, O: Sink>(
     }
 }
 
-/// Makes a heap on the device, runs the lines on it, and prints what they were told, or why there is
-/// no heap. All memory is taken before the device is called.
-pub(crate) fn try_heap<D: Device, O: Sink>(
+/// Makes a heap on the device, runs the scripts on it, one caller each, and prints what they were told,
+/// or why there is no heap. All memory is taken before the device is called.
+pub(crate) fn try_heap<R: Threads + Wait + Sync, D: Device + Send, O: Sink, G: Gate + Sync>(
+    rt: &R,
     alloc: Global,
     device: D,
-    lines: &[Line],
+    scripts: &[Vec<Line>],
     out: &mut O,
+    gate: &G,
 ) -> Worked<D>
+    requires callers { (0 < length scripts.now) × (length scripts.now ≤ 16) }
+    requires few { All (λ v. length v.items ≤ LAST_COUNT) scripts.now }
     ensures size { D.shown.size result.device ≡ D.shown.size device }
     ensures outside { IsTrue D.shown.tells_words →
         ChangesOnly 0 (words_needed 4) (D.shown.words device) (D.shown.words result.device) }
@@ -184,7 +152,7 @@ pub(crate) fn try_heap<D: Device, O: Sink>(
     ensures opening { IfSome result.session (λ session. EachStory trio Contents session (λ story.
         IsNewHeap (told_words D.shown device) story)) }
     ensures played { IfSome result.session (λ session. EachStory trio Contents session (λ story.
-        HavePlayed O.shown story (lines.now ∷ []) out.old out.new (number_of result.status))) }
+        HavePlayed O.shown story (map (λ v. v.items) scripts.now) out.old out.new (number_of result.status))) }
     ensures now { IsTrue D.shown.tells_images → IfSome result.session (λ session.
         EachStory trio Contents session (λ story.
         (i : List ℕ) → D.shown.leaves result.device i → ImageNow Contents (on_words trio) story i)) }
@@ -207,27 +175,8 @@ pub(crate) fn try_heap<D: Device, O: Sink>(
     ensures writing { StopsWriting O.shown out.old out.new }
     ensures rest { O.shown.rest out.new ≡ O.shown.rest out.old }
 {
-    let Ok(room) = Room::for_lines(alloc, lines) else {
-        tell(out, &["no memory"]);
-        return Worked {
-            device,
-            status: Status::NoMemory,
-            session: None,
-        };
-    };
-    match new_heap::<D, Trio>(alloc, device, TRY_ORDER) {
-        Ok(heap) => {
-            let Ran {
-                device,
-                status,
-                session,
-            } = run_on(heap, room, lines, out);
-            Worked {
-                device,
-                status,
-                session: Some(session),
-            }
-        }
+    match play_new::<D, Trio, R, G>(rt, alloc, device, TRY_ORDER, scripts, gate) {
+        Ok(played) => end_of(played, out),
         Err(Unmade { device, why }) => {
             tell_unmade(out, why);
             Worked {

@@ -19,13 +19,12 @@ ghost use Rattle.rom_script.specs.Text.{line_text};
 ghost use Rattle.rom_script.specs.Trio.{answer_text};
 ghost use Rattle.rom_shell.specs.Devices.{CountsFaults, HasDeviceFailed, IsOpenedFrom, IsPut, IsUnopened};
 ghost use Rattle.rom_shell.specs.Run.{AreAnswered};
-ghost use Rattle.rom_shell.specs.Sessions.{EachStory, HasStory, IsStory};
 ghost use Rattle.rom_shell.specs.Stat.{stat_lines, stat_text};
 ghost use Rattle.rom_shell.specs.Statuses.{number_of};
 ghost use Rattle.rom_store.specs.Refusals.{named_order};
+ghost use Rattle.rom_store.specs.Sessions.{EachStory, HasStory, unchanged};
 
 use crate::refusals::{refusal_status, tell_refusal};
-use crate::session::Session;
 use crate::status::Status;
 use crate::worked::Worked;
 use itoa::Buffer;
@@ -33,10 +32,8 @@ use rom_device::Device;
 use rom_heap::{Trio, free_elements};
 use rom_model::{Answer, COUNT, Look, Object, Query, VecSpace};
 use rom_script::{IoFailed, Sink, Told, print_pieces, print_text};
-use rom_store::{Opened, Refused, open_device};
-use rom_twin::Phase;
+use rom_store::{Opened, Refused, Session, open_device};
 use std::alloc::Global;
-use std::snapshot::Snapshot;
 
 /// What is printed of a heap.
 #[derive(Clone, Copy)]
@@ -102,33 +99,20 @@ fn print_before<O: Sink>(out: &mut O, pieces: &[&str], answer: &Answer) -> Resul
 
 /// Prints the sizes of the heap in a region, on a device that has failed so often. The session is
 /// that of the heap, on which nothing is done.
-fn show_image<O: Sink>(
-    alloc: Global,
-    order: u32,
-    faults: u64,
-    image: Vec<u64>,
-    out: &mut O,
-) -> Session
+fn show_image<O: Sink>(order: u32, faults: u64, image: Vec<u64>, out: &mut O) -> Session
     requires order { IsOrder order }
     requires region { (s : State) × (k : ℕ) × Contents order image.items s k }
     ensures story { HasStory trio Contents result }
-    ensures opened { EachStory trio Contents result (λ story.
-        IsStory trio Contents order image.items faults [] Phase.Clean story) }
+    ensures session { result ≡ unchanged order image.items faults }
     ensures printed { EachStory trio Contents result (λ story.
         IsPut O.shown out.old out.new (stat_text story.order story.opening story.opening_count)) }
     ensures writing { StopsWriting O.shown out.old out.new }
     ensures rest { O.shown.rest out.new ≡ O.shown.rest out.old }
 {
     let mut space = VecSpace::of(image);
-    let opening = Snapshot::of(&space);
+    let session = Session::unchanged(order, &space, faults);
     let _ = Sizes::of(&mut space, order).print(out);
-    Session {
-        order,
-        image: opening,
-        opening_faults: faults,
-        passes: Vec::new(alloc),
-        phase: Phase::Clean,
-    }
+    session
 }
 
 /// Opens the heap on the device, and prints its sizes or why it is refused.
@@ -183,7 +167,7 @@ pub(crate) fn show_heap<D: Device, O: Sink>(alloc: Global, device: D, out: &mut 
             Worked {
                 device,
                 status: Status::Done,
-                session: Some(show_image(alloc, geometry.order(), faults, image, out)),
+                session: Some(show_image(geometry.order(), faults, image, out)),
             }
         }
         Err(Refused { device, why }) => {

@@ -2,16 +2,15 @@
 ghost use Rattle.std.specs.Prelude.{◌<◌};
 
 use crate::heap_tests::told_of;
-use crate::opening::{TRY_ORDER, new_heap};
-use crate::play::{Room, play};
 use crate::words::read_command;
 use crate::{DeviceWant, Ended, files_of, run};
+use rom_combine::NoGate;
 use rom_device::Ram;
-use rom_heap::Trio;
-use rom_model::{Answer, Call, LineResult, Query, Reply, Step, Updated};
 use rom_script::{Bytes, Collect, Names};
 use std::alloc::{AllocError, Global};
+use std::sync::Wait;
 use std::test::Fail;
+use std::thread::Threads;
 
 /// Room for each text of a short script.
 const AMPLE: u64 = 1024;
@@ -49,8 +48,8 @@ const GREAT_TOLD: &str =
     "caller 1\nnone @0\nnone @1\ntotal 36893488147419103230 #2\nover @2\ncount 3\n";
 
 /// Tries a script that comes in pieces of this length.
-fn tried(
-    alloc: Global,
+fn tried<R: Threads + Wait + Sync + AllocGlobal>(
+    rt: &R,
     script: Vec<u8>,
     piece: u64,
     trips: &[u64],
@@ -58,24 +57,26 @@ fn tried(
 ) -> Result<Ended<Ram, Bytes>, AllocError>
     requires { 0 < piece }
 {
+    let alloc = rt.alloc();
     let mut words = Names::new(alloc);
     words.push(alloc, "try")?;
     words.push(alloc, "script")?;
     let mut scripts = Vec::new(alloc);
     scripts.push(Bytes::new(script, piece, trips.to_vec(alloc)?))?;
     let device = Ram::zeroed(alloc, 232)?;
-    Ok(run(alloc, &words, device, scripts, out))
+    Ok(run(rt, alloc, &words, device, scripts, out, &NoGate))
 }
 
 /// The status of a short script that is tried, and the bytes that a sink with this room takes.
-fn told(
-    alloc: Global,
+fn told<R: Threads + Wait + Sync + AllocGlobal>(
+    rt: &R,
     script: &str,
     trips: &[u64],
     room: u64,
 ) -> Result<(u8, Vec<u8>), AllocError> {
+    let alloc = rt.alloc();
     let mut out = Collect::with_room(alloc, room, 5)?;
-    let ended = tried(alloc, script.as_bytes().to_vec(alloc)?, 3, trips, &mut out)?;
+    let ended = tried(rt, script.as_bytes().to_vec(alloc)?, 3, trips, &mut out)?;
     Ok((ended.status, out.bytes().to_vec(alloc)?))
 }
 
@@ -120,21 +121,15 @@ fn scripts_are_told_their_replies(rt: HostRuntime) -> Result<(), Fail> {
         ),
     ];
     for (script, text, status) in rows {
-        let (found, bytes) = told(rt.alloc(), script, &[], AMPLE)?;
+        let (found, bytes) = told(&rt, script, &[], AMPLE)?;
         assert_eq!(rt; found, status, "at {script}");
         assert!(rt; bytes.as_slice() == text.as_bytes(), "at {script}");
 
         // A heap in a file that was just made gives the same.
         let zeros = Ram::zeroed(rt.alloc(), 232)?;
-        let made = told_of(
-            rt.alloc(),
-            &["format", "file", "--order", "4"],
-            zeros,
-            &[],
-            AMPLE,
-        )?;
+        let made = told_of(&rt, &["format", "file", "--order", "4"], zeros, &[], AMPLE)?;
         let played = told_of(
-            rt.alloc(),
+            &rt,
             &["run", "file", "script"],
             made.device,
             &[script],
@@ -147,14 +142,14 @@ fn scripts_are_told_their_replies(rt: HostRuntime) -> Result<(), Fail> {
 }
 
 #[test]
-fn the_session_has_a_pass_for_each_update(rt: HostRuntime) -> Result<(), Fail> {
+fn a_session_is_left_where_scripts_were_run(rt: HostRuntime) -> Result<(), Fail> {
     let alloc = rt.alloc();
     let mut out = Collect::with_room(alloc, AMPLE, 5)?;
     let script = b"enq 9\npeek\nqed\ndeq\n".to_vec(alloc)?;
-    let ended = tried(alloc, script, 3, &[], &mut out)?;
-    assert_eq!(rt; ended.session.ok_or("no session")?.passes.len(), 2);
+    let ended = tried(&rt, script, 3, &[], &mut out)?;
+    assert!(rt; ended.session.is_some());
     let mut none = Collect::with_room(alloc, AMPLE, 5)?;
-    let ended = tried(alloc, b"enq 9".to_vec(alloc)?, 3, &[2], &mut none)?;
+    let ended = tried(&rt, b"enq 9".to_vec(alloc)?, 3, &[2], &mut none)?;
     assert!(rt; ended.session.is_none());
     Ok(())
 }
@@ -162,7 +157,7 @@ fn the_session_has_a_pass_for_each_update(rt: HostRuntime) -> Result<(), Fail> {
 #[test]
 fn other_words_are_no_command(rt: HostRuntime) -> Result<(), Fail> {
     let alloc = rt.alloc();
-    let rows: [&[&str]; 20] = [
+    let rows: [&[&str]; 21] = [
         &["format", "F"],
         &["format", "F", "--order", "3"],
         &["format", "F", "--order", "17"],
@@ -180,9 +175,10 @@ fn other_words_are_no_command(rt: HostRuntime) -> Result<(), Fail> {
         &["help"],
         &["run", "F"],
         &["run", "F", "-x"],
-        &["run", "F", "a", "b"],
-        &["try", "a", "b"],
+        &["run", "F", "a", "-b"],
+        &["try", "a", "", "b"],
         &["try", ""],
+        &["run", "", "a"],
     ];
     let line = b"not a command\n";
     for row in rows {
@@ -198,7 +194,7 @@ fn other_words_are_no_command(rt: HostRuntime) -> Result<(), Fail> {
             let device = Ram::zeroed(alloc, 0)?;
             let scripts: Vec<Bytes> = Vec::new(alloc);
             let mut out = Collect::with_room(alloc, room as u64, 5)?;
-            let ended = run(alloc, &words, device, scripts, &mut out);
+            let ended = run(&rt, alloc, &words, device, scripts, &mut out, &NoGate);
             assert_eq!(rt; ended.status, 2, "at {row:?}");
             assert!(rt; out.bytes() == &line[..room], "at {row:?}");
         }
@@ -206,33 +202,56 @@ fn other_words_are_no_command(rt: HostRuntime) -> Result<(), Fail> {
     Ok(())
 }
 
-#[test]
-fn try_and_run_name_one_script(rt: HostRuntime) -> Result<(), Fail> {
-    let alloc = rt.alloc();
-    for script in ["x", "-"] {
-        let mut words = Names::new(alloc);
-        words.push(alloc, "try")?;
-        words.push(alloc, script)?;
-        let wanted = files_of(alloc, &words)?;
-        assert!(rt;
-            matches!(wanted.device, DeviceWant::Fresh(232)),
-            "at {script}"
-        );
-        assert_eq!(rt; wanted.scripts.len(), 1, "at {script}");
-        assert!(rt; wanted.scripts.at(0) == Some(script), "at {script}");
+/// Words of a command, and then so many scripts.
+fn with_scripts(alloc: Global, command: &[&str], many: u64) -> Result<Names, AllocError> {
+    let mut words = Names::new(alloc);
+    for word in command {
+        words.push(alloc, word)?;
+    }
+    for i in 0..many {
+        words.push(alloc, if i % 2 == 0 { "x" } else { "-" })?;
+    }
+    Ok(words)
+}
 
-        let mut words = Names::new(alloc);
-        words.push(alloc, "run")?;
-        words.push(alloc, "F")?;
-        words.push(alloc, script)?;
-        let wanted = files_of(alloc, &words)?;
+#[test]
+fn try_and_run_name_up_to_sixteen_scripts(rt: HostRuntime) -> Result<(), Fail> {
+    let alloc = rt.alloc();
+    for many in 0..19 {
+        let is_command = (1..=16).contains(&many);
+        let count = if is_command { many } else { 0 };
+        let wanted = files_of(alloc, &with_scripts(alloc, &["try"], many)?)?;
+        let fresh = matches!(wanted.device, DeviceWant::Fresh(232));
+        assert_eq!(rt; fresh, is_command, "at {many}");
+        assert_eq!(rt; wanted.scripts.len(), count, "at {many}");
+        for i in 0..count {
+            let name = if i % 2 == 0 { "x" } else { "-" };
+            assert!(rt; wanted.scripts.at(i) == Some(name), "at {many}");
+        }
+
+        let wanted = files_of(alloc, &with_scripts(alloc, &["run", "F"], many)?)?;
         let named = match &wanted.device {
             DeviceWant::Old(name) => name.as_str() == "F",
             _ => false,
         };
-        assert!(rt; named, "at {script}");
-        assert_eq!(rt; wanted.scripts.len(), 1, "at {script}");
-        assert!(rt; wanted.scripts.at(0) == Some(script), "at {script}");
+        assert_eq!(rt; named, is_command, "at {many}");
+        assert_eq!(rt; wanted.scripts.len(), count, "at {many}");
+    }
+    Ok(())
+}
+
+#[test]
+fn seventeen_scripts_are_no_command(rt: HostRuntime) -> Result<(), Fail> {
+    let alloc = rt.alloc();
+    for command in [&["try"].as_slice(), &["run", "F"].as_slice()] {
+        let words = with_scripts(alloc, command, 17)?;
+        assert_eq!(rt; files_of(alloc, &words)?.scripts.len(), 0);
+        let scripts: Vec<Bytes> = Vec::new(alloc);
+        let mut out = Collect::with_room(alloc, AMPLE, 5)?;
+        let device = Ram::zeroed(alloc, 232)?;
+        let ended = run(&rt, alloc, &words, device, scripts, &mut out, &NoGate);
+        assert_eq!(rt; ended.status, 2);
+        assert!(rt; out.bytes() == b"not a command\n".as_slice());
     }
     Ok(())
 }
@@ -274,7 +293,15 @@ fn a_dash_alone_is_a_script(rt: HostRuntime) -> Result<(), Fail> {
     let mut scripts = Vec::new(alloc);
     scripts.push(Bytes::new(b"deq\n".to_vec(alloc)?, 3, Vec::new(alloc)))?;
     let mut out = Collect::with_room(alloc, AMPLE, 5)?;
-    let ended = run(alloc, &words, Ram::zeroed(alloc, 232)?, scripts, &mut out);
+    let ended = run(
+        &rt,
+        alloc,
+        &words,
+        Ram::zeroed(alloc, 232)?,
+        scripts,
+        &mut out,
+        &NoGate,
+    );
     assert_eq!(rt; ended.status, 0);
     assert!(rt; out.bytes() == b"caller 1\nempty @0\ncount 1\n".as_slice());
     Ok(())
@@ -282,14 +309,14 @@ fn a_dash_alone_is_a_script(rt: HostRuntime) -> Result<(), Fail> {
 
 #[test]
 fn a_full_sink_has_the_front_of_the_text(rt: HostRuntime) -> Result<(), Fail> {
-    let (status, bytes) = told(rt.alloc(), "enq 9", &[], 10)?;
+    let (status, bytes) = told(&rt, "enq 9", &[], 10)?;
     assert_eq!(rt; status, 5);
     assert!(rt; bytes.as_slice() == b"caller 1\nq".as_slice());
 
     // The update is done, though its reply is not printed.
     let mut out = Collect::with_room(rt.alloc(), 10, 5)?;
-    let ended = tried(rt.alloc(), b"enq 9".to_vec(rt.alloc())?, 3, &[], &mut out)?;
-    let shown = told_of(rt.alloc(), &["stat", "file"], ended.device, &[], AMPLE)?;
+    let ended = tried(&rt, b"enq 9".to_vec(rt.alloc())?, 3, &[], &mut out)?;
+    let shown = told_of(&rt, &["stat", "file"], ended.device, &[], AMPLE)?;
     assert!(rt;
         shown.bytes.as_slice()
             == b"order 4\ncount 1\nqueue 1 set 0 map 0\nfree 14\ntotal 0\n".as_slice()
@@ -297,7 +324,7 @@ fn a_full_sink_has_the_front_of_the_text(rt: HostRuntime) -> Result<(), Fail> {
 
     let text = FILLED.as_bytes();
     for room in 0..=text.len() {
-        let (status, bytes) = told(rt.alloc(), FILL, &[], room as u64)?;
+        let (status, bytes) = told(&rt, FILL, &[], room as u64)?;
         assert_eq!(rt; status, if room < text.len() { 5 } else { 0 }, "at {room}");
         assert!(rt; bytes.as_slice() == &text[..room], "at {room}");
     }
@@ -310,14 +337,14 @@ fn a_failed_read_is_told(rt: HostRuntime) -> Result<(), Fail> {
     let script = "enq 9\ndeq\ndeq\n";
     let line = b"script 1 failed\n";
     for read in 1..=6u64 {
-        let (status, bytes) = told(rt.alloc(), script, &[read], AMPLE)?;
+        let (status, bytes) = told(&rt, script, &[read], AMPLE)?;
         assert_eq!(rt; status, 4, "at {read}");
         assert!(rt; bytes.as_slice() == line.as_slice(), "at {read}");
     }
-    let (status, _) = told(rt.alloc(), script, &[7], AMPLE)?;
+    let (status, _) = told(&rt, script, &[7], AMPLE)?;
     assert_eq!(rt; status, 0);
     for room in 0..line.len() {
-        let (status, bytes) = told(rt.alloc(), script, &[3], room as u64)?;
+        let (status, bytes) = told(&rt, script, &[3], room as u64)?;
         assert_eq!(rt; status, 4, "at {room}");
         assert!(rt; bytes.as_slice() == &line[..room], "at {room}");
     }
@@ -329,7 +356,7 @@ fn the_longest_script_is_run(rt: HostRuntime) -> Result<(), Fail> {
     let alloc = rt.alloc();
     let script = vec![in alloc; b'\n'; MOST]?;
     let mut out = Collect::with_room(alloc, 8 * MOST as u64, 4096)?;
-    let ended = tried(alloc, script, 4096, &[], &mut out)?;
+    let ended = tried(&rt, script, 4096, &[], &mut out)?;
     assert_eq!(rt; ended.status, 1);
     let mut text = b"caller 1\n".to_vec(alloc)?;
     for _ in 0..MOST {
@@ -345,31 +372,8 @@ fn a_longer_script_is_refused(rt: HostRuntime) -> Result<(), Fail> {
     let alloc = rt.alloc();
     let script = vec![in alloc; b'\n'; MOST + 1]?;
     let mut out = Collect::with_room(alloc, AMPLE, 5)?;
-    let ended = tried(alloc, script, 4096, &[], &mut out)?;
+    let ended = tried(&rt, script, 4096, &[], &mut out)?;
     assert_eq!(rt; ended.status, 8);
     assert!(rt; out.bytes() == b"script 1 too long\n".as_slice());
-    Ok(())
-}
-
-#[test]
-fn lines_are_played_in_order(rt: HostRuntime) -> Result<(), Fail> {
-    let lines = [
-        Step::Update(Call::Add(9)),
-        Step::Unread,
-        Step::Ask(Query::Has(9)),
-    ];
-    let alloc = rt.alloc();
-    let room = Room::for_lines(alloc, &lines)?;
-    let Ok(heap) = new_heap::<Ram, Trio>(alloc, Ram::zeroed(alloc, 232)?, TRY_ORDER) else {
-        return Err(Fail::from("no heap"));
-    };
-    let played = play(heap.plain, heap.image, room, &lines);
-    assert_eq!(rt; played.count, 1);
-    let told = [
-        LineResult::Update(Updated::Done(Reply::Added, 0)),
-        LineResult::Unread,
-        LineResult::Read(Answer::Yes, 1),
-    ];
-    assert!(rt; played.results.as_slice() == told.as_slice());
     Ok(())
 }

@@ -1,13 +1,18 @@
 //! The words of the command line.
-ghost use Rattle.std.specs.Prelude.{◌≡◌, [], ◌∷◌, IfOk, IfSome, Some};
+ghost use Rattle.std.specs.Prelude.{◌≡◌, ◌<◌, ◌≤◌, length, IfOk, IfSome, IsTrue, Some};
+ghost use Rattle.std.specs.List.{list_all};
 ghost use Rattle.rom_model.specs.Blocks.{IsOrder};
-ghost use Rattle.rom_shell.specs.Wanted.{AsksForOrder, IsWanted, named};
-ghost use Rattle.rom_shell.specs.Words.{command, is_plain, orders, scripts_of, spelt};
+ghost use Rattle.rom_shell.specs.Wanted.{AsksForFew, AsksForOrder, IsWanted, named};
+ghost use Rattle.rom_shell.specs.Words.{command, format_of, is_plain, orders, run_of, scripts_of, spelt, stat_of};
+ghost use Rattle.rom_shell.specs.Words as spec;
 
-use crate::opening::TRY_ORDER;
+use crate::scripted::TRY_ORDER;
 use rom_header::Geometry;
 use rom_script::{Name, Names};
 use std::alloc::{AllocError, Global};
+
+/// The most scripts that a command takes. Each has a caller of its own.
+const MOST_SCRIPTS: usize = 16;
 
 /// The device that a command works on.
 #[derive(Debug, Drop)]
@@ -29,13 +34,13 @@ pub struct Wanted {
     pub scripts: Names,
 }
 
-/// What words that are a command ask for. An order is 4 to 16.
+/// What words that are a command ask for. An order is 4 to 16, and there are 1 to 16 scripts.
 #[derive(Clone, Copy)]
 pub(crate) enum Asked<'a> {
-    /// To run this script on a new heap.
-    Try(&'a str),
-    /// To run this script on the heap in this file.
-    Run { file: &'a str, script: &'a str },
+    /// To run these scripts on a new heap.
+    Try(&'a [Name]),
+    /// To run these scripts on the heap in this file.
+    Run { file: &'a str, scripts: &'a [Name] },
     /// To make a new heap of this order in this file.
     Format { file: &'a str, order: u32 },
     /// To print the sizes of the heap in this file.
@@ -75,42 +80,67 @@ fn read_order(word: &str) -> Option<u32>
     }
 }
 
-/// A command of two words.
-fn read_two<'a>(name: &str, word: &'a str) -> Option<Asked<'a>>
-    ensures named { named result ≡ command (name.now ∷ word.now ∷ []) }
-    ensures order { IfSome result AsksForOrder }
+fn is_plain_name(word: &Name) -> bool
+    ensures { result ≡ is_plain word.now }
 {
-    if !is_plain_word(word) {
+    is_plain_word(word.as_str())
+}
+
+fn are_plain(words: &[Name]) -> bool
+    ensures { result ≡ list_all is_plain words.now }
+{
+    words.iter().all(|word| is_plain_name(word))
+}
+
+/// Whether words name scripts: there are 1 to 16, and each is plain.
+fn are_scripts(words: &[Name]) -> bool
+    ensures named { result ≡ spec.are_scripts words.now }
+    ensures few { IsTrue result → (0 < length words.now) × (length words.now ≤ 16) }
+{
+    (1..=MOST_SCRIPTS).contains(&words.len()) && are_plain(words)
+}
+
+/// A file, and then the scripts to run on its heap.
+fn read_run(words: &[Name]) -> Option<Asked<'_>>
+    ensures named { named result ≡ run_of words.now }
+    ensures order { IfSome result AsksForOrder }
+    ensures few { IfSome result AsksForFew }
+{
+    let (file, scripts) = words.split_first()?;
+    let file = file.as_str();
+    if !is_plain_word(file) || !are_scripts(scripts) {
         return None;
     }
-    match name {
-        "try" => Some(Asked::Try(word)),
-        "stat" => Some(Asked::Stat(word)),
+    Some(Asked::Run { file, scripts })
+}
+
+/// A file, and the order of the heap that is made there.
+fn read_format(words: &[Name]) -> Option<Asked<'_>>
+    ensures named { named result ≡ format_of words.now }
+    ensures order { IfSome result AsksForOrder }
+    ensures few { IfSome result AsksForFew }
+{
+    let [file, option, value] = words else {
+        return None;
+    };
+    let file = file.as_str();
+    if !is_plain_word(file) || option.as_str() != "--order" {
+        return None;
+    }
+    let order = read_order(value.as_str())?;
+    Some(Asked::Format { file, order })
+}
+
+/// A file alone.
+fn read_stat(words: &[Name]) -> Option<Asked<'_>>
+    ensures named { named result ≡ stat_of words.now }
+    ensures order { IfSome result AsksForOrder }
+    ensures few { IfSome result AsksForFew }
+{
+    match words {
+        [file] if is_plain_word(file.as_str()) => Some(Asked::Stat(file.as_str())),
         _ => None,
     }
-}
-
-/// A command of three words.
-fn read_three<'a>(name: &str, file: &'a str, script: &'a str) -> Option<Asked<'a>>
-    ensures named { named result ≡ command (name.now ∷ file.now ∷ script.now ∷ []) }
-    ensures order { IfSome result AsksForOrder }
-{
-    if name != "run" || !is_plain_word(file) || !is_plain_word(script) {
-        return None;
-    }
-    Some(Asked::Run { file, script })
-}
-
-/// A command of four words.
-fn read_four<'a>(name: &str, file: &'a str, option: &str, value: &str) -> Option<Asked<'a>>
-    ensures named { named result ≡ command (name.now ∷ file.now ∷ option.now ∷ value.now ∷ []) }
-    ensures order { IfSome result AsksForOrder }
-{
-    if name != "format" || !is_plain_word(file) || option != "--order" {
-        return None;
-    }
-    let order = read_order(value)?;
-    Some(Asked::Format { file, order })
 }
 
 /// The command that the words are. A file or a script is a word that is not empty, and that begins
@@ -118,13 +148,14 @@ fn read_four<'a>(name: &str, file: &'a str, option: &str, value: &str) -> Option
 pub(crate) fn read_command(words: &Names) -> Option<Asked<'_>>
     ensures named { named result ≡ command words.now }
     ensures order { IfSome result AsksForOrder }
+    ensures few { IfSome result AsksForFew }
 {
-    match (words.at(0), words.at(1), words.at(2), words.at(3)) {
-        (Some(name), Some(word), None, _) => read_two(name, word),
-        (Some(name), Some(file), Some(script), None) => read_three(name, file, script),
-        (Some(name), Some(file), Some(option), Some(value)) if words.len() == 4 => {
-            read_four(name, file, option, value)
-        }
+    let (name, words) = words.as_slice().split_first()?;
+    match name.as_str() {
+        "try" if are_scripts(words) => Some(Asked::Try(words)),
+        "run" => read_run(words),
+        "format" => read_format(words),
+        "stat" => read_stat(words),
         _ => None,
     }
 }
@@ -140,7 +171,7 @@ fn device_of(alloc: Global, asked: &Asked<'_>) -> Result<DeviceWant, AllocError>
             let file = Name::of(alloc, file)?;
             Ok(DeviceWant::Made(file, Geometry::of_order(*order).need()))
         }
-        Asked::Run { file, script: _ } | Asked::Stat(file) => {
+        Asked::Run { file, scripts: _ } | Asked::Stat(file) => {
             Ok(DeviceWant::Old(Name::of(alloc, file)?))
         }
     }
@@ -150,11 +181,13 @@ fn device_of(alloc: Global, asked: &Asked<'_>) -> Result<DeviceWant, AllocError>
 fn named_scripts(alloc: Global, asked: &Asked<'_>) -> Result<Names, AllocError>
     ensures { IfOk result (λ scripts. scripts ≡ scripts_of (named (Some asked.now))) }
 {
-    let mut scripts = Names::new(alloc);
-    if let Asked::Try(script) | Asked::Run { file: _, script } = asked {
-        scripts.push(alloc, script)?;
+    let mut named = Names::new(alloc);
+    if let Asked::Try(scripts) | Asked::Run { file: _, scripts } = asked {
+        for script in scripts.iter() {
+            named.push(alloc, script.as_str())?;
+        }
     }
-    Ok(scripts)
+    Ok(named)
 }
 
 /// What the words ask `main` to hand to `run`: a device, and the scripts in order.

@@ -1,7 +1,7 @@
 //! A device that a command has worked on.
 
-use crate::session::Session;
 use crate::status::Status;
+use rom_store::Session;
 
 /// The device after a command, how the command ended, and what it did on the heap, where one was
 /// opened or made.

@@ -4,6 +4,7 @@
 ghost use Rattle.std.specs.Prelude.{◌≡◌, length, IfOk};
 ghost use Rattle.rom_shell.specs.Words.{command, scripts_of};
 
+use rom_combine::NoGate;
 use rom_device::{Device, FileDevice, Ram};
 use rom_script::{Adapted, Names};
 use rom_shell::{DeviceWant, Status, files_of, run};
@@ -12,6 +13,8 @@ use std::fs::{File, OpenFile, OpenOptions};
 use std::io::ErrorKind;
 use std::os::fd::{AsRawFd, IntoRawFd};
 use std::process::ExitCode;
+use std::sync::Wait;
+use std::thread::Threads;
 use std::{env, io};
 
 /// Sees to it that the descriptors 0 to 2 are taken. One that was closed when the program began
@@ -118,8 +121,8 @@ fn memory_of(wanted: &DeviceWant) -> u64 {
 }
 
 /// Runs the command on this device, prints to the standard output, and gives the status.
-fn run_on<D: Device + Send + Drop>(
-    rt: &HostRuntime,
+fn run_on<R: Threads + Wait + Sync + AllocGlobal + Print, D: Device + Send + Drop>(
+    rt: &R,
     words: &Names,
     device: D,
     sources: Vec<Adapted<File>>,
@@ -127,18 +130,22 @@ fn run_on<D: Device + Send + Drop>(
     requires { length sources.items ≡ length (scripts_of (command words.now)) }
 {
     let mut out = Adapted::new(io::writer(rt));
-    run(rt.alloc(), words, device, sources, &mut out).status
+    run(rt, rt.alloc(), words, device, sources, &mut out, &NoGate).status
 }
 
-/// Runs the command that the words are, and gives its status.
-fn start(rt: &HostRuntime) -> Result<u8, AllocError> {
-    let words = words_of(rt)?;
-    let wanted = files_of(rt.alloc(), &words)?;
-    let sources = sources_of(rt, &wanted.scripts)?;
-    if let Some(device) = file_of(rt, &wanted.device)? {
+/// Runs the command that the words are, and gives its status. The host has the words and the files;
+/// `rt` is the same runtime, as a handle that may start threads and wait for them.
+fn start<R: Threads + Wait + Sync + AllocGlobal + Print>(
+    host: &HostRuntime,
+    rt: &R,
+) -> Result<u8, AllocError> {
+    let words = words_of(host)?;
+    let wanted = files_of(host.alloc(), &words)?;
+    let sources = sources_of(host, &wanted.scripts)?;
+    if let Some(device) = file_of(host, &wanted.device)? {
         return Ok(run_on(rt, &words, device, sources));
     }
-    let device = Ram::zeroed(rt.alloc(), memory_of(&wanted.device))?;
+    let device = Ram::zeroed(host.alloc(), memory_of(&wanted.device))?;
     Ok(run_on(rt, &words, device, sources))
 }
 
@@ -153,7 +160,7 @@ fn main(rt: HostRuntime) -> ExitCode {
         let _ = eprintln!(&rt; "romulus: /dev/null cannot be opened");
         return no_memory(&rt);
     }
-    match start(&rt) {
+    match start(&rt, &rt) {
         Ok(status) => ExitCode::from(status),
         Err(_) => no_memory(&rt),
     }

@@ -1,24 +1,26 @@
-use Rattle.std.proofs.Common.{ℕ, sym, ap, subst}
-use Rattle.rom_header.specs.Held.{Holds}
+use Rattle.std.proofs.Common.{ℕ, List, IfSome, ap, sym, subst}
+use Rattle.rom_device.specs.Device.{Leaves}
 use Rattle.rom_model.specs.Machine.{on_words}
 use Rattle.rom_model.specs.Region.{Contents}
 use Rattle.rom_model.specs.Trio.{trio}
-use Rattle.rom_combine.specs.Session.{SessionImage}
+use Rattle.rom_combine.specs.Session.{ImageNow, SessionImage}
+use Rattle.rom_store.specs.Sessions.{EachStory}
 use Rattle.rom_shell.specs.Statuses.{number_of}
-use Rattle.rom_shell.proofs.Leaving.{held_opening, leaves_then}
 use Rattle.rom_shell.proofs.Showing.{opening_failed}
 use Rattle.rom_shell.proofs.scripted.run_heap.Goals as goal
 
-pub returns-in-Ok-open_heap-clause-since : goal.returns-in-Ok-open_heap-clause-since
-returns-in-Ok-open_heap-clause-since g c = λ told story is.
+pub returns-in-Ok-clause-now : goal.returns-in-Ok-clause-now
+returns-in-Ok-clause-now g c = λ images.
     let shown = g.D.Device.shown in
-    let plain = c.in-Ok-open_heap.heap.plain in
-    let opened = c.run_on-device.ensures.opened story is in
-    leaves_then shown (λ i. Holds Contents plain.order i story.opening story.opening_count) (SessionImage Contents (on_words trio) story) (SessionImage Contents (on_words trio) story) c.args.device plain.device c.run_on-device.result.device
-    (λ t i. g.met.D.Device.counts_now plain.device t i told)
-    (λ i held. held_opening Contents (on_words trio) story i (subst (λ (n : ℕ). Holds Contents n i story.opening story.opening_count) (sym opened.0) held)) (λ i image. image)
-    (c.in-Ok-open_heap.ensures.held_images told story.opening story.opening_count opened.1) (c.run_on-device.ensures.images told story is)
+    subst (λ o. IfSome o (λ session. EachStory trio Contents session (λ story. (i : List ℕ) → shown.leaves c.end_of.result.device i → ImageNow Contents (on_words trio) story i))) (sym c.end_of.ensures.session)
+    (subst (λ d. EachStory trio Contents c.in-Ok.played.closed.session (λ story. (i : List ℕ) → shown.leaves d i → ImageNow Contents (on_words trio) story i)) (sym c.end_of.ensures.device) (c.in-Ok.ensures.now images))
+
+pub returns-in-Ok-clause-since : goal.returns-in-Ok-clause-since
+returns-in-Ok-clause-since g c = λ images.
+    let shown = g.D.Device.shown in
+    subst (λ o. IfSome o (λ session. EachStory trio Contents session (λ story. Leaves shown (SessionImage Contents (on_words trio) story) c.args.device c.end_of.result.device))) (sym c.end_of.ensures.session)
+    (subst (λ d. EachStory trio Contents c.in-Ok.played.closed.session (λ story. Leaves shown (SessionImage Contents (on_words trio) story) c.args.device d)) (sym c.end_of.ensures.device) (c.in-Ok.ensures.since images))
 
 pub returns-in-Err-clause-device_failed : goal.returns-in-Err-clause-device_failed
 returns-in-Err-clause-device_failed g c = λ seven none.
-    opening_failed g.D.Device.shown g.O.Sink.shown c.args.device c.in-Err.field-0.device c.args.out.now c.tell_refusal.new.out c.in-Err.field-0.why _ (ap number_of c.refusal_status.ensures) seven c.in-Err.ensures.faults c.tell_refusal.ensures.told
+    opening_failed g.D.Device.shown g.O.Sink.shown c.args.device c.in-Err.field-0.device c.args.out.now c.tell_refusal.new.out c.in-Err.field-0.why _ (ap number_of c.refusal_status.ensures) seven c.in-Err.ensures.refused_faults c.tell_refusal.ensures.told

@@ -10,8 +10,9 @@ use Rattle.rom_combine.specs.Session.{SessionImage}
 use Rattle.rom_shell.specs.Devices.{IsOpenedFrom}
 use Rattle.rom_shell.specs.Statuses.{number_of}
 use Rattle.rom_store.specs.Refusals.{named_order}
+use Rattle.rom_store.specs.Sessions.{IsStoryOf}
 use Rattle.rom_shell.proofs.Leaving.{held_opening, leaves_by, mends_within}
-use Rattle.rom_shell.proofs.Showing.{if_told, nothing_done, opening_failed, undone}
+use Rattle.rom_shell.proofs.Showing.{if_told, nothing_done, opening_failed}
 use Rattle.rom_shell.proofs.stat.show_heap.Goals as goal
 
 pub show_image-requires-clause-region : goal.show_image-requires-clause-region
@@ -19,7 +20,7 @@ show_image-requires-clause-region g c = subst (λ n. (s : State) × (k : ℕ) ×
 
 pub returns-in-Ok-clause-opening : goal.returns-in-Ok-clause-opening
 returns-in-Ok-clause-opening g c = λ story is.
-    let opened = c.show_image.ensures.opened story is in
+    let opened = subst (λ z. IsStoryOf trio Contents z story) c.show_image.ensures.session is in
     let shown = g.D.Device.shown in
     let order : story.order ≡ c.in-Ok.field-0.geometry = opened.order_is ∙ c.order.ensures.order in
     let held : Contents c.in-Ok.field-0.geometry c.in-Ok.field-0.image.items story.opening story.opening_count = subst (λ n. Contents n c.in-Ok.field-0.image.items story.opening story.opening_count) c.order.ensures.order opened.opening in
@@ -28,20 +29,20 @@ returns-in-Ok-clause-opening g c = λ story is.
 
 pub returns-in-Ok-clause-answered : goal.returns-in-Ok-clause-answered
 returns-in-Ok-clause-answered g c = λ story is.
-    let opened = c.show_image.ensures.opened story is in
-    nothing_done story (undone trio Contents c.order.result c.in-Ok.field-0.image.items c.fault_count-faults.result story opened) opened.records opened.in_doubt
+    let opened = subst (λ z. IsStoryOf trio Contents z story) c.show_image.ensures.session is in
+    nothing_done story opened.history opened.records opened.in_doubt
     (contents_within c.order.result c.in-Ok.field-0.image.items story.opening story.opening_count opened.opening).2
 
 pub returns-in-Ok-clause-held : goal.returns-in-Ok-clause-held
 returns-in-Ok-clause-held g c = λ told story is.
-    let opened = c.show_image.ensures.opened story is in
+    let opened = subst (λ z. IsStoryOf trio Contents z story) c.show_image.ensures.session is in
     let order : story.order ≡ c.in-Ok.field-0.geometry = opened.order_is ∙ c.order.ensures.order in
     let held : Contents c.in-Ok.field-0.geometry c.in-Ok.field-0.image.items story.opening story.opening_count = subst (λ n. Contents n c.in-Ok.field-0.image.items story.opening story.opening_count) c.order.ensures.order opened.opening in
     subst (λ n. Holds Contents n (g.D.Device.shown.words c.in-Ok.field-0.device) story.opening story.opening_count) (sym order) (c.in-Ok.ensures.holds told story.opening story.opening_count held)
 
 pub returns-in-Ok-clause-now : goal.returns-in-Ok-clause-now
 returns-in-Ok-clause-now g c = λ images story is i left.
-    let opened = c.show_image.ensures.opened story is in
+    let opened = subst (λ z. IsStoryOf trio Contents z story) c.show_image.ensures.session is in
     let shown = g.D.Device.shown in
     let order : story.order ≡ c.in-Ok.field-0.geometry = opened.order_is ∙ c.order.ensures.order in
     let held : Contents c.in-Ok.field-0.geometry c.in-Ok.field-0.image.items story.opening story.opening_count = subst (λ n. Contents n c.in-Ok.field-0.image.items story.opening story.opening_count) c.order.ensures.order opened.opening in
@@ -51,7 +52,7 @@ returns-in-Ok-clause-now g c = λ images story is i left.
 
 pub returns-in-Ok-clause-since : goal.returns-in-Ok-clause-since
 returns-in-Ok-clause-since g c = λ images story is.
-    let opened = c.show_image.ensures.opened story is in
+    let opened = subst (λ z. IsStoryOf trio Contents z story) c.show_image.ensures.session is in
     let shown = g.D.Device.shown in
     let order : story.order ≡ c.in-Ok.field-0.geometry = opened.order_is ∙ c.order.ensures.order in
     let held : Contents c.in-Ok.field-0.geometry c.in-Ok.field-0.image.items story.opening story.opening_count = subst (λ n. Contents n c.in-Ok.field-0.image.items story.opening story.opening_count) c.order.ensures.order opened.opening in
@@ -61,7 +62,7 @@ returns-in-Ok-clause-since g c = λ images story is.
 
 pub returns-in-Ok-clause-faults : goal.returns-in-Ok-clause-faults
 returns-in-Ok-clause-faults g c = λ story is.
-    let opened = c.show_image.ensures.opened story is in
+    let opened = subst (λ z. IsStoryOf trio Contents z story) c.show_image.ensures.session is in
     let shown = g.D.Device.shown in
     let none : faults_after story.opening_faults story.records ≡ story.opening_faults = ap (faults_after story.opening_faults) opened.records in
     let same : shown.faults c.in-Ok.field-0.device ≡ shown.faults c.args.device = c.in-Ok.ensures.faults in
