@@ -2,3 +2,4 @@
 pub mod Holds
 pub mod Ready
 pub mod Posting
+pub mod Stores

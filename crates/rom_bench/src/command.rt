@@ -1,8 +1,11 @@
 //! The command line.
 use crate::calls::Calls;
-use crate::combining::{Combining, Passes};
+use crate::passes::Passes;
+use crate::played::Crowd;
 use crate::reads::{Reading, Way};
+use crate::sharing::{Sharing, What};
 use rom_header::{Geometry, State};
+use std::vec::IntoIter;
 
 /// What is to be done with a file.
 #[derive(Clone, Copy)]
@@ -28,8 +31,12 @@ pub enum Command {
     Count(Calls, u64),
     /// Reads by threads beside each other.
     Read(Reading),
-    /// Passes or batches on a heap in memory.
-    Combine(Combining),
+    /// Passes on a heap in memory.
+    Pass(Passes),
+    /// Reads or updates by one caller of a store.
+    Share(Sharing),
+    /// Updates by callers of a store in threads, on the file of that name or in memory.
+    Play(Crowd, Option<String>),
 }
 
 /// The action of that name with that number.
@@ -49,12 +56,38 @@ fn number_of(word: &String) -> Option<u64> {
     word.as_str().parse::<u64>().ok()
 }
 
+/// What is asked of a store by that word and the words after it.
+fn of_store(name: &str, mut words: IntoIter<String>) -> Option<Command> {
+    let first = words.next()?;
+    let second = words.next();
+    let file = words.next();
+    if words.next().is_some() || file.is_some() && name != "passes" {
+        return None;
+    }
+    Some(match (name, second) {
+        ("updates", None) => Command::Share(Sharing::Updates(number_of(&first)?)),
+        ("reads", Some(reads)) => {
+            Command::Share(Sharing::Reads(What::of(first.as_str())?, number_of(&reads)?))
+        }
+        ("bare", Some(reads)) => {
+            Command::Share(Sharing::Bare(What::of(first.as_str())?, number_of(&reads)?))
+        }
+        ("passes", Some(updates)) => {
+            Command::Play(Crowd::of(number_of(&first)?, number_of(&updates)?)?, file)
+        }
+        _ => return None,
+    })
+}
+
 impl Command {
     /// The command that the words are, if any.
     pub fn read(words: Vec<String>) -> Option<Command> {
         let mut words = words.into_iter();
         let name = words.next()?;
         let second = words.next()?;
+        if name.as_str() == "store" {
+            return of_store(second.as_str(), words);
+        }
         let number = match words.next() {
             Some(word) => Some(number_of(&word)?),
             None => None,
@@ -68,11 +101,9 @@ impl Command {
         }
         if let Some(rounds) = rounds {
             let passes = Passes::of(number_of(&second)?, number?, rounds)?;
-            let wanted = Command::Combine(Combining::Passes(passes));
-            return (name.as_str() == "pass").then_some(wanted);
+            return (name.as_str() == "pass").then_some(Command::Pass(passes));
         }
         match name.as_str() {
-            "batch" => Some(Command::Combine(Combining::Batches(number_of(&second)?))),
             "count" => Some(Command::Count(Calls::of(second.as_str())?, number?)),
             "read" => Some(Command::Read(Reading::Once(Way::of(second.as_str())?, number?))),
             "reads" => Some(Command::Read(Reading::Timed(number_of(&second)?, number?))),

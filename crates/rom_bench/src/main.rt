@@ -1,24 +1,27 @@
 //! Times the opening and recovery of a heap in a file, beside a plain loop over the same file; times
-//! reads by threads beside each other, beside the same on plain words; and makes calls on a heap in
-//! memory and reads, for their instructions to be counted.
+//! reads by threads beside each other, beside the same on plain words; makes calls on a heap in
+//! memory, reads, passes, and reads and updates of a store, for their instructions to be counted; and
+//! counts the passes of callers in threads.
 //!
 //! It stands apart from the program. Nothing is promised of its answers; it is proved that it
 //! does not panic and that it meets the conditions of what it calls.
 #![tactic(auto)]
 
 mod bare;
-mod batches;
 mod calls;
-mod combining;
 mod command;
 mod heap;
 mod memory;
 mod passes;
 mod plain;
+mod played;
 mod poster;
 mod reads;
 mod rounds;
 mod seated;
+mod sharing;
+mod stores;
+mod words;
 
 use calls::Calls;
 use command::{Action, Command};
@@ -34,7 +37,10 @@ rom_bench count CALL CALLS
 a CALL is enq, deq, add, add-middle, rem, rem-middle, put, again, del, move, has, has-middle, get, peek, len, total
 or nothing, and at most 1000 are made
 rom_bench read seats READS | read bare READS | reads READS ROUNDS
-rom_bench pass CALLERS POSTING ROUNDS | batch ROUNDS";
+rom_bench pass CALLERS POSTING ROUNDS
+rom_bench store reads WHAT READS | store bare WHAT READS | store updates UPDATES
+rom_bench store passes CALLERS UPDATES | store passes CALLERS UPDATES FILE
+a WHAT is get or peek";
 
 /// Sees to it that the descriptors 0 to 2 are taken. One that was closed when the program began
 /// would be given to the heap's file, and what is printed would go into that heap. So `/dev/null`
@@ -110,7 +116,15 @@ fn main(rt: HostRuntime) -> io::Result<ExitCode> {
         Command::Count(calls, most) => count(&rt, calls, most)?,
         // Threads are started, and readers waited for, with the handle that `main` alone has.
         Command::Read(reading) => reads::make(&rt, rt.alloc(), reading)?,
-        Command::Combine(combining) => combining::make(&rt, rt.alloc(), combining)?,
+        Command::Pass(made) => passes::make(&rt, rt.alloc(), made)?,
+        Command::Share(sharing) => sharing::make(&rt, rt.alloc(), sharing)?,
+        Command::Play(crowd, None) => {
+            played::make(&rt, rt.alloc(), memory::ram(rt.alloc())?, crowd)?
+        }
+        Command::Play(crowd, Some(path)) => {
+            let device = heap::device_at(&rt, path.as_str())?;
+            played::make(&rt, rt.alloc(), device, crowd)?
+        }
     };
     if done {
         Ok(ExitCode::SUCCESS)

@@ -18,7 +18,32 @@ use rom_lr::{Seat, Shared, WriterSeat};
 use rom_model::new_region;
 use rom_twin::{Phase, Twin};
 use std::alloc::{AllocError, Global};
+use std::io;
+use std::io::Print;
 use std::sync::Wait;
+
+/// So many passes at a table of so many callers, the first of which, so many, post a call before each.
+#[derive(Clone, Copy)]
+pub struct Passes {
+    callers: u32,
+    posting: u32,
+    rounds: u64,
+    ghost fit: { AreCallers callers },
+}
+
+impl Passes {
+    /// These passes. A table has from 1 to 16 callers, and no more can post.
+    pub fn of(callers: u64, posting: u64, rounds: u64) -> Option<Passes> {
+        if callers < 1 || callers > 16 || posting > callers {
+            return None;
+        }
+        Some(Passes {
+            callers: callers as u32,
+            posting: posting as u32,
+            rounds,
+        })
+    }
+}
 
 /// The count's limit. The places of calls that were done are below it, and codes are not.
 const LAST_COUNT: u64 = 1 << 62;
@@ -135,25 +160,44 @@ fn core_of(shared: &Shared<Trio>, twin: Twin<Ram>, seat: WriterSeat) -> Core<Ram
     Core::new(twin, seat)
 }
 
-/// Makes so many passes at a table of so many callers, the first of which, so many, post. It tells how
-/// many calls were done and how many the device has counted, or `None` where no heap was made.
-pub fn make<R: Wait>(
+/// Makes these passes. It tells how many calls were done and how many the device has counted, or
+/// `None` where no heap was made.
+fn passed<R: Wait>(
     rt: &R,
     alloc: Global,
-    callers: u32,
-    posting: u32,
-    rounds: u64,
-) -> Result<Option<(u64, u64)>, AllocError>
-    requires callers { AreCallers callers }
-{
+    passes: Passes,
+) -> Result<Option<(u64, u64)>, AllocError> {
     let region = new_region::<Trio>(alloc, ORDER)?;
     let Some(twin) = twin_of(alloc, &region)? else {
         return Ok(None);
     };
-    let (shared, writer, seats) = Shared::<Trio>::new(alloc, ORDER, callers, region.words(), 0)?;
+    let (shared, writer, seats) = Shared::<Trio>::new(
+        alloc,
+        ORDER,
+        passes.callers,
+        region.words(),
+        0,
+    )?;
     let mut core = core_of(&shared, twin, writer);
-    let mut posters = posters_of(alloc, &shared, seats, posting)?;
-    let done = pass_all(rt, &shared, &mut core, posters.as_mut_slice(), rounds);
+    let mut posters = posters_of(alloc, &shared, seats, passes.posting)?;
+    let done = pass_all(
+        rt,
+        &shared,
+        &mut core,
+        posters.as_mut_slice(),
+        passes.rounds,
+    );
     let (twin, _writer) = core.into_parts();
     Ok(Some((done, counted(twin.into_device()))))
+}
+
+/// Makes the passes, and says how many calls were done, and how many the device has counted. `false`
+/// says that no heap was made.
+pub fn make<R: Wait + Print>(rt: &R, alloc: Global, passes: Passes) -> io::Result<bool> {
+    let made = passed(rt, alloc, passes)?;
+    match made {
+        Some((done, counted)) => println!(rt; "{done} done, {counted} counted")?,
+        None => println!(rt; "no heap was made")?,
+    }
+    Ok(made.is_some())
 }

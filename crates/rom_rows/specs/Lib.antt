@@ -1,2 +1,3 @@
 pub mod Untouched
 pub mod Callers
+pub mod Stores

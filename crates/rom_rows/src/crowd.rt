@@ -1,13 +1,11 @@
 //! Callers who post and read beside the thread that runs the passes.
-ghost use Rattle.std.specs.Prelude.{◌≡◌, ◌+◌, ℕ, All, IfSome, IsTrue, length};
-ghost use Rattle.rom_model.specs.Region.{Contents};
-ghost use Rattle.rom_model.specs.State.{State};
-ghost use Rattle.rom_rule.specs.Views.{image_of, is_reading};
+ghost use Rattle.std.specs.Prelude.{◌≡◌, ◌+◌, All, IfSome, length};
 ghost use Rattle.rom_combine.specs.AtRest.{IsIn};
 ghost use Rattle.rom_lr.specs.Seats.{IsSeatOf};
 ghost use Rattle.rom_rows.specs.Callers.{HasCalls, IsManned};
 ghost use Rattle.rom_rule.specs.declared.views.Position.TheVariants.{Out};
 
+use crate::asked::asked;
 use crate::callers::{post_call, take_answer, told};
 use crate::cores::seated_on;
 use crate::work::Work;
@@ -15,7 +13,7 @@ use crossbeam_utils::Backoff;
 use rom_combine::{Core, NoGate};
 use rom_device::{Device, Ram};
 use rom_heap::Trio;
-use rom_lr::{Seat, Shared, ask};
+use rom_lr::{Seat, Shared};
 use rom_model::{Answer, Back, Call, Query, Reply, Updated};
 use rom_store::format_device;
 use std::alloc::Global;
@@ -85,18 +83,6 @@ fn post_all(shared: &Shared<Trio>, seat: &mut Seat) -> bool
         least = place.saturating_add(1);
     }
     true
-}
-
-/// What a query is told in the image that the seat has entered.
-fn asked(shared: &Shared<Trio>, seat: &mut Seat, query: Query) -> Answer
-    requires of { IsSeatOf shared.now.table.shared.table_id shared.now.table.shared.key seat.old }
-    requires entered { IsTrue (is_reading seat.old.token.me.0.position) }
-    requires region { let v = seat.old.token.me.0 in (s : State) × (k : ℕ) × Contents v.base.order (image_of v.position) s k }
-    ensures of { IsSeatOf shared.now.table.shared.table_id shared.now.table.shared.key seat.new }
-    ensures entered { IsTrue (is_reading seat.new.token.me.0.position) }
-    ensures region { let v = seat.new.token.me.0 in (s : State) × (k : ℕ) × Contents v.base.order (image_of v.position) s k }
-{
-    ask(shared, seat, &query)
 }
 
 /// Whether, in the image that the seat enters, the map has as many keys as are found there.
@@ -183,7 +169,7 @@ fn is_right(job: &Work) -> bool {
 }
 
 /// A new heap on a device that does not fail.
-fn new_heap(alloc: Global) -> Result<Ram, Fail> {
+pub(crate) fn new_heap(alloc: Global) -> Result<Ram, Fail> {
     let mut ram = Ram::zeroed(alloc, 232)?;
     match format_device::<Ram, Trio>(alloc, &mut ram, 4) {
         Ok(()) => Ok(ram),

@@ -1,23 +1,17 @@
 //! Heaps of order 4 on devices in memory, and how they are opened.
-ghost use Rattle.std.specs.Prelude.{◌≡◌, ◌≤◌, ℕ, IfOk, IsTrue};
-ghost use Rattle.rom_device.specs.Device.{IsSynced};
-ghost use Rattle.rom_header.specs.Layout.{back_of, main_of, words_needed};
-ghost use Rattle.rom_header.specs.Regions.{IsHeap};
-ghost use Rattle.rom_model.specs.Blocks.{IsOrder};
-ghost use Rattle.rom_model.specs.VecSpace.{words_of};
+ghost use Rattle.std.specs.Prelude.{ℕ};
+ghost use Rattle.rom_model.specs.Region.{Contents};
+ghost use Rattle.rom_model.specs.State.{State};
 
-use rom_combine::Plain;
-use rom_device::{Device, Memory, Trip};
-use rom_header::Geometry;
+use rom_device::{Memory, Trip};
 use rom_heap::Trio;
 use rom_model::{Answer, Object, Query, VecSpace};
-use rom_store::{Opened, Refused, open_device};
-use rom_twin::Twin;
+use rom_store::{Opened, open_device};
 use std::alloc::{AllocError, Global};
 use std::test::Fail;
 
 /// Room for all calls of a test.
-const AMPLE: u64 = 2000;
+const AMPLE: u64 = 10_000;
 
 /// How many calls it takes to open a heap at rest: 5 reads of the header, a read of each word of
 /// both regions, one more of each word of main, and a sync.
@@ -31,7 +25,10 @@ const ROOT_AND_TREE: [u64; 48] = [
     2, 0, 1, 1, 1, 1, 1, 1, 1, 1, 1, 1, 1, 1, 1, 1, 1,
 ];
 
-/// Where the count of updates stands in main and in back.
+/// Where the count of updates stands in a region.
+const COUNTED: usize = 2;
+
+/// Where it stands in main and in back.
 const COUNTS: [usize; 2] = [10, 122];
 
 /// A device with an empty heap that has counted so many updates, on which these calls fail.
@@ -49,53 +46,14 @@ pub(crate) fn device(alloc: Global, count: u64, trips: &[Trip]) -> Result<Memory
     Memory::new(alloc, words, AMPLE, trips.to_vec(alloc)?)
 }
 
-/// The heap of a device at rest, both of whose regions are these words.
-fn at_rest<D: Device, O: Object>(
-    device: D,
-    geometry: Geometry,
-    main: VecSpace,
-    back: VecSpace,
-) -> Plain<D, O>
-    requires fits { words_needed geometry ≤ D.shown.size device }
-    requires order { IsOrder geometry }
-    requires heap { IsTrue D.shown.tells_words → IsHeap geometry (D.shown.words device) }
-    requires main { IsTrue D.shown.tells_words → main_of geometry (D.shown.words device) ≡ words_of back }
-    requires back { IsTrue D.shown.tells_words → back_of geometry (D.shown.words device) ≡ words_of back }
-    requires certain { IsSynced D.shown device }
-    requires same { words_of main ≡ words_of back }
-    requires formed { (s : O.State) × (k : ℕ) × O.Contents geometry (words_of back) s k }
+/// How many elements an opened heap has, and its count.
+fn counted(opened: Opened<Memory>) -> Result<(Answer, u64), Fail>
+    requires fit { (s : State) × (k : ℕ) × Contents opened.geometry opened.image.items s k }
 {
-    Plain::new(Twin::new(device, geometry), main, back)
-}
-
-fn copy_of(alloc: Global, words: &[u64]) -> Result<VecSpace, AllocError>
-    ensures { IfOk result (λ copy. words_of copy ≡ words.now) }
-{
-    let mut copy = vec![in alloc; 0u64; words.len()]?;
-    copy.copy_from_slice(words);
-    Ok(VecSpace::of(copy))
-}
-
-/// Opens the heap of any object on a device.
-fn open_any<D: Device + Drop, O: Object>(alloc: Global, device: D) -> Result<Plain<D, O>, Fail> {
-    match open_device::<D, O>(alloc, device) {
-        Ok(
-            Opened {
-                device,
-                geometry,
-                image,
-            },
-        ) => {
-            let back = copy_of(alloc, &image)?;
-            Ok(at_rest(device, geometry, VecSpace::of(image), back))
-        }
-        Err(Refused { device: _, why: _ }) => Err("refused".into()),
-    }
-}
-
-/// Opens the heap on a device.
-pub(crate) fn open<D: Device + Drop>(alloc: Global, device: D) -> Result<Plain<D, Trio>, Fail> {
-    open_any(alloc, device)
+    let count = *opened.image.get(COUNTED).ok_or("no count")?;
+    let order = opened.geometry.order();
+    let mut space = VecSpace::of(opened.image);
+    Ok((Trio::answer(&mut space, order, &Query::Len), count))
 }
 
 /// For each word which of its possible values a stop leaves: each time the last certain one, each
@@ -112,5 +70,8 @@ pub(crate) fn choice(alloc: Global, kind: u64) -> Result<Vec<u64>, AllocError> {
 pub(crate) fn left(alloc: Global, memory: Memory, kind: u64) -> Result<(Answer, u64), Fail> {
     let words = memory.crash(choice(alloc, kind)?.as_slice());
     let again = Memory::new(alloc, words, AMPLE, Vec::new(alloc))?;
-    Ok(open(alloc, again)?.ask(&Query::Len))
+    match open_device::<_, Trio>(alloc, again) {
+        Ok(opened) => counted(opened),
+        Err(_) => Err("refused".into()),
+    }
 }

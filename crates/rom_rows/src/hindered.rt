@@ -25,15 +25,34 @@ fn heap(queue: u64, set: u64, map: u64, count: u64) -> (Answer, u64) {
     (Answer::Sizes { queue, set, map }, count)
 }
 
-/// A sync fails. The opening makes the first one.
-fn sync(nth: u64) -> Trip {
+/// The call of that number fails, counted from 1. A write is of the words `from` to `to - 1`, and
+/// leaves the word as it was.
+fn trip(call: CallKind, from: u64, to: u64, nth: u64) -> Trip {
     Trip {
-        call: CallKind::Sync,
-        from: 0,
-        to: 0,
+        call,
+        from,
+        to,
         nth,
         keeps_new: false,
     }
+}
+
+/// A sync. The opening makes the first one.
+fn sync(nth: u64) -> Trip {
+    trip(CallKind::Sync, 0, 0, nth)
+}
+
+/// A write of the state: of MUTATING, COPYING, IDLE.
+fn state(nth: u64) -> Trip {
+    trip(CallKind::Write, 3, 4, nth)
+}
+
+fn main(nth: u64) -> Trip {
+    trip(CallKind::Write, 8, 120, nth)
+}
+
+fn back(nth: u64) -> Trip {
+    trip(CallKind::Write, 120, 232, nth)
 }
 
 /// What the three calls are told where their pass ends so.
@@ -160,19 +179,21 @@ fn run_both<R: Wait + Abort + AllocGlobal>(
 fn a_fault_is_answered_and_repaired_by_the_next_pass(rt: HostRuntime) -> Result<(), Fail> {
     let absent = heap(0, 0, 0, 0);
     let whole = heap(1, 1, 1, 3);
-    // The syncs of MUTATING, of main, of COPYING and of back; the images that a stop leaves by each
-    // choice; and the heap after the next pass.
+    let kept = heap(1, 0, 0, 1);
+    let more = heap(2, 1, 1, 4);
+    let either = [absent, whole, whole];
+    // The faults in the order of a pass's calls; the images that a stop leaves by each choice; and the
+    // next call's place and the heap after it.
     let rows = [
-        (sync(2), Outcome::Failed, [absent; 3], 0, heap(1, 0, 0, 1)),
-        (sync(3), Outcome::Failed, [absent; 3], 0, heap(1, 0, 0, 1)),
-        (
-            sync(4),
-            Outcome::Doubt,
-            [absent, whole, whole],
-            0,
-            heap(1, 0, 0, 1),
-        ),
-        (sync(5), Outcome::Published, [whole; 3], 3, heap(2, 1, 1, 4)),
+        (state(1), Outcome::Failed, [absent; 3], 0, kept),
+        (sync(2), Outcome::Failed, [absent; 3], 0, kept),
+        (main(50), Outcome::Failed, [absent; 3], 0, kept),
+        (sync(3), Outcome::Failed, [absent; 3], 0, kept),
+        (state(2), Outcome::Doubt, either, 0, kept),
+        (sync(4), Outcome::Doubt, either, 0, kept),
+        (back(50), Outcome::Published, [whole; 3], 3, more),
+        (sync(5), Outcome::Published, [whole; 3], 3, more),
+        (state(3), Outcome::Published, [whole; 3], 3, more),
     ];
     for (fault, outcome, images, place, after) in rows {
         for kind in 0..3 {

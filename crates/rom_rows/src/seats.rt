@@ -1,10 +1,11 @@
 //! What callers at their seats see of the writer, and of each other.
 ghost use Rattle.std.specs.Prelude.{◌≡◌, ℕ};
 
+use crate::asked::asked;
 use crate::readers::seated;
 use crate::turns::{change_back, change_main, tell, to_main};
 use rom_heap::Trio;
-use rom_lr::{Side, apply_main, ask};
+use rom_lr::{Side, apply_main};
 use rom_model::{Answer, COUNT, Call, Query, Reply, VERSION, new_region};
 use std::test::Fail;
 
@@ -30,7 +31,7 @@ fn an_update_on_main_is_not_seen_by_a_query_on_back(rt: HostRuntime) -> Result<(
     let (shared, mut writer, (mut seat, _second, _third)) = seated(alloc, &heap)?;
     shared.enter(&mut seat);
     let reply = apply_main(&shared, &mut writer, &Call::Enq(5));
-    let told = ask(&shared, &mut seat, &Query::Len);
+    let told = asked(&shared, &mut seat, Query::Len);
     shared.leave(&mut seat);
     let counted = shared.load_main(&mut writer, COUNT);
     assert_eq!(rt; reply, Reply::Queued);

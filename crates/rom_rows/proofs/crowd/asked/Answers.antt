@@ -1,8 +1,0 @@
-use Rattle.std.proofs.Common.{ℕ, sym, subst}
-use Rattle.rom_model.specs.Region.{Contents}
-use Rattle.rom_rule.specs.Views.{image_of}
-use Rattle.rom_rule.specs.declared.views.View.{View}
-use Rattle.rom_rows.proofs.crowd.asked.Goals as goal
-
-pub returns-clause-region : goal.returns-clause-region
-returns-clause-region c = let h = c.requires.region in (h.0, h.1, subst (λ (v : View). Contents v.base.order (image_of v.position) h.0 h.1) (sym c.ask.ensures.still) h.2)

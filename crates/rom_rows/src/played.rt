@@ -1,0 +1,288 @@
+//! Scripts of several callers that are played on one heap of order 4.
+ghost use Rattle.std.specs.Prelude.{◌≡◌, ◌≤◌, ◌<◌, All, IfOk, length, vec_len};
+ghost use Rattle.rom_model.specs.History.{LAST_COUNT};
+
+use crate::crowd::new_heap;
+use crate::heaps::{device, left};
+use rom_combine::NoGate;
+use rom_device::{CallKind, Device, Memory, Ram, Trip};
+use rom_heap::Trio;
+use rom_model::{Answer, Call, LineResult, Query, Reply, Step, Updated};
+use rom_store::{Closed, Played, Refused, play};
+use std::alloc::{AllocError, Global};
+use std::sync::Wait;
+use std::test::Fail;
+use std::thread::Threads;
+
+type Line = Step<Call, Query>;
+
+type Told = LineResult<Reply, Answer>;
+
+/// How many updates each of 16 callers makes, with as many reads.
+const UPDATES: u64 = 32;
+
+/// The lines of a caller that puts a value of its own under key 5, and reads that key, in turn.
+fn putting(alloc: Global, caller: u64) -> Result<Vec<Line>, AllocError>
+    requires one { caller < 16 }
+    ensures few { IfOk result (λ lines. vec_len lines ≤ LAST_COUNT) }
+{
+    let mut lines = Vec::new(alloc);
+    for round in 0..UPDATES {
+        lines.push(Step::Update(Call::Put(5, 100 * caller + round)))?;
+        lines.push(Step::Ask(Query::Get(5)))?;
+    }
+    Ok(lines)
+}
+
+/// The lines of 16 callers.
+fn all_putting(alloc: Global) -> Result<Vec<Vec<Line>>, AllocError>
+    ensures many { IfOk result (λ scripts. vec_len scripts ≡ 16) }
+    ensures few { IfOk result (λ scripts. All (λ v. length v.items ≤ LAST_COUNT) scripts.items) }
+{
+    let mut scripts = Vec::new(alloc);
+    for caller in 0..16 {
+        scripts.push(putting(alloc, caller)?)?;
+    }
+    Ok(scripts)
+}
+
+/// The results of all scripts, and the store that was closed.
+fn played<D: Device + Send + Drop, R: Threads + Wait + Sync>(
+    rt: &R,
+    alloc: Global,
+    device: D,
+    scripts: &[Vec<Line>],
+) -> Result<(Vec<Vec<Told>>, Closed<D, Trio>), Fail>
+    requires callers { (0 < length scripts.now) × (length scripts.now ≤ 16) }
+    requires few { All (λ v. length v.items ≤ LAST_COUNT) scripts.now }
+{
+    match play::<D, Trio, R, NoGate>(rt, alloc, device, scripts, &NoGate) {
+        Ok(Played { results, closed }) => Ok((results, closed)),
+        Err(Refused { device: _, why: _ }) => Err("refused".into()),
+    }
+}
+
+/// Marks the place as taken. `false` says that it is none, or was taken before.
+fn take_place(taken: &mut [bool], place: u64) -> bool {
+    match taken.get_mut(place as usize) {
+        Some(mark) if !*mark => {
+            *mark = true;
+            true
+        }
+        _ => false,
+    }
+}
+
+/// Whether the updates of a caller are done, each at a free place, which is then taken, or failed, and
+/// its reads have fronts past those places and up to `count`, all rising.
+fn is_rising(taken: &mut [bool], results: &[Told], count: u64) -> bool {
+    let mut least = 0u64;
+    for told in results {
+        match told {
+            LineResult::Update(Updated::Done(_, place)) => {
+                if *place < least || !take_place(taken, *place) {
+                    return false;
+                }
+                least = place.saturating_add(1);
+            }
+            LineResult::Read(_, front) => {
+                if *front < least || *front > count {
+                    return false;
+                }
+                least = *front;
+            }
+            LineResult::Update(Updated::Failed) => {}
+            _ => return false,
+        }
+    }
+    true
+}
+
+/// Notes the value that was put at each place.
+fn note_values(values: &mut [u64], lines: &[Line], results: &[Told]) {
+    for (line, told) in lines.iter().zip(results.iter()) {
+        if let Step::Update(Call::Put(_, value)) = line {
+            if let LineResult::Update(Updated::Done(_, place)) = told {
+                if let Some(noted) = values.get_mut(*place as usize) {
+                    *noted = *value;
+                }
+            }
+        }
+    }
+}
+
+/// The value under the key after so many updates, which put these.
+fn value_after(values: &[u64], updates: u64) -> Option<u64> {
+    let last = updates.checked_sub(1)?;
+    values.get(last as usize).copied()
+}
+
+/// Whether each reply tells the value that was put at the place before, and each answer that at the
+/// place before its front.
+fn tells_values(values: &[u64], results: &[Told]) -> bool {
+    for told in results {
+        let is_right = match told {
+            LineResult::Update(Updated::Done(reply, place)) => match value_after(values, *place) {
+                Some(value) => *reply == Reply::Was(value),
+                None => *reply == Reply::NoPrior,
+            },
+            LineResult::Read(answer, front) => match value_after(values, *front) {
+                Some(value) => *answer == Answer::Value(value),
+                None => *answer == Answer::Missing,
+            },
+            _ => true,
+        };
+        if !is_right {
+            return false;
+        }
+    }
+    true
+}
+
+/// How many updates of a caller were done, how many failed, and how many are in doubt.
+fn fates_of(told: &[Told]) -> (u64, u64, u64) {
+    let mut fates = (0u64, 0u64, 0u64);
+    for line in told {
+        match line {
+            LineResult::Update(Updated::Done(_, _)) => fates.0 = fates.0.saturating_add(1),
+            LineResult::Update(Updated::Failed) => fates.1 = fates.1.saturating_add(1),
+            LineResult::Update(Updated::Doubt) => fates.2 = fates.2.saturating_add(1),
+            _ => {}
+        }
+    }
+    fates
+}
+
+/// The same of all callers.
+fn fates(results: &[Vec<Told>]) -> (u64, u64, u64) {
+    let mut fates = (0u64, 0u64, 0u64);
+    for told in results {
+        let (done, failed, doubt) = fates_of(told.as_slice());
+        fates.0 = fates.0.saturating_add(done);
+        fates.1 = fates.1.saturating_add(failed);
+        fates.2 = fates.2.saturating_add(doubt);
+    }
+    fates
+}
+
+/// A sync of a device that fails: the one of this number.
+fn failing_sync(nth: u64) -> Trip {
+    Trip {
+        call: CallKind::Sync,
+        from: 0,
+        to: 0,
+        nth,
+        keeps_new: false,
+    }
+}
+
+#[test]
+fn sixteen_callers_take_each_place_once(rt: HostRuntime) -> Result<(), Fail> {
+    let alloc = rt.alloc();
+    let scripts = all_putting(alloc)?;
+    let (results, mut closed) = played(&rt, alloc, new_heap(alloc)?, scripts.as_slice())?;
+    assert_eq!(rt; results.len(), 16);
+    assert_eq!(rt; closed.count(), 16 * UPDATES);
+    let sizes = Answer::Sizes {
+        queue: 0,
+        set: 0,
+        map: 1,
+    };
+    assert_eq!(rt; closed.ask(&Query::Len), sizes);
+    assert_eq!(rt; fates(results.as_slice()), (16 * UPDATES, 0, 0));
+    let mut taken = vec![in alloc; false; 16 * UPDATES as usize]?;
+    let mut values = vec![in alloc; 0u64; 16 * UPDATES as usize]?;
+    for (lines, told) in scripts.iter().zip(results.iter()) {
+        assert_eq!(rt; told.len() as u64, 2 * UPDATES);
+        assert!(rt; is_rising(taken.as_mut_slice(), told.as_slice(), 16 * UPDATES));
+        note_values(values.as_mut_slice(), lines.as_slice(), told.as_slice());
+    }
+    assert!(rt; taken.iter().all(|mark| *mark));
+    for told in &results {
+        assert!(rt; tells_values(values.as_slice(), told.as_slice()));
+    }
+    Ok(())
+}
+
+/// Two numbers are put into the queue.
+fn queueing(alloc: Global, number: u64) -> Result<Vec<Line>, AllocError>
+    ensures few { IfOk result (λ lines. vec_len lines ≤ LAST_COUNT) }
+{
+    [
+        Step::Update(Call::Enq(number)),
+        Step::Update(Call::Enq(number)),
+    ]
+    .to_vec(alloc)
+}
+
+/// The lines of 16 callers that put two numbers each into the queue.
+fn all_queueing(alloc: Global) -> Result<Vec<Vec<Line>>, AllocError>
+    ensures many { IfOk result (λ scripts. vec_len scripts ≡ 16) }
+    ensures few { IfOk result (λ scripts. All (λ v. length v.items ≤ LAST_COUNT) scripts.items) }
+{
+    let mut scripts = Vec::new(alloc);
+    for caller in 0..16 {
+        scripts.push(queueing(alloc, caller)?)?;
+    }
+    Ok(scripts)
+}
+
+/// The sync of MUTATING in the second pass fails, whose calls are all that failed: one at most of each
+/// caller. All others are done, at the places from 0 on.
+#[test]
+fn a_fault_fails_at_most_one_update_of_each_of_sixteen_callers(
+    rt: HostRuntime,
+) -> Result<(), Fail> {
+    let alloc = rt.alloc();
+    let scripts = all_queueing(alloc)?;
+    let memory = device(alloc, 0, &[failing_sync(6)])?;
+    let (results, closed) = played(&rt, alloc, memory, scripts.as_slice())?;
+    let count = closed.count();
+    let (done, failed, doubt) = fates(results.as_slice());
+    assert_eq!(rt; (done.saturating_add(failed), doubt), (32, 0));
+    assert!(rt; failed >= 1);
+    assert_eq!(rt; count, done);
+    let mut taken = vec![in alloc; false; 32]?;
+    for told in &results {
+        assert!(rt; fates_of(told.as_slice()).1 <= 1);
+        assert!(rt; is_rising(taken.as_mut_slice(), told.as_slice(), count));
+    }
+    assert!(rt; taken.iter().take(done as usize).all(|mark| *mark));
+    Ok(())
+}
+
+/// Two callers put two numbers each into the queue, and this sync fails. It tells how many updates were
+/// done, failed and in doubt, the count at closing, and the one in what a stop leaves then.
+fn run_faulty<R: Threads + Wait + Sync>(
+    rt: &R,
+    alloc: Global,
+    sync: u64,
+    kind: u64,
+) -> Result<((u64, u64, u64), u64, u64), Fail> {
+    let memory = device(alloc, 0, &[failing_sync(sync)])?;
+    let scripts = [queueing(alloc, 1)?, queueing(alloc, 2)?];
+    let (results, closed) = played(rt, alloc, memory, &scripts)?;
+    let count = closed.count();
+    let (memory, _session) = closed.parts();
+    let (_, left) = left(alloc, memory, kind)?;
+    Ok((fates(results.as_slice()), count, left))
+}
+
+/// The opening makes the first sync and a pass four, so these are of MUTATING and of COPYING in the
+/// second pass, which finds one call or two.
+#[test]
+fn a_fault_in_mid_run_is_told_to_those_whom_it_hit(rt: HostRuntime) -> Result<(), Fail> {
+    let alloc = rt.alloc();
+    for kind in 0..3 {
+        let (fates, count, left) = run_faulty(&rt, alloc, 6, kind)?;
+        assert!(rt; fates == (3, 1, 0) || fates == (2, 2, 0));
+        assert_eq!(rt; (count, left), (fates.0, fates.0));
+
+        let (fates, count, left) = run_faulty(&rt, alloc, 8, kind)?;
+        assert!(rt; fates == (3, 0, 1) || fates == (2, 0, 2));
+        assert_eq!(rt; count, fates.0);
+        // Where the pass in doubt was the last one, a stop may leave it done.
+        assert!(rt; left == count || (count, left) == (2, 4));
+    }
+    Ok(())
+}

@@ -1,0 +1,265 @@
+//! The calls of a store that two callers share, on a heap of order 4.
+ghost use Rattle.std.specs.Prelude.{◌≡◌, ◌≤◌, ◌<◌, ℕ, [], IfOk, length, vec_capacity, vec_len};
+ghost use Rattle.rom_model.specs.Region.{Contents};
+ghost use Rattle.rom_rule.specs.Views.{base_of};
+ghost use Rattle.rom_store.specs.Callers.{IsCallerOf, IsNewCaller, IsNumbered};
+ghost use Rattle.rom_store.specs.Indexed.{Indexed};
+ghost use Rattle.rom_rows.specs.Stores.{IsLabelled};
+
+use crate::crowd::new_heap;
+use rom_combine::{Gate, NoGate};
+use rom_device::{Device, Ram};
+use rom_heap::Trio;
+use rom_lr::Steps;
+use rom_model::{Answer, Call, Query, Reply, Updated};
+use rom_store::{Closed, Label, Opening, Pass, Store, open_store};
+use std::alloc::Global;
+use std::marker::Brand;
+use std::sync::Wait;
+use std::sync::atomic::{AtomicU64, Ordering};
+use std::sync::ledger::{Blank, Ledger};
+use std::test::Fail;
+
+/// Where the count of updates stands in main on the device.
+const COUNTED: u64 = 10;
+
+/// How many batches were published.
+#[derive(Drop)]
+struct Published {
+    batches: AtomicU64,
+}
+
+impl Gate for Published {
+    fn before<R: Wait>(&self, _rt: &R, _caller: u32, _line: u64) {}
+
+    fn published<R: Wait>(&self, _rt: &R, _count: u32) {
+        self.batches.fetch_add(1, Ordering::SeqCst);
+    }
+}
+
+/// What a caller was told in a state that it had entered, and by a read after it had left it.
+#[derive(Clone, Copy, Debug, PartialEq, Eq)]
+struct Heard {
+    told: (Answer, u64),
+    sizes: (Answer, u64),
+    next: (Answer, u64),
+}
+
+/// The passes of a store of two callers, each by itself. Room for both stays.
+fn parted<N: Label>(passes: &mut Vec<Pass>) -> (Pass, Pass)
+    requires many { vec_len passes.old ≡ 2 }
+    requires new { Indexed (IsNewCaller Contents N.table N.base) passes.old.items }
+    ensures first { IsNumbered Contents N.table N.base 0 result.0 }
+    ensures second { IsNumbered Contents N.table N.base 1 result.1 }
+    ensures none { passes.new.items ≡ [] }
+    ensures room { 2 ≤ vec_capacity passes.new }
+{
+    let second = passes.take_last();
+    let first = passes.take_last();
+    (first, second)
+}
+
+/// Closes a store of two callers.
+fn close<D: Device, N: Label, R: Wait>(
+    rt: &R,
+    store: Store<D, Trio, N>,
+    mut passes: Vec<Pass>,
+    first: Pass,
+    second: Pass,
+) -> Closed<D, Trio>
+    requires callers { N.base.callers ≡ 2 }
+    requires none { passes.items ≡ [] }
+    requires room { 2 ≤ vec_capacity passes }
+    requires first { IsNumbered Contents N.table N.base 0 first }
+    requires second { IsNumbered Contents N.table N.base 1 second }
+{
+    passes.push_reserved(first);
+    passes.push_reserved(second);
+    store.close(rt, passes)
+}
+
+/// Reads key 1 and the sizes in one state that it enters, and key 1 again after it has left.
+fn read_counted<D: Device, N: Label, L: Ledger>(
+    blank: Blank,
+    store: &Store<D, Trio, N>,
+    pass: Pass,
+) -> (Pass, Heard)
+    requires name { blank.name ≡ L.name }
+    requires parts { blank.parts ≡ L.parts }
+    requires part { 0 < blank.parts }
+    requires first { IsNumbered Contents N.table N.base 0 pass }
+    ensures first { IsNumbered Contents N.table N.base 0 result.0 }
+{
+    let mut steps = Steps::<L>::of(blank);
+    let mut reading = store.enter(pass, &mut steps);
+    let told = store.ask(&mut reading, &Query::Get(1), &mut steps);
+    let sizes = store.ask(&mut reading, &Query::Len, &mut steps);
+    let mut pass = store.leave(reading, &mut steps);
+    let next = store.read(&mut pass, &Query::Get(1), &mut steps);
+    (pass, Heard { told, sizes, next })
+}
+
+fn read_in_one_state<D: Device, N: Label>(store: &Store<D, Trio, N>, pass: Pass) -> (Pass, Heard)
+    requires first { IsNumbered Contents N.table N.base 0 pass }
+    ensures first { IsNumbered Contents N.table N.base 0 result.0 }
+{
+    read_counted::<D, N, Brand>(Blank::new(1), store, pass)
+}
+
+/// What is told in the test of a reading between updates.
+#[derive(Clone, Copy, Debug, PartialEq, Eq)]
+struct Told {
+    first: Updated<Reply>,
+    heard: Heard,
+    second: Updated<Reply>,
+    order: u32,
+    count: u64,
+    last: Answer,
+    counted: Option<u64>,
+    published: u64,
+}
+
+/// Caller 1 puts 1 under key 1 and reads it, then caller 2 puts 2 there.
+fn read_between_updates<D: Device + Drop, N: Label, R: Wait>(
+    rt: &R,
+    opening: Opening<D, Trio>,
+) -> Told
+    requires labelled { IsLabelled D.shown N.table N.base N.size N.words N.clock N.since opening }
+    requires many { length opening.passes ≡ 2 }
+    requires callers { (base_of opening.key).callers ≡ 2 }
+    requires new { Indexed (IsNewCaller Contents opening.table_id (base_of opening.key)) opening.passes }
+{
+    let gate = Published {
+        batches: AtomicU64::new(0),
+    };
+    let (store, mut passes) = opening.start::<N>();
+    let (mut one, mut two) = parted::<N>(&mut passes);
+    let first = store.update(rt, &mut one, &Call::Put(1, 1), &gate);
+    let (one, heard) = read_in_one_state(&store, one);
+    let second = store.update(rt, &mut two, &Call::Put(1, 2), &gate);
+    let mut closed = close(rt, store, passes, one, two);
+    let order = closed.order();
+    let count = closed.count();
+    let last = closed.ask(&Query::Get(1));
+    let (mut device, _session) = closed.parts();
+    Told {
+        first,
+        heard,
+        second,
+        order,
+        count,
+        last,
+        counted: device.read(COUNTED).ok(),
+        published: gate.batches.load(Ordering::SeqCst),
+    }
+}
+
+fn tell_between_updates<D: Device + Drop, R: Wait>(rt: &R, opening: Opening<D, Trio>) -> Told
+    requires many { length opening.passes ≡ 2 }
+    requires callers { (base_of opening.key).callers ≡ 2 }
+    requires new { Indexed (IsNewCaller Contents opening.table_id (base_of opening.key)) opening.passes }
+{
+    read_between_updates::<D, Brand, R>(rt, opening)
+}
+
+/// A heap of order 4 in memory, which is opened for two callers.
+fn opened(alloc: Global) -> Result<Opening<Ram, Trio>, Fail>
+    ensures many { IfOk result (λ o. (length o.passes ≡ 2) × ((base_of o.key).callers ≡ 2)) }
+    ensures new { IfOk result (λ o. Indexed (IsNewCaller Contents o.table_id (base_of o.key)) o.passes) }
+{
+    match open_store::<Ram, Trio>(alloc, new_heap(alloc)?, 2) {
+        Ok(opening) => Ok(opening),
+        Err(_) => Err("refused".into()),
+    }
+}
+
+#[test]
+fn a_reading_is_of_one_state_and_the_next_update_follows_it(rt: HostRuntime) -> Result<(), Fail> {
+    let opening = opened(rt.alloc())?;
+    let told = tell_between_updates(&rt, opening);
+    let want = Told {
+        first: Updated::Done(Reply::NoPrior, 0),
+        heard: Heard {
+            told: (Answer::Value(1), 1),
+            sizes: (
+                Answer::Sizes {
+                    queue: 0,
+                    set: 0,
+                    map: 1,
+                },
+                1,
+            ),
+            next: (Answer::Value(1), 1),
+        },
+        second: Updated::Done(Reply::Was(1), 1),
+        order: 4,
+        count: 2,
+        last: Answer::Value(2),
+        counted: Some(2),
+        published: 2,
+    };
+    assert_eq!(rt; told, want);
+    Ok(())
+}
+
+/// What caller 2 reads with a counter of its own.
+fn read_len<D: Device, N: Label, L: Ledger>(
+    blank: Blank,
+    store: &Store<D, Trio, N>,
+    pass: &mut Pass,
+) -> (Answer, u64)
+    requires name { blank.name ≡ L.name }
+    requires parts { blank.parts ≡ L.parts }
+    requires part { 0 < blank.parts }
+    requires second { IsNumbered Contents N.table N.base 1 pass.old }
+    ensures second { IsNumbered Contents N.table N.base 1 pass.new }
+{
+    let mut steps = Steps::<L>::of(blank);
+    store.read(pass, &Query::Len, &mut steps)
+}
+
+/// Caller 1 updates, and caller 2 learns what it has seen and reads.
+fn read_after_a_note<D: Device + Drop, N: Label, R: Wait>(
+    rt: &R,
+    opening: Opening<D, Trio>,
+) -> (Updated<Reply>, (Answer, u64), u64)
+    requires labelled { IsLabelled D.shown N.table N.base N.size N.words N.clock N.since opening }
+    requires many { length opening.passes ≡ 2 }
+    requires callers { (base_of opening.key).callers ≡ 2 }
+    requires new { Indexed (IsNewCaller Contents opening.table_id (base_of opening.key)) opening.passes }
+{
+    let (store, mut passes) = opening.start::<N>();
+    let (mut one, mut two) = parted::<N>(&mut passes);
+    let told = store.update(rt, &mut one, &Call::Enq(7), &NoGate);
+    let note = store.note(&mut one);
+    store.learn(&mut two, note);
+    let read = read_len::<D, N, Brand>(Blank::new(1), &store, &mut two);
+    let closed = close(rt, store, passes, one, two);
+    (told, read, closed.count())
+}
+
+fn tell_after_a_note<D: Device + Drop, R: Wait>(
+    rt: &R,
+    opening: Opening<D, Trio>,
+) -> (Updated<Reply>, (Answer, u64), u64)
+    requires many { length opening.passes ≡ 2 }
+    requires callers { (base_of opening.key).callers ≡ 2 }
+    requires new { Indexed (IsNewCaller Contents opening.table_id (base_of opening.key)) opening.passes }
+{
+    read_after_a_note::<D, Brand, R>(rt, opening)
+}
+
+#[test]
+fn what_one_caller_did_another_learns_by_a_note(rt: HostRuntime) -> Result<(), Fail> {
+    let opening = opened(rt.alloc())?;
+    let (told, read, count) = tell_after_a_note(&rt, opening);
+    assert_eq!(rt; told, Updated::Done(Reply::Queued, 0));
+    let sizes = Answer::Sizes {
+        queue: 1,
+        set: 0,
+        map: 0,
+    };
+    assert_eq!(rt; read, (sizes, 1));
+    assert_eq!(rt; count, 1);
+    Ok(())
+}
