@@ -42,7 +42,7 @@ module _ (D O N C Q R A : RattleType) (g : Device.Ghosts D.Denot) (g' : Label.Gh
   begun_sync : IsSync Begun.the_field.row
   begun_sync = search (sendable, crosses) depth 20
 
-  store_sync : IsSync (Store.the_row D O N C Q R A g g' g'' c a a' e)
+  pub store_sync : IsSync (Store.the_row D O N C Q R A g g' g'' c a a' e)
   store_sync =
       let t = Store.the_type D O N C Q R A g g' g'' c a a' e in
       recorded_sync (Struct (shape t)) t.D t.to t.to_one (struct_sync (shape t) (words_sync, (lock_sync, (begun_sync, tt))))
