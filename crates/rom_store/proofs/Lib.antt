@@ -4,6 +4,7 @@ pub mod Holding
 pub mod Inspected
 pub mod Beginning
 pub mod Mending
+pub mod Tracing
 pub mod Passed
 pub mod Telling
 pub mod Stories

@@ -1,10 +1,10 @@
 -- What a pass keeps of what lies behind the lock.
-use Rattle.std.proofs.Common.{◌≡◌, ◌≢◌, ◌⊎◌, inl, inr, ⊎_elim, ℕ, zero, suc, ◌+◌, ◌-◌, ◌*◌, ◌<◌, ◌≤◌, IsTrue, List, [], ◌∷◌, ◌++◌, map, length, take, Option, Some, refl, sym, ap, ◌∙◌, subst, arith, append_assoc, append-nil, length-append}
-use Rattle.std.proofs.lemmas.List.{take-append-le}
+use Rattle.std.proofs.Common.{◌≡◌, ◌≢◌, ◌⊎◌, inl, inr, ⊎_elim, ℕ, zero, suc, ◌+◌, ◌*◌, ◌<◌, IsTrue, List, [], ◌∷◌, ◌++◌, map, length, Option, None, Some, refl, sym, ap, ◌∙◌, subst, arith, append_assoc, append-nil, length-append}
+use Rattle.std.proofs.lemmas.List.{length-map}
 use Rattle.std.specs.List.{AllByRecursion}
 use Rattle.rom_model.specs.History.{after, batch}
 use Rattle.rom_model.specs.Passes.{published}
-use Rattle.rom_model.specs.Story.{state_at, len_after}
+use Rattle.rom_model.specs.Story.{Story, doubted_batch, len_after, state_at}
 use Rattle.rom_model.specs.declared.entry.Entry.{Entry}
 use Rattle.rom_model.specs.declared.record.Fate.{Fate}
 use Rattle.rom_model.specs.declared.record.Fate.TheVariants as fate
@@ -12,6 +12,7 @@ use Rattle.rom_model.specs.declared.record.Found.{Found}
 use Rattle.rom_model.specs.declared.record.PassRecord.{PassRecord}
 use Rattle.rom_model.proofs.Recorded.{after_append}
 use Rattle.rom_device.specs.Device.{ShownDevice, After, Becomes, Does, Runs}
+use Rattle.rom_device.proofs.Going.{becomes_by}
 use Rattle.rom_header.specs.Layout.{MAIN}
 use Rattle.rom_model.specs.Blocks.{region_len}
 use Rattle.rom_twin.specs.Seen.{NeedsRepair, Seen}
@@ -25,7 +26,8 @@ use Rattle.rom_combine.specs.Histories.{Doubted, HoldsHistory, ImageAt, PassMake
 use Rattle.rom_combine.specs.Images.{HoldsIn, MayPublish}
 use Rattle.rom_combine.proofs.Sessions.{state_whole}
 use Rattle.rom_combine.specs.Passing.{IsPass}
-use Rattle.rom_combine.specs.Session.{SessionImage}
+use Rattle.rom_combine.specs.Causes.{FailsAtCommit, FailsBeforeCommit}
+use Rattle.rom_combine.specs.Session.{HoldsAfter, SessionImage}
 use Rattle.rom_combine.specs.Told.{fate_of}
 use Rattle.rom_combine.specs.declared.passed.Outcome.{Outcome}
 use Rattle.rom_combine.specs.declared.passed.Outcome.TheVariants as outcome
@@ -40,6 +42,8 @@ use Rattle.rom_rule.specs.declared.views.Plan.{Plan}
 use Rattle.rom_rule.specs.declared.views.Request.{Request}
 use Rattle.rom_rule.specs.declared.views.View.{View}
 use Rattle.rom_store.specs.Held.{IsHeld, Start, story_at}
+use Rattle.rom_store.specs.Traced.{ArePassesOn, HasCause, IsPassOn, MayMake, PassImage, WentThrough}
+use Rattle.rom_store.proofs.Tracing.{passes_on, passes_stay, state_stays}
 
 -- none of these is in doubt
 abbrev NoDoubt : List PassRecord → Type 0
@@ -71,18 +75,22 @@ module _ {S : Type 0} (Contents : ℕ → List ℕ → S → ℕ → Type 0) (st
     abbrev Image : Plan → List ℕ → Type 0
     Image p i = SessionImage Contents step (story_at b s k p) i
 
-    -- An image that holds the published history is one of the session, where the last record ends there.
+    -- An image that holds the published history holds it at its length.
+    pub holds_whole : (p : Plan) (i : List ℕ) → HoldsHistory Contents step b s k p.history i → HoldsAfter Contents step (story_at b s k p) (length p.history) [] i
+    holds_whole p i = subst (λ (z : S × ℕ). HoldsIn Contents b.order z.0 z.1 i) (λ j. (sym (state_whole step (story_at b s k p)) j, (let e : k + length p.history ≡ k + length p.history + 0 = omega arith in e) j))
+
+    -- It is one of the session, where the last record ends there.
     pub at_end : (p : Plan) → len_after 0 (records_of p) ≡ length p.history → (i : List ℕ) → HoldsHistory Contents step b s k p.history i → SessionImage Contents step (story_at b s k p) i
     at_end p ends i holds = inl (record {
       len = length p.history;
       boundary = (records_of p, [], sym (append-nil _), sym ends);
       reached = omega arith;
-      holds = subst (λ (z : S × ℕ). HoldsIn Contents b.order z.0 z.1 i) (λ j. (sym (state_whole step (story_at b s k p)) j, (let e : k + length p.history ≡ k + length p.history + 0 = omega arith in e) j)) holds;
+      holds = holds_whole p i holds;
     })
 
-    -- So is one that holds it with the batch in doubt.
-    pub at_doubt : (p : Plan) (d : List Entry) → Doubted Contents step b s k p d → (i : List ℕ) → HoldsHistory Contents step b s k (p.history ++ d) i → SessionImage Contents step (story_at b s k p) i
-    at_doubt p d is i holds =
+    -- One that holds it with the batch in doubt holds that at the length of the pass in doubt.
+    pub holds_doubt : (p : Plan) (d : List Entry) (is : Doubted Contents step b s k p d) (i : List ℕ) → HoldsHistory Contents step b s k (p.history ++ d) i → HoldsAfter Contents step (story_at b s k p) is.pass.len (doubted_batch step (story_at b s k p) is.pass) i
+    holds_doubt p d is i holds =
         let h : List Entry = p.history in
         let st : S = after step b.order s k h in
         let at : S × ℕ → List Entry = λ z. batch step b.order z.0 z.1 is.pass.found in
@@ -91,15 +99,19 @@ module _ {S : Type 0} (Contents : ℕ → List ℕ → S → ℕ → Type 0) (st
         let long : k + length (h ++ d) ≡ k + length h + length d = omega (arith, length-append h d) in
         let apart : HoldsIn Contents b.order (after step b.order st (k + length h) d) (k + length h + length d) i = subst (λ (z : S × ℕ). HoldsIn Contents b.order z.0 z.1 i) (λ j. (after_append step b.order s k h d j, long j)) holds in
         let made : HoldsIn Contents b.order (after step b.order st (k + length h) (at (st, k + length h))) (k + length h + length (at (st, k + length h))) i = subst (λ (l : List Entry). HoldsIn Contents b.order (after step b.order st (k + length h) l) (k + length h + length l) i) is.batch_is apart in
-        inr (record {
-          before = is.earlier;
-          pass = is.pass;
-          since = is.later;
-          stands = is.stands;
-          fate_is = is.fate_is;
-          reached = omega (arith, is.unmoved);
-          holds = subst (λ (z : S × ℕ). let l = batch step b.order z.0 z.1 is.pass.found in HoldsIn Contents b.order (after step b.order z.0 z.1 l) (z.1 + length l) i) (λ j. (state j, same j)) made;
-        })
+        subst (λ (z : S × ℕ). let l = batch step b.order z.0 z.1 is.pass.found in HoldsIn Contents b.order (after step b.order z.0 z.1 l) (z.1 + length l) i) (λ j. (state j, same j)) made
+
+    -- So it is one of the session too.
+    pub at_doubt : (p : Plan) (d : List Entry) → Doubted Contents step b s k p d → (i : List ℕ) → HoldsHistory Contents step b s k (p.history ++ d) i → SessionImage Contents step (story_at b s k p) i
+    at_doubt p d is i holds = inr (record {
+      before = is.earlier;
+      pass = is.pass;
+      since = is.later;
+      stands = is.stands;
+      fate_is = is.fate_is;
+      reached = omega (arith, is.unmoved);
+      holds = holds_doubt p d is i holds;
+    })
 
     -- Each image that a stop leaves now is one of the session.
     pub image_now : (at : Phase) (p : Plan) → len_after 0 (records_of p) ≡ length p.history → (i : List ℕ) → ImageAt Contents step b s k at p i → SessionImage Contents step (story_at b s k p) i
@@ -110,16 +122,12 @@ module _ {S : Type 0} (Contents : ℕ → List ℕ → S → ℕ → Type 0) (st
     pub image_stays : (p q : Plan) (more : List Entry) (rs : List PassRecord) → q.history ≡ p.history ++ more → records_of q ≡ records_of p ++ rs → (i : List ℕ) → SessionImage Contents step (story_at b s k p) i → SessionImage Contents step (story_at b s k q) i
     image_stays p q more rs history records i = stays
       where
-        state_stays : (len : ℕ) → len ≤ length p.history → state_at step (story_at b s k p) (k + len) ≡ state_at step (story_at b s k q) (k + len)
-        state_stays len reached = ap (λ (l : List Entry). after step b.order s k l)
-            (sym (take-append-le (k + len - k) p.history more (omega (arith, reached))) ∙ ap (λ (l : List Entry). take (k + len - k) l) (sym history))
-
         stays : SessionImage Contents step (story_at b s k p) i → SessionImage Contents step (story_at b s k q) i
         stays (inl at) = inl (record {
           len = at.len;
           boundary = let e = at.boundary in (e.0, e.1 ++ rs, records ∙ (ap (λ (z : List PassRecord). z ++ rs) e.2 ∙ append_assoc e.0 e.1 rs), e.3);
           reached = omega (arith, at.reached, length-append p.history more, ap length history);
-          holds = subst (λ (x : S). HoldsIn Contents b.order x (k + at.len + 0) i) (state_stays at.len at.reached) at.holds;
+          holds = subst (λ (x : S). HoldsIn Contents b.order x (k + at.len + 0) i) (state_stays step b s k p q more history at.len at.reached) at.holds;
         })
         stays (inr at) = inr (record {
           before = at.before;
@@ -128,7 +136,7 @@ module _ {S : Type 0} (Contents : ℕ → List ℕ → S → ℕ → Type 0) (st
           stands = records ∙ (ap (λ (z : List PassRecord). z ++ rs) at.stands ∙ append_assoc at.before (at.pass ∷ at.since) rs);
           fate_is = at.fate_is;
           reached = omega (arith, at.reached, length-append p.history more, ap length history);
-          holds = subst (λ (x : S). let n = k + at.pass.len in let l = batch step b.order x n at.pass.found in HoldsIn Contents b.order (after step b.order x n l) (n + length l) i) (state_stays at.pass.len at.reached) at.holds;
+          holds = subst (λ (x : S). let n = k + at.pass.len in let l = batch step b.order x n at.pass.found in HoldsIn Contents b.order (after step b.order x n l) (n + length l) i) (state_stays step b s k p q more history at.pass.len at.reached) at.holds;
         })
 
     -- A batch in doubt stays in doubt where nothing is published and no later pass is in doubt.
@@ -182,16 +190,19 @@ module _ {S : Type 0} (Contents : ℕ → List ℕ → S → ℕ → Type 0) (st
           ap (len_after 0) (x.records ∙ (ap (λ (l : List Found). records_of p ++ record_list l mine) e ∙ append-nil (records_of p))) ∙ (ends ∙ sym (ap length same))
       by (f ∷ fs) e = ap (len_after 0) (x.records ∙ ap (λ (l : List Found). records_of p ++ record_list l mine) e) ∙ len_more 0 (records_of p) mine
 
+  doubt_stands : r.outcome ≡ outcome.Doubt → records_of q ≡ records_of p ++ mine ∷ []
+  doubt_stands e = x.records ∙ ap (λ (l : List PassRecord). records_of p ++ l) (some_found x.items x.scanned.requests (λ zero. let no : outcome.Doubt ≡ outcome.Nothing = sym e ∙ x.nothing.1 zero in cc) x.scan.items_are mine)
+
   module _ (s : S) (k : ℕ) (op : Contents b.order b.image s k) where
     -- A pass in doubt leaves its batch in doubt.
-    doubt_new : r.outcome ≡ outcome.Doubt → Doubted Contents step b s k q x.more
+    abbrev doubt_new : r.outcome ≡ outcome.Doubt → Doubted Contents step b s k q x.more
     doubt_new e =
         let same : q.history ≡ p.history = x.history ∙ (ap (λ (o : Outcome). p.history ++ published (fate_of o) x.more) e ∙ append-nil p.history) in
         record {
           earlier = records_of p;
           pass = mine;
           later = [];
-          stands = x.records ∙ ap (λ (l : List PassRecord). records_of p ++ l) (some_found x.items x.scanned.requests (λ zero. let no : outcome.Doubt ≡ outcome.Nothing = sym e ∙ x.nothing.1 zero in cc) x.scan.items_are mine);
+          stands = doubt_stands e;
           fate_is = ap fate_of e;
           unmoved = refl;
           last = tt;
@@ -248,20 +259,108 @@ module _ {S : Type 0} (Contents : ℕ → List ℕ → S → ℕ → Type 0) (st
         by outcome.Published e allowed = at_end Contents step b s k q (ends_on (s, k, op) ends) i
             (subst (λ (l : List Entry). HoldsHistory Contents step b s k l i) (sym (x.history ∙ ap (λ (o : Outcome). p.history ++ published (fate_of o) x.more) e)) holds)
 
+module _ {S : Type 0} (Contents : ℕ → List ℕ → S → ℕ → Type 0) (step : ℕ → S → ℕ → List ℕ → Option (S × List ℕ)) {D : Type 0} (shown : ShownDevice D) (b : Base) (p q : Plan) (callers : ℕ) (r : Passed)
+    (t u : Seen D) (x : IsPass Contents step b p q callers (shown.faults t.device) (shown.faults u.device) r) (s : S) (k : ℕ) (op : Contents b.order b.image s k) where
+  abbrev Record : PassRecord
+  Record = mine Contents step b p q callers (shown.faults t.device) (shown.faults u.device) r x
+
+  abbrev Story' : Story S
+  Story' = story_at b s k q
+
+  abbrev doubted_of : r.outcome ≡ outcome.Doubt → Doubted Contents step b s k q x.more
+  doubted_of e = doubt_new Contents step b p q callers (shown.faults t.device) (shown.faults u.device) r x s k op e
+
+  -- what a pass that ended so puts in place of the history before it
+  made_by : (o : Outcome) → r.outcome ≡ o → MayPublish (fate_of o) → (i : List ℕ) → HoldsHistory Contents step b s k (p.history ++ x.more) i → MayMake shown Contents step Story' (fate_of o) Record i
+  made_by outcome.Failed e may i holds = absurd may
+  made_by outcome.Doubt e may i holds =
+      let same : q.history ≡ p.history = x.history ∙ (ap (λ (o : Outcome). p.history ++ published (fate_of o) x.more) e ∙ append-nil p.history) in
+      holds_doubt Contents step b s k q x.more (doubted_of e) i (subst (λ (l : List Entry). HoldsHistory Contents step b s k (l ++ x.more) i) (sym same) holds)
+  made_by outcome.Nothing e may i holds = holds_whole Contents step b s k q i (subst (λ (l : List Entry). HoldsHistory Contents step b s k l i) (sym (x.history ∙ ap (λ (o : Outcome). p.history ++ published (fate_of o) x.more) e)) holds)
+  made_by outcome.Published e may i holds = holds_whole Contents step b s k q i (subst (λ (l : List Entry). HoldsHistory Contents step b s k l i) (sym (x.history ∙ ap (λ (o : Outcome). p.history ++ published (fate_of o) x.more) e)) holds)
+
+  cause_by : (o : Outcome) → r.outcome ≡ o → (r.outcome ≡ outcome.Failed → FailsBeforeCommit shown t.phase b.order p.main t.device u.device) → (r.outcome ≡ outcome.Doubt → FailsAtCommit shown t.phase b.order p.main t.device u.device)
+      → HasCause shown Contents step Story' (fate_of o) t.device u.device
+  cause_by outcome.Nothing e failed doubt = tt
+  cause_by outcome.Published e failed doubt = tt
+  cause_by outcome.Failed e failed doubt = (t.phase, p.main, failed e)
+  cause_by outcome.Doubt e failed doubt = (t.phase, p.main, doubt e)
+
+  -- The pass is one that the device went through.
+  pass_on : len_after 0 (records_of p) ≡ length p.history
+      → (r.outcome ≡ outcome.Failed → FailsBeforeCommit shown t.phase b.order p.main t.device u.device) → (r.outcome ≡ outcome.Doubt → FailsAtCommit shown t.phase b.order p.main t.device u.device)
+      → (IsTrue shown.tells_images → Runs shown (Becomes (PassMakes Contents step b s k (fate_of r.outcome) p.history x.more)) t.device u.device)
+      → (0 < r.done → (u.phase ≡ phase.Clean) ⊎ (u.phase ≡ phase.Redo))
+      → (IsTrue shown.tells_images → (i : List ℕ) → shown.leaves u.device i → ImageAt Contents step b s k u.phase q i)
+      → IsPassOn shown Contents step Story' (len_after 0 (records_of p)) Record t.device u.device
+  pass_on ends failed doubt runs repaired now_is =
+      let grown : length q.history ≡ length p.history + r.done = ap length x.history ∙ (length-append p.history _ ∙ ap (λ (n : ℕ). length p.history + n) (sym x.done)) in
+      record {
+        before = refl;
+        after = refl;
+        cause = cause_by r.outcome refl failed doubt;
+        reached = (omega (arith, ends, grown), omega arith);
+        images = λ told. becomes_by shown _ (PassImage shown Contents step Story' (len_after 0 (records_of p)) Record) (λ i made. ⊎_elim
+            (λ holds. inl (was_held ends grown i holds))
+            (λ (may, holds). inr (made_by r.outcome refl may i holds)) made) t.device u.device (runs told);
+        certain = λ told grew i left. ⊎_elim
+            (λ holds. holds_whole Contents step b s k q i holds)
+            (λ (in_doubt, d, is, holds). absurd (⊎_elim
+            (λ clean. let no : phase.Clean ≡ phase.Doubt = sym clean ∙ in_doubt in cc)
+            (λ redo. let no : phase.Redo ≡ phase.Doubt = sym redo ∙ in_doubt in cc)
+            (repaired (omega (arith, ends, grown, grew)))))
+            (now_is told i left);
+      }
+    where
+      was_held : len_after 0 (records_of p) ≡ length p.history → length q.history ≡ length p.history + r.done → (i : List ℕ) → HoldsHistory Contents step b s k p.history i → HoldsAfter Contents step Story' (len_after 0 (records_of p)) [] i
+      was_held ends grown i holds = subst (λ (n : ℕ). HoldsAfter Contents step Story' n [] i) (sym ends)
+          (subst (λ (y : S). HoldsIn Contents b.order y (k + length p.history + 0) i) (state_stays step b s k p q (published (fate_of r.outcome) x.more) x.history (length p.history) (omega arith)) (holds_whole Contents step b s k p i holds))
+
+  -- So the device went through one pass more, or through none where no call was found.
+  pub went_on : len_after 0 (records_of p) ≡ length p.history
+      → (r.outcome ≡ outcome.Failed → FailsBeforeCommit shown t.phase b.order p.main t.device u.device) → (r.outcome ≡ outcome.Doubt → FailsAtCommit shown t.phase b.order p.main t.device u.device)
+      → (IsTrue shown.tells_images → Runs shown (Becomes (PassMakes Contents step b s k (fate_of r.outcome) p.history x.more)) t.device u.device)
+      → (r.outcome ≡ outcome.Nothing → u ≡ t) → (0 < r.done → (u.phase ≡ phase.Clean) ⊎ (u.phase ≡ phase.Redo))
+      → (IsTrue shown.tells_images → (i : List ℕ) → shown.leaves u.device i → ImageAt Contents step b s k u.phase q i)
+      → WentThrough shown Contents step (story_at b s k p) b.faults t.device → WentThrough shown Contents step (story_at b s k q) b.faults u.device
+  went_on ends failed doubt runs untouched repaired now_is was = record {
+    first = was.first;
+    faults_by = was.faults_by;
+    passes = by (founds Contents step b p q callers (shown.faults t.device) (shown.faults u.device) r x) refl;
+  }
+    where
+      stayed : ArePassesOn shown Contents step Story' 0 (records_of p) was.first t.device
+      stayed = passes_stay shown Contents step (story_at b s k p) q.history (records_of q) None
+          (omega (arith, length-append p.history (published (fate_of r.outcome) x.more), ap length x.history))
+          (state_stays step b s k p q (published (fate_of r.outcome) x.more) x.history) 0 (records_of p) was.first t.device was.passes
+
+      by : (fs : List Found) → founds Contents step b p q callers (shown.faults t.device) (shown.faults u.device) r x ≡ fs → ArePassesOn shown Contents step Story' 0 (records_of q) was.first u.device
+      by [] e =
+          let none : length x.items ≡ 0 = ap length x.scan.items_are ∙ (length-map x.scanned.requests posted_of ∙ (sym (length-map x.scanned.requests found_of) ∙ ap length e)) in
+          let same : t.device ≡ u.device = ap (λ (z : Seen D). z.device) (sym (untouched (x.nothing.1 none))) in
+          let records : records_of p ≡ records_of q = sym (x.records ∙ (ap (λ (l : List Found). records_of p ++ record_list l Record) e ∙ append-nil (records_of p))) in
+          subst (λ (z : List PassRecord × D). ArePassesOn shown Contents step Story' 0 z.0 was.first z.1) (λ j. (records j, same j)) stayed
+      by (f ∷ fs) e =
+          let records : records_of p ++ Record ∷ [] ≡ records_of q = sym (x.records ∙ ap (λ (l : List Found). records_of p ++ record_list l Record) e) in
+          subst (λ (l : List PassRecord). ArePassesOn shown Contents step Story' 0 l was.first u.device) records
+          (passes_on shown Contents step Story' 0 (records_of p) Record was.first t.device u.device stayed (pass_on ends failed doubt runs repaired now_is))
+
 module _ {S : Type 0} (Contents : ℕ → List ℕ → S → ℕ → Type 0) (step : ℕ → S → ℕ → List ℕ → Option (S × List ℕ)) {D : Type 0} (shown : ShownDevice D) (start : Start) (test : ℕ → List ℕ → Type 0)
-    (c d : Locked D) (callers before now : ℕ) (r : Passed) where
+    (c d : Locked D) (callers : ℕ) (r : Passed) where
   -- What the lock keeps is kept by a pass.
   pub held_on : IsHeld shown Contents step c.table_id c.view.base start test c
       → (d.table_id ≡ c.table_id) × (d.id ≡ c.id) × (d.view.base ≡ c.view.base) × (d.twin.order ≡ c.twin.order)
       → d.view ≡ record c.view { plan = Some (plan_of d.view); steps = d.view.steps }
-      → (x : IsPass Contents step c.view.base (plan_of c.view) (plan_of d.view) callers before now r)
+      → (x : IsPass Contents step c.view.base (plan_of c.view) (plan_of d.view) callers (shown.faults c.twin.device) (shown.faults d.twin.device) r)
       → (let b = c.view.base in IsTrue shown.tells_images → (s : S) (n : ℕ) → Contents b.order b.image s n → Runs shown (Becomes (PassMakes Contents step b s n (fate_of r.outcome) (plan_of c.view).history x.more)) c.twin.device d.twin.device)
       → (r.outcome ≡ outcome.Published → r.done ≡ 0 → d.twin ≡ c.twin) → (r.outcome ≡ outcome.Nothing → d.twin ≡ c.twin) → (0 < r.done → (d.twin.phase ≡ phase.Clean) ⊎ (d.twin.phase ≡ phase.Redo))
       → (r.outcome ≡ outcome.Failed → (d.twin.phase ≡ phase.Undo) ⊎ ((d.twin.phase ≡ c.twin.phase) × NeedsRepair c.twin.phase))
       → (let b = c.view.base in IsTrue shown.tells_images → (s : S) (n : ℕ) → Contents b.order b.image s n → (i : List ℕ) → shown.leaves d.twin.device i → ImageAt Contents step b s n d.twin.phase (plan_of d.view) i)
       → Does shown (WithinHeap c.twin.order) c.twin.device d.twin.device
+      → (r.outcome ≡ outcome.Failed → FailsBeforeCommit shown c.twin.phase c.twin.order (plan_of c.view).main c.twin.device d.twin.device)
+      → (r.outcome ≡ outcome.Doubt → FailsAtCommit shown c.twin.phase c.twin.order (plan_of c.view).main c.twin.device d.twin.device)
       → IsHeld shown Contents step c.table_id c.view.base start test d
-  held_on h same kept x runs spent untouched repaired failed now_is does = record {
+  held_on h same kept x runs spent untouched repaired failed now_is does failed_by doubt_by = record {
     table_is = same.0;
     base_is = same.2;
     order_is = same.3 ∙ h.order_is;
@@ -276,8 +375,18 @@ module _ {S : Type 0} (Contents : ℕ → List ℕ → S → ℕ → Type 0) (st
     later = λ told. let on = (does.images told).later in omega (arith, on, h.later told);
     keeps = λ told t i le was. (does.images told).keeps t i (omega (arith, le, h.later told)) (h.keeps told t i le was);
     since = λ told s k op t i left. ⊎_elim (past told s k op t i) (here told s k op t i) ((runs told s k op).nothing_else t i left);
+    went = λ s k op. went_on Contents step shown b p q callers r c.twin d.twin x s k op h.ends
+        (λ e. subst (λ (n : ℕ). FailsBeforeCommit shown c.twin.phase n p.main c.twin.device d.twin.device) h.order_is (failed_by e))
+        (λ e. subst (λ (n : ℕ). FailsAtCommit shown c.twin.phase n p.main c.twin.device d.twin.device) h.order_is (doubt_by e))
+        (λ told. runs told s k op) untouched repaired (λ told. now_is told s k op) (h.went s k op);
   }
     where
+      before : ℕ
+      before = shown.faults c.twin.device
+
+      now : ℕ
+      now = shown.faults d.twin.device
+
       b : Base
       b = c.view.base
 

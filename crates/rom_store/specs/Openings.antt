@@ -1,5 +1,5 @@
 -- What contracts see of a heap that is opened for callers.
-use Rattle.std.specs.Prelude.{◌≡◌, ℕ, List, [], IsTrue}
+use Rattle.std.specs.Prelude.{◌≡◌, ℕ, ◌≤◌, List, [], IsTrue}
 use Rattle.atomic_table.specs.Seated.{TableId}
 use Rattle.rom_model.specs.VecSpace.{words_of}
 use Rattle.rom_device.specs.Device.{ShownDevice}
@@ -30,3 +30,4 @@ pub record IsOpening {D S : Type 0} (shown : ShownDevice D) (Contents : ℕ → 
   pub order_is : begun.order ≡ (base_of key).order
   pub image_is : words_of begun.image.value ≡ (base_of key).image
   pub faults_is : begun.faults ≡ (base_of key).faults
+  pub faults_by : begun.faults ≤ shown.faults c.twin.device

@@ -12,6 +12,7 @@ ghost use Rattle.rom_store.specs.Closing.{HasLeftSince, joined_of, kept_in};
 ghost use Rattle.rom_store.specs.Held.{start_of};
 ghost use Rattle.rom_store.specs.Indexed.{Indexed};
 ghost use Rattle.rom_store.specs.Sessions.{EachStory, HasStory};
+ghost use Rattle.rom_store.specs.Traced.{WentThrough};
 
 use crate::closed::Closed;
 use crate::label::Label;
@@ -64,6 +65,10 @@ impl<D: Device, O: Object, N: Label> Store<D, O, N> {
         ensures since { IsTrue D.shown.tells_images → EachStory O.machine O.Contents result.session
             (λ story. HasLeftSince D.shown (start_of N.size N.words N.clock) N.since
             (SessionImage O.Contents (on_words O.machine) story) result.device) }
+
+        // The device went through the passes of the records, one after another.
+        ensures went { EachStory O.machine O.Contents result.session (λ story. WentThrough D.shown
+            O.Contents (on_words O.machine) story story.opening_faults result.device) }
         ensures size { D.shown.size result.device ≡ N.size }
         ensures outside { IsTrue D.shown.tells_words →
             WithinHeap N.base.order N.words (D.shown.words result.device) }

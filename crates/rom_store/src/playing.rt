@@ -12,6 +12,7 @@ ghost use Rattle.rom_combine.specs.Session.{ImageNow, SessionImage};
 ghost use Rattle.rom_store.specs.Calls.{HasFaults};
 ghost use Rattle.rom_store.specs.Refusals.{IsRefusal, NamesTooFew, named_order};
 ghost use Rattle.rom_store.specs.Sessions.{EachStory, HasStory};
+ghost use Rattle.rom_store.specs.Traced.{WentThrough};
 ghost use Rattle.rom_store.specs.declared.reasons.Why.TheVariants.{OutOfMemory};
 
 use crate::from_device::Refused;
@@ -65,6 +66,9 @@ where
     ensures since { IsTrue D.shown.tells_images → IfOk result (λ played. EachStory O.machine
         O.Contents played.closed.session (λ story. Leaves D.shown
         (SessionImage O.Contents (on_words O.machine) story) device played.closed.device)) }
+    ensures went { IfOk result (λ played. EachStory O.machine O.Contents played.closed.session
+        (λ story. WentThrough D.shown O.Contents (on_words O.machine) story story.opening_faults
+        played.closed.device)) }
     ensures size { IfOk result (λ played.
         D.shown.size played.closed.device ≡ D.shown.size device) }
     ensures outside { IsTrue D.shown.tells_words → IfOk result (λ played.

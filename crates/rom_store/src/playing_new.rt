@@ -1,5 +1,5 @@
 //! Scripts on a heap that is made for them.
-ghost use Rattle.std.specs.Prelude.{◌≡◌, ◌≢◌, ◌⊎◌, slice_index, Err, Ok, ℕ, ◌+◌, ◌<◌, ◌≤◌, [], List, length, map, All, vec_len, vec_capacity, IfErr, IfOk, IsTrue};
+ghost use Rattle.std.specs.Prelude.{◌≡◌, Err, Ok, ℕ, ◌+◌, ◌<◌, ◌≤◌, [], List, length, map, All, vec_len, vec_capacity, IfErr, IfOk, IsTrue};
 ghost use Rattle.rom_model.specs.Blocks.{IsOrder};
 ghost use Rattle.rom_model.specs.History.{LAST_COUNT};
 ghost use Rattle.rom_model.specs.Lawful.{IsLawful};
@@ -9,7 +9,7 @@ ghost use Rattle.rom_model.specs.Space.{ChangesOnly};
 ghost use Rattle.rom_model.specs.VecSpace.{words_of};
 ghost use Rattle.rom_device.specs.Device.{Does, Leaves, Stays};
 ghost use Rattle.rom_header.specs.Fresh.{HasTooFewFor, IsFormatAnswer, IsRefused};
-ghost use Rattle.rom_header.specs.Layout.{MAGIC, words_needed};
+ghost use Rattle.rom_header.specs.Layout.{words_needed};
 ghost use Rattle.rom_header.specs.declared.fresh.FormatRefused.{FormatRefused};
 ghost use Rattle.rom_lr.specs.Opening.{dealt_view};
 ghost use Rattle.rom_lr.specs.Seats.{IsWriterOf};
@@ -17,8 +17,9 @@ ghost use Rattle.rom_combine.specs.Session.{ImageNow, SessionImage};
 ghost use Rattle.rom_rule.specs.Views.{base_of};
 ghost use Rattle.rom_store.specs.Callers.{IsNewCaller};
 ghost use Rattle.rom_store.specs.Indexed.{Indexed};
-ghost use Rattle.rom_store.specs.Making.{HasFaultsUnmade, NoneOrHolds};
+ghost use Rattle.rom_store.specs.Making.{HasFaultsUnmade, IsMadeThen, NoneOrHolds};
 ghost use Rattle.rom_store.specs.Sessions.{EachStory, HasStory};
+ghost use Rattle.rom_store.specs.Traced.{WentThrough};
 ghost use Rattle.rom_store.specs.Working.{IsRoom};
 ghost use Rattle.rom_store.specs.declared.new_heap.NotFormatted.TheVariants as unmade;
 
@@ -139,9 +140,12 @@ where
         played.closed.session (λ story. (i : List ℕ) → D.shown.leaves played.closed.device i →
         ImageNow O.Contents (on_words O.machine) story i)) }
     ensures since { IsTrue D.shown.tells_images → IfOk result (λ played. EachStory O.machine
-        O.Contents played.closed.session (λ story. Leaves D.shown (λ i.
-        (slice_index i 0 ≢ MAGIC) ⊎ SessionImage O.Contents (on_words O.machine) story i)
-        device played.closed.device)) }
+        O.Contents played.closed.session (λ story. IsMadeThen D.shown O.Contents order
+        O.machine.empty (SessionImage O.Contents (on_words O.machine) story) device
+        played.closed.device)) }
+    ensures went { IfOk result (λ played. EachStory O.machine O.Contents played.closed.session
+        (λ story. WentThrough D.shown O.Contents (on_words O.machine) story story.opening_faults
+        played.closed.device)) }
     ensures size { IfOk result (λ played.
         D.shown.size played.closed.device ≡ D.shown.size device) }
     ensures outside { IsTrue D.shown.tells_words → IfOk result (λ played.

@@ -13,6 +13,7 @@ ghost use Rattle.rom_store.specs.Closing.{HasLeftSince};
 ghost use Rattle.rom_store.specs.Held.{start_of};
 ghost use Rattle.rom_store.specs.Indexed.{Indexed};
 ghost use Rattle.rom_store.specs.Sessions.{EachStory, HasStory};
+ghost use Rattle.rom_store.specs.Traced.{WentThrough};
 ghost use Rattle.rom_store.specs.Working.{IsRoom};
 
 use crate::closed::Closed;
@@ -83,6 +84,9 @@ where
     ensures since { IsTrue D.shown.tells_images → EachStory O.machine O.Contents
         result.closed.session (λ story. HasLeftSince D.shown (start_of N.size N.words N.clock)
         N.since (SessionImage O.Contents (on_words O.machine) story) result.closed.device) }
+    ensures went { EachStory O.machine O.Contents result.closed.session (λ story.
+        WentThrough D.shown O.Contents (on_words O.machine) story story.opening_faults
+        result.closed.device) }
     ensures size { D.shown.size result.closed.device ≡ N.size }
     ensures outside { IsTrue D.shown.tells_words →
         WithinHeap N.base.order N.words (D.shown.words result.closed.device) }
@@ -148,6 +152,9 @@ where
     ensures since { IsTrue D.shown.tells_images → EachStory O.machine O.Contents
         result.closed.session (λ story. Leaves D.shown
         (SessionImage O.Contents (on_words O.machine) story) opening.device result.closed.device) }
+    ensures went { EachStory O.machine O.Contents result.closed.session (λ story.
+        WentThrough D.shown O.Contents (on_words O.machine) story story.opening_faults
+        result.closed.device) }
     ensures size { D.shown.size result.closed.device ≡ D.shown.size opening.device }
     ensures outside { IsTrue D.shown.tells_words → WithinHeap (base_of opening.key).order
         (D.shown.words opening.device) (D.shown.words result.closed.device) }

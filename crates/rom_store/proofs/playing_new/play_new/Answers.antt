@@ -1,15 +1,9 @@
-use Rattle.std.proofs.Common.{◌≡◌, ◌≢◌, ◌⊎◌, ◌∙◌, ℕ, List, inl, inr, ⊎_elim, ap, subst, sym}
-use Rattle.std.specs.Prelude.{slice_index}
+use Rattle.std.proofs.Common.{◌≡◌, ◌∙◌, ℕ, List, rules, subst}
 use Rattle.rom_combine.specs.Session.{SessionImage}
 use Rattle.rom_device.specs.Device.{Leaves}
-use Rattle.rom_header.specs.Held.{Holds}
-use Rattle.rom_header.specs.Layout.{MAGIC}
 use Rattle.rom_model.specs.Machine.{on_words}
 use Rattle.rom_model.specs.VecSpace.{words_of}
 use Rattle.rom_rule.specs.Views.{base_of}
-use Rattle.rom_rule.specs.declared.views.Base.{Base}
-use Rattle.rom_store.specs.Making.{NoneOrHolds}
-use Rattle.rom_store.proofs.Spans.{held_opening, leaves_both}
 use Rattle.rom_store.proofs.playing_new.play_new.Goals as goal
 
 pub returns-clause-empty : goal.returns-clause-empty
@@ -26,16 +20,12 @@ returns-clause-empty g c = λ story is.
 
 pub returns-clause-since : goal.returns-clause-since
 returns-clause-since g c = λ told story is.
-    let Contents = g.O.Object.Contents in
     let shown = g.D.Device.shown in
     let step = on_words g.O.Object.machine in
-    let empty = g.O.Object.machine.empty in
     let closed = c.play_on.result.closed in
-    let first = returns-clause-empty g c story is in
-    let base_is = (λ j. base_of (c.of-opening.ensures.opening j).key) ∙ c.in-Ok.ensures.base in
-    let same : story.order ≡ c.args.order = is.order_is ∙ c.play_on.ensures.order ∙ (λ j. (base_is j).order) in
-    leaves_both shown (NoneOrHolds Contents c.args.order empty) (SessionImage Contents step story) (λ i. (slice_index i 0 ≢ MAGIC) ⊎ SessionImage Contents step story i) c.args.device c.write_heap.new.device closed.device
-    (λ i. ⊎_elim (λ none. inl none) (λ held. inr (held_opening Contents step story i (subst (λ (z : ℕ × (g.O.Object.State × ℕ)). Holds Contents z.0 i z.1.0 z.1.1) (λ j. (sym same j, (sym first.0 j, sym first.1 j))) held))))
-    (λ i image. inr image)
-    (c.write_heap.ensures.images told)
-    (subst (λ d. Leaves shown (SessionImage Contents step story) d closed.device) (λ j. (c.of-opening.ensures.opening j).device) (c.play_on.ensures.since told story is))
+    record {
+      at = c.write_heap.new.device;
+      making = c.write_heap.ensures.images told;
+      stands = let held = c.write_heap.ensures.held_images told in search rules;
+      since = subst (λ d. Leaves shown (SessionImage g.O.Object.Contents step story) d closed.device) (λ j. (c.of-opening.ensures.opening j).device) (c.play_on.ensures.since told story is);
+    }

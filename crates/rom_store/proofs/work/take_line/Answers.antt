@@ -1,4 +1,3 @@
-use Rattle.std.proofs.Common.{◌∙◌}
 use Rattle.rom_model.proofs.Hearing.{updated, read, unread}
 use Rattle.rom_model.specs.Lawful.{as_words}
 use Rattle.rom_model.specs.Machine.{on_words}

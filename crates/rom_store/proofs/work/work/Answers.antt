@@ -1,6 +1,6 @@
-use Rattle.std.proofs.Common.{sym, ap, ◌∙◌, subst, arith, length, map, ◌≡◌, ◌-◌, ◌<◌, ◌≤◌, ℕ, vec_capacity}
+use Rattle.std.proofs.Common.{sym, ◌∙◌, subst, arith, length, ◌≡◌, ◌-◌, ◌<◌, ◌≤◌, ℕ, vec_capacity}
 use Rattle.std.proofs.lemmas.List.{length-map}
-use Rattle.rom_store.specs.Working.{HasDone, script_of}
+use Rattle.rom_store.specs.Working.{HasDone}
 use Rattle.rom_store.proofs.Dealing.{script_is}
 use Rattle.rom_store.proofs.work.work.Goals as goal
 

@@ -1,0 +1,49 @@
+-- The passes of a session, one after another, as its device went through them.
+use Rattle.std.specs.Prelude.{◌≡◌, ◌⊎◌, ℕ, ◌<◌, ◌≤◌, List, [], ◌∷◌, length, Option, IsTrue}
+use Rattle.rom_model.specs.Story.{Story, doubted_batch}
+use Rattle.rom_model.specs.declared.record.Fate.{Fate}
+use Rattle.rom_model.specs.declared.record.Fate.TheVariants.{Published, Failed, Doubt}
+use Rattle.rom_model.specs.declared.record.PassRecord.{PassRecord}
+use Rattle.rom_device.specs.Device.{ShownDevice, Becomes, Runs}
+use Rattle.rom_twin.specs.declared.phase.Phase.{Phase}
+use Rattle.rom_combine.specs.Causes.{FailsAtCommit, FailsBeforeCommit}
+use Rattle.rom_combine.specs.Session.{HoldsAfter}
+
+module _ {D S : Type 0} (shown : ShownDevice D) (Contents : ℕ → List ℕ → S → ℕ → Type 0) (step : ℕ → S → ℕ → List ℕ → Option (S × List ℕ)) (story : Story S) where
+  -- What a pass that ended so may have put in place of the history before it: that with its batch, and none where it failed before the commit.
+  abbrev pub MayMake : Fate → PassRecord → List ℕ → Type 0
+  MayMake Published r i = HoldsAfter Contents step story r.len [] i
+  MayMake Failed r i = ⊥
+  MayMake Doubt r i = HoldsAfter Contents step story r.len (doubted_batch step story r) i
+
+  -- Each image that a pass makes, which found the history at this length: the history so far, or that with the pass's batch.
+  abbrev pub PassImage : ℕ → PassRecord → List ℕ → Type 0
+  PassImage len r i = HoldsAfter Contents step story len [] i ⊎ MayMake r.fate r i
+
+  -- why a pass that ended so failed, if it did
+  abbrev pub HasCause : Fate → D → D → Type 0
+  HasCause Published was now = Unit {0}
+  HasCause Failed was now = (phase : Phase) × (region : List ℕ) × FailsBeforeCommit shown phase story.order region was now
+  HasCause Doubt was now = (phase : Phase) × (region : List ℕ) × FailsAtCommit shown phase story.order region was now
+
+  -- The pass of this record, which found the history at this length and the device so, and left it so.
+  pub record IsPassOn (len : ℕ) (r : PassRecord) (was now : D) : Type 0 where
+    -- the record's counts are the device's
+    pub before : shown.faults was ≡ r.faults_before
+    pub after : shown.faults now ≡ r.faults_after
+    pub cause : HasCause r.fate was now
+    pub reached : (len ≤ length story.history) × (r.len ≤ length story.history)
+    pub images : IsTrue shown.tells_images → Runs shown (Becomes (PassImage len r)) was now
+    -- what it published is certain: a stop leaves it
+    pub certain : IsTrue shown.tells_images → len < r.len → (i : List ℕ) → shown.leaves now i → HoldsAfter Contents step story r.len [] i
+
+  -- The passes of these records, one after another, from the one device to the other: between two of them none is called.
+  abbrev pub ArePassesOn : ℕ → List PassRecord → D → D → Type 0
+  ArePassesOn len [] was now = now ≡ was
+  ArePassesOn len (r ∷ rs) was now = (next : D) × IsPassOn len r was next × ArePassesOn r.len rs next now
+
+  -- All passes of the story, since a device that had failed so often: it went through them, up to now.
+  pub record WentThrough (faults : ℕ) (now : D) : Type 0 where
+    pub first : D
+    pub faults_by : faults ≤ shown.faults first
+    pub passes : ArePassesOn 0 story.records first now
