@@ -5,7 +5,7 @@ ghost use Rattle.rom_model.specs.History.{LAST_COUNT};
 use crate::crowd::new_heap;
 use crate::heaps::{device, left};
 use rom_combine::NoGate;
-use rom_device::{CallKind, Device, Memory, Ram, Trip};
+use rom_device::{CallKind, Device, Trip};
 use rom_heap::Trio;
 use rom_model::{Answer, Call, LineResult, Query, Reply, Step, Updated};
 use rom_store::{Closed, Played, Refused, play};
@@ -73,40 +73,53 @@ fn take_place(taken: &mut [bool], place: u64) -> bool {
     }
 }
 
+/// The least place or front that may come after this line, where `least` may come before it; `None`
+/// where it may not stand there. The place of an update must be free, and is taken; a front is at most
+/// `count`.
+fn least_after(taken: &mut [bool], told: &Told, least: u64, count: u64) -> Option<u64> {
+    match told {
+        LineResult::Update(Updated::Done(_, place)) => {
+            let is_free = *place >= least && take_place(taken, *place);
+            is_free.then_some(place.saturating_add(1))
+        }
+        LineResult::Update(Updated::Failed) => Some(least),
+        LineResult::Read(_, front) if least <= *front && *front <= count => Some(*front),
+        _ => None,
+    }
+}
+
 /// Whether the updates of a caller are done, each at a free place, which is then taken, or failed, and
 /// its reads have fronts past those places and up to `count`, all rising.
 fn is_rising(taken: &mut [bool], results: &[Told], count: u64) -> bool {
-    let mut least = 0u64;
+    let mut least = 0;
     for told in results {
-        match told {
-            LineResult::Update(Updated::Done(_, place)) => {
-                if *place < least || !take_place(taken, *place) {
-                    return false;
-                }
-                least = place.saturating_add(1);
-            }
-            LineResult::Read(_, front) => {
-                if *front < least || *front > count {
-                    return false;
-                }
-                least = *front;
-            }
-            LineResult::Update(Updated::Failed) => {}
-            _ => return false,
-        }
+        let Some(next) = least_after(taken, told, least, count) else {
+            return false;
+        };
+        least = next;
     }
     true
+}
+
+/// The value that an update put, and its place.
+fn value_put(line: &Line, told: &Told) -> Option<(u64, u64)> {
+    let Step::Update(Call::Put(_, value)) = line else {
+        return None;
+    };
+    let LineResult::Update(Updated::Done(_, place)) = told else {
+        return None;
+    };
+    Some((*value, *place))
 }
 
 /// Notes the value that was put at each place.
 fn note_values(values: &mut [u64], lines: &[Line], results: &[Told]) {
     for (line, told) in lines.iter().zip(results.iter()) {
-        if let Step::Update(Call::Put(_, value)) = line {
-            if let LineResult::Update(Updated::Done(_, place)) = told {
-                if let Some(noted) = values.get_mut(*place as usize) {
-                    *noted = *value;
-                }
-            }
+        let Some((value, place)) = value_put(line, told) else {
+            continue;
+        };
+        if let Some(noted) = values.get_mut(place as usize) {
+            *noted = value;
         }
     }
 }

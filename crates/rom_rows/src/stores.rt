@@ -1,12 +1,13 @@
 //! The calls of a store that two callers share, on a heap of order 4.
-ghost use Rattle.std.specs.Prelude.{◌≡◌, ◌≤◌, ◌<◌, ℕ, [], IfOk, length, vec_capacity, vec_len};
+ghost use Rattle.std.specs.Prelude.{◌≡◌, ◌≤◌, ◌<◌, [], IfOk, length, vec_capacity, vec_len};
 ghost use Rattle.rom_model.specs.Region.{Contents};
 ghost use Rattle.rom_rule.specs.Views.{base_of};
-ghost use Rattle.rom_store.specs.Callers.{IsCallerOf, IsNewCaller, IsNumbered};
+ghost use Rattle.rom_store.specs.Callers.{IsNewCaller, IsNumbered};
 ghost use Rattle.rom_store.specs.Indexed.{Indexed};
 ghost use Rattle.rom_rows.specs.Stores.{IsLabelled};
 
 use crate::crowd::new_heap;
+use crate::waiting::wait_for;
 use rom_combine::{Gate, NoGate};
 use rom_device::{Device, Ram};
 use rom_heap::Trio;
@@ -19,27 +20,31 @@ use std::sync::Wait;
 use std::sync::atomic::{AtomicU64, Ordering};
 use std::sync::ledger::{Blank, Ledger};
 use std::test::Fail;
+use std::thread::{Threads, join};
 
 /// Where the count of updates stands in main on the device.
 const COUNTED: u64 = 10;
 
-/// How many batches were published.
+/// How far two callers are that read and update beside each other.
 #[derive(Drop)]
-struct Published {
-    batches: AtomicU64,
+struct Beside {
+    entered: AtomicU64,
+    published: AtomicU64,
 }
 
-impl Gate for Published {
+impl Gate for Beside {
     fn before<R: Wait>(&self, _rt: &R, _caller: u32, _line: u64) {}
 
     fn published<R: Wait>(&self, _rt: &R, _count: u32) {
-        self.batches.fetch_add(1, Ordering::SeqCst);
+        self.published.fetch_add(1, Ordering::SeqCst);
     }
 }
 
-/// What a caller was told in a state that it had entered, and by a read after it had left it.
+/// What a caller was told in a state that it had entered, beside which an update was published, and by
+/// a read after it had left it.
 #[derive(Clone, Copy, Debug, PartialEq, Eq)]
 struct Heard {
+    is_beside: bool,
     told: (Answer, u64),
     sizes: (Answer, u64),
     next: (Answer, u64),
@@ -78,11 +83,13 @@ fn close<D: Device, N: Label, R: Wait>(
     store.close(rt, passes)
 }
 
-/// Reads key 1 and the sizes in one state that it enters, and key 1 again after it has left.
+/// Enters a state and waits until an update is published beside it. Then reads key 1 and the sizes in
+/// that state, leaves it, and reads key 1 again.
 fn read_counted<D: Device, N: Label, L: Ledger>(
     blank: Blank,
     store: &Store<D, Trio, N>,
     pass: Pass,
+    beside: &Beside,
 ) -> (Pass, Heard)
     requires name { blank.name ≡ L.name }
     requires parts { blank.parts ≡ L.parts }
@@ -92,26 +99,79 @@ fn read_counted<D: Device, N: Label, L: Ledger>(
 {
     let mut steps = Steps::<L>::of(blank);
     let mut reading = store.enter(pass, &mut steps);
+    beside.entered.store(1, Ordering::SeqCst);
+    let is_beside = wait_for(&beside.published, 2);
     let told = store.ask(&mut reading, &Query::Get(1), &mut steps);
     let sizes = store.ask(&mut reading, &Query::Len, &mut steps);
     let mut pass = store.leave(reading, &mut steps);
     let next = store.read(&mut pass, &Query::Get(1), &mut steps);
-    (pass, Heard { told, sizes, next })
+    let heard = Heard {
+        is_beside,
+        told,
+        sizes,
+        next,
+    };
+    (pass, heard)
 }
 
-fn read_in_one_state<D: Device, N: Label>(store: &Store<D, Trio, N>, pass: Pass) -> (Pass, Heard)
+fn read_beside<D: Device, N: Label>(
+    store: &Store<D, Trio, N>,
+    pass: Pass,
+    beside: &Beside,
+) -> (Pass, Heard)
     requires first { IsNumbered Contents N.table N.base 0 pass }
     ensures first { IsNumbered Contents N.table N.base 0 result.0 }
 {
-    read_counted::<D, N, Brand>(Blank::new(1), store, pass)
+    read_counted::<D, N, Brand>(Blank::new(1), store, pass, beside)
 }
 
-/// What is told in the test of a reading between updates.
+/// Puts 2 under key 1 once the other caller has entered. `false` says that it had not.
+fn update_beside<D: Device, N: Label, R: Wait>(
+    rt: &R,
+    store: &Store<D, Trio, N>,
+    mut pass: Pass,
+    beside: &Beside,
+) -> (Pass, (bool, Updated<Reply>))
+    requires second { IsNumbered Contents N.table N.base 1 pass }
+    ensures second { IsNumbered Contents N.table N.base 1 result.0 }
+{
+    let is_beside = wait_for(&beside.entered, 1);
+    let told = store.update(rt, &mut pass, &Call::Put(1, 2), beside);
+    (pass, (is_beside, told))
+}
+
+/// Caller 1 reads and caller 2 updates, each in its thread.
+fn read_and_update<D: Device + Send, N: Label + Send + Sync, R: Threads + Wait + Sync>(
+    rt: &R,
+    store: &Store<D, Trio, N>,
+    one: Pass,
+    two: Pass,
+    beside: &Beside,
+) -> ((Pass, Heard), (Pass, (bool, Updated<Reply>)))
+    requires first { IsNumbered Contents N.table N.base 0 one }
+    requires second { IsNumbered Contents N.table N.base 1 two }
+    ensures first { IsNumbered Contents N.table N.base 0 result.0.0 }
+    ensures second { IsNumbered Contents N.table N.base 1 result.1.0 }
+{
+    join(
+        rt,
+        || -> (Pass, Heard)
+            requires { IsNumbered Contents N.table N.base 0 one }
+            ensures { IsNumbered Contents N.table N.base 0 result.0 }
+        { read_beside(store, one, beside) },
+        || -> (Pass, (bool, Updated<Reply>))
+            requires { IsNumbered Contents N.table N.base 1 two }
+            ensures { IsNumbered Contents N.table N.base 1 result.0 }
+        { update_beside(rt, store, two, beside) },
+    )
+}
+
+/// What is told in the test of a reading beside an update.
 #[derive(Clone, Copy, Debug, PartialEq, Eq)]
 struct Told {
     first: Updated<Reply>,
     heard: Heard,
-    second: Updated<Reply>,
+    second: (bool, Updated<Reply>),
     order: u32,
     count: u64,
     last: Answer,
@@ -119,8 +179,8 @@ struct Told {
     published: u64,
 }
 
-/// Caller 1 puts 1 under key 1 and reads it, then caller 2 puts 2 there.
-fn read_between_updates<D: Device + Drop, N: Label, R: Wait>(
+/// Caller 1 puts 1 under key 1. Then it reads that, and caller 2 puts 2 there beside it.
+fn read_beside_update<D: Device + Send + Drop, N: Label + Send + Sync, R: Threads + Wait + Sync>(
     rt: &R,
     opening: Opening<D, Trio>,
 ) -> Told
@@ -129,14 +189,14 @@ fn read_between_updates<D: Device + Drop, N: Label, R: Wait>(
     requires callers { (base_of opening.key).callers ≡ 2 }
     requires new { Indexed (IsNewCaller Contents opening.table_id (base_of opening.key)) opening.passes }
 {
-    let gate = Published {
-        batches: AtomicU64::new(0),
+    let beside = Beside {
+        entered: AtomicU64::new(0),
+        published: AtomicU64::new(0),
     };
     let (store, mut passes) = opening.start::<N>();
-    let (mut one, mut two) = parted::<N>(&mut passes);
-    let first = store.update(rt, &mut one, &Call::Put(1, 1), &gate);
-    let (one, heard) = read_in_one_state(&store, one);
-    let second = store.update(rt, &mut two, &Call::Put(1, 2), &gate);
+    let (mut one, two) = parted::<N>(&mut passes);
+    let first = store.update(rt, &mut one, &Call::Put(1, 1), &beside);
+    let ((one, heard), (two, second)) = read_and_update(rt, &store, one, two, &beside);
     let mut closed = close(rt, store, passes, one, two);
     let order = closed.order();
     let count = closed.count();
@@ -150,16 +210,19 @@ fn read_between_updates<D: Device + Drop, N: Label, R: Wait>(
         count,
         last,
         counted: device.read(COUNTED).ok(),
-        published: gate.batches.load(Ordering::SeqCst),
+        published: beside.published.load(Ordering::SeqCst),
     }
 }
 
-fn tell_between_updates<D: Device + Drop, R: Wait>(rt: &R, opening: Opening<D, Trio>) -> Told
+fn tell_beside_update<D: Device + Send + Drop, R: Threads + Wait + Sync>(
+    rt: &R,
+    opening: Opening<D, Trio>,
+) -> Told
     requires many { length opening.passes ≡ 2 }
     requires callers { (base_of opening.key).callers ≡ 2 }
     requires new { Indexed (IsNewCaller Contents opening.table_id (base_of opening.key)) opening.passes }
 {
-    read_between_updates::<D, Brand, R>(rt, opening)
+    read_beside_update::<D, Brand, R>(rt, opening)
 }
 
 /// A heap of order 4 in memory, which is opened for two callers.
@@ -174,12 +237,13 @@ fn opened(alloc: Global) -> Result<Opening<Ram, Trio>, Fail>
 }
 
 #[test]
-fn a_reading_is_of_one_state_and_the_next_update_follows_it(rt: HostRuntime) -> Result<(), Fail> {
+fn a_reading_keeps_its_state_beside_an_update(rt: HostRuntime) -> Result<(), Fail> {
     let opening = opened(rt.alloc())?;
-    let told = tell_between_updates(&rt, opening);
+    let told = tell_beside_update(&rt, opening);
     let want = Told {
         first: Updated::Done(Reply::NoPrior, 0),
         heard: Heard {
+            is_beside: true,
             told: (Answer::Value(1), 1),
             sizes: (
                 Answer::Sizes {
@@ -189,9 +253,9 @@ fn a_reading_is_of_one_state_and_the_next_update_follows_it(rt: HostRuntime) -> 
                 },
                 1,
             ),
-            next: (Answer::Value(1), 1),
+            next: (Answer::Value(2), 2),
         },
-        second: Updated::Done(Reply::Was(1), 1),
+        second: (true, Updated::Done(Reply::Was(1), 1)),
         order: 4,
         count: 2,
         last: Answer::Value(2),

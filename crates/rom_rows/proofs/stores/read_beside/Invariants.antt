@@ -1,4 +1,4 @@
-use Rattle.rom_rows.proofs.stores.read_in_one_state.Given as goal
+use Rattle.rom_rows.proofs.stores.read_beside.Given as goal
 
 abbrev pub ghosts-read_counted : goal.ghosts-read_counted
 ghosts-read_counted g a = record { name = a.blank.name; parts = a.blank.parts }

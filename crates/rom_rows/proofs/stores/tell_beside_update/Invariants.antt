@@ -1,8 +1,8 @@
 use Rattle.rom_rule.specs.Views.{base_of}
-use Rattle.rom_rows.proofs.stores.tell_between_updates.Given as goal
+use Rattle.rom_rows.proofs.stores.tell_beside_update.Given as goal
 
-abbrev pub ghosts-read_between_updates : goal.ghosts-read_between_updates
-ghosts-read_between_updates g a = let shown = g.D.Device.shown in record {
+abbrev pub ghosts-read_beside_update : goal.ghosts-read_beside_update
+ghosts-read_beside_update g a = let shown = g.D.Device.shown in record {
   table = a.opening.table_id;
   base = base_of a.opening.key;
   size = shown.size a.opening.device;
