@@ -9,3 +9,6 @@ pub mod Reading
 pub mod Phrases
 pub mod Determined
 pub mod RunText
+pub mod Drills
+pub mod Sums
+pub mod Summaries

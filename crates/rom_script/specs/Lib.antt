@@ -10,3 +10,4 @@ pub mod Text
 pub mod Trio
 pub mod Runs
 pub mod Gathered
+pub mod Drill

@@ -9,6 +9,9 @@
 #![tactic(auto)]
 
 mod adapt;
+mod drill;
+#[cfg(test)]
+mod drill_tests;
 mod gathered;
 mod line;
 mod memory;
@@ -19,12 +22,14 @@ mod read;
 mod report;
 mod script;
 mod streams;
+mod summary;
 #[cfg(test)]
 mod tests;
 mod told;
 mod trio;
 
 pub use adapt::Adapted;
+pub use drill::{drill_script, drill_scripts};
 pub use line::{Line, line_end, read_line};
 pub use memory::{Bytes, Collect};
 pub use names::{Name, Names};
@@ -33,4 +38,5 @@ pub use read::{ReadRefused, read_bytes};
 pub use report::print_run;
 pub use script::{Script, read_script};
 pub use streams::{IoFailed, Sink, Source};
+pub use summary::{Summary, print_drill, sum_dequeued, sum_enqueued};
 pub use told::Told;

@@ -1,0 +1,148 @@
+//! The scripts of a drill: lines made of numbers that follow from its start, the same at each run.
+ghost use Rattle.std.specs.Prelude.{◌≡◌, ◌+◌, ◌*◌, ◌^◌, ◌<◌, ◌≤◌, ◌++◌, All, length, map, IfOk, OnOk};
+ghost use Rattle.rom_model.specs.declared.line.Step.TheVariants.{Ask, Update};
+ghost use Rattle.rom_script.specs.Drill as numbered;
+
+use crate::line::Line;
+use rom_model::{Call, Query};
+use std::alloc::{AllocError, Global};
+
+/// How many values a number of a drill may have.
+const MODULUS: u64 = 1 << 31;
+
+/// The number before those of a caller's items.
+pub fn first(start: u64, caller: u64) -> u64
+    ensures number { result ≡ numbered.first start caller }
+    ensures within { result < 2 ^ 31 }
+{
+    ((u128::from(start) + u128::from(caller)) % u128::from(MODULUS)) as u64
+}
+
+/// The number after this one.
+pub fn next(x: u64) -> u64
+    requires { x < 2 ^ 31 }
+    ensures number { result ≡ numbered.next x }
+    ensures within { result < 2 ^ 31 }
+{
+    (x * 1_103_515_245 + 12_345) % MODULUS
+}
+
+/// Moves less than 100 from one key of all callers' to another.
+fn move_call(callers: u64, q: u64) -> Call
+    requires callers { (1 ≤ callers) × (callers ≤ 16) }
+    ensures { result ≡ numbered.move_call callers q }
+{
+    let keys = 4 * callers;
+    Call::Move(q % keys, q / 64 % keys, q % 100)
+}
+
+/// Puts one of the caller's own eight numbers into the set, or takes it out.
+fn set_call(caller: u64, q: u64) -> Call
+    requires caller { (1 ≤ caller) × (caller ≤ 16) }
+    ensures { result ≡ numbered.set_call caller q }
+{
+    let key = 8 * (caller - 1) + q % 8;
+    if q / 8 % 2 == 0 {
+        Call::Add(key)
+    } else {
+        Call::Rem(key)
+    }
+}
+
+/// One of the five queries, on any caller's keys and numbers.
+fn query(callers: u64, q: u64) -> Query
+    requires callers { (1 ≤ callers) × (callers ≤ 16) }
+    ensures { result ≡ numbered.query callers q }
+{
+    match q % 5 {
+        0 => Query::Get(q / 5 % (4 * callers)),
+        1 => Query::Has(q / 5 % (8 * callers)),
+        2 => Query::Peek,
+        3 => Query::Len,
+        _ => Query::Total,
+    }
+}
+
+/// Writes the lines of the item that a number makes. There are two at most.
+fn push_item(script: &mut Vec<Line>, callers: u64, caller: u64, x: u64) -> Result<(), AllocError>
+    requires caller { (1 ≤ caller) × (caller ≤ callers) × (callers ≤ 16) }
+    ensures lines { OnOk result (script.new.items ≡ script.old.items ++ numbered.item callers caller x) }
+    ensures few { OnOk result (length script.new.items ≤ length script.old.items + 2) }
+{
+    let r = x / 65536;
+    let q = r / 4;
+    match r % 4 {
+        0 => script.extend_from_slice(&[Line::Update(Call::Enq(q)), Line::Update(Call::Deq)]),
+        1 => script.extend_from_slice(&[Line::Update(move_call(callers, q))]),
+        2 => script.extend_from_slice(&[Line::Update(set_call(caller, q))]),
+        _ => script.extend_from_slice(&[Line::Ask(query(callers, q))]),
+    }
+}
+
+/// What gives a key 1000.
+fn put_line(key: u64) -> Line
+    ensures { result ≡ numbered.put_line key }
+{
+    Line::Update(Call::Put(key, 1000))
+}
+
+/// Writes the lines that give each of the caller's own four keys 1000.
+fn push_keys(script: &mut Vec<Line>, caller: u64) -> Result<(), AllocError>
+    requires caller { (1 ≤ caller) × (caller ≤ 16) }
+    ensures lines { OnOk result (script.new.items ≡ script.old.items ++ numbered.put_lines caller) }
+    ensures few { OnOk result (length script.new.items ≤ length script.old.items + 4) }
+{
+    let key = 4 * (caller - 1);
+    script.extend_from_slice(&[
+        put_line(key),
+        put_line(key + 1),
+        put_line(key + 2),
+        put_line(key + 3),
+    ])
+}
+
+/// The script of one of a drill's callers, who are numbered from 1 on: four lines that give the
+/// caller's own keys 1000, and so many items of one or two lines. Its memory is taken at once.
+pub fn drill_script(
+    alloc: Global,
+    start: u64,
+    caller: u64,
+    callers: u64,
+    calls: u64,
+) -> Result<Vec<Line>, AllocError>
+    requires caller { (1 ≤ caller) × (caller ≤ callers) × (callers ≤ 16) }
+    requires calls { calls ≤ 10000 }
+    ensures lines { IfOk result (λ script.
+        script.items ≡ numbered.drill_script start callers calls caller) }
+    ensures few { IfOk result (λ script. length script.items ≤ 4 + 2 * calls) }
+{
+    let mut script = Vec::with_capacity(alloc, 4 + 2 * calls as usize)?;
+    push_keys(&mut script, caller)?;
+    let mut x = first(start, caller);
+    for _made in 0..calls {
+        x = next(x);
+        push_item(&mut script, callers, caller, x)?;
+    }
+    Ok(script)
+}
+
+/// The scripts of a drill's callers, of so many items each.
+pub fn drill_scripts(
+    alloc: Global,
+    start: u64,
+    callers: u64,
+    calls: u64,
+) -> Result<Vec<Vec<Line>>, AllocError>
+    requires callers { callers ≤ 16 }
+    requires calls { calls ≤ 10000 }
+    ensures lines { IfOk result (λ scripts.
+        map (λ v. v.items) scripts.items ≡ numbered.drill_scripts start callers calls) }
+    ensures many { IfOk result (λ scripts. length scripts.items ≡ callers) }
+    ensures few { IfOk result (λ scripts. All (λ v. length v.items ≤ 4 + 2 * calls) scripts.items) }
+{
+    let mut scripts = Vec::with_capacity(alloc, callers as usize)?;
+    for before in 0..callers {
+        scripts.push(drill_script(alloc, start, before + 1, callers, calls)?)?;
+    }
+    Ok(scripts)
+}
