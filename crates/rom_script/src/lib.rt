@@ -33,6 +33,7 @@ pub use drill::{drill_script, drill_scripts};
 pub use line::{Line, line_end, read_line};
 pub use memory::{Bytes, Collect};
 pub use names::{Name, Names};
+pub use phrase::read_number;
 pub use print::{print_answer, print_number, print_pieces, print_text, print_update};
 pub use read::{ReadRefused, read_bytes};
 pub use report::print_run;

@@ -34,7 +34,7 @@ fn is_plain(digits: &[u8]) -> bool
 }
 
 /// The number that the digits spell, without sign and without leading zero.
-fn read_number(digits: &[u8]) -> Option<u64>
+pub fn read_number(digits: &[u8]) -> Option<u64>
     ensures found { IfSome result (λ n. digits.now ≡ decimal n) }
     ensures none { IfNone result ((n : ℕ) → n < 2 ^ 64 → digits.now ≢ decimal n) }
 {

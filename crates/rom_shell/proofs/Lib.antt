@@ -6,3 +6,4 @@ pub mod Showing
 pub mod Ending
 pub mod Sources
 pub mod Replies
+pub mod Saying

@@ -1,7 +1,8 @@
 -- The words of the command line.
-use Rattle.std.specs.Prelude.{ℕ, ◌+◌, ◌==◌, ◌&&◌, nat_lt, Bool, true, false, not, List, [], ◌∷◌, length, codes, Option, Some, None, option_map, if◌then◌else◌}
-use Rattle.std.specs.List.{list_all}
+use Rattle.std.specs.Prelude.{ℕ, ◌+◌, ◌==◌, ◌&&◌, nat_lt, nat_le, Bool, false, List, [], ◌∷◌, length, codes, decimal, Option, Some, None, option_map, option_and_then, if◌then◌else◌}
+use Rattle.std.specs.List.{list_all, position_or_len, before_first, after_first}
 use Rattle.std.specs.Str.{bytes_eq}
+use Rattle.std.specs.Str.Parse.{digits_value}
 
 -- what the words ask for
 pub data Command : Type 0 where
@@ -13,54 +14,145 @@ pub data Command : Type 0 where
   Format : List ℕ → ℕ → Command
   -- print the sizes of the heap in the file
   Stat : List ℕ → Command
+  -- run drawn calls on a new heap: where the drawing starts, how many callers there are, and how many calls each has
+  Drill : ℕ → ℕ → ℕ → Command
 
--- a plain word: it isn't empty, and it begins with a dash only where it is one
-abbrev pub is_plain : List ℕ → Bool
-is_plain [] = false
-is_plain (b ∷ []) = true
-is_plain (b ∷ bs) = not (b == 45)
+-- ---- plain words and options
 
--- the first of these numbers and texts whose text is the word
-abbrev pub spelt : List (ℕ × List ℕ) → List ℕ → Option ℕ
-spelt [] word = None
-spelt (pair ∷ pairs) word = if bytes_eq word pair.1 then Some pair.0 else spelt pairs word
+-- what a word before a `--` is
+pub data Sort : Type 0 where
+  -- `--`
+  Ends : Sort
+  -- `--NAME=VALUE`
+  Gives : List ℕ → List ℕ → Sort
+  -- `--NAME`
+  Opens : List ℕ → Sort
+  -- a word that doesn't begin with a dash (45), or is a dash alone
+  Stands : Sort
+  -- a longer word that begins with one dash
+  Refused : Sort
 
--- the orders of a heap as they are spelt
-abbrev pub orders : List (ℕ × List ℕ)
-orders =
-    (4, codes "4") ∷ (5, codes "5") ∷ (6, codes "6") ∷ (7, codes "7") ∷ (8, codes "8") ∷ (9, codes "9") ∷ (10, codes "10") ∷ (11, codes "11") ∷ (12, codes "12") ∷ (13, codes "13") ∷ (14, codes "14") ∷ (15, codes "15") ∷ (16, codes "16") ∷ []
+abbrev pub is_equals : ℕ → Bool
+is_equals b = b == 61
+
+-- what a word is with this behind its two dashes; a value stands behind the first `=` (61)
+abbrev pub behind_dashes : List ℕ → Sort
+behind_dashes [] = Ends
+behind_dashes (b ∷ bs) =
+    if nat_lt (position_or_len is_equals (b ∷ bs)) (length (b ∷ bs))
+    then Gives (before_first is_equals (b ∷ bs)) (after_first is_equals (b ∷ bs))
+    else Opens (b ∷ bs)
+
+-- what a word is with this behind a first dash
+abbrev pub behind_dash : List ℕ → Sort
+behind_dash [] = Stands
+behind_dash (b ∷ bs) = if b == 45 then behind_dashes bs else Refused
+
+abbrev pub sort_of : List ℕ → Sort
+sort_of [] = Stands
+sort_of (b ∷ bs) = if b == 45 then behind_dash bs else Stands
+
+abbrev pub begins_with_dash : List ℕ → Bool
+begins_with_dash [] = false
+begins_with_dash (b ∷ bs) = b == 45
+
+-- behind the command's name: the plain words, and the options with their values, each in order
+pub record Said : Type 0 where
+  pub plain : List (List ℕ)
+  pub options : List (List ℕ × List ℕ)
+
+abbrev pub with_plain : List ℕ → Option Said → Option Said
+with_plain word = option_map (λ s. record { plain = word ∷ s.plain; options = s.options })
+
+abbrev pub with_option : List ℕ → List ℕ → Option Said → Option Said
+with_option name value = option_map (λ s. record { plain = s.plain; options = (name, value) ∷ s.options })
+
+-- a word of this sort, with these words behind it; `behind` is what these say, where an option waits for its value or none does
+abbrev pub said_by : Sort → List ℕ → List (List ℕ) → (Option (List ℕ) → Option Said) → Option Said
+said_by Ends word words behind = Some (record { plain = words; options = [] })
+said_by (Gives name value) word words behind = with_option name value (behind None)
+said_by (Opens name) word words behind = behind (Some name)
+said_by Stands word words behind = with_plain word (behind None)
+said_by Refused word words behind = None
+
+-- what words say, if they are plain words and options, where the option of this name waits for its value or none does
+abbrev pub said : List (List ℕ) → Option (List ℕ) → Option Said
+said [] None = Some (record { plain = []; options = [] })
+said [] (Some name) = None
+said (word ∷ words) None = said_by (sort_of word) word words (said words)
+said (word ∷ words) (Some name) = if begins_with_dash word then None else with_option name word (said words None)
+
+-- ---- commands
+
+-- the number from least to most that the word spells in decimal digits, without sign and without leading zero
+abbrev pub number_within : ℕ → ℕ → List ℕ → Option ℕ
+number_within least most word =
+    let n = digits_value 10 word in
+    if bytes_eq word (decimal n) && nat_le least n && nat_le n most then Some n else None
+
+abbrev pub is_full : List ℕ → Bool
+is_full word = nat_lt 0 (length word)
 
 -- how many scripts there may be: each has a caller of its own
 abbrev pub MOST_SCRIPTS : ℕ
 MOST_SCRIPTS = 16
 
--- the words name scripts: there are 1 to 16, and each is plain
+-- the words name scripts: there are 1 to 16, and none is empty
 abbrev pub are_scripts : List (List ℕ) → Bool
-are_scripts words = nat_lt 0 (length words) && nat_lt (length words) (MOST_SCRIPTS + 1) && list_all is_plain words
+are_scripts words = nat_lt 0 (length words) && nat_lt (length words) (MOST_SCRIPTS + 1) && list_all is_full words
 
--- what the words behind `run` ask for
-abbrev pub run_of : List (List ℕ) → Option Command
-run_of [] = None
-run_of (file ∷ scripts) = if is_plain file && are_scripts scripts then Some (Run file scripts) else None
+-- what plain words and options behind `try` ask for
+abbrev pub try_of : List (List ℕ) → List (List ℕ × List ℕ) → Option Command
+try_of scripts [] = if are_scripts scripts then Some (Try scripts) else None
+try_of scripts (option ∷ options) = None
 
--- what the words behind `format` ask for
-abbrev pub format_of : List (List ℕ) → Option Command
-format_of (file ∷ option ∷ value ∷ []) = if is_plain file && bytes_eq option (codes "--order") then option_map (Format file) (spelt orders value) else None
-format_of words = None
+-- behind `run`
+abbrev pub run_of : List (List ℕ) → List (List ℕ × List ℕ) → Option Command
+run_of (file ∷ scripts) [] = if is_full file && are_scripts scripts then Some (Run file scripts) else None
+run_of plain options = None
 
--- what the words behind `stat` ask for
-abbrev pub stat_of : List (List ℕ) → Option Command
-stat_of (file ∷ []) = if is_plain file then Some (Stat file) else None
-stat_of words = None
+-- behind `format`
+abbrev pub format_of : List (List ℕ) → List (List ℕ × List ℕ) → Option Command
+format_of (file ∷ []) (option ∷ []) =
+    if is_full file && bytes_eq option.0 (codes "order") then option_map (Format file) (number_within 4 16 option.1) else None
+format_of plain options = None
+
+-- behind `stat`
+abbrev pub stat_of : List (List ℕ) → List (List ℕ × List ℕ) → Option Command
+stat_of (file ∷ []) [] = if is_full file then Some (Stat file) else None
+stat_of plain options = None
+
+abbrev pub drill_from : Option ℕ → Option ℕ → Option ℕ → Option Command
+drill_from (Some start) (Some callers) (Some calls) = Some (Drill start callers calls)
+drill_from _ _ _ = None
+
+-- the values of an option of each of these names, where there are no others
+abbrev pub both_of : List ℕ → List ℕ → List (List ℕ × List ℕ) → Option (List ℕ × List ℕ)
+both_of one other (a ∷ b ∷ []) =
+    if bytes_eq a.0 one && bytes_eq b.0 other then Some (a.1, b.1) else
+    if bytes_eq a.0 other && bytes_eq b.0 one then Some (b.1, a.1) else None
+both_of one other options = None
+
+-- behind `drill`
+abbrev pub drill_of : List (List ℕ) → List (List ℕ × List ℕ) → Option Command
+drill_of (start ∷ []) options =
+    option_and_then (λ values. drill_from (number_within 0 18446744073709551615 start) (number_within 1 16 values.0) (number_within 1 10000 values.1))
+    (both_of (codes "callers") (codes "calls") options)
+drill_of plain options = None
+
+-- the command of this name, with these plain words and options
+abbrev pub command_of : List ℕ → Said → Option Command
+command_of name s =
+    if bytes_eq name (codes "try") then try_of s.plain s.options else
+    if bytes_eq name (codes "run") then run_of s.plain s.options else
+    if bytes_eq name (codes "format") then format_of s.plain s.options else
+    if bytes_eq name (codes "stat") then stat_of s.plain s.options else
+    if bytes_eq name (codes "drill") then drill_of s.plain s.options else None
 
 -- the command that the words are, if they are one
 abbrev pub command : List (List ℕ) → Option Command
 command [] = None
-command (name ∷ words) =
-    if bytes_eq name (codes "try") then (if are_scripts words then Some (Try words) else None) else
-    if bytes_eq name (codes "run") then run_of words else
-    if bytes_eq name (codes "format") then format_of words else
-    if bytes_eq name (codes "stat") then stat_of words else None
+command (name ∷ words) = option_and_then (command_of name) (said words None)
 
 -- the scripts that a command names
 abbrev pub scripts_of : Option Command → List (List ℕ)
@@ -68,4 +160,5 @@ scripts_of (Some (Try scripts)) = scripts
 scripts_of (Some (Run file scripts)) = scripts
 scripts_of (Some (Format file order)) = []
 scripts_of (Some (Stat file)) = []
+scripts_of (Some (Drill start callers calls)) = []
 scripts_of None = []

@@ -2,7 +2,7 @@
 ghost use Rattle.std.specs.Prelude.{◌<◌};
 
 use crate::heap_tests::told_of;
-use crate::words::read_command;
+use crate::words::{Asked, read_command};
 use crate::{DeviceWant, Ended, files_of, run};
 use rom_combine::NoGate;
 use rom_device::Ram;
@@ -157,28 +157,67 @@ fn a_session_is_left_where_scripts_were_run(rt: HostRuntime) -> Result<(), Fail>
 #[test]
 fn other_words_are_no_command(rt: HostRuntime) -> Result<(), Fail> {
     let alloc = rt.alloc();
-    let rows: [&[&str]; 21] = [
+    let rows: [&[&str]; 44] = [
         &["format", "F"],
+        &["format", "F", "--order"],
         &["format", "F", "--order", "3"],
         &["format", "F", "--order", "17"],
         &["format", "F", "--order", "04"],
-        &["format", "F", "--order=4"],
-        &["format", "--order", "4", "F"],
+        &["format", "F", "--order", "+4"],
+        &["format", "F", "--order", "-"],
+        &["format", "F", "--order="],
         &["format", "F", "--order", "4", "--order", "4"],
+        &["format", "F", "--order=4", "--order", "4"],
+        &["format", "F", "--size", "4"],
+        &["format", "F", "-order", "4"],
+        &["format", "F", "--", "--order", "4"],
+        &["format", "", "--order", "4"],
+        &["format", "--order", "4"],
         &["stat"],
         &["stat", "F", "G"],
         &["stat", "-x"],
+        &["stat", "F", "--order", "4"],
+        &["stat", "--", ""],
         &[],
+        &["--"],
+        &["--", "stat", "F"],
         &["try"],
+        &["try", "--"],
         &["try", "-x"],
+        &["try", "a", "--order", "4"],
         &["TRY", "a"],
         &["help"],
         &["run", "F"],
+        &["run", "F", "--"],
         &["run", "F", "-x"],
         &["run", "F", "a", "-b"],
         &["try", "a", "", "b"],
         &["try", ""],
         &["run", "", "a"],
+        &["drill"],
+        &["drill", "1", "--callers", "1"],
+        &["drill", "1", "--callers", "0", "--calls", "1"],
+        &["drill", "1", "--callers", "17", "--calls", "1"],
+        &["drill", "1", "--callers", "1", "--calls", "10001"],
+        &["drill", "1", "--callers", "1", "--callers", "1"],
+        &[
+            "drill",
+            "1",
+            "--callers",
+            "1",
+            "--calls",
+            "1",
+            "--calls",
+            "1",
+        ],
+        &[
+            "drill",
+            "18446744073709551616",
+            "--callers",
+            "1",
+            "--calls",
+            "1",
+        ],
     ];
     let line = b"not a command\n";
     for row in rows {
@@ -256,30 +295,113 @@ fn seventeen_scripts_are_no_command(rt: HostRuntime) -> Result<(), Fail> {
     Ok(())
 }
 
+fn words_of(alloc: Global, row: &[&str]) -> Result<Names, AllocError> {
+    let mut words = Names::new(alloc);
+    for word in row {
+        words.push(alloc, word)?;
+    }
+    Ok(words)
+}
+
 #[test]
 fn format_and_stat_name_a_file(rt: HostRuntime) -> Result<(), Fail> {
     let alloc = rt.alloc();
-    let rows: [(&[&str], Option<u64>); 4] = [
-        (&["format", "F", "--order", "4"], Some(232)),
-        (&["format", "F", "--order", "16"], Some(786_472)),
-        (&["format", "-", "--order", "5"], Some(424)),
-        (&["stat", "F"], None),
+    let rows: [(&[&str], &str, Option<u64>); 13] = [
+        (&["format", "F", "--order", "4"], "F", Some(232)),
+        (&["format", "F", "--order=4"], "F", Some(232)),
+        (&["format", "--order", "4", "F"], "F", Some(232)),
+        (&["format", "--order=16", "F"], "F", Some(786_472)),
+        (&["format", "F", "--order", "16"], "F", Some(786_472)),
+        (&["format", "F", "--order", "4", "--"], "F", Some(232)),
+        (&["format", "--order=4", "--", "-F"], "-F", Some(232)),
+        (&["format", "--order=4", "--", "--"], "--", Some(232)),
+        (&["format", "-", "--order", "5"], "-", Some(424)),
+        (&["stat", "F"], "F", None),
+        (&["stat", "F", "--"], "F", None),
+        (&["stat", "--", "--F"], "--F", None),
+        (&["stat", "a=b"], "a=b", None),
     ];
-    for (row, made) in rows {
-        let mut words = Names::new(alloc);
-        for word in row {
-            words.push(alloc, word)?;
-        }
-        let wanted = files_of(alloc, &words)?;
+    for (row, file, made) in rows {
+        let wanted = files_of(alloc, &words_of(alloc, row)?)?;
         assert_eq!(rt; wanted.scripts.len(), 0, "at {row:?}");
         let named = match &wanted.device {
-            DeviceWant::Old(name) => made.is_none() && words.at(1) == Some(name.as_str()),
-            DeviceWant::Made(name, len) => {
-                made == Some(*len) && words.at(1) == Some(name.as_str())
-            }
+            DeviceWant::Old(name) => made.is_none() && name.as_str() == file,
+            DeviceWant::Made(name, len) => made == Some(*len) && name.as_str() == file,
             _ => false,
         };
         assert!(rt; named, "at {row:?}");
+    }
+    Ok(())
+}
+
+#[test]
+fn words_behind_two_dashes_are_plain(rt: HostRuntime) -> Result<(), Fail> {
+    let alloc = rt.alloc();
+    let rows: [(&[&str], &[&str]); 6] = [
+        (&["try", "--", "-x"], &["-x"]),
+        (&["try", "a", "--", "--order", "4"], &["a", "--order", "4"]),
+        (&["try", "--", "--"], &["--"]),
+        (&["try", "a", "-", "--"], &["a", "-"]),
+        (&["run", "F", "--", "-x", "y"], &["-x", "y"]),
+        (&["run", "--", "F", "--", "x"], &["--", "x"]),
+    ];
+    for (row, scripts) in rows {
+        let wanted = files_of(alloc, &words_of(alloc, row)?)?;
+        assert_eq!(rt; wanted.scripts.len(), scripts.len() as u64, "at {row:?}");
+        for i in 0..scripts.len() {
+            assert!(rt;
+                wanted.scripts.at(i as u64) == Some(scripts[i]),
+                "at {row:?}"
+            );
+        }
+    }
+    Ok(())
+}
+
+#[test]
+fn drill_reads_three_numbers(rt: HostRuntime) -> Result<(), Fail> {
+    let alloc = rt.alloc();
+    let rows: [(&[&str], u64, u32, u32); 4] = [
+        (&["drill", "0", "--callers", "1", "--calls", "1"], 0, 1, 1),
+        (&["drill", "--calls", "9", "7", "--callers=2"], 7, 2, 9),
+        (
+            &["drill", "--calls=10000", "--callers=16", "5"],
+            5,
+            16,
+            10_000,
+        ),
+        (
+            &[
+                "drill",
+                "18446744073709551615",
+                "--callers=3",
+                "--calls=4",
+                "--",
+            ],
+            u64::MAX,
+            3,
+            4,
+        ),
+    ];
+    for (row, from, many, each) in rows {
+        let words = words_of(alloc, row)?;
+        let read = match read_command(&words) {
+            Some(
+                Asked::Drill {
+                    start,
+                    callers,
+                    calls,
+                },
+            ) => (start, callers, calls) == (from, many, each),
+            _ => false,
+        };
+        assert!(rt; read, "at {row:?}");
+        let wanted = files_of(alloc, &words)?;
+        assert_eq!(rt; wanted.scripts.len(), 0, "at {row:?}");
+        assert!(rt;
+            matches!(wanted.device, DeviceWant::Fresh(49_192)),
+            "at {row:?}"
+        );
     }
     Ok(())
 }

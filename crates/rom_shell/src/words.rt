@@ -1,18 +1,28 @@
 //! The words of the command line.
-ghost use Rattle.std.specs.Prelude.{◌≡◌, ◌<◌, ◌≤◌, length, IfOk, IfSome, IsTrue, Some};
+ghost use Rattle.std.specs.Prelude.{◌≡◌, ◌⊎◌, ◌<◌, ◌≤◌, [], ◌∷◌, ◌++◌, length, map, option_map, None, IfOk, IfNone, IfSome, IsTrue, IsNone, IsSome, Some};
 ghost use Rattle.std.specs.List.{list_all};
 ghost use Rattle.rom_model.specs.Blocks.{IsOrder};
-ghost use Rattle.rom_shell.specs.Wanted.{AsksForFew, AsksForOrder, IsWanted, named};
-ghost use Rattle.rom_shell.specs.Words.{command, format_of, is_plain, orders, run_of, scripts_of, spelt, stat_of};
+ghost use Rattle.rom_shell.specs.Wanted.{AsksForFew, AsksForOrder, IsWanted, named, sort_at, sorted, texts, told};
+ghost use Rattle.rom_shell.specs.Words.{begins_with_dash, behind_dashes, both_of, command, drill_of, format_of, is_full, number_within, run_of, said, scripts_of, stat_of, try_of};
 ghost use Rattle.rom_shell.specs.Words as spec;
 
 use crate::scripted::TRY_ORDER;
+use arrayvec::ArrayVec;
 use rom_header::Geometry;
-use rom_script::{Name, Names};
+use rom_script::{Name, Names, read_number};
 use std::alloc::{AllocError, Global};
 
 /// The most scripts that a command takes. Each has a caller of its own.
 const MOST_SCRIPTS: usize = 16;
+
+/// The most plain words of a command: a file, and then scripts.
+const MOST_PLAIN: usize = 17;
+
+/// The most options of a command.
+const MOST_OPTIONS: usize = 2;
+
+/// The order of the heap that `drill` makes.
+const DRILL_ORDER: u32 = 12;
 
 /// The device that a command works on.
 #[derive(Debug, Drop)]
@@ -34,128 +44,283 @@ pub struct Wanted {
     pub scripts: Names,
 }
 
-/// What words that are a command ask for. An order is 4 to 16, and there are 1 to 16 scripts.
-#[derive(Clone, Copy)]
+/// Plain words of a command.
+type Plain<'a> = ArrayVec<&'a str, MOST_PLAIN>;
+
+/// What words that are a command ask for. An order is 4 to 16, and there are 1 to 16 scripts or
+/// callers.
+#[derive(Drop)]
 pub(crate) enum Asked<'a> {
     /// To run these scripts on a new heap.
-    Try(&'a [Name]),
+    Try(Plain<'a>),
     /// To run these scripts on the heap in this file.
-    Run { file: &'a str, scripts: &'a [Name] },
+    Run {
+        file: &'a str,
+        scripts: Plain<'a>,
+    },
     /// To make a new heap of this order in this file.
-    Format { file: &'a str, order: u32 },
+    Format {
+        file: &'a str,
+        order: u32,
+    },
     /// To print the sizes of the heap in this file.
     Stat(&'a str),
+    /// To have callers run drawn calls on a new heap.
+    Drill {
+        start: u64,
+        callers: u32,
+        calls: u32,
+    },
 }
 
-fn is_plain_word(word: &str) -> bool
-    ensures { result ≡ is_plain word.now }
-{
-    match word.as_bytes() {
-        [] => false,
-        [_] => true,
-        [first, ..] => *first != b'-',
+/// What a word before a `--` is.
+enum Sort<'a> {
+    /// `--`: all later words are plain.
+    Ends,
+    /// `--NAME=VALUE`.
+    Gives(&'a str, &'a str),
+    /// `--NAME`, which has the next word as its value.
+    Opens(&'a str),
+    /// A plain word.
+    Stands,
+    /// A longer word that begins with one dash.
+    Refused,
+}
+
+/// What words behind a command's name say, each part in order.
+#[derive(Drop)]
+struct Said<'a> {
+    plain: Plain<'a>,
+    options: ArrayVec<(&'a str, &'a str), MOST_OPTIONS>,
+}
+
+impl<'a> Said<'a> {
+    fn new() -> Said<'a>
+        ensures plain { result.plain.items ≡ [] }
+        ensures options { result.options.items ≡ [] }
+    {
+        Said {
+            plain: ArrayVec::new(),
+            options: ArrayVec::new(),
+        }
+    }
+
+    /// Adds a plain word, where there is room.
+    fn add_plain(&mut self, word: &'a str) -> Option<()>
+        ensures some { IsSome result → self.new.plain.items ≡ self.old.plain.items ++ word.entry ∷ [] }
+        ensures none { IsNone result → length self.old.plain.items ≡ MOST_PLAIN }
+        ensures options { self.new.options ≡ self.old.options }
+    {
+        self.plain.try_push(word).ok()
+    }
+
+    /// Adds an option, where there is room.
+    fn add_option(&mut self, name: &'a str, value: &'a str) -> Option<()>
+        ensures some { IsSome result → self.new.options.items ≡ self.old.options.items ++ (name.entry, value.entry) ∷ [] }
+        ensures none { IsNone result → length self.old.options.items ≡ MOST_OPTIONS }
+        ensures plain { self.new.plain ≡ self.old.plain }
+    {
+        self.options.try_push((name, value)).ok()
     }
 }
 
-/// The order that a word spells, 4 to 16.
-fn read_order(word: &str) -> Option<u32>
-    ensures order { result ≡ spelt orders word.now }
-    ensures fits { IfSome result IsOrder }
+fn starts_with_dash(word: &str) -> bool
+    ensures { result ≡ begins_with_dash word.now }
 {
-    match word {
-        "4" => Some(4),
-        "5" => Some(5),
-        "6" => Some(6),
-        "7" => Some(7),
-        "8" => Some(8),
-        "9" => Some(9),
-        "10" => Some(10),
-        "11" => Some(11),
-        "12" => Some(12),
-        "13" => Some(13),
-        "14" => Some(14),
-        "15" => Some(15),
-        "16" => Some(16),
-        _ => None,
+    word.as_bytes().first() == Some(&b'-')
+}
+
+/// What a word is with this behind its two dashes.
+fn long_sort(rest: &str) -> Sort<'_>
+    ensures { sorted result ≡ behind_dashes rest.now }
+{
+    if rest.is_empty() {
+        return Sort::Ends;
+    }
+    match rest.split_once('=') {
+        Some((name, value)) => Sort::Gives(name, value),
+        None => Sort::Opens(rest),
     }
 }
 
-fn is_plain_name(word: &Name) -> bool
-    ensures { result ≡ is_plain word.now }
+/// What a word is, where a `--` stands before it or none does.
+fn read_sort(ended: bool, word: &str) -> Sort<'_>
+    ensures { sorted result ≡ sort_at ended word.now }
 {
-    is_plain_word(word.as_str())
+    if ended {
+        return Sort::Stands;
+    }
+    match word.strip_prefix("--") {
+        Some(rest) => long_sort(rest),
+        None if starts_with_dash(word) && word.len() > 1 => Sort::Refused,
+        None => Sort::Stands,
+    }
 }
 
-fn are_plain(words: &[Name]) -> bool
-    ensures { result ≡ list_all is_plain words.now }
+/// What words behind a command's name say, or `None` where they say nothing or more than any command
+/// has.
+fn read_said(words: &[Name]) -> Option<Said<'_>>
+    ensures some { IfSome result (λ s. said words.now None ≡ Some (told s)) }
+    ensures none { IfNone result ((s : spec.Said) → said words.now None ≡ Some s → (17 < length s.plain) ⊎ (2 < length s.options)) }
 {
-    words.iter().all(|word| is_plain_name(word))
+    let mut said = Said::new();
+    let mut ended = false;
+    let mut rest = words;
+    while let Some((word, behind)) = rest.split_first() {
+        rest = behind;
+        let word = word.as_str();
+        match read_sort(ended, word) {
+            Sort::Ends => ended = true,
+            Sort::Gives(name, value) => said.add_option(name, value)?,
+            Sort::Opens(name) => {
+                let (value, behind) = rest.split_first()?;
+                let value = value.as_str();
+                if starts_with_dash(value) {
+                    return None;
+                }
+                said.add_option(name, value)?;
+                rest = behind;
+            }
+            Sort::Stands => said.add_plain(word)?,
+            Sort::Refused => return None,
+        }
+    }
+    Some(said)
 }
 
-/// Whether words name scripts: there are 1 to 16, and each is plain.
-fn are_scripts(words: &[Name]) -> bool
-    ensures named { result ≡ spec.are_scripts words.now }
+/// The number from `least` to `most` that a word spells.
+fn read_within(word: &str, least: u64, most: u64) -> Option<u64>
+    ensures { result ≡ number_within least most word.now }
+{
+    let number = read_number(word.as_bytes())?;
+    if (least..=most).contains(&number) {
+        Some(number)
+    } else {
+        None
+    }
+}
+
+fn are_full(words: &[&str]) -> bool
+    ensures { result ≡ list_all (λ w. is_full w.now) words.now }
+{
+    words.iter().all(|word| !word.is_empty())
+}
+
+/// Whether words name scripts: there are 1 to 16, and none is empty.
+fn are_scripts(words: &[&str]) -> bool
+    ensures named { result ≡ spec.are_scripts (texts words.now) }
     ensures few { IsTrue result → (0 < length words.now) × (length words.now ≤ 16) }
 {
-    (1..=MOST_SCRIPTS).contains(&words.len()) && are_plain(words)
+    (1..=MOST_SCRIPTS).contains(&words.len()) && are_full(words)
 }
 
-/// A file, and then the scripts to run on its heap.
-fn read_run(words: &[Name]) -> Option<Asked<'_>>
-    ensures named { named result ≡ run_of words.now }
+/// Scripts.
+fn read_try(said: Said<'_>) -> Option<Asked<'_>>
+    ensures named { named result ≡ try_of (told said.entry).plain (told said.entry).options }
     ensures order { IfSome result AsksForOrder }
     ensures few { IfSome result AsksForFew }
 {
-    let (file, scripts) = words.split_first()?;
-    let file = file.as_str();
-    if !is_plain_word(file) || !are_scripts(scripts) {
+    let Said { plain, options } = said;
+    if !options.is_empty() || !are_scripts(&plain) {
+        return None;
+    }
+    Some(Asked::Try(plain))
+}
+
+/// A file, and then the scripts to run on its heap.
+fn read_run(said: Said<'_>) -> Option<Asked<'_>>
+    ensures named { named result ≡ run_of (told said.entry).plain (told said.entry).options }
+    ensures order { IfSome result AsksForOrder }
+    ensures few { IfSome result AsksForFew }
+{
+    let Said { plain, options } = said;
+    let mut scripts = plain;
+    let file = scripts.pop_at(0)?;
+    if !options.is_empty() || file.is_empty() || !are_scripts(&scripts) {
         return None;
     }
     Some(Asked::Run { file, scripts })
 }
 
 /// A file, and the order of the heap that is made there.
-fn read_format(words: &[Name]) -> Option<Asked<'_>>
-    ensures named { named result ≡ format_of words.now }
+fn read_format(said: Said<'_>) -> Option<Asked<'_>>
+    ensures named { named result ≡ format_of (told said.entry).plain (told said.entry).options }
     ensures order { IfSome result AsksForOrder }
     ensures few { IfSome result AsksForFew }
 {
-    let [file, option, value] = words else {
+    let ([file], [(name, value)]) = (said.plain.as_slice(), said.options.as_slice()) else {
         return None;
     };
-    let file = file.as_str();
-    if !is_plain_word(file) || option.as_str() != "--order" {
+    if file.is_empty() || *name != "order" {
         return None;
     }
-    let order = read_order(value.as_str())?;
-    Some(Asked::Format { file, order })
+    let order = read_within(value, 4, 16)? as u32;
+    Some(Asked::Format { file: *file, order })
 }
 
 /// A file alone.
-fn read_stat(words: &[Name]) -> Option<Asked<'_>>
-    ensures named { named result ≡ stat_of words.now }
+fn read_stat(said: Said<'_>) -> Option<Asked<'_>>
+    ensures named { named result ≡ stat_of (told said.entry).plain (told said.entry).options }
     ensures order { IfSome result AsksForOrder }
     ensures few { IfSome result AsksForFew }
 {
-    match words {
-        [file] if is_plain_word(file.as_str()) => Some(Asked::Stat(file.as_str())),
+    match (said.plain.as_slice(), said.options.as_slice()) {
+        ([file], []) if !file.is_empty() => Some(Asked::Stat(*file)),
         _ => None,
     }
 }
 
-/// The command that the words are. A file or a script is a word that is not empty, and that begins
-/// with a dash only where it is a dash alone.
+/// The values of two options of these names, in either order.
+fn read_both<'a>(
+    one: &str,
+    other: &str,
+    options: &[(&'a str, &'a str)],
+) -> Option<(&'a str, &'a str)>
+    ensures { option_map (λ v. (v.0.now, v.1.now)) result ≡ both_of one.now other.now (map (λ o. (o.0.now, o.1.now)) options.now) }
+{
+    let [first, second] = options else {
+        return None;
+    };
+    if first.0 == one && second.0 == other {
+        Some((first.1, second.1))
+    } else if first.0 == other && second.0 == one {
+        Some((second.1, first.1))
+    } else {
+        None
+    }
+}
+
+/// Where the drawing starts, and how many callers make how many calls each.
+fn read_drill(said: Said<'_>) -> Option<Asked<'_>>
+    ensures named { named result ≡ drill_of (told said.entry).plain (told said.entry).options }
+    ensures order { IfSome result AsksForOrder }
+    ensures few { IfSome result AsksForFew }
+{
+    let [start] = said.plain.as_slice() else {
+        return None;
+    };
+    let (callers, calls) = read_both("callers", "calls", said.options.as_slice())?;
+    Some(Asked::Drill {
+        start: read_within(start, 0, u64::MAX)?,
+        callers: read_within(callers, 1, 16)? as u32,
+        calls: read_within(calls, 1, 10_000)? as u32,
+    })
+}
+
+/// The command that the words are. It takes no memory.
 pub(crate) fn read_command(words: &Names) -> Option<Asked<'_>>
     ensures named { named result ≡ command words.now }
     ensures order { IfSome result AsksForOrder }
     ensures few { IfSome result AsksForFew }
 {
     let (name, words) = words.as_slice().split_first()?;
+    let said = read_said(words)?;
     match name.as_str() {
-        "try" if are_scripts(words) => Some(Asked::Try(words)),
-        "run" => read_run(words),
-        "format" => read_format(words),
-        "stat" => read_stat(words),
+        "try" => read_try(said),
+        "run" => read_run(said),
+        "format" => read_format(said),
+        "stat" => read_stat(said),
+        "drill" => read_drill(said),
         _ => None,
     }
 }
@@ -167,6 +332,7 @@ fn device_of(alloc: Global, asked: &Asked<'_>) -> Result<DeviceWant, AllocError>
 {
     match asked {
         Asked::Try(_) => Ok(DeviceWant::Fresh(Geometry::of_order(TRY_ORDER).need())),
+        Asked::Drill { .. } => Ok(DeviceWant::Fresh(Geometry::of_order(DRILL_ORDER).need())),
         Asked::Format { file, order } => {
             let file = Name::of(alloc, file)?;
             Ok(DeviceWant::Made(file, Geometry::of_order(*order).need()))
@@ -184,7 +350,7 @@ fn named_scripts(alloc: Global, asked: &Asked<'_>) -> Result<Names, AllocError>
     let mut named = Names::new(alloc);
     if let Asked::Try(scripts) | Asked::Run { file: _, scripts } = asked {
         for script in scripts.iter() {
-            named.push(alloc, script.as_str())?;
+            named.push(alloc, script)?;
         }
     }
     Ok(named)
