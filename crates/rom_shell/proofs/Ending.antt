@@ -3,6 +3,7 @@ use Rattle.std.specs.Prelude.{◌≡◌, ◌||◌, Bool, if◌then◌else◌, Li
 use Rattle.std.proofs.Common.{refl, ap, ◌∙◌}
 use Rattle.std.specs.List.{list_any}
 use Rattle.rom_model.specs.declared.line.LineResult.{LineResult}
+use Rattle.rom_shell.specs.Drilled.{drill_status}
 use Rattle.rom_shell.specs.Statuses.{is_faulted, is_unread, status_of}
 
 -- a test of what values are mapped to
@@ -17,3 +18,7 @@ status_by f vs faulted unread some_faulted some_unread =
     let first = any_mapped f (λ rs. list_any is_faulted rs) vs ∙ some_faulted in
     let second = any_mapped f (λ rs. list_any is_unread rs) vs ∙ some_unread in
     λ i. if first i then 7 else if second i then 1 else 0
+
+-- the status of a drill, by the answer to whether a result is faulted
+pub drill_status_by : {V R A : Type 0} (f : V → List (LineResult R A)) (vs : List V) (faulted : Bool) → list_any (λ v. list_any is_faulted (f v)) vs ≡ faulted → drill_status (map f vs) ≡ (if faulted then 7 else 0)
+drill_status_by f vs faulted some = ap (λ b. if b then 7 else 0) (any_mapped f (λ rs. list_any is_faulted rs) vs ∙ some)

@@ -4,6 +4,7 @@ pub mod Leaving
 pub mod Lines
 pub mod Showing
 pub mod Ending
+pub mod Drilling
 pub mod Sources
 pub mod Replies
 pub mod Saying

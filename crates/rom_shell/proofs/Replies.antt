@@ -12,9 +12,10 @@ use Rattle.rom_script.specs.Streams.{ShownSink, ShownSource}
 use Rattle.rom_store.specs.Sessions.{EachStory, SessionSeen}
 use Rattle.rom_shell.specs.Devices.{IsOpenedFrom}
 use Rattle.rom_shell.specs.Reading.{AreUnread, IsUnread, unread_line, unread_status}
-use Rattle.rom_shell.specs.Run.{HasReplies, HavePlayed, IsNewHeap}
+use Rattle.rom_script.specs.Drill.{drill_scripts}
+use Rattle.rom_shell.specs.Run.{HasReplies, HaveDrilled, HavePlayed, IsNewHeap}
 use Rattle.rom_shell.specs.Statuses.{number_of}
-use Rattle.rom_shell.specs.Words.{Try, Run}
+use Rattle.rom_shell.specs.Words.{Try, Run, Drill}
 use Rattle.rom_shell.specs.declared.script.Unread.{Unread}
 use Rattle.rom_shell.specs.declared.script.Unread.TheVariants.{Script, OutOfMemory}
 use Rattle.rom_shell.specs.declared.status.Status.{Status}
@@ -29,7 +30,7 @@ module _ {S O : Type 0} (source : ShownSource S) (sink : ShownSink O) where
   -- Of scripts that were read from these sources, and of what was printed since:
   module _ (names : List (List ℕ)) (words : Option (List ℕ)) (sources : List S) (scripts : List (List (Step Call Query))) (old new : O) (status : ℕ) (read : AreScripts source sources scripts) where
     -- the results of scripts that a `try` ran
-    pub try_session : (session : Option SessionSeen) → IfSome session (λ z. EachStory trio Contents z (λ story. IsNewHeap words story)) →
+    pub try_session : (session : Option SessionSeen) → IfSome session (λ z. EachStory trio Contents z (λ story. IsNewHeap 4 words story)) →
         IfSome session (λ z. EachStory trio Contents z (λ story. HavePlayed sink story scripts old new status)) →
         IfSome session (λ z. EachStory trio Contents z (λ story. HasReplies source sink (Some (Try names)) words story sources old new status))
     try_session None opening played = tt
@@ -45,6 +46,16 @@ module _ {S O : Type 0} (source : ShownSource S) (sink : ShownSink O) where
     run_session file (Some z) opening played = λ story of.
         let p : HavePlayed sink story scripts old new status = played story of in
         record { opening = opening story of; scripts = scripts; results = p.results; read = read; answered = p.answered; printed = p.printed }
+
+  -- and of those of a drill, which has no source
+  pub drill_session : (start callers calls : ℕ) (words : Option (List ℕ)) (sources : List S) (old new : O) (status : ℕ) → sources ≡ [] →
+      (session : Option SessionSeen) → IfSome session (λ z. EachStory trio Contents z (λ story. IsNewHeap 12 words story)) →
+      IfSome session (λ z. EachStory trio Contents z (λ story. HaveDrilled sink start callers calls story old new status)) →
+      IfSome session (λ z. EachStory trio Contents z (λ story. HasReplies source sink (Some (Drill start callers calls)) words story sources old new status))
+  drill_session start callers calls words sources old new status none None opening drilled = tt
+  drill_session start callers calls words sources old new status none (Some z) opening drilled = λ story of.
+      let p : HaveDrilled sink start callers calls story old new status = drilled story of in
+      record { opening = opening story of; scripts = drill_scripts start callers calls; results = p.results; read = (none, refl); answered = p.answered; printed = p.printed }
 
   -- what was told of scripts that can't be read
   pub told_unread : (unread : Unread) (before after : List S) (old new : O) → AreUnread source unread before after → IsTold sink old new (unread_line unread) → IsUnread source sink (unread_status unread) before after old new

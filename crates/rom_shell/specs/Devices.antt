@@ -1,5 +1,5 @@
 -- What becomes of the device that a command works on, and why there is no heap to work on.
-use Rattle.std.specs.Prelude.{◌≡◌, ◌≢◌, ◌≤◌, ◌⊎◌, ℕ, List, ◌++◌, IsTrue, codes, decimal, slice_index, Option, Some, None, Ok, Err}
+use Rattle.std.specs.Prelude.{◌≡◌, ◌≤◌, ◌⊎◌, ℕ, List, ◌++◌, IsTrue, codes, decimal, Option, Some, None, Ok, Err}
 use Rattle.rom_model.specs.Faults.{FailedLast}
 use Rattle.rom_model.specs.Machine.{on_words}
 use Rattle.rom_model.specs.Passes.{faults_after}
@@ -10,7 +10,7 @@ use Rattle.rom_model.specs.Story.{Story}
 use Rattle.rom_model.specs.Trio.{trio}
 use Rattle.rom_device.specs.Device.{ShownDevice, Does, Leaves, Stays}
 use Rattle.rom_header.specs.Fresh.{IsFormatAnswer, HasTooFewFor, IsRefused}
-use Rattle.rom_header.specs.Layout.{words_needed, MAGIC}
+use Rattle.rom_header.specs.Layout.{words_needed}
 use Rattle.rom_header.specs.declared.fresh.FormatRefused.{FormatRefused}
 use Rattle.rom_heap.specs.Parts.{FirstBreak}
 use Rattle.rom_recover.specs.Recovered.{Mended}
@@ -18,23 +18,20 @@ use Rattle.rom_script.specs.Runs.{IsTold, IsCutShort, IsWritten}
 use Rattle.rom_script.specs.Streams.{ShownSink}
 use Rattle.rom_store.specs.Calls.{HasFaults}
 use Rattle.rom_header.specs.Held.{Holds}
-use Rattle.rom_store.specs.Making.{NoneOrHolds}
+use Rattle.rom_store.specs.Making.{IsMadeThen, NoneOrHolds}
 use Rattle.rom_store.specs.Refusals.{IsRefusal, NamesTooFew, named_order}
+use Rattle.rom_store.specs.Traced.{WentThrough}
 use Rattle.rom_store.specs.declared.new_heap.NotFormatted.TheVariants.{Refused}
 use Rattle.rom_store.specs.declared.reasons.Why.{Why}
 use Rattle.rom_shell.specs.Refusing.{refusal_line, refusal_status, unmade_line, unmade_status}
 use Rattle.rom_shell.specs.declared.status.Status.TheVariants.{HeapRefused}
 use Rattle.rom_combine.specs.Costs.{WithinHeap}
 use Rattle.rom_combine.specs.Session.{ImageNow, SessionImage}
-use Rattle.rom_shell.specs.Words.{Command, Try, Run, Format, Stat}
+use Rattle.rom_shell.specs.Words.{Command, Try, Run, Format, Stat, Drill}
 
 -- the words hold what the story begins with
 abbrev pub IsOpenedFrom : List ℕ → Story State → Type 0
 IsOpenedFrom words story = Holds Contents story.order words story.opening story.opening_count
-
--- no heap stands there
-abbrev pub IsNoHeap : List ℕ → Type 0
-IsNoHeap words = slice_index words 0 ≢ MAGIC
 
 -- Which of its words, where they are told, may differ afterwards: where a heap is made, those of a heap of its order, and where one is opened, the state and the two regions of the one that the words name. No word behind is touched.
 abbrev pub IsKept : Option Command → List ℕ → List ℕ → Type 0
@@ -42,6 +39,7 @@ IsKept (Some (Try scripts)) was now = ChangesOnly 0 (words_needed 4) was now
 IsKept (Some (Run file scripts)) was now = WithinHeap (named_order was) was now
 IsKept (Some (Format file order)) was now = ChangesOnly 0 (words_needed order) was now
 IsKept (Some (Stat file)) was now = WithinHeap (named_order was) was now
+IsKept (Some (Drill start callers calls)) was now = ChangesOnly 0 (words_needed 12) was now
 IsKept None was now = now ≡ was
 
 module _ {D : Type 0} (shown : ShownDevice D) where
@@ -56,6 +54,7 @@ module _ {D : Type 0} (shown : ShownDevice D) where
   IsHeld (Some (Run file scripts)) now story = Unit {0}
   IsHeld (Some (Format file order)) now story = ⊥
   IsHeld (Some (Stat file)) now story = IsOpenedFrom (shown.words now) story
+  IsHeld (Some (Drill start callers calls)) now story = Unit {0}
   IsHeld None now story = ⊥
 
   -- What a stop at the end may leave: after scripts it holds the history, or that and the batch in doubt.
@@ -64,15 +63,17 @@ module _ {D : Type 0} (shown : ShownDevice D) where
   IsHeldNow (Some (Run file scripts)) now story = (i : List ℕ) → shown.leaves now i → ImageNow Contents (on_words trio) story i
   IsHeldNow (Some (Format file order)) now story = ⊥
   IsHeldNow (Some (Stat file)) now story = (i : List ℕ) → shown.leaves now i → IsOpenedFrom i story
+  IsHeldNow (Some (Drill start callers calls)) now story = (i : List ℕ) → shown.leaves now i → ImageNow Contents (on_words trio) story i
   IsHeldNow None now story = ⊥
 
-  -- What a stop at any moment of it may leave, where scripts were run or a heap was shown: what could be left before, or an image of the session. Until the heap of a `try` stands, there is none. In a heap that is shown the same region counts as before.
+  -- What a stop at any moment of it may leave, where scripts were run or a heap was shown: what could be left before, or an image of the session. Until the new heap of a `try` or a `drill` stands, it may leave none, and from then on none but such an image. In a heap that is shown the same region counts as before.
   abbrev pub IsLeftBySession : Option Command → D → D → Story State → Type 0
-  IsLeftBySession (Some (Try scripts)) was now story = Leaves shown (λ i. IsNoHeap i ⊎ SessionImage Contents (on_words trio) story i) was now
+  IsLeftBySession (Some (Try scripts)) was now story = IsMadeThen shown Contents 4 empty (SessionImage Contents (on_words trio) story) was now
   IsLeftBySession (Some (Run file scripts)) was now story = Leaves shown (SessionImage Contents (on_words trio) story) was now
   IsLeftBySession (Some (Format file order)) was now story = ⊥
   IsLeftBySession (Some (Stat file)) was now story =
       Leaves shown (Mended (named_order (shown.words was)) (shown.words was)) was now × Leaves shown (SessionImage Contents (on_words trio) story) was now
+  IsLeftBySession (Some (Drill start callers calls)) was now story = IsMadeThen shown Contents 12 empty (SessionImage Contents (on_words trio) story) was now
   IsLeftBySession None was now story = ⊥
 
   -- What a stop at any moment of it may leave, else. In a heap that is opened the same region counts as before. Where a heap is made, none stands there, or it holds the empty state and the count 0.
@@ -81,6 +82,7 @@ module _ {D : Type 0} (shown : ShownDevice D) where
   IsLeft (Some (Run file scripts)) was now = Leaves shown (Mended (named_order (shown.words was)) (shown.words was)) was now
   IsLeft (Some (Format file order)) was now = Leaves shown (NoneOrHolds Contents order empty) was now
   IsLeft (Some (Stat file)) was now = Leaves shown (Mended (named_order (shown.words was)) (shown.words was)) was now
+  IsLeft (Some (Drill start callers calls)) was now = Leaves shown (NoneOrHolds Contents 12 empty) was now
   IsLeft None was now = now ≡ was
 
   -- Where a heap is to be made, but there is no memory, the device isn't called; and nothing changes where a heap stands already, or there are too few words.
@@ -90,12 +92,14 @@ module _ {D : Type 0} (shown : ShownDevice D) where
   abbrev pub IsSpared : Option Command → D → D → ℕ → Type 0
   IsSpared (Some (Try scripts)) was now status = IsSparedBy 4 was now status
   IsSpared (Some (Format file order)) was now status = IsSparedBy order was now status
+  IsSpared (Some (Drill start callers calls)) was now status = IsSparedBy 12 was now status
   IsSpared other was now status = Unit {0}
 
-  -- The passes counted the device's faults from its opening on, up to now at most.
+  -- The passes counted the device's faults from its opening on, up to now at most; and the device went through them, one after another, up to now.
   pub record CountsFaults (was now : D) (story : Story State) : Type 0 where
     pub before : shown.faults was ≤ story.opening_faults
     pub after : faults_after story.opening_faults story.records ≤ shown.faults now
+    pub went : WentThrough shown Contents (on_words trio) story story.opening_faults now
 
 module _ {D O : Type 0} (shown : ShownDevice D) (sink : ShownSink O) where
   -- A heap of this order is made where none stood and there are words enough: the device holds the empty state and the count 0, and so does whatever a stop leaves of it.
@@ -135,6 +139,7 @@ module _ {D O : Type 0} (shown : ShownDevice D) (sink : ShownSink O) where
   IsHeapRefused (Some (Run file scripts)) was now old new = IsUnopened was now old new
   IsHeapRefused (Some (Stat file)) was now old new = IsUnopened was now old new
   IsHeapRefused (Some (Format file order)) was now old new = IsUnmade order was now old new
+  IsHeapRefused (Some (Drill start callers calls)) was now old new = IsUnmade 12 was now old new
   IsHeapRefused None was now old new = ⊥
 
   -- Of the device's calls the last one failed, and no other, and the line says so.

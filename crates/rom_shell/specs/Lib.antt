@@ -6,4 +6,5 @@ pub mod Refusing
 pub mod Stat
 pub mod Devices
 pub mod Reading
+pub mod Drilled
 pub mod Run

@@ -8,6 +8,7 @@
 //! own, in a thread, and the callers share one heap.
 #![tactic(auto)]
 
+mod drill;
 mod format;
 mod program;
 mod refusals;

@@ -12,6 +12,7 @@ ghost use Rattle.rom_shell.specs.Statuses.{number_of};
 ghost use Rattle.rom_shell.specs.Words.{command, scripts_of};
 ghost use Rattle.rom_store.specs.Sessions.{EachStory, HasStory};
 
+use crate::drill::drill_heap;
 use crate::format::make_heap;
 use crate::script::read_scripts;
 use crate::scripted::{run_heap, try_heap};
@@ -175,5 +176,15 @@ pub fn run<R: Threads + Wait + Sync, D: Device + Send, S: Source, O: Sink, G: Ga
             Ended::of(status, device, scripts, None)
         }
         Some(Asked::Stat(_)) => Ended::after(show_heap(alloc, device, out), scripts),
+        Some(
+            Asked::Drill {
+                start,
+                callers,
+                calls,
+            },
+        ) => Ended::after(
+            drill_heap(rt, alloc, device, start, callers, calls, out, gate),
+            scripts,
+        ),
     }
 }

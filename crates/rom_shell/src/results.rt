@@ -40,7 +40,8 @@ fn any_unread(results: &[Vec<LineResult<Reply, Answer>>]) -> bool
     results.iter().any(|own| has_unread(own))
 }
 
-fn any_faulted(results: &[Vec<LineResult<Reply, Answer>>]) -> bool
+/// Whether the device failed under an update of any caller.
+pub(crate) fn any_faulted(results: &[Vec<LineResult<Reply, Answer>>]) -> bool
     ensures { result ≡ list_any (λ v. list_any statuses.is_faulted v.items) results.now }
 {
     results.iter().any(|own| has_faulted(own))

@@ -1,5 +1,5 @@
 //! Scripts on the heap of a device.
-ghost use Rattle.std.specs.Prelude.{◌≡◌, ◌≢◌, ◌⊎◌, ◌<◌, ◌≤◌, ℕ, All, List, length, map, codes, IfSome, IsNone, IsSome, IsTrue, Some};
+ghost use Rattle.std.specs.Prelude.{◌≡◌, ◌⊎◌, ◌<◌, ◌≤◌, ℕ, All, List, length, map, codes, IfSome, IsNone, IsSome, IsTrue, None, Some};
 ghost use Rattle.rom_device.specs.Device.{Leaves, told_words};
 ghost use Rattle.rom_model.specs.History.{LAST_COUNT};
 ghost use Rattle.rom_model.specs.Lawful.{IsLawful};
@@ -17,10 +17,12 @@ ghost use Rattle.rom_combine.specs.Session.{ImageNow, SessionImage};
 ghost use Rattle.rom_recover.specs.Recovered.{Mended};
 ghost use Rattle.rom_script.specs.Runs.{IsTold};
 ghost use Rattle.rom_script.specs.Streams.{StopsWriting, WriteFailed};
-ghost use Rattle.rom_shell.specs.Devices.{CountsFaults, HasDeviceFailed, IsNoHeap, IsOpenedFrom, IsSparedBy, IsUnmade, IsUnopened};
+ghost use Rattle.rom_shell.specs.Devices.{CountsFaults, HasDeviceFailed, IsOpenedFrom, IsSparedBy, IsUnmade, IsUnopened};
+ghost use Rattle.rom_shell.specs.Refusing.{unmade_line};
+ghost use Rattle.rom_shell.specs.Refusing as refusing;
 ghost use Rattle.rom_shell.specs.Run.{HavePlayed, IsNewHeap};
 ghost use Rattle.rom_shell.specs.Statuses.{number_of};
-ghost use Rattle.rom_store.specs.Making.{NoneOrHolds};
+ghost use Rattle.rom_store.specs.Making.{IsMadeThen, NoneOrHolds};
 ghost use Rattle.rom_store.specs.Refusals.{named_order};
 ghost use Rattle.rom_store.specs.Sessions.{EachStory, HasStory};
 
@@ -62,6 +64,26 @@ fn end_of<D: Device, O: Sink>(played: Played<D, Trio, Reply, Answer>, out: &mut 
         device,
         status,
         session: Some(session),
+    }
+}
+
+/// Prints why no heap was made for scripts.
+pub(crate) fn end_unmade<D: Device, O: Sink>(unmade: Unmade<D>, out: &mut O) -> Worked<D>
+    ensures worked { result ≡ record {
+      device = unmade.device;
+      status = refusing.unmade_status unmade.why;
+      session = None;
+    } }
+    ensures told { IsTold O.shown out.old out.new (unmade_line unmade.why) }
+    ensures writing { StopsWriting O.shown out.old out.new }
+    ensures rest { O.shown.rest out.new ≡ O.shown.rest out.old }
+{
+    let Unmade { device, why } = unmade;
+    tell_unmade(out, why);
+    Worked {
+        device,
+        status: unmade_status(why),
+        session: None,
     }
 }
 
@@ -150,7 +172,7 @@ pub(crate) fn try_heap<R: Threads + Wait + Sync, D: Device + Send, O: Sink, G: G
 
     ensures story { IfSome result.session (HasStory trio Contents) }
     ensures opening { IfSome result.session (λ session. EachStory trio Contents session (λ story.
-        IsNewHeap (told_words D.shown device) story)) }
+        IsNewHeap 4 (told_words D.shown device) story)) }
     ensures played { IfSome result.session (λ session. EachStory trio Contents session (λ story.
         HavePlayed O.shown story (map (λ v. v.items) scripts.now) out.old out.new (number_of result.status))) }
     ensures now { IsTrue D.shown.tells_images → IfSome result.session (λ session.
@@ -158,7 +180,8 @@ pub(crate) fn try_heap<R: Threads + Wait + Sync, D: Device + Send, O: Sink, G: G
         (i : List ℕ) → D.shown.leaves result.device i → ImageNow Contents (on_words trio) story i)) }
     ensures since { IsTrue D.shown.tells_images → IfSome result.session (λ session.
         EachStory trio Contents session (λ story.
-        Leaves D.shown (λ i. IsNoHeap i ⊎ SessionImage Contents (on_words trio) story i) device result.device)) }
+        IsMadeThen D.shown Contents 4 empty (SessionImage Contents (on_words trio) story) device
+        result.device)) }
     ensures faults { IfSome result.session (λ session. EachStory trio Contents session (λ story.
         CountsFaults D.shown device result.device story)) }
     ensures sink_failed { number_of result.status ≡ 5 → WriteFailed O.shown out.old out.new }
@@ -177,13 +200,6 @@ pub(crate) fn try_heap<R: Threads + Wait + Sync, D: Device + Send, O: Sink, G: G
 {
     match play_new::<D, Trio, R, G>(rt, alloc, device, TRY_ORDER, scripts, gate) {
         Ok(played) => end_of(played, out),
-        Err(Unmade { device, why }) => {
-            tell_unmade(out, why);
-            Worked {
-                device,
-                status: unmade_status(why),
-                session: None,
-            }
-        }
+        Err(unmade) => end_unmade(unmade, out),
     }
 }

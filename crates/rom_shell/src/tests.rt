@@ -361,7 +361,7 @@ fn words_behind_two_dashes_are_plain(rt: HostRuntime) -> Result<(), Fail> {
 #[test]
 fn drill_reads_three_numbers(rt: HostRuntime) -> Result<(), Fail> {
     let alloc = rt.alloc();
-    let rows: [(&[&str], u64, u32, u32); 4] = [
+    let rows: [(&[&str], u64, u64, u64); 4] = [
         (&["drill", "0", "--callers", "1", "--calls", "1"], 0, 1, 1),
         (&["drill", "--calls", "9", "7", "--callers=2"], 7, 2, 9),
         (

@@ -6,6 +6,7 @@ ghost use Rattle.rom_shell.specs.Wanted.{AsksForFew, AsksForOrder, IsWanted, nam
 ghost use Rattle.rom_shell.specs.Words.{begins_with_dash, behind_dashes, both_of, command, drill_of, format_of, is_full, number_within, run_of, said, scripts_of, stat_of, try_of};
 ghost use Rattle.rom_shell.specs.Words as spec;
 
+use crate::drill::DRILL_ORDER;
 use crate::scripted::TRY_ORDER;
 use arrayvec::ArrayVec;
 use rom_header::Geometry;
@@ -20,9 +21,6 @@ const MOST_PLAIN: usize = 17;
 
 /// The most options of a command.
 const MOST_OPTIONS: usize = 2;
-
-/// The order of the heap that `drill` makes.
-const DRILL_ORDER: u32 = 12;
 
 /// The device that a command works on.
 #[derive(Debug, Drop)]
@@ -68,8 +66,8 @@ pub(crate) enum Asked<'a> {
     /// To have callers run drawn calls on a new heap.
     Drill {
         start: u64,
-        callers: u32,
-        calls: u32,
+        callers: u64,
+        calls: u64,
     },
 }
 
@@ -302,8 +300,8 @@ fn read_drill(said: Said<'_>) -> Option<Asked<'_>>
     let (callers, calls) = read_both("callers", "calls", said.options.as_slice())?;
     Some(Asked::Drill {
         start: read_within(start, 0, u64::MAX)?,
-        callers: read_within(callers, 1, 16)? as u32,
-        calls: read_within(calls, 1, 10_000)? as u32,
+        callers: read_within(callers, 1, 16)?,
+        calls: read_within(calls, 1, 10_000)?,
     })
 }
 

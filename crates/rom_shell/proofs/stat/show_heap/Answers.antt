@@ -13,6 +13,7 @@ use Rattle.rom_store.specs.Refusals.{named_order}
 use Rattle.rom_store.specs.Sessions.{IsStoryOf}
 use Rattle.rom_shell.proofs.Leaving.{held_opening, leaves_by, mends_within}
 use Rattle.rom_shell.proofs.Showing.{if_told, nothing_done, opening_failed}
+use Rattle.rom_store.proofs.Tracing.{went_none}
 use Rattle.rom_shell.proofs.stat.show_heap.Goals as goal
 
 pub show_image-requires-clause-region : goal.show_image-requires-clause-region
@@ -66,7 +67,11 @@ returns-in-Ok-clause-faults g c = λ story is.
     let shown = g.D.Device.shown in
     let none : faults_after story.opening_faults story.records ≡ story.opening_faults = ap (faults_after story.opening_faults) opened.records in
     let same : shown.faults c.in-Ok.field-0.device ≡ shown.faults c.args.device = c.in-Ok.ensures.faults in
-    record { before = omega (arith, opened.faults_is, c.fault_count-faults.ensures, same); after = omega (arith, none, opened.faults_is, c.fault_count-faults.ensures) }
+    record {
+      before = omega (arith, opened.faults_is, c.fault_count-faults.ensures, same);
+      after = omega (arith, none, opened.faults_is, c.fault_count-faults.ensures);
+      went = went_none shown Contents (on_words trio) story story.opening_faults c.in-Ok.field-0.device opened.records (omega (arith, opened.faults_is, c.fault_count-faults.ensures));
+    }
 
 pub returns-in-Err-clause-device_failed : goal.returns-in-Err-clause-device_failed
 returns-in-Err-clause-device_failed g c = λ seven.
