@@ -25,7 +25,8 @@ use std::thread::{Threads, join};
 /// Where the count of updates stands in main on the device.
 const COUNTED: u64 = 10;
 
-/// How far two callers are that read and update beside each other.
+/// How far two callers are, of whom one reads and the other updates beside it: whether the first has
+/// entered, and how many batches were published.
 #[derive(Drop)]
 struct Beside {
     entered: AtomicU64,
@@ -100,6 +101,7 @@ fn read_counted<D: Device, N: Label, L: Ledger>(
     let mut steps = Steps::<L>::of(blank);
     let mut reading = store.enter(pass, &mut steps);
     beside.entered.store(1, Ordering::SeqCst);
+    // The first batch was published before.
     let is_beside = wait_for(&beside.published, 2);
     let told = store.ask(&mut reading, &Query::Get(1), &mut steps);
     let sizes = store.ask(&mut reading, &Query::Len, &mut steps);
@@ -125,7 +127,7 @@ fn read_beside<D: Device, N: Label>(
     read_counted::<D, N, Brand>(Blank::new(1), store, pass, beside)
 }
 
-/// Puts 2 under key 1 once the other caller has entered. `false` says that it had not.
+/// Puts 2 under key 1 once the other caller has entered. `false` says that it gave up waiting for that.
 fn update_beside<D: Device, N: Label, R: Wait>(
     rt: &R,
     store: &Store<D, Trio, N>,
