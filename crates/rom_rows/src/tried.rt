@@ -1,4 +1,4 @@
-//! The whole program on a new heap of order 4, with two scripts beside each other.
+//! The whole program on a new heap, with two scripts beside each other, and with those of a drill.
 use crate::lawful::is_lawful;
 use crate::scripts::{made_of, script_of};
 use crate::waiting::wait_for;
@@ -14,6 +14,9 @@ use std::thread::Threads;
 
 /// The number of words of a device of order 4.
 const WORDS: u64 = 232;
+
+/// The number of words of a device of order 12.
+const DRILL_WORDS: u64 = 49_192;
 
 /// Room for all that is printed.
 const ROOM: u64 = 400_000;
@@ -44,6 +47,28 @@ fn tried<R: Threads + Wait + Sync, G: Gate + Sync>(
         return Err("another number of scripts".into());
     }
     let device = Ram::zeroed(alloc, WORDS)?;
+    let mut out = Collect::with_room(alloc, ROOM, PIECE)?;
+    let ended = run(rt, alloc, &names, device, sources, &mut out, gate);
+    Ok((ended.status, out.bytes().to_vec(alloc)?))
+}
+
+/// Drills. It gives the status and what is printed.
+fn drilled<R: Threads + Wait + Sync, G: Gate + Sync>(
+    rt: &R,
+    alloc: Global,
+    words: [&str; 3],
+    gate: &G,
+) -> Result<(u8, Vec<u8>), Fail> {
+    let [start, callers, calls] = words;
+    let mut names = Names::new(alloc);
+    for word in ["drill", start, "--callers", callers, "--calls", calls] {
+        names.push(alloc, word)?;
+    }
+    if files_of(alloc, &names)?.scripts.len() != 0 {
+        return Err("a drill has no script".into());
+    }
+    let sources: Vec<Bytes> = Vec::new(alloc);
+    let device = Ram::zeroed(alloc, DRILL_WORDS)?;
     let mut out = Collect::with_room(alloc, ROOM, PIECE)?;
     let ended = run(rt, alloc, &names, device, sources, &mut out, gate);
     Ok((ended.status, out.bytes().to_vec(alloc)?))
@@ -123,5 +148,44 @@ fn what_two_scripts_are_told_is_one_history(rt: HostRuntime) -> Result<(), Fail>
         count,
     )?;
     assert!(rt; lawful);
+    Ok(())
+}
+
+#[test]
+fn callers_of_a_drill_run_beside_each_other(rt: HostRuntime) -> Result<(), Fail> {
+    let meeting = Meeting {
+        begun: [AtomicU64::new(0), AtomicU64::new(0)],
+        late: AtomicU64::new(0),
+    };
+    let (status, text) = drilled(&rt, rt.alloc(), ["1", "2", "3"], &meeting)?;
+    assert_eq!(rt; meeting.late.load(Ordering::SeqCst), 0);
+    assert_eq!(rt; status, 0);
+    assert!(rt;
+        text.as_slice()
+            .starts_with(b"drill 1 callers 2 calls 3\n".as_slice())
+    );
+    Ok(())
+}
+
+/// The five lines of a drill of four callers with 1,000 calls each, whose total is that of their keys.
+fn told_of<R: Threads + Wait + Sync>(rt: &R, alloc: Global, start: &str) -> Result<Vec<u8>, Fail> {
+    let (status, text) = drilled(rt, alloc, [start, "4", "1000"], &NoGate)?;
+    if status != 0 {
+        return Err("another status".into());
+    }
+    if !str::from_utf8(text.as_slice())?.contains("\ntotal 16000\n") {
+        return Err("another total".into());
+    }
+    Ok(text)
+}
+
+#[test]
+fn a_drill_tells_the_same_each_time(rt: HostRuntime) -> Result<(), Fail> {
+    let alloc = rt.alloc();
+    for start in ["1", "7", "18446744073709551615"] {
+        let one = told_of(&rt, alloc, start)?;
+        let other = told_of(&rt, alloc, start)?;
+        assert!(rt; one.as_slice() == other.as_slice(), "from {start}");
+    }
     Ok(())
 }
