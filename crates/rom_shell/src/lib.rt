@@ -29,6 +29,8 @@ pub use words::{DeviceWant, Wanted, files_of};
 #[cfg(test)]
 mod caller_tests;
 #[cfg(test)]
+mod drill_tests;
+#[cfg(test)]
 mod heap_tests;
 #[cfg(test)]
 mod run_tests;
