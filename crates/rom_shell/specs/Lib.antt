@@ -1,6 +1,7 @@
 -- What the commands promise.
 pub mod Words
 pub mod Wanted
+pub mod CommandLine
 pub mod Statuses
 pub mod Refusing
 pub mod Stat

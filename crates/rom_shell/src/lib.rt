@@ -8,6 +8,7 @@
 //! own, in a thread, and the callers share one heap.
 #![tactic(auto)]
 
+mod command_line;
 mod drill;
 mod format;
 mod program;

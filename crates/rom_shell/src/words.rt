@@ -1,14 +1,18 @@
 //! The words of the command line.
-ghost use Rattle.std.specs.Prelude.{◌≡◌, ◌⊎◌, ◌<◌, ◌≤◌, [], ◌∷◌, ◌++◌, length, map, option_map, None, IfOk, IfNone, IfSome, IsTrue, IsNone, IsSome, Some};
+ghost use Rattle.std.specs.Prelude.{◌≡◌, ◌⊎◌, ◌<◌, ◌≤◌, [], ◌∷◌, ◌++◌, length, map, option_and_then, option_map, None, IfOk, IfNone, IfSome, IsTrue, IsNone, IsSome, Some};
 ghost use Rattle.std.specs.List.{list_all};
-ghost use Rattle.rom_model.specs.Blocks.{IsOrder};
+ghost use Rattle.clap.specs.Words.{first_value, found_of};
+ghost use Rattle.clap.specs.Walk.{rows_of};
+ghost use Rattle.rom_shell.specs.CommandLine.{HasAsked};
 ghost use Rattle.rom_shell.specs.Wanted.{AsksForFew, AsksForOrder, IsWanted, named, sort_at, sorted, texts, told};
 ghost use Rattle.rom_shell.specs.Words.{begins_with_dash, behind_dashes, both_of, command, drill_of, format_of, is_full, number_within, run_of, said, scripts_of, stat_of, try_of};
 ghost use Rattle.rom_shell.specs.Words as spec;
 
+use crate::command_line::{found_in, matches_of, name_at, names_at, text_at, texts_of};
 use crate::drill::DRILL_ORDER;
 use crate::scripted::TRY_ORDER;
 use arrayvec::ArrayVec;
+use clap::ArgMatches;
 use rom_header::Geometry;
 use rom_script::{Name, Names, read_number};
 use std::alloc::{AllocError, Global};
@@ -323,35 +327,51 @@ pub(crate) fn read_command(words: &Names) -> Option<Asked<'_>>
     }
 }
 
-/// The device that a command works on.
-fn device_of(alloc: Global, asked: &Asked<'_>) -> Result<DeviceWant, AllocError>
-    requires { AsksForOrder asked.now }
+/// The number that is an argument's one value.
+fn number_at(found: &ArgMatches<'_>, id: &str, least: u64, most: u64) -> u64
+    requires { IsSome (option_and_then (number_within least most) (first_value (found_of found.now) id.now)) }
+    ensures number { option_and_then (number_within least most) (first_value (found_of found.now) id.now) ≡ Some result }
+    ensures within { (least ≤ result) × (result ≤ most) }
+{
+    read_within(text_at(found, id), least, most).unwrap()
+}
+
+/// The device that a command works on, as its matches name it.
+fn device_of(
+    alloc: Global,
+    asked: &Asked<'_>,
+    found: &ArgMatches<'_>,
+) -> Result<DeviceWant, AllocError>
+    requires { HasAsked (named (Some asked.now)) (rows_of (found_of found.now)) }
     ensures { IfOk result (IsWanted (named (Some asked.now))) }
 {
     match asked {
         Asked::Try(_) => Ok(DeviceWant::Fresh(Geometry::of_order(TRY_ORDER).need())),
         Asked::Drill { .. } => Ok(DeviceWant::Fresh(Geometry::of_order(DRILL_ORDER).need())),
-        Asked::Format { file, order } => {
-            let file = Name::of(alloc, file)?;
-            Ok(DeviceWant::Made(file, Geometry::of_order(*order).need()))
+        Asked::Format { .. } => {
+            let order = number_at(found, "order", 4, 16) as u32;
+            let file = name_at(alloc, found, "FILE")?;
+            Ok(DeviceWant::Made(file, Geometry::of_order(order).need()))
         }
-        Asked::Run { file, scripts: _ } | Asked::Stat(file) => {
-            Ok(DeviceWant::Old(Name::of(alloc, file)?))
-        }
+        Asked::Run { .. } => Ok(DeviceWant::Old(name_at(alloc, found, "FILE")?)),
+        Asked::Stat(_) => Ok(DeviceWant::Old(name_at(alloc, found, "FILE")?)),
     }
 }
 
-/// The scripts that a command names.
-fn named_scripts(alloc: Global, asked: &Asked<'_>) -> Result<Names, AllocError>
+/// The scripts that a command's matches name.
+fn named_scripts(
+    alloc: Global,
+    asked: &Asked<'_>,
+    found: &ArgMatches<'_>,
+) -> Result<Names, AllocError>
+    requires { HasAsked (named (Some asked.now)) (rows_of (found_of found.now)) }
     ensures { IfOk result (λ scripts. scripts ≡ scripts_of (named (Some asked.now))) }
 {
-    let mut named = Names::new(alloc);
-    if let Asked::Try(scripts) | Asked::Run { file: _, scripts } = asked {
-        for script in scripts.iter() {
-            named.push(alloc, script)?;
-        }
+    match asked {
+        Asked::Try(_) => names_at(alloc, found, "SCRIPT"),
+        Asked::Run { .. } => names_at(alloc, found, "SCRIPT"),
+        _ => Ok(Names::new(alloc)),
     }
-    Ok(named)
 }
 
 /// What the words ask `main` to hand to `run`: a device, and the scripts in order.
@@ -365,8 +385,13 @@ pub fn files_of(alloc: Global, words: &Names) -> Result<Wanted, AllocError>
             scripts: Names::new(alloc),
         });
     };
+    let texts = texts_of(alloc, words)?;
+    let Ok(matches) = matches_of(alloc, texts.as_slice()) else {
+        return Err(AllocError);
+    };
+    let found = found_in(&matches);
     Ok(Wanted {
-        device: device_of(alloc, &asked)?,
-        scripts: named_scripts(alloc, &asked)?,
+        device: device_of(alloc, &asked, found)?,
+        scripts: named_scripts(alloc, &asked, found)?,
     })
 }
