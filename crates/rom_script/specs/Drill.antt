@@ -51,7 +51,7 @@ kind_lines callers caller kind q =
     if kind == 1 then Update (move_call callers q) ∷ [] else
     if kind == 2 then Update (set_call caller q) ∷ [] else Ask (query callers q) ∷ []
 
--- the lines of the item that a number makes: all but its low 16 bits are the kind, and four times the item's number
+-- The lines of the item that a number makes. Its low 16 bits are left out; the two bits above them are the item's kind, and the rest its own number.
 abbrev pub item : ℕ → ℕ → ℕ → List (Step Call Query)
 item callers caller x = kind_lines callers caller (x / 65536 % 4) (x / 65536 / 4)
 

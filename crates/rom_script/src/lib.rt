@@ -5,7 +5,8 @@
 //! that each printing call writes exactly its text, or some of it from the front where the sink
 //! failed, that the numbers of what is printed whole are of their types, and that a failure is
 //! answered only where the very object's count of faults rose. What is printed of replies and
-//! answers is theirs to say (`Told`); those of a queue, a set and a map stand in `trio`.
+//! answers is theirs to say (`Told`); those of a queue, a set and a map stand in `trio`. The scripts
+//! of a drill are those that follow from its start, and its five lines tell the sums of its replies.
 #![tactic(auto)]
 
 mod adapt;
