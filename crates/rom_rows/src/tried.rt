@@ -167,6 +167,17 @@ fn callers_of_a_drill_run_beside_each_other(rt: HostRuntime) -> Result<(), Fail>
     Ok(())
 }
 
+#[test]
+fn one_caller_drills(rt: HostRuntime) -> Result<(), Fail> {
+    let (status, text) = drilled(&rt, rt.alloc(), ["1", "1", "3"], &NoGate)?;
+    assert_eq!(rt; status, 0);
+    assert!(rt;
+        text.as_slice()
+            == b"drill 1 callers 1 calls 3\nenqueued 227 dequeued 227\nqueue 0 set 0 map 4\ntotal 4000\ncount 7\n".as_slice()
+    );
+    Ok(())
+}
+
 /// The five lines of a drill of four callers with 1,000 calls each, whose total is that of their keys.
 fn told_of<R: Threads + Wait + Sync>(rt: &R, alloc: Global, start: &str) -> Result<Vec<u8>, Fail> {
     let (status, text) = drilled(rt, alloc, [start, "4", "1000"], &NoGate)?;

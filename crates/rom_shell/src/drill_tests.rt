@@ -1,4 +1,4 @@
-//! Drills on new heaps, to the byte.
+//! Drills on new heaps, to the byte. The lines that are wanted were counted by a program of its own.
 ghost use Rattle.std.specs.Prelude.{◌≤◌};
 
 use crate::drill::drill_heap;

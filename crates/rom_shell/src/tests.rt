@@ -157,7 +157,7 @@ fn a_session_is_left_where_scripts_were_run(rt: HostRuntime) -> Result<(), Fail>
 #[test]
 fn other_words_are_no_command(rt: HostRuntime) -> Result<(), Fail> {
     let alloc = rt.alloc();
-    let rows: [&[&str]; 44] = [
+    let rows: [&[&str]; 53] = [
         &["format", "F"],
         &["format", "F", "--order"],
         &["format", "F", "--order", "3"],
@@ -168,6 +168,11 @@ fn other_words_are_no_command(rt: HostRuntime) -> Result<(), Fail> {
         &["format", "F", "--order="],
         &["format", "F", "--order", "4", "--order", "4"],
         &["format", "F", "--order=4", "--order", "4"],
+        &["format", "F", "--order=4=5"],
+        &["format", "F", "--=4"],
+        &["format", "F", "--order", ""],
+        &["format", "F", "--order", "--", "4"],
+        &["format", "F", "---order=4"],
         &["format", "F", "--size", "4"],
         &["format", "F", "-order", "4"],
         &["format", "F", "--", "--order", "4"],
@@ -187,6 +192,7 @@ fn other_words_are_no_command(rt: HostRuntime) -> Result<(), Fail> {
         &["try", "a", "--order", "4"],
         &["TRY", "a"],
         &["help"],
+        &["--help"],
         &["run", "F"],
         &["run", "F", "--"],
         &["run", "F", "-x"],
@@ -196,6 +202,9 @@ fn other_words_are_no_command(rt: HostRuntime) -> Result<(), Fail> {
         &["run", "", "a"],
         &["drill"],
         &["drill", "1", "--callers", "1"],
+        &["drill", "01", "--callers=1", "--calls=1"],
+        &["drill", "-1", "--callers=1", "--calls=1"],
+        &["drill", "1", "2", "--callers=1", "--calls=1"],
         &["drill", "1", "--callers", "0", "--calls", "1"],
         &["drill", "1", "--callers", "17", "--calls", "1"],
         &["drill", "1", "--callers", "1", "--calls", "10001"],

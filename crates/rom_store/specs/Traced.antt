@@ -42,7 +42,7 @@ module _ {D S : Type 0} (shown : ShownDevice D) (Contents : ℕ → List ℕ →
   ArePassesOn len [] was now = now ≡ was
   ArePassesOn len (r ∷ rs) was now = (next : D) × IsPassOn len r was next × ArePassesOn r.len rs next now
 
-  -- All passes of the story, since a device that had failed so often: it went through them, up to now.
+  -- All passes of the story, since a device that had failed at least so often: it went through them, up to now.
   pub record WentThrough (faults : ℕ) (now : D) : Type 0 where
     pub first : D
     pub faults_by : faults ≤ shown.faults first
