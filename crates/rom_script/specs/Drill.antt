@@ -105,7 +105,3 @@ dequeued results = sum_by dequeued_of results
 abbrev pub drill_lines : ℕ → ℕ → ℕ → ℕ → ℕ → Answer → Answer → ℕ → List ℕ
 drill_lines start callers calls into out_of sizes total count =
     line_text (codes "drill " ++ decimal start ++ codes " callers " ++ decimal callers ++ codes " calls " ++ decimal calls) ++ line_text (codes "enqueued " ++ decimal into ++ codes " dequeued " ++ decimal out_of) ++ line_text (answer_text sizes) ++ line_text (answer_text total) ++ line_text (codes "count " ++ decimal count)
-
--- those of a drill with these scripts and these results
-abbrev pub drill_text : ℕ → ℕ → ℕ → List (List (Step Call Query)) → List (List (LineResult Reply Answer)) → Answer → Answer → ℕ → List ℕ
-drill_text start callers calls scripts results sizes total count = drill_lines start callers calls (enqueued scripts results) (dequeued results) sizes total count

@@ -5,6 +5,7 @@ pub mod Lines
 pub mod Showing
 pub mod Ending
 pub mod Drilling
+pub mod Summing
 pub mod Sources
 pub mod Replies
 pub mod Saying

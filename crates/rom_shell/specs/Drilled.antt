@@ -1,8 +1,13 @@
 -- What a drill prints of its session.
-use Rattle.std.specs.Prelude.{◌≡◌, ◌⊎◌, ℕ, List, if◌then◌else◌}
-use Rattle.std.specs.List.{list_any}
+use Rattle.std.specs.Prelude.{◌≡◌, ◌⊎◌, ℕ, List, Option, Some, if◌then◌else◌}
+use Rattle.std.specs.List.{list_any, sum_by}
 use Rattle.rom_model.specs.declared.call.Query.TheVariants.{Len, Total}
+use Rattle.rom_model.specs.declared.call.Call.{Call}
+use Rattle.rom_model.specs.declared.call.Call.TheVariants.{Enq}
 use Rattle.rom_model.specs.declared.call.Reply.{Reply}
+use Rattle.rom_model.specs.declared.call.Reply.TheVariants.{Queued, Head}
+use Rattle.rom_model.specs.declared.entry.Entry.{Entry}
+use Rattle.rom_model.specs.Codes.{words_call, words_reply}
 use Rattle.rom_model.specs.declared.call.Answer.{Answer}
 use Rattle.rom_model.specs.declared.line.LineResult.{LineResult}
 use Rattle.rom_model.specs.History.{after}
@@ -10,7 +15,7 @@ use Rattle.rom_model.specs.Machine.{on_words}
 use Rattle.rom_model.specs.State.{State, tell}
 use Rattle.rom_model.specs.Story.{Story, count}
 use Rattle.rom_model.specs.Trio.{trio}
-use Rattle.rom_script.specs.Drill.{drill_scripts, drill_text}
+use Rattle.rom_script.specs.Drill.{drill_lines}
 use Rattle.rom_script.specs.Runs.{IsCutShort, IsWritten}
 use Rattle.rom_script.specs.Streams.{ShownSink}
 use Rattle.rom_shell.specs.Statuses.{is_faulted}
@@ -19,9 +24,32 @@ use Rattle.rom_shell.specs.Statuses.{is_faulted}
 abbrev pub closing : Story State → State
 closing story = after (on_words trio) story.order story.opening story.opening_count story.history
 
--- the five lines of a drill with this story and these results
-abbrev pub drill_told : ℕ → ℕ → ℕ → Story State → List (List (LineResult Reply Answer)) → List ℕ
-drill_told start callers calls story results = drill_text start callers calls (drill_scripts start callers calls) results (tell (closing story) Len) (tell (closing story) Total) (count story)
+-- what an update of this call and this reply has put into the queue, and out
+abbrev pub put_by : Option Call → Option Reply → ℕ
+put_by (Some (Enq v)) (Some Queued) = v
+put_by call reply = 0
+
+abbrev pub taken_by : Option Reply → ℕ
+taken_by (Some (Head v)) = v
+taken_by reply = 0
+
+-- what an entry has
+abbrev pub put_in : Entry → ℕ
+put_in e = put_by (words_call e.args) (words_reply e.reply)
+
+abbrev pub taken_in : Entry → ℕ
+taken_in e = taken_by (words_reply e.reply)
+
+-- what all entries have
+abbrev pub enqueued_in : List Entry → ℕ
+enqueued_in history = sum_by put_in history
+
+abbrev pub dequeued_in : List Entry → ℕ
+dequeued_in history = sum_by taken_in history
+
+-- the five lines of a drill with this story: all but the first are of its history, of the state after it, and of its count
+abbrev pub drill_told : ℕ → ℕ → ℕ → Story State → List ℕ
+drill_told start callers calls story = drill_lines start callers calls (enqueued_in story.history) (dequeued_in story.history) (tell (closing story) Len) (tell (closing story) Total) (count story)
 
 -- The status of a drill whose lines are all printed: 7 where the device failed under an update, or else 0. No line of its scripts is unread.
 abbrev pub drill_status : {R A : Type 0} → List (List (LineResult R A)) → ℕ

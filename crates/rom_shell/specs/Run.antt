@@ -97,7 +97,7 @@ module _ {O : Type 0} (sink : ShownSink O) where
   IsPrinted (Some (Format file order)) story results old new status = ⊥
   IsPrinted (Some (Stat file)) story results old new status =
       (status ≡ 0) × (results ≡ []) × IsPut sink old new (stat_text story.order story.opening story.opening_count)
-  IsPrinted (Some (Drill start callers calls)) story results old new status = IsDrillText sink (drill_told start callers calls story results) results old new status
+  IsPrinted (Some (Drill start callers calls)) story results old new status = IsDrillText sink (drill_told start callers calls story) results old new status
   IsPrinted None story results old new status = ⊥
 
   -- Results of these scripts are those of one history, which is the story's, and are printed.
@@ -110,7 +110,7 @@ module _ {O : Type 0} (sink : ShownSink O) where
   pub record HaveDrilled (start callers calls : ℕ) (story : Story State) (old new : O) (status : ℕ) : Type 0 where
     pub results : List (List (LineResult Reply Answer))
     pub answered : AreAnswered trio story (drill_scripts start callers calls) results
-    pub printed : IsDrillText sink (drill_told start callers calls story results) results old new status
+    pub printed : IsDrillText sink (drill_told start callers calls story) results old new status
 
 module _ {S O : Type 0} (source : ShownSource S) (sink : ShownSink O) where
   -- the scripts that it runs, which are those of its sources, or those of a drill
