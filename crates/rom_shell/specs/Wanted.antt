@@ -7,6 +7,8 @@ use Rattle.rom_shell.specs.declared.words.Asked.{Asked}
 use Rattle.rom_shell.specs.declared.words.Asked.TheVariants as asked
 use Rattle.rom_shell.specs.declared.words.DeviceWant.{DeviceWant}
 use Rattle.rom_shell.specs.declared.words.DeviceWant.TheVariants.{Nothing, Fresh, Old, Made}
+use Rattle.rom_shell.specs.declared.words.Matched.{Matched}
+use Rattle.rom_shell.specs.declared.words.Matched.TheVariants as matched
 use Rattle.rom_shell.specs.declared.words.Said.{Said}
 use Rattle.rom_shell.specs.declared.words.Sort.{Sort}
 use Rattle.rom_shell.specs.declared.words.Sort.TheVariants as sort
@@ -41,6 +43,19 @@ named (Some (asked.Format file order)) = Some (Format file.now order)
 named (Some (asked.Stat file)) = Some (Stat file.now)
 named (Some (asked.Drill start callers calls)) = Some (Drill start callers calls)
 named None = None
+
+-- the command whose names and numbers were found
+abbrev pub given : Matched → Command
+given (matched.Try scripts) = Try scripts
+given (matched.Run file scripts) = Run file scripts
+given (matched.Format file order) = Format file order
+given (matched.Stat file) = Stat file
+given (matched.Drill start callers calls) = Drill start callers calls
+
+-- an order that was found is one that there is
+abbrev pub GivesOrder : Matched → Type 0
+GivesOrder (matched.Format file order) = IsOrder order
+GivesOrder other = Unit {0}
 
 -- an order that is asked for is one that there is
 abbrev pub AsksForOrder : Asked → Type 0

@@ -2,7 +2,7 @@
 ghost use Rattle.std.specs.Prelude.{◌<◌};
 
 use crate::heap_tests::told_of;
-use crate::words::{Asked, read_command};
+use crate::words::{Matched, read_command, read_matches};
 use crate::{DeviceWant, Ended, files_of, run};
 use rom_combine::NoGate;
 use rom_device::Ram;
@@ -154,6 +154,14 @@ fn a_session_is_left_where_scripts_were_run(rt: HostRuntime) -> Result<(), Fail>
     Ok(())
 }
 
+fn words_of(alloc: Global, row: &[&str]) -> Result<Names, AllocError> {
+    let mut words = Names::new(alloc);
+    for word in row {
+        words.push(alloc, word)?;
+    }
+    Ok(words)
+}
+
 #[test]
 fn other_words_are_no_command(rt: HostRuntime) -> Result<(), Fail> {
     let alloc = rt.alloc();
@@ -230,10 +238,7 @@ fn other_words_are_no_command(rt: HostRuntime) -> Result<(), Fail> {
     ];
     let line = b"not a command\n";
     for row in rows {
-        let mut words = Names::new(alloc);
-        for word in row {
-            words.push(alloc, word)?;
-        }
+        let words = words_of(alloc, row)?;
         assert!(rt; read_command(&words).is_none(), "at {row:?}");
         let wanted = files_of(alloc, &words)?;
         assert!(rt; matches!(wanted.device, DeviceWant::Nothing), "at {row:?}");
@@ -302,14 +307,6 @@ fn seventeen_scripts_are_no_command(rt: HostRuntime) -> Result<(), Fail> {
         assert!(rt; out.bytes() == b"not a command\n".as_slice());
     }
     Ok(())
-}
-
-fn words_of(alloc: Global, row: &[&str]) -> Result<Names, AllocError> {
-    let mut words = Names::new(alloc);
-    for word in row {
-        words.push(alloc, word)?;
-    }
-    Ok(words)
 }
 
 #[test]
@@ -394,17 +391,18 @@ fn drill_reads_three_numbers(rt: HostRuntime) -> Result<(), Fail> {
     ];
     for (row, from, many, each) in rows {
         let words = words_of(alloc, row)?;
-        let read = match read_command(&words) {
-            Some(
-                Asked::Drill {
-                    start,
-                    callers,
-                    calls,
-                },
-            ) => (start, callers, calls) == (from, many, each),
-            _ => false,
+        let Some(asked) = read_command(&words) else {
+            return Err(Fail::from("a drill is a command"));
         };
-        assert!(rt; read, "at {row:?}");
+        let numbers = match read_matches(alloc, &words, &asked)? {
+            Matched::Drill {
+                start,
+                callers,
+                calls,
+            } => Some((start, callers, calls)),
+            _ => None,
+        };
+        assert!(rt; numbers == Some((from, many, each)), "at {row:?}");
         let wanted = files_of(alloc, &words)?;
         assert_eq!(rt; wanted.scripts.len(), 0, "at {row:?}");
         assert!(rt;

@@ -1,10 +1,12 @@
 //! The words of the command line.
 ghost use Rattle.std.specs.Prelude.{◌≡◌, ◌⊎◌, ◌<◌, ◌≤◌, [], ◌∷◌, ◌++◌, length, map, option_and_then, option_map, None, IfOk, IfNone, IfSome, IsTrue, IsNone, IsSome, Some};
 ghost use Rattle.std.specs.List.{list_all};
+ghost use Rattle.rom_model.specs.Blocks.{IsOrder};
+ghost use Rattle.rom_header.specs.Layout.{words_needed};
 ghost use Rattle.clap.specs.Words.{first_value, found_of};
 ghost use Rattle.clap.specs.Walk.{rows_of};
 ghost use Rattle.rom_shell.specs.CommandLine.{HasAsked};
-ghost use Rattle.rom_shell.specs.Wanted.{AsksForFew, AsksForOrder, IsWanted, named, sort_at, sorted, texts, told};
+ghost use Rattle.rom_shell.specs.Wanted.{AsksForFew, AsksForOrder, GivesOrder, IsWanted, given, named, sort_at, sorted, texts, told};
 ghost use Rattle.rom_shell.specs.Words.{begins_with_dash, behind_dashes, both_of, command, drill_of, format_of, is_full, number_within, run_of, said, scripts_of, stat_of, try_of};
 ghost use Rattle.rom_shell.specs.Words as spec;
 
@@ -336,42 +338,85 @@ fn number_at(found: &ArgMatches<'_>, id: &str, least: u64, most: u64) -> u64
     read_within(text_at(found, id), least, most).unwrap()
 }
 
-/// The device that a command works on, as its matches name it.
-fn device_of(
+/// What the matches of a command name. An order is 4 to 16.
+#[derive(Drop)]
+pub(crate) enum Matched {
+    Try(Names),
+    Run {
+        file: Name,
+        scripts: Names,
+    },
+    Format {
+        file: Name,
+        order: u32,
+    },
+    Stat(Name),
+    Drill {
+        start: u64,
+        callers: u32,
+        calls: u32,
+    },
+}
+
+/// Words in memory, as many as a heap of this order needs.
+fn fresh_of(order: u32) -> DeviceWant
+    requires { IsOrder order }
+    ensures { result ≡ DeviceWant.Fresh (words_needed order) }
+{
+    DeviceWant::Fresh(Geometry::of_order(order).need())
+}
+
+/// What the matches of the command that is asked for name.
+fn read_found(
     alloc: Global,
     asked: &Asked<'_>,
     found: &ArgMatches<'_>,
-) -> Result<DeviceWant, AllocError>
+) -> Result<Matched, AllocError>
     requires { HasAsked (named (Some asked.now)) (rows_of (found_of found.now)) }
-    ensures { IfOk result (IsWanted (named (Some asked.now))) }
+    ensures named { IfOk result (λ m. Some (given m) ≡ named (Some asked.now)) }
+    ensures order { IfOk result GivesOrder }
 {
     match asked {
-        Asked::Try(_) => Ok(DeviceWant::Fresh(Geometry::of_order(TRY_ORDER).need())),
-        Asked::Drill { .. } => Ok(DeviceWant::Fresh(Geometry::of_order(DRILL_ORDER).need())),
-        Asked::Format { .. } => {
-            let order = number_at(found, "order", 4, 16) as u32;
+        Asked::Try(_) => Ok(Matched::Try(names_at(alloc, found, "SCRIPT")?)),
+        Asked::Run { .. } => {
             let file = name_at(alloc, found, "FILE")?;
-            Ok(DeviceWant::Made(file, Geometry::of_order(order).need()))
+            let scripts = names_at(alloc, found, "SCRIPT")?;
+            Ok(Matched::Run { file, scripts })
         }
-        Asked::Run { .. } => Ok(DeviceWant::Old(name_at(alloc, found, "FILE")?)),
-        Asked::Stat(_) => Ok(DeviceWant::Old(name_at(alloc, found, "FILE")?)),
+        Asked::Format { .. } => {
+            let file = name_at(alloc, found, "FILE")?;
+            let order = number_at(found, "order", 4, 16) as u32;
+            Ok(Matched::Format { file, order })
+        }
+        Asked::Stat(_) => Ok(Matched::Stat(name_at(alloc, found, "FILE")?)),
+        Asked::Drill { .. } => {
+            let start = number_at(found, "START", 0, u64::MAX);
+            let callers = number_at(found, "callers", 1, 16) as u32;
+            let calls = number_at(found, "calls", 1, 10_000) as u32;
+            Ok(Matched::Drill {
+                start,
+                callers,
+                calls,
+            })
+        }
     }
 }
 
-/// The scripts that a command's matches name.
-fn named_scripts(
+/// The names and the numbers of words that are a command, as the matches of `clap` give them.
+pub(crate) fn read_matches(
     alloc: Global,
+    words: &Names,
     asked: &Asked<'_>,
-    found: &ArgMatches<'_>,
-) -> Result<Names, AllocError>
-    requires { HasAsked (named (Some asked.now)) (rows_of (found_of found.now)) }
-    ensures { IfOk result (λ scripts. scripts ≡ scripts_of (named (Some asked.now))) }
+) -> Result<Matched, AllocError>
+    requires { named (Some asked.now) ≡ command words.now }
+    ensures named { IfOk result (λ m. Some (given m) ≡ command words.now) }
+    ensures order { IfOk result GivesOrder }
 {
-    match asked {
-        Asked::Try(_) => names_at(alloc, found, "SCRIPT"),
-        Asked::Run { .. } => names_at(alloc, found, "SCRIPT"),
-        _ => Ok(Names::new(alloc)),
-    }
+    let texts = texts_of(alloc, words)?;
+    let Ok(matches) = matches_of(alloc, texts.as_slice()) else {
+        return Err(AllocError);
+    };
+    read_found(alloc, asked, found_in(&matches))
 }
 
 /// What the words ask `main` to hand to `run`: a device, and the scripts in order.
@@ -379,19 +424,24 @@ pub fn files_of(alloc: Global, words: &Names) -> Result<Wanted, AllocError>
     ensures device { IfOk result (λ wanted. IsWanted (command words.now) wanted.device) }
     ensures scripts { IfOk result (λ wanted. wanted.scripts ≡ scripts_of (command words.now)) }
 {
+    let none = Names::new(alloc);
     let Some(asked) = read_command(words) else {
         return Ok(Wanted {
             device: DeviceWant::Nothing,
-            scripts: Names::new(alloc),
+            scripts: none,
         });
     };
-    let texts = texts_of(alloc, words)?;
-    let Ok(matches) = matches_of(alloc, texts.as_slice()) else {
-        return Err(AllocError);
+    let (device, scripts) = match read_matches(alloc, words, &asked)? {
+        Matched::Try(scripts) => (fresh_of(TRY_ORDER), scripts),
+        Matched::Run { file, scripts } => (DeviceWant::Old(file), scripts),
+        Matched::Format { file, order } => {
+            (
+                DeviceWant::Made(file, Geometry::of_order(order).need()),
+                none,
+            )
+        }
+        Matched::Stat(file) => (DeviceWant::Old(file), none),
+        Matched::Drill { .. } => (fresh_of(DRILL_ORDER), none),
     };
-    let found = found_in(&matches);
-    Ok(Wanted {
-        device: device_of(alloc, &asked, found)?,
-        scripts: named_scripts(alloc, &asked, found)?,
-    })
+    Ok(Wanted { device, scripts })
 }
