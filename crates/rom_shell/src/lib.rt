@@ -6,7 +6,7 @@
 //! holds the empty state whatever a stop leaves of it, one that is shown holds what it held, and
 //! what is refused is told by the very refusal of the device's words. Each script has a caller of its
 //! own, in a thread, and the callers share one heap. What the words are is decided by a test that takes
-//! no memory, and `clap` then gives their names; a drill makes its scripts by itself.
+//! no memory, and `clap` then gives their names and numbers; a drill makes its scripts by itself.
 #![tactic(auto)]
 
 mod command_line;

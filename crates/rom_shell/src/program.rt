@@ -19,7 +19,7 @@ use crate::scripted::{run_heap, try_heap};
 use crate::stat::show_heap;
 use crate::status::Status;
 use crate::tell::tell;
-use crate::words::{Asked, read_command};
+use crate::words::{Matched, read_command, read_matches};
 use crate::worked::Worked;
 use rom_combine::Gate;
 use rom_device::Device;
@@ -157,32 +157,34 @@ pub fn run<R: Threads + Wait + Sync, D: Device + Send, S: Source, O: Sink, G: Ga
     // A text is that of one list of results and one count.
     ensures determined { TextDetermines }
 {
-    match read_command(words) {
-        None => {
-            tell(out, &["not a command"]);
-            Ended::of(Status::NotACommand, device, scripts, None)
-        }
-        Some(Asked::Try(_)) => match read_scripts(alloc, &mut scripts, out) {
+    let Some(asked) = read_command(words) else {
+        tell(out, &["not a command"]);
+        return Ended::of(Status::NotACommand, device, scripts, None);
+    };
+    let Ok(matched) = read_matches(alloc, words, &asked) else {
+        tell(out, &["no memory"]);
+        return Ended::of(Status::NoMemory, device, scripts, None);
+    };
+    match matched {
+        Matched::Try(_) => match read_scripts(alloc, &mut scripts, out) {
             Ok(lines) => Ended::after(try_heap(rt, alloc, device, &lines, out, gate), scripts),
             Err(status) => Ended::of(status, device, scripts, None),
         },
-        Some(Asked::Run { .. }) => match read_scripts(alloc, &mut scripts, out) {
+        Matched::Run { .. } => match read_scripts(alloc, &mut scripts, out) {
             Ok(lines) => Ended::after(run_heap(rt, alloc, device, &lines, out, gate), scripts),
             Err(status) => Ended::of(status, device, scripts, None),
         },
-        Some(Asked::Format { file: _, order }) => {
+        Matched::Format { file: _, order } => {
             let mut device = device;
             let status = make_heap(alloc, &mut device, order, out);
             Ended::of(status, device, scripts, None)
         }
-        Some(Asked::Stat(_)) => Ended::after(show_heap(alloc, device, out), scripts),
-        Some(
-            Asked::Drill {
-                start,
-                callers,
-                calls,
-            },
-        ) => Ended::after(
+        Matched::Stat(_) => Ended::after(show_heap(alloc, device, out), scripts),
+        Matched::Drill {
+            start,
+            callers,
+            calls,
+        } => Ended::after(
             drill_heap(rt, alloc, device, start, callers, calls, out, gate),
             scripts,
         ),

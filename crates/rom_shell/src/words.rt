@@ -6,7 +6,7 @@ ghost use Rattle.rom_header.specs.Layout.{words_needed};
 ghost use Rattle.clap.specs.Words.{first_value, found_of};
 ghost use Rattle.clap.specs.Walk.{rows_of};
 ghost use Rattle.rom_shell.specs.CommandLine.{HasAsked};
-ghost use Rattle.rom_shell.specs.Wanted.{AsksForFew, AsksForOrder, GivesOrder, IsWanted, given, named, sort_at, sorted, texts, told};
+ghost use Rattle.rom_shell.specs.Wanted.{AsksForFew, GivesFew, GivesOrder, IsWanted, given, named, sort_at, sorted, texts, told};
 ghost use Rattle.rom_shell.specs.Words.{begins_with_dash, behind_dashes, both_of, command, drill_of, format_of, is_full, number_within, run_of, said, scripts_of, stat_of, try_of};
 ghost use Rattle.rom_shell.specs.Words as spec;
 
@@ -51,8 +51,7 @@ pub struct Wanted {
 /// Plain words of a command.
 type Plain<'a> = ArrayVec<&'a str, MOST_PLAIN>;
 
-/// What words that are a command ask for. An order is 4 to 16, and there are 1 to 16 scripts or
-/// callers.
+/// What words that are a command ask for. There are 1 to 16 scripts.
 #[derive(Drop)]
 pub(crate) enum Asked<'a> {
     /// To run these scripts on a new heap.
@@ -221,7 +220,6 @@ fn are_scripts(words: &[&str]) -> bool
 /// Scripts.
 fn read_try(said: Said<'_>) -> Option<Asked<'_>>
     ensures named { named result ≡ try_of (told said.entry).plain (told said.entry).options }
-    ensures order { IfSome result AsksForOrder }
     ensures few { IfSome result AsksForFew }
 {
     let Said { plain, options } = said;
@@ -234,7 +232,6 @@ fn read_try(said: Said<'_>) -> Option<Asked<'_>>
 /// A file, and then the scripts to run on its heap.
 fn read_run(said: Said<'_>) -> Option<Asked<'_>>
     ensures named { named result ≡ run_of (told said.entry).plain (told said.entry).options }
-    ensures order { IfSome result AsksForOrder }
     ensures few { IfSome result AsksForFew }
 {
     let Said { plain, options } = said;
@@ -249,7 +246,6 @@ fn read_run(said: Said<'_>) -> Option<Asked<'_>>
 /// A file, and the order of the heap that is made there.
 fn read_format(said: Said<'_>) -> Option<Asked<'_>>
     ensures named { named result ≡ format_of (told said.entry).plain (told said.entry).options }
-    ensures order { IfSome result AsksForOrder }
     ensures few { IfSome result AsksForFew }
 {
     let ([file], [(name, value)]) = (said.plain.as_slice(), said.options.as_slice()) else {
@@ -265,7 +261,6 @@ fn read_format(said: Said<'_>) -> Option<Asked<'_>>
 /// A file alone.
 fn read_stat(said: Said<'_>) -> Option<Asked<'_>>
     ensures named { named result ≡ stat_of (told said.entry).plain (told said.entry).options }
-    ensures order { IfSome result AsksForOrder }
     ensures few { IfSome result AsksForFew }
 {
     match (said.plain.as_slice(), said.options.as_slice()) {
@@ -297,7 +292,6 @@ fn read_both<'a>(
 /// Where the drawing starts, and how many callers make how many calls each.
 fn read_drill(said: Said<'_>) -> Option<Asked<'_>>
     ensures named { named result ≡ drill_of (told said.entry).plain (told said.entry).options }
-    ensures order { IfSome result AsksForOrder }
     ensures few { IfSome result AsksForFew }
 {
     let [start] = said.plain.as_slice() else {
@@ -314,7 +308,6 @@ fn read_drill(said: Said<'_>) -> Option<Asked<'_>>
 /// The command that the words are. It takes no memory.
 pub(crate) fn read_command(words: &Names) -> Option<Asked<'_>>
     ensures named { named result ≡ command words.now }
-    ensures order { IfSome result AsksForOrder }
     ensures few { IfSome result AsksForFew }
 {
     let (name, words) = words.as_slice().split_first()?;
@@ -338,7 +331,7 @@ fn number_at(found: &ArgMatches<'_>, id: &str, least: u64, most: u64) -> u64
     read_within(text_at(found, id), least, most).unwrap()
 }
 
-/// What the matches of a command name. An order is 4 to 16.
+/// What the matches of a command name. An order is 4 to 16, and there are 1 to 16 scripts or callers.
 #[derive(Drop)]
 pub(crate) enum Matched {
     Try(Names),
@@ -353,8 +346,8 @@ pub(crate) enum Matched {
     Stat(Name),
     Drill {
         start: u64,
-        callers: u32,
-        calls: u32,
+        callers: u64,
+        calls: u64,
     },
 }
 
@@ -372,9 +365,11 @@ fn read_found(
     asked: &Asked<'_>,
     found: &ArgMatches<'_>,
 ) -> Result<Matched, AllocError>
-    requires { HasAsked (named (Some asked.now)) (rows_of (found_of found.now)) }
+    requires matched { HasAsked (named (Some asked.now)) (rows_of (found_of found.now)) }
+    requires few { AsksForFew asked.now }
     ensures named { IfOk result (λ m. Some (given m) ≡ named (Some asked.now)) }
     ensures order { IfOk result GivesOrder }
+    ensures few { IfOk result GivesFew }
 {
     match asked {
         Asked::Try(_) => Ok(Matched::Try(names_at(alloc, found, "SCRIPT")?)),
@@ -391,8 +386,8 @@ fn read_found(
         Asked::Stat(_) => Ok(Matched::Stat(name_at(alloc, found, "FILE")?)),
         Asked::Drill { .. } => {
             let start = number_at(found, "START", 0, u64::MAX);
-            let callers = number_at(found, "callers", 1, 16) as u32;
-            let calls = number_at(found, "calls", 1, 10_000) as u32;
+            let callers = number_at(found, "callers", 1, 16);
+            let calls = number_at(found, "calls", 1, 10_000);
             Ok(Matched::Drill {
                 start,
                 callers,
@@ -408,9 +403,11 @@ pub(crate) fn read_matches(
     words: &Names,
     asked: &Asked<'_>,
 ) -> Result<Matched, AllocError>
-    requires { named (Some asked.now) ≡ command words.now }
+    requires named { named (Some asked.now) ≡ command words.now }
+    requires few { AsksForFew asked.now }
     ensures named { IfOk result (λ m. Some (given m) ≡ command words.now) }
     ensures order { IfOk result GivesOrder }
+    ensures few { IfOk result GivesFew }
 {
     let texts = texts_of(alloc, words)?;
     let Ok(matches) = matches_of(alloc, texts.as_slice()) else {
