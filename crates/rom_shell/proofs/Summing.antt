@@ -132,7 +132,7 @@ module _ (story : Story State) (g : Entry → ℕ) (line_sum : Step Call Query �
       let placed : enumerate_from story.opening_count story.history ≡ done_in (all_told (on_words trio) story.order story.opening story.opening_count story.records)
       = ap (λ (h : List Entry). enumerate_from story.opening_count h) lawful.recorded.made ∙ history_placed (on_words trio) story.order story.opening story.opening_count story.records in
       let theirs = subst (λ (xs : List (ℕ × Entry)). AllByRecursion (λ x. (1 ≤ x.1.caller) × (x.1.caller < 1 + length lss)) xs) (sym placed)
-          (done_within 1 (length lss) (all_told (on_words trio) story.order story.opening story.opening_count story.records) (within (length lss) _ lawful.known)) in
+      (done_within 1 (length lss) (all_told (on_words trio) story.order story.opening story.opening_count story.records) (within (length lss) _ lawful.known)) in
       served_sum 1 lss rss lawful.served ∙ sym (all_parts (λ x. g x.1) (length lss) 1 (enumerate_from story.opening_count story.history) theirs) ∙ sum_places g story.opening_count story.history
 
 put_same : (call : Call) (reply : Reply) (place : ℕ) → enqueued_by (line.Update call) (outcome.Update (told.Done reply place)) ≡ put_by (Some call) (Some reply)
