@@ -38,6 +38,9 @@ if [ -x /usr/bin/time ]; then
     # The shortest update, over and over, makes the most entries.
     yes deq | head -c 1048576 >"$folder/updates"
     /usr/bin/time -f 'lines "deq" alone: memory at most: %M KiB' "$program" try "$folder/updates" >"$text"
+    set --
+    while [ $# -lt 16 ]; do set -- "$@" "$folder/updates"; done
+    /usr/bin/time -f '16 such scripts: memory at most: %M KiB' "$program" try "$@" >"$text"
 else
     echo "processor time and memory: /usr/bin/time is not here"
 fi
