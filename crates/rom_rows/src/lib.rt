@@ -15,6 +15,8 @@ mod callers;
 #[cfg(test)]
 mod cores;
 #[cfg(test)]
+mod counting;
+#[cfg(test)]
 mod crowd;
 #[cfg(test)]
 mod heaps;

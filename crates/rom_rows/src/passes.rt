@@ -3,13 +3,12 @@ ghost use Rattle.std.specs.Prelude.{◌≡◌, ℕ};
 
 use crate::callers::post_call;
 use crate::cores::{post_three, read_count, seated_on, take_three, take_told};
+use crate::counting::Counting;
 use crate::heaps::{OPENING, device};
-use rom_combine::{Gate, NoGate, Outcome, Passed};
+use rom_combine::{NoGate, Outcome, Passed};
 use rom_device::{CallKind, Device, Trip};
 use rom_model::{Call, Reply, Updated};
 use rom_twin::Phase;
-use std::cell::Cell;
-use std::sync::Wait;
 use std::test::Fail;
 
 /// How many calls a pass makes that does what it found: 227 writes and 4 syncs.
@@ -17,22 +16,6 @@ const PASS: u64 = 227 + 4;
 
 /// The count at which no update is done any more.
 const LAST: u64 = 4_611_686_018_427_387_904;
-
-/// It keeps how often a batch was published, and how many calls these batches did.
-#[derive(Drop)]
-struct Heard {
-    times: Cell<u32>,
-    done: Cell<u32>,
-}
-
-impl Gate for Heard {
-    fn before<R: Wait>(&self, _rt: &R, _caller: u32, _line: u64) {}
-
-    fn published<R: Wait>(&self, _rt: &R, count: u32) {
-        self.times.set(self.times.get().saturating_add(1));
-        self.done.set(self.done.get().saturating_add(count));
-    }
-}
 
 /// The call of that number fails, whatever the word.
 fn trip(call: CallKind, nth: u64) -> Trip {
@@ -54,10 +37,7 @@ fn a_pass_does_the_posted_calls_and_answers_each(rt: HostRuntime) -> Result<(), 
         alloc,
         device(alloc, 0, &trips)?,
     )?;
-    let gate = Heard {
-        times: Cell::new(0),
-        done: Cell::new(0),
-    };
+    let gate = Counting::new();
     post_three(&shared, &mut first, &mut second, &mut third);
     let passed = core.pass(&rt, &shared, &gate);
     let told = take_three(&shared, &mut first, &mut second, &mut third)?;
@@ -80,7 +60,7 @@ fn a_pass_does_the_posted_calls_and_answers_each(rt: HostRuntime) -> Result<(), 
         outcome: Outcome::Nothing,
     };
     assert_eq!(rt; passed, want);
-    assert_eq!(rt; (gate.times.get(), gate.done.get()), (1, 3));
+    assert_eq!(rt; (gate.times(), gate.done()), (1, 3));
     let (twin, _writer) = core.into_parts();
     assert_eq!(rt; twin.phase(), Phase::Clean);
     let memory = twin.into_device();
@@ -119,7 +99,7 @@ fn calls_at_the_limit_of_the_count_are_answered_as_spent(rt: HostRuntime) -> Res
 }
 
 #[test]
-fn what_one_caller_read_after_a_pass_another_learns(rt: HostRuntime) -> Result<(), Fail> {
+fn what_one_caller_did_in_a_pass_another_learns(rt: HostRuntime) -> Result<(), Fail> {
     let alloc = rt.alloc();
     let (mut core, shared, (mut first, mut second, mut third)) = seated_on(
         alloc,
@@ -130,6 +110,9 @@ fn what_one_caller_read_after_a_pass_another_learns(rt: HostRuntime) -> Result<(
     assert_eq!(rt; passed.done, 1);
     let told = take_told(&shared, &mut first)?;
     assert_eq!(rt; told, Some(Updated::Done(Reply::NoPrior, 0)));
+    // It has read nothing itself.
+    let note = shared.note(&mut first);
+    shared.learn(&mut second, note);
     assert_eq!(rt; read_count(&shared, &mut second), 1);
     let note = shared.note(&mut second);
     shared.learn(&mut third, note);

@@ -2,9 +2,10 @@
 ghost use Rattle.std.specs.Prelude.{◌≡◌, ◌≤◌, ◌<◌, All, IfOk, length, vec_len};
 ghost use Rattle.rom_model.specs.History.{LAST_COUNT};
 
+use crate::counting::Counting;
 use crate::crowd::new_heap;
 use crate::heaps::{device, left};
-use rom_combine::NoGate;
+use rom_combine::{Gate, NoGate};
 use rom_device::{CallKind, Device, Trip};
 use rom_heap::Trio;
 use rom_model::{Answer, Call, LineResult, Query, Reply, Step, Updated};
@@ -47,16 +48,17 @@ fn all_putting(alloc: Global) -> Result<Vec<Vec<Line>>, AllocError>
 }
 
 /// The results of all scripts, and the store that was closed.
-fn played<D: Device + Send + Drop, R: Threads + Wait + Sync>(
+fn played<D: Device + Send + Drop, R: Threads + Wait + Sync, G: Gate + Sync>(
     rt: &R,
     alloc: Global,
     device: D,
     scripts: &[Vec<Line>],
+    gate: &G,
 ) -> Result<(Vec<Vec<Told>>, Closed<D, Trio>), Fail>
     requires callers { (0 < length scripts.now) × (length scripts.now ≤ 16) }
     requires few { All (λ v. length v.items ≤ LAST_COUNT) scripts.now }
 {
-    match play::<D, Trio, R, NoGate>(rt, alloc, device, scripts, &NoGate) {
+    match play::<D, Trio, R, G>(rt, alloc, device, scripts, gate) {
         Ok(Played { results, closed }) => Ok((results, closed)),
         Err(Refused { device: _, why: _ }) => Err("refused".into()),
     }
@@ -82,14 +84,14 @@ fn least_after(taken: &mut [bool], told: &Told, least: u64, count: u64) -> Optio
             let is_free = *place >= least && take_place(taken, *place);
             is_free.then_some(place.saturating_add(1))
         }
-        LineResult::Update(Updated::Failed) => Some(least),
+        LineResult::Update(Updated::Failed | Updated::Doubt) => Some(least),
         LineResult::Read(_, front) if least <= *front && *front <= count => Some(*front),
         _ => None,
     }
 }
 
-/// Whether the updates of a caller are done, each at a free place, which is then taken, or failed, and
-/// its reads have fronts past those places and up to `count`, all rising.
+/// Whether the updates of a caller are done, each at a free place, which is then taken, or failed or in
+/// doubt, and its reads have fronts past those places and up to `count`, all rising.
 fn is_rising(taken: &mut [bool], results: &[Told], count: u64) -> bool {
     let mut least = 0;
     for told in results {
@@ -193,7 +195,7 @@ fn failing_sync(nth: u64) -> Trip {
 fn sixteen_callers_take_each_place_once(rt: HostRuntime) -> Result<(), Fail> {
     let alloc = rt.alloc();
     let scripts = all_putting(alloc)?;
-    let (results, mut closed) = played(&rt, alloc, new_heap(alloc)?, scripts.as_slice())?;
+    let (results, mut closed) = played(&rt, alloc, new_heap(alloc)?, scripts.as_slice(), &NoGate)?;
     assert_eq!(rt; results.len(), 16);
     assert_eq!(rt; closed.count(), 16 * UPDATES);
     let sizes = Answer::Sizes {
@@ -240,27 +242,36 @@ fn all_queueing(alloc: Global) -> Result<Vec<Vec<Line>>, AllocError>
     Ok(scripts)
 }
 
-/// The sync of MUTATING in the second pass fails, whose calls are all that failed: one at most of each
-/// caller. All others are done, at the places from 0 on.
+/// The sync of MUTATING in the second pass fails, or that of COPYING there, whose calls are all that
+/// failed, or are in doubt: one at most of each caller. All others are done, at the places from 0 on,
+/// and they alone were published.
 #[test]
 fn a_fault_fails_at_most_one_update_of_each_of_sixteen_callers(
     rt: HostRuntime,
 ) -> Result<(), Fail> {
     let alloc = rt.alloc();
     let scripts = all_queueing(alloc)?;
-    let memory = device(alloc, 0, &[failing_sync(6)])?;
-    let (results, closed) = played(&rt, alloc, memory, scripts.as_slice())?;
-    let count = closed.count();
-    let (done, failed, doubt) = fates(results.as_slice());
-    assert_eq!(rt; (done.saturating_add(failed), doubt), (32, 0));
-    assert!(rt; failed >= 1);
-    assert_eq!(rt; count, done);
-    let mut taken = vec![in alloc; false; 32]?;
-    for told in &results {
-        assert!(rt; fates_of(told.as_slice()).1 <= 1);
-        assert!(rt; is_rising(taken.as_mut_slice(), told.as_slice(), count));
+    for sync in [6, 8] {
+        let memory = device(alloc, 0, &[failing_sync(sync)])?;
+        let gate = Counting::new();
+        let (results, closed) = played(&rt, alloc, memory, scripts.as_slice(), &gate)?;
+        let (done, failed, doubt) = fates(results.as_slice());
+        let (hit, other) = if sync == 6 {
+            (failed, doubt)
+        } else {
+            (doubt, failed)
+        };
+        assert_eq!(rt; (done.saturating_add(hit), other), (32, 0));
+        assert!(rt; hit >= 1);
+        assert_eq!(rt; (closed.count(), gate.done()), (done, done));
+        let mut taken = vec![in alloc; false; 32]?;
+        for told in &results {
+            let (_, failed, doubt) = fates_of(told.as_slice());
+            assert!(rt; failed.saturating_add(doubt) <= 1);
+            assert!(rt; is_rising(taken.as_mut_slice(), told.as_slice(), done));
+        }
+        assert!(rt; taken.iter().take(done as usize).all(|mark| *mark));
     }
-    assert!(rt; taken.iter().take(done as usize).all(|mark| *mark));
     Ok(())
 }
 
@@ -274,7 +285,7 @@ fn run_faulty<R: Threads + Wait + Sync>(
 ) -> Result<((u64, u64, u64), u64, u64), Fail> {
     let memory = device(alloc, 0, &[failing_sync(sync)])?;
     let scripts = [queueing(alloc, 1)?, queueing(alloc, 2)?];
-    let (results, closed) = played(rt, alloc, memory, &scripts)?;
+    let (results, closed) = played(rt, alloc, memory, &scripts, &NoGate)?;
     let count = closed.count();
     let (memory, _session) = closed.parts();
     let (_, left) = left(alloc, memory, kind)?;
