@@ -52,6 +52,7 @@ impl<'a, 'b, O: Object, L: Ledger> Look for SideLook<'a, 'b, O, L> {
 
 /// Answers a query from the side that the seat reads, in at most as many steps as the query costs,
 /// and counts them. It neither waits nor takes memory.
+#[inline(always)]
 pub fn ask<O: Object, L: Ledger>(
     shared: &Shared<O>,
     seat: &mut Seat,

@@ -85,7 +85,13 @@ impl<O: Object> Shared<O> {
             faults,
         };
         let (table, token) = Table::of_words(alloc, words.as_slice(), &key)?;
-        Ok((Shared { table, layout }, WriterSeat { token, version: 0 }))
+        let shared = Shared {
+            table,
+            layout,
+            main: layout.main(0),
+            back: layout.back(0),
+        };
+        Ok((shared, WriterSeat { token, version: 0 }))
     }
 
     // The seats of all callers, from 1 on.

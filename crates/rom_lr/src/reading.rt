@@ -34,8 +34,8 @@ impl<O: Object> Shared<O> {
         seat.version = version;
         seat.side = if side == 0 { Side::Main } else { Side::Back };
         seat.first = match seat.side {
-            Side::Main => self.layout.main(0),
-            Side::Back => self.layout.back(0),
+            Side::Main => self.main,
+            Side::Back => self.back,
         };
         seat.side
     }

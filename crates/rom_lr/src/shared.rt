@@ -1,6 +1,6 @@
 //! The shared words.
-ghost use Rattle.std.specs.Prelude.{◌≡◌};
-ghost use Rattle.rom_rule.specs.Places.{table_len};
+ghost use Rattle.std.specs.Prelude.{◌≡◌, ◌^◌, ◌<◌};
+ghost use Rattle.rom_rule.specs.Places.{back_at, main_at, table_len};
 
 use atomic_table::Table;
 use rom_model::Object;
@@ -13,6 +13,11 @@ use std::alloc::Global;
 pub struct Shared<O: Object> {
     pub table: Table<u8, View, Key, Law<O>, Global>,
     pub layout: Layout,
+    // Where the words of main and those of back begin, so that who enters need not count it out.
+    pub(crate) main: u64,
+    pub(crate) back: u64,
     ghost sized: { table.shared.table_id.words ≡ table_len layout.order layout.callers },
     ghost laid: { layout ≡ table.shared.key.layout },
+    ghost placed: { (main ≡ main_at layout.order layout.callers 0) × (back ≡ back_at layout.order layout.callers 0) },
+    ghost near: { (main < 2 ^ 32) × (back < 2 ^ 32) },
 }

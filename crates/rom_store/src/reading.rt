@@ -45,6 +45,7 @@ impl<D: Device, O: Object, N: Label> Store<D, O, N> {
     /// Answers a query from one committed state. The number is the front: the count of updates in that
     /// state, which is at least one past each place, and at least each front, that the caller was told
     /// before. It makes at most five steps more than the query costs.
+    #[inline(always)]
     pub fn read<L: Ledger>(
         &self,
         pass: &mut Pass,
@@ -102,6 +103,7 @@ impl<D: Device, O: Object, N: Label> Store<D, O, N> {
 
     /// Answers a query from the state that the reading entered. The number is the front, the same for
     /// all its answers. It makes at most one step more than the query costs.
+    #[inline(always)]
     pub fn ask<L: Ledger>(
         &self,
         reading: &mut Reading,
@@ -146,6 +148,7 @@ impl<D: Device, O: Object, N: Label> Store<D, O, N> {
     }
 
     // The answer to a query and its front, from the image that the seat reads.
+    #[inline(always)]
     fn ask_seat<L: Ledger>(
         &self,
         seat: &mut Seat,
