@@ -28,6 +28,7 @@ fn sizes<M: Look>(space: &mut M, order: u32) -> Answer
 }
 
 /// Answers a query. Nothing is stored.
+#[inline(always)]
 pub(crate) fn answer<M: Look>(space: &mut M, order: u32, query: &Query) -> Answer
     requires order { IsOrder order }
     requires region { IsWellFormed order (M.shown.image space.old) }

@@ -69,6 +69,7 @@ impl Object for Trio {
         apply(space, order, call)
     }
 
+    #[inline(always)]
     fn answer<M: Look>(space: &mut M, order: u32, query: &Query) -> Answer {
         answer(space, order, query)
     }
