@@ -165,7 +165,7 @@ fn words_of(alloc: Global, row: &[&str]) -> Result<Names, AllocError> {
 #[test]
 fn other_words_are_no_command(rt: HostRuntime) -> Result<(), Fail> {
     let alloc = rt.alloc();
-    let rows: [&[&str]; 53] = [
+    let rows: [&[&str]; 57] = [
         &["format", "F"],
         &["format", "F", "--order"],
         &["format", "F", "--order", "3"],
@@ -201,6 +201,10 @@ fn other_words_are_no_command(rt: HostRuntime) -> Result<(), Fail> {
         &["TRY", "a"],
         &["help"],
         &["--help"],
+        &["-h"],
+        &["--version"],
+        &["try", "--help"],
+        &["stat", "F", "--help", "x"],
         &["run", "F"],
         &["run", "F", "--"],
         &["run", "F", "-x"],
