@@ -7,13 +7,16 @@ use crate::worked::Worked;
 use rom_combine::NoGate;
 use rom_device::{Device, Fuse, Ram};
 use rom_script::Collect;
-use std::alloc::{AllocError, Global};
+use std::alloc::AllocError;
 use std::sync::Wait;
 use std::test::Fail;
 use std::thread::Threads;
 
 /// How many calls it takes to make the heap of a drill: a read, a write of each word, and three syncs.
-const MAKING: u64 = 49_196;
+const MAKING: u64 = 1 + 49_192 + 3;
+
+/// How many calls a batch makes: twice 24,592 words and three of the state, and four syncs.
+const BATCH: u64 = 2 * 24_592 + 3 + 4;
 
 /// How a drill on this device ended, and what it printed to a sink of this room.
 fn told_on<R: Threads + Wait + Sync + AllocGlobal, D: Device + Send + Drop>(
@@ -53,34 +56,6 @@ fn told_of<R: Threads + Wait + Sync + AllocGlobal>(
     told_on(rt, device, start, callers, calls, room)
 }
 
-/// The text of `drill 1 --calls 3` where its first caller did so many of its seven updates, four puts,
-/// `enq 227`, `deq` and a move, and its second, if there is one, of its five, four puts and a move.
-fn text_after(alloc: Global, callers: u64, first: u64, second: u64) -> Result<String, AllocError> {
-    let (enqueued, dequeued, queue) = match first {
-        0..=4 => (0, 0, 0),
-        5 => (227, 0, 1),
-        _ => (227, 227, 0),
-    };
-    let keys = first.min(4).saturating_add(second.min(4));
-    let total = keys.saturating_mul(1000);
-    let count = first.saturating_add(second);
-    format!(in alloc;
-        "drill 1 callers {callers} calls 3\nenqueued {enqueued} dequeued {dequeued}\nqueue {queue} set 0 map {keys}\ntotal {total}\ncount {count}\n"
-    )
-}
-
-/// How such a drill ended on a device that passes so many calls on and then fails, and its text.
-fn cut_off<R: Threads + Wait + Sync + AllocGlobal>(
-    rt: &R,
-    callers: u64,
-    calls: u64,
-) -> Result<(Status, Vec<u8>), AllocError>
-    requires callers { (1 ≤ callers) × (callers ≤ 16) }
-{
-    let device = Fuse::new(Ram::zeroed(rt.alloc(), 49192)?, calls);
-    told_on(rt, device, 1, callers, 3, 1024)
-}
-
 #[test]
 fn a_drill_is_told_in_five_lines(rt: HostRuntime) -> Result<(), Fail> {
     let (status, text) = told_of(&rt, 49192, 1, 1, 3, 1024)?;
@@ -117,28 +92,39 @@ fn a_drill_without_room_is_cut_short(rt: HostRuntime) -> Result<(), Fail> {
     Ok(())
 }
 
-/// Whether a text is that of two callers who each did some of their updates, in order.
-fn is_of_two(alloc: Global, text: &[u8]) -> Result<bool, AllocError> {
-    for first in 0..=7 {
-        for second in 0..=5 {
-            if text == text_after(alloc, 2, first, second)?.as_bytes() {
-                return Ok(true);
-            }
-        }
-    }
-    Ok(false)
-}
-
+/// The device fails in the making, or once so many updates were done. The first are four puts and an
+/// `enq`.
 #[test]
-fn a_drill_of_two_callers_tells_what_was_done(rt: HostRuntime) -> Result<(), Fail> {
-    let alloc = rt.alloc();
-    let (status, text) = cut_off(&rt, 2, MAKING)?;
-    assert_eq!(rt; status, Status::DeviceFailed);
-    assert!(rt; text.as_slice() == text_after(alloc, 2, 0, 0)?.as_bytes());
-    for more in [40, 200, 400, 600] {
-        let (status, text) = cut_off(&rt, 2, MAKING + more)?;
-        assert_eq!(rt; status, Status::DeviceFailed, "at {more}");
-        assert!(rt; is_of_two(alloc, text.as_slice())?, "at {more}");
+fn a_drill_on_a_device_that_fails_tells_what_was_done(rt: HostRuntime) -> Result<(), Fail> {
+    let rows = [
+        (
+            0,
+            b"enqueued 0 dequeued 0\nqueue 0 set 0 map 0\ntotal 0\ncount 0\n".as_slice(),
+        ),
+        (
+            1,
+            b"enqueued 0 dequeued 0\nqueue 0 set 0 map 1\ntotal 1000\ncount 1\n".as_slice(),
+        ),
+        (
+            5,
+            b"enqueued 227 dequeued 0\nqueue 1 set 0 map 4\ntotal 4000\ncount 5\n".as_slice(),
+        ),
+    ];
+    for (done, lines) in rows {
+        let device = Fuse::new(
+            Ram::zeroed(rt.alloc(), 49192)?,
+            MAKING.saturating_add(BATCH.saturating_mul(done)),
+        );
+        let (status, text) = told_on(&rt, device, 1, 1, 3, 1024)?;
+        assert_eq!(rt; status, Status::DeviceFailed, "at {done}");
+        let behind = text
+            .as_slice()
+            .strip_prefix(b"drill 1 callers 1 calls 3\n".as_slice());
+        assert!(rt; behind == Some(lines), "at {done}");
     }
+    let device = Fuse::new(Ram::zeroed(rt.alloc(), 49192)?, MAKING - 1);
+    let (status, text) = told_on(&rt, device, 1, 1, 3, 1024)?;
+    assert_eq!(rt; status, Status::DeviceFailed);
+    assert!(rt; text.as_slice() == b"device failed\n".as_slice());
     Ok(())
 }
