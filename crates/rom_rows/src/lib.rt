@@ -4,8 +4,8 @@
 //! alone. Here passes run on a heap of `Trio` on devices in memory, which list their calls, fail where
 //! they are told to and are stopped anywhere; then what is left is opened again. Callers post and read in
 //! threads of their own beside the passes; they call a store, and scripts of theirs are played. At last
-//! the whole program runs two scripts, and its text is replayed on a plain model. No crate stands on
-//! this one. The functions that are no tests have contracts for the tests' sake: each test says what
+//! the whole program runs two scripts, whose text is replayed on a plain model, and drills. No crate stands
+//! on this one. The functions that are no tests have contracts for the tests' sake: each test says what
 //! callers are told and what a device then holds.
 #![tactic(auto)]
 
