@@ -1,6 +1,6 @@
 //! Passes, before each of which some callers post a call each.
 ghost use Rattle.std.specs.Prelude.{◌≡◌, ℕ, All, IfOk};
-ghost use Rattle.rom_combine.specs.AtRest.{IsIn};
+ghost use Rattle.rom_combine.specs.AtRest.{IsIn, IsReady};
 ghost use Rattle.rom_lr.specs.Opening.{AreNew, IsNew, dealt_view};
 ghost use Rattle.rom_lr.specs.Seats.{IsWriterOf};
 ghost use Rattle.rom_model.specs.Region.{Contents};
@@ -15,7 +15,8 @@ use rom_combine::{Core, NoGate};
 use rom_device::Ram;
 use rom_heap::Trio;
 use rom_lr::{Seat, Shared, WriterSeat};
-use rom_model::new_region;
+use rom_model::{Object, new_region};
+use rom_ranges::RangeLog;
 use rom_twin::{Phase, Twin};
 use std::alloc::{AllocError, Global};
 use std::io;
@@ -147,7 +148,13 @@ fn new_poster(shared: &Shared<Trio>, seat: Seat) -> Poster
 }
 
 /// The core of a table that was opened on this twin's image, of an empty heap.
-fn core_of(shared: &Shared<Trio>, twin: Twin<Ram>, seat: WriterSeat) -> Core<Ram, Trio>
+fn core_of(
+    shared: &Shared<Trio>,
+    twin: Twin<Ram>,
+    log: RangeLog,
+    seat: WriterSeat,
+) -> Core<Ram, Trio>
+    requires ready { IsReady Trio.STORES seat.token.me.0.base.callers log }
     requires phase { twin.phase ≡ Phase.Clean }
     requires order { twin.order ≡ 4 }
     requires of { IsWriterOf shared.now.table.shared.table_id shared.now.table.shared.key seat }
@@ -157,7 +164,7 @@ fn core_of(shared: &Shared<Trio>, twin: Twin<Ram>, seat: WriterSeat) -> Core<Ram
     requires made { Contents 4 (base_of shared.now.table.shared.key).image empty 0 }
     ensures of { IsIn shared.now.table.shared.table_id shared.now.table.shared.key result }
 {
-    Core::new(twin, seat)
+    Core::new(twin, log, seat)
 }
 
 /// Makes these passes. It tells how many calls were done and how many the device has counted, or
@@ -178,7 +185,8 @@ fn passed<R: Wait>(
         region.words(),
         0,
     )?;
-    let mut core = core_of(&shared, twin, writer);
+    let log = RangeLog::with_room(alloc, u64::from(passes.callers) * Trio::STORES)?;
+    let mut core = core_of(&shared, twin, log, writer);
     let mut posters = posters_of(alloc, &shared, seats, passes.posting)?;
     let done = pass_all(
         rt,

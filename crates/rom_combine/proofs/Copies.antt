@@ -1,24 +1,51 @@
--- Words that are copied one after another
-use Rattle.std.proofs.Common.{◌≡◌, ℕ, zero, suc, ◌+◌, ◌<◌, ◌≤◌, List, [], ◌∷◌, ◌++◌, take, drop, length, get_or, set, refl, ap, ◌∙◌, arith, append-nil}
-use Rattle.std.proofs.lemmas.List.{take_all}
+-- Words that are copied one after another, range by range.
+use Rattle.std.proofs.Common.{◌≡◌, ◌≢◌, ◌⊎◌, inl, inr, ⊎_elim, ℕ, ◌+◌, ◌<◌, ◌≤◌, List, [], ◌∷◌, length, get_or, set, sym, refl, ◌∙◌, arith, get_or-set_same, get_or-set_other}
+use Rattle.std.proofs.lemmas.Bool.{cases_lt, cases_eq}
+use Rattle.std.proofs.lemmas.List.{ext_get_or}
+use Rattle.rom_combine.specs.Copying.{Copies}
+use Rattle.rom_ranges.specs.Changes.{SameBut}
+use Rattle.rom_ranges.specs.Ranges.{IsHeld, IsIn}
+use Rattle.rom_ranges.specs.declared.range.Range.{Range}
 
-abbrev pub copied : ℕ → List ℕ → List ℕ → List ℕ
-copied n xs ys = take n xs ++ drop n ys
+-- the words from one offset on and before another are copied
+pub record CopiesUpTo (start at : ℕ) (source old new : List ℕ) : Type 0 where
+  pub held : (k : ℕ) → start ≤ k → k < at → get_or new k 0 ≡ get_or source k 0
+  pub others : (k : ℕ) → (k < start) ⊎ (at ≤ k) → get_or new k 0 ≡ get_or old k 0
 
-copied_suc : (n : ℕ) (xs ys : List ℕ) → n < length xs → length xs ≡ length ys → set (copied n xs ys) n (get_or xs n 0) ≡ copied (suc n) xs ys
-copied_suc n [] ys lt same = absurd (omega arith)
-copied_suc n (x ∷ xs) [] lt same = absurd (omega arith)
-copied_suc zero (x ∷ xs) (y ∷ ys) lt same = refl
-copied_suc (suc n) (x ∷ xs) (y ∷ ys) lt same = ap (λ (l : List ℕ). x ∷ l) (copied_suc n xs ys (omega arith) (omega arith))
+pub copied_none : (start : ℕ) (source old : List ℕ) → CopiesUpTo start start source old old
+copied_none start source old = record { held = λ k low high. absurd (omega (arith, low, high)); others = λ k out. refl }
 
-pub copied_more : (n : ℕ) (xs ys : List ℕ) → n < length xs → length xs ≡ length ys → set (copied n xs ys) n (get_or xs n 0) ≡ copied (n + 1) xs ys
-copied_more n xs ys lt same = copied_suc n xs ys lt same ∙ ap (λ (m : ℕ). copied m xs ys) (let e : suc n ≡ n + 1 = omega arith in e)
-
-pub copied_all : (n : ℕ) (xs ys : List ℕ) → n ≡ length xs → length xs ≡ length ys → copied n xs ys ≡ xs
-copied_all n xs ys e same = (λ j. take_all n xs (omega arith) j ++ none n ys (omega arith) j) ∙ append-nil xs
+pub copied_more : (start at : ℕ) (source old new : List ℕ) → start ≤ at → at < length new → CopiesUpTo start at source old new → CopiesUpTo start (at + 1) source old (set new at (get_or source at 0))
+copied_more start at source old new le lt is = record {
+  held = λ k low high. ⊎_elim (λ less. get_or-set_other new at k (get_or source at 0) 0 (let ne : k ≢ at = omega (arith, less) in ne) ∙ is.held k low less) (λ ge. here k (omega (arith, high, ge))) (cases_lt k at);
+  others = λ k out. get_or-set_other new at k (get_or source at 0) 0 (not_here k out) ∙ is.others k (⊎_elim (λ before. inl before) (λ behind. inr (omega (arith, behind))) out);
+}
   where
-    none : (m : ℕ) (zs : List ℕ) → length zs ≤ m → drop m zs ≡ []
-    none zero [] le = refl
-    none zero (z ∷ zs) le = absurd (omega arith)
-    none (suc m) [] le = refl
-    none (suc m) (z ∷ zs) le = none m zs (omega arith)
+    here : (k : ℕ) → k ≡ at → get_or (set new at (get_or source at 0)) k 0 ≡ get_or source k 0
+    here k e = Rattle.std.proofs.Common.subst (λ (n : ℕ). get_or (set new at (get_or source at 0)) n 0 ≡ get_or source n 0) (sym e) (get_or-set_same new at (get_or source at 0) 0 lt)
+
+    not_here : (k : ℕ) → (k < start) ⊎ (at + 1 ≤ k) → k ≢ at
+    not_here k (inl before) e = omega (arith, before, e, le)
+    not_here k (inr behind) e = omega (arith, behind, e)
+
+-- a whole range; where it is empty, nothing was copied
+pub copied_range : (range : Range) (at : ℕ) (source old new : List ℕ) → range.end ≤ at → (at ≤ range.end) ⊎ (at ≡ range.start) → CopiesUpTo range.start at source old new → Copies range source old new
+copied_range range at source old new past end is = record {
+  held = λ k here. is.held k here.0 (omega (arith, here.1, past));
+  others = λ k not. is.others k (out k not end);
+}
+  where
+    out : (k : ℕ) → (IsIn range k → ⊥) → (at ≤ range.end) ⊎ (at ≡ range.start) → (k < range.start) ⊎ (at ≤ k)
+    out k not (inl le) = ⊎_elim (λ before. inl before) (λ ge. ⊎_elim (λ high. absurd (not (ge, high))) (λ behind. inr (omega (arith, behind, le))) (cases_lt k range.end)) (cases_lt k range.start)
+    out k not (inr e) = ⊎_elim (λ before. inl before) (λ ge. inr (omega (arith, ge, e))) (cases_lt k range.start)
+
+-- then the words differ from the source in the other ranges alone
+pub same_but_more : (range : Range) (ranges : List Range) (source old new : List ℕ) → SameBut (range ∷ ranges) old source → Copies range source old new → SameBut ranges new source
+same_but_more range ranges source old new but is k lt none =
+    ⊎_elim (λ before. is.others k (λ here. omega (arith, here.0, before)) ∙ but k lt (⊎_elim (λ here. omega (arith, here.0, before)) none))
+    (λ ge. ⊎_elim (λ high. is.held k (ge, high)) (λ behind. is.others k (λ here. omega (arith, here.1, behind)) ∙ but k lt (⊎_elim (λ here. omega (arith, here.1, behind)) none)) (cases_lt k range.end))
+    (cases_lt k range.start)
+
+-- and after all of them not at all
+pub same_all : (source new : List ℕ) → length new ≡ length source → SameBut [] new source → new ≡ source
+same_all source new long but = ext_get_or 0 new source long (λ k lt. but k (omega (arith, lt, long)) (λ none. none))

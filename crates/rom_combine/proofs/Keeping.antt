@@ -1,5 +1,5 @@
 -- What a pass keeps where it publishes nothing
-use Rattle.std.proofs.Common.{◌≡◌, ◌≢◌, inl, inr, ℕ, ◌+◌, ◌<◌, ◌≤◌, List, [], ◌∷◌, ◌++◌, map, length, sym, refl, ap, ◌∙◌, subst, arith, true, Option, append-nil, append_assoc, length-append, IsTrue}
+use Rattle.std.proofs.Common.{◌≡◌, ◌≢◌, inl, inr, ℕ, ◌+◌, ◌*◌, ◌<◌, ◌≤◌, List, [], ◌∷◌, ◌++◌, map, length, sym, refl, ap, ◌∙◌, subst, arith, true, Option, append-nil, append_assoc, length-append, IsTrue}
 use Rattle.std.specs.List.{AllByRecursion}
 use Rattle.rom_model.specs.declared.entry.Entry.{Entry}
 use Rattle.rom_model.specs.declared.record.PassRecord.{PassRecord}
@@ -29,8 +29,13 @@ use Rattle.rom_combine.specs.Answering.{SameCalls}
 use Rattle.rom_combine.specs.Published.{IsPublished}
 use Rattle.rom_combine.specs.Resting.{rested}
 use Rattle.rom_combine.specs.Histories.{HoldsHistory, ImageAt}
-use Rattle.rom_combine.specs.AtRest.{IsAtRest}
+use Rattle.rom_combine.specs.AtRest.{IsAtRest, IsClear, IsReady}
+use Rattle.rom_ranges.specs.Log.{Logged}
 use Rattle.rom_combine.specs.Passing.{IsPass}
+
+-- a log that was cleared keeps its room
+pub ready_by : (stores : ℕ) (b b' : Base) (log log' : Logged) → IsReady stores b.callers log → b' ≡ b → IsClear log' → log'.room ≡ log.room → IsReady stores b'.callers log'
+ready_by stores b b' log log' is e clear room = record { clear = clear; room = omega (arith, is.room, room, ap (λ (z : Base). stores * z.callers) e) }
 
 -- the second plan has the regions, `side` and the list of the first, and its records with these after
 pub record Stays (more : List PassRecord) (p q : Plan) : Type 0 where

@@ -8,6 +8,7 @@ pub mod Sessions
 pub mod Writing
 pub mod Scans
 pub mod Limits
+pub mod Stores
 pub mod Applies
 pub mod Gives
 pub mod Publishes

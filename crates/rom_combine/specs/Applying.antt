@@ -1,5 +1,5 @@
 -- Found calls that are done on shared main.
-use Rattle.std.specs.Prelude.{◌≡◌, ℕ, ◌+◌, ◌<◌, ◌≤◌, List, [], ◌∷◌, ◌++◌, map, take, length, Option, Some}
+use Rattle.std.specs.Prelude.{◌≡◌, ℕ, ◌+◌, ◌<◌, ◌≤◌, List, [], ◌∷◌, ◌++◌, map, take, length, slice_index, Option, Some}
 use Rattle.rom_model.specs.declared.entry.Entry.{Entry}
 use Rattle.rom_model.specs.History.{after, batch, LAST_COUNT}
 use Rattle.rom_model.specs.Passes.{batch_told}
@@ -17,6 +17,10 @@ laid_of g = (g.caller, g.place ∷ packed g.reply)
 
 abbrev pub laid_told : Told → ℕ × List ℕ
 laid_told x = (x.0.caller, answer_words x.1)
+
+-- the count of updates, which a region has in this word
+abbrev pub count_in : List ℕ → ℕ
+count_in region = slice_index region 2
 
 module _ {S : Type 0} (Contents : ℕ → List ℕ → S → ℕ → Type 0) (step : ℕ → S → ℕ → List ℕ → Option (S × List ℕ)) (b : Base) where
   -- the batch of the first i found calls

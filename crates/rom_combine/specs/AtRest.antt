@@ -1,11 +1,12 @@
 -- What a contract sees of a core, and what holds whenever no pass is under way.
-use Rattle.std.specs.Prelude.{◌≡◌, ℕ, ◌≤◌, List, Option, true, IsTrue}
+use Rattle.std.specs.Prelude.{◌≡◌, ℕ, ◌*◌, ◌≤◌, List, [], Option, true, IsTrue}
 use Rattle.atomic_table.specs.Seated.{TableId}
 use Rattle.rom_model.specs.Blocks.{IsOrder}
 use Rattle.rom_model.specs.Passes.{faults_after}
 use Rattle.rom_device.specs.Device.{ShownDevice}
 use Rattle.rom_twin.specs.Seen.{NeedsRepair, Rests, Seen, committed}
 use Rattle.rom_combine.specs.Histories.{ImageAt}
+use Rattle.rom_ranges.specs.Log.{Logged}
 use Rattle.rom_rule.specs.Readers.{Held, Settled}
 use Rattle.rom_rule.specs.Views.{Each, base_of, plan_of, records_of}
 use Rattle.rom_rule.specs.declared.law.Key.{Key}
@@ -43,3 +44,12 @@ pub record IsAtRest {D S : Type 0} (shown : ShownDevice D) (Contents : ℕ → L
   -- Each call that was found is answered, and the device's count of faults is not below the records'.
   pub answered : Each (λ _ f. f.answered ≡ true) (plan_of view).requests
   pub counts : faults_after view.base.faults (records_of (plan_of view)) ≤ shown.faults twin.device
+
+-- nothing was added to the log since it was cleared
+abbrev pub IsClear : Logged → Type 0
+IsClear log = (log.ranges ≡ []) × (log.added ≡ 0)
+
+-- The log is clear, and has room for so many stores of each caller.
+pub record IsReady (stores callers : ℕ) (log : Logged) : Type 0 where
+  pub clear : IsClear log
+  pub room : stores * callers ≤ log.room

@@ -18,16 +18,16 @@ abbrev pub mending_syncs : Phase → ℕ
 mending_syncs Clean = 0
 mending_syncs other = repair_syncs other
 
--- those of a whole batch: MUTATING, a region, COPYING, a region again, each with a sync, and IDLE with none
-abbrev pub batch_writes : Phase → ℕ → ℕ
-batch_writes phase order = mending_writes phase order + (2 * region_len order + 3)
+-- those of a whole batch that changes so many words: MUTATING, these words of main, COPYING, these words of back, each with a sync, and IDLE with none
+abbrev pub batch_writes : Phase → ℕ → ℕ → ℕ
+batch_writes phase order words = mending_writes phase order + (2 * words + 3)
 
 abbrev pub batch_syncs : Phase → ℕ
 batch_syncs phase = mending_syncs phase + 4
 
 -- those before COPYING
-abbrev pub writes_before_commit : Phase → ℕ → ℕ
-writes_before_commit phase order = mending_writes phase order + (region_len order + 1)
+abbrev pub writes_before_commit : Phase → ℕ → ℕ → ℕ
+writes_before_commit phase order words = mending_writes phase order + (words + 1)
 
 abbrev pub syncs_before_commit : Phase → ℕ
 syncs_before_commit phase = mending_syncs phase + 2
@@ -50,6 +50,11 @@ module _ {D : Type 0} (shown : ShownDevice D) where
   pub record SpendsAtMost (writes syncs : ℕ) (old new : D) : Type 0 where
     pub most_writes : AtMost writes (shown.writes old) (shown.writes new)
     pub most_syncs : AtMost syncs (shown.syncs old) (shown.syncs new)
+
+  -- at most so many writes were made, and exactly so many syncs
+  pub record SpendsWithin (writes syncs : ℕ) (old new : D) : Type 0 where
+    pub most_writes : AtMost writes (shown.writes old) (shown.writes new)
+    pub syncs_made : Adds syncs (shown.syncs old) (shown.syncs new)
 
   -- nothing was read, and the device is as long as it was
   pub record OnlyWrites (old new : D) : Type 0 where

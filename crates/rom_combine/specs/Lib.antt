@@ -8,6 +8,7 @@ pub mod Scanning
 pub mod Applying
 pub mod Answering
 pub mod Looking
+pub mod Copying
 pub mod Published
 pub mod Resting
 pub mod Histories

@@ -1,12 +1,13 @@
 //! The found calls, done on shared main.
-ghost use Rattle.std.specs.Prelude.{◌≡◌, ℕ, ◌+◌, ◌^◌, ◌<◌, ◌≤◌, List, [], ◌∷◌, map, length};
+ghost use Rattle.std.specs.Prelude.{◌≡◌, ℕ, ◌+◌, ◌-◌, ◌*◌, ◌^◌, ◌<◌, ◌≤◌, List, [], ◌∷◌, map, length};
 ghost use Rattle.rom_model.specs.History.{LAST_COUNT};
 ghost use Rattle.rom_model.specs.Machine.{on_words};
-ghost use Rattle.rom_combine.specs.Applying.{IsApplied, IsDoneOne};
+ghost use Rattle.rom_combine.specs.Applying.{IsApplied, IsDoneOne, count_in};
 ghost use Rattle.rom_combine.specs.Scanning.{IsFresh, posted_of};
 ghost use Rattle.rom_lr.specs.Seats.{IsWriterOf};
 ghost use Rattle.rom_lr.specs.Writing.{NobodyReads, Writes};
 ghost use Rattle.rom_lr.specs.declared.side.Side.TheVariants.{Main};
+ghost use Rattle.rom_ranges.specs.Changes.{IsLogOf};
 ghost use Rattle.rom_rule.specs.Readers.{Held};
 ghost use Rattle.rom_rule.specs.Records.{IsCall};
 ghost use Rattle.rom_rule.specs.Views.{Each, plan_of};
@@ -16,15 +17,18 @@ use crate::scanning::Posted;
 use arrayvec::ArrayVec;
 use rom_lr::{Shared, WriterSeat, apply_main};
 use rom_model::{Back, Object};
+use rom_ranges::RangeLog;
 
 /// The limit of the count: an update that finds it here is not done.
 pub(crate) const LAST_COUNT: u64 = 1 << 62;
 
 /// Does each found call on shared main in turn, and says what each is to be told; `place` is the
-/// count before. Past the count's limit a call is not done. Nobody reads main meanwhile.
+/// count before. Past the count's limit a call is not done. Nobody reads main meanwhile. The log
+/// holds where main differs from back, and counts the stores.
 pub(crate) fn apply_all<O: Object>(
     shared: &Shared<O>,
     seat: &mut WriterSeat,
+    log: &mut RangeLog,
     place: u64,
     found: &[Posted],
     answers: &mut ArrayVec<Answer, 16>,
@@ -40,15 +44,24 @@ pub(crate) fn apply_all<O: Object>(
         (s : O.State) × (n : ℕ) × O.Contents b.order b.image s n
         × Held O.Contents (on_words O.machine) b s n p.main p.history
         × (place ≡ n + length p.history) }
+    requires logged { let p = plan_of seat.old.token.me.0 in IsLogOf p.back p.main log.old }
+    requires clear { log.old.added ≡ 0 }
+    requires room { O.STORES * length found.now ≤ log.old.room }
     ensures kept { let p = plan_of seat.old.token.me.0 in
         Writes seat.old seat.new (record p { main = (plan_of seat.new.token.me.0).main }) }
     ensures applied { let b = seat.old.token.me.0.base in let p = plan_of seat.old.token.me.0 in
         (s : O.State) × (n : ℕ) × O.Contents b.order b.image s n
         × IsApplied O.Contents (on_words O.machine) b s n p (plan_of seat.new.token.me.0).main
         (length found.now) answers.new.items }
+    ensures logged { IsLogOf (plan_of seat.old.token.me.0).back (plan_of seat.new.token.me.0).main
+        log.new }
+    ensures few { log.new.added
+        ≤ O.STORES * (count_in (plan_of seat.new.token.me.0).main - place) }
+    ensures most { log.new.added ≤ O.STORES * length found.now }
+    ensures room { log.new.room ≡ log.old.room }
 {
     for i in 0..found.len() {
-        let one = apply_one(shared, seat, place + i as u64, &found[i]);
+        let one = apply_one(shared, seat, log, place + i as u64, &found[i]);
         answers.push(one);
     }
 }
@@ -56,6 +69,7 @@ pub(crate) fn apply_all<O: Object>(
 fn apply_one<O: Object>(
     shared: &Shared<O>,
     seat: &mut WriterSeat,
+    log: &mut RangeLog,
     place: u64,
     one: &Posted,
 ) -> Answer
@@ -64,15 +78,22 @@ fn apply_one<O: Object>(
     requires call { IsCall (on_words O.machine) seat.old.token.me.0.base one.now.args }
     requires held { let v = seat.old.token.me.0 in
         (s : O.State) × (place < LAST_COUNT → O.Contents v.base.order (plan_of v).main s place) }
+    requires logged { let p = plan_of seat.old.token.me.0 in IsLogOf p.back p.main log.old }
+    requires room { log.old.added + O.STORES ≤ log.old.room }
     ensures kept { let p = plan_of seat.old.token.me.0 in
         Writes seat.old seat.new (record p { main = (plan_of seat.new.token.me.0).main }) }
     ensures done { let v = seat.old.token.me.0 in
         IsDoneOne O.Contents (on_words O.machine) v.base one.now place (plan_of v).main
         (plan_of seat.new.token.me.0).main result }
+    ensures logged { IsLogOf (plan_of seat.old.token.me.0).back (plan_of seat.new.token.me.0).main
+        log.new }
+    ensures added { log.new.added ≤ log.old.added + O.STORES }
+    ensures spent { LAST_COUNT ≤ place → log.new ≡ log.old }
+    ensures room { log.new.room ≡ log.old.room }
 {
     if place < LAST_COUNT {
         let call = O::words_call(&one.args).unwrap();
-        let reply = apply_main(shared, seat, &call);
+        let reply = apply_main(shared, seat, log, &call);
         return Answer {
             caller: one.caller,
             place,

@@ -1,5 +1,5 @@
 //! A batch from the found calls to the store of `side` that publishes it.
-ghost use Rattle.std.specs.Prelude.{◌≡◌, ◌≢◌, ◌⊎◌, ℕ, ◌+◌, ◌<◌, ◌≤◌, List, [], map, length, IsTrue};
+ghost use Rattle.std.specs.Prelude.{◌≡◌, ◌≢◌, ◌⊎◌, ℕ, ◌+◌, ◌-◌, ◌*◌, ◌<◌, ◌≤◌, List, [], map, length, IsTrue};
 ghost use Rattle.rom_model.specs.Blocks.{IsOrder};
 ghost use Rattle.rom_model.specs.History.{LAST_COUNT, after, batch};
 ghost use Rattle.rom_model.specs.Machine.{on_words};
@@ -8,6 +8,8 @@ ghost use Rattle.rom_model.specs.declared.record.Fate.TheVariants as fate;
 ghost use Rattle.rom_device.specs.Device.{Becomes, Does, Runs};
 ghost use Rattle.rom_twin.specs.Seen.{InPhase, NeedsRepair, Rests, committed, main_now};
 ghost use Rattle.rom_combine.specs.Answering.{IsLeft, SameCalls};
+ghost use Rattle.rom_combine.specs.Applying.{count_in};
+ghost use Rattle.rom_combine.specs.AtRest.{IsClear};
 ghost use Rattle.rom_combine.specs.Causes.{FailsAtCommit, FailsBeforeCommit};
 ghost use Rattle.rom_combine.specs.Costs.{OnlyWrites, Spends, SpendsAtMost, WithinHeap, syncs_before_commit, writes_before_commit};
 ghost use Rattle.rom_combine.specs.Histories.{PassMakes};
@@ -17,6 +19,8 @@ ghost use Rattle.rom_combine.specs.Told.{fate_of};
 ghost use Rattle.rom_lr.specs.Seats.{IsWriterOf};
 ghost use Rattle.rom_lr.specs.Writing.{NobodyReads, Writes};
 ghost use Rattle.rom_lr.specs.declared.side.Side.TheVariants.{Main};
+ghost use Rattle.rom_ranges.specs.Changes.{IsLogOf};
+ghost use Rattle.rom_ranges.specs.Ranges.{held_count};
 ghost use Rattle.rom_rule.specs.Calls.{AreScanned, caller_in, found_of};
 ghost use Rattle.rom_rule.specs.Readers.{Held};
 ghost use Rattle.rom_rule.specs.Records.{IsCall};
@@ -32,16 +36,19 @@ use arrayvec::ArrayVec;
 use rom_device::Device;
 use rom_lr::{Shared, Side, WriterSeat};
 use rom_model::Object;
+use rom_ranges::RangeLog;
 use rom_twin::{Phase, Twin};
 
 /// Makes the device ready, does the found calls on shared main, commits them, and sends readers to
-/// main. Where the device fails, shared main is put back from shared back, and each found call is to be
-/// told the code of that. `before` is the device's count of faults at the pass's start, `place` the
+/// main. Only words that the calls stored to are written, and the log holds these then. Where the
+/// device fails, shared main is put back from shared back, and each found call is to be told the code
+/// of that. `before` is the device's count of faults at the pass's start, `place` the
 /// count of updates. It answers nobody, and takes no memory.
 pub(crate) fn publish<D: Device, O: Object>(
     twin: &mut Twin<D>,
     shared: &Shared<O>,
     seat: &mut WriterSeat,
+    log: &mut RangeLog,
     before: u64,
     place: u64,
     found: &[Posted],
@@ -61,9 +68,12 @@ pub(crate) fn publish<D: Device, O: Object>(
         × Held O.Contents (on_words O.machine) b s n p.main p.history
         × (place ≡ n + length p.history) }
 
+    requires clear { IsClear log.old }
+
     // What the scan found.
     requires found { found.now ≡ map posted_of (plan_of seat.old.token.me.0).requests }
     requires few { length found.now ≤ 16 }
+    requires room { O.STORES * length found.now ≤ log.old.room }
     requires some { 0 < length found.now }
     requires none { answers.old.items ≡ [] }
     requires below { place < LAST_COUNT }
@@ -92,7 +102,17 @@ pub(crate) fn publish<D: Device, O: Object>(
         (s : O.State) × (n : ℕ) × O.Contents b.order b.image s n
         × Held O.Contents (on_words O.machine) b s n q.main q.history }
 
+    // The log then holds what is to be made of back.
+    ensures back { result ≡ Outcome.Published → IsTrue D.shown.tells_images →
+        committed D.shown twin.new ≡ (plan_of seat.new.token.me.0).back }
+    ensures logged { result ≡ Outcome.Published →
+        let q = plan_of seat.new.token.me.0 in IsLogOf q.back q.main log.new }
+    ensures few { result ≡ Outcome.Published → held_count log.new.ranges
+        ≤ O.STORES * (count_in (plan_of seat.new.token.me.0).main - place) }
+    ensures room { log.new.room ≡ log.old.room }
+
     // Or all is as it was.
+    ensures cleared { result ≢ Outcome.Published → IsClear log.new }
     ensures stays { result ≢ Outcome.Published →
         plan_of seat.new.token.me.0 ≡ plan_of seat.old.token.me.0 }
     ensures committed { result ≢ Outcome.Published → IsTrue D.shown.tells_images →
@@ -132,25 +152,29 @@ pub(crate) fn publish<D: Device, O: Object>(
         FailsAtCommit D.shown twin.old.phase twin.old.order (plan_of seat.old.token.me.0).main
         twin.old.device twin.new.device }
     ensures spends { result ≡ Outcome.Published →
-        Spends D.shown (writes_before_commit twin.old.phase twin.old.order + 1)
+        Spends D.shown (writes_before_commit twin.old.phase twin.old.order
+        (held_count log.new.ranges) + 1)
         (syncs_before_commit twin.old.phase + 1) twin.old.device twin.new.device }
-    ensures most { SpendsAtMost D.shown (writes_before_commit twin.old.phase twin.old.order + 1)
+    ensures most { SpendsAtMost D.shown (writes_before_commit twin.old.phase twin.old.order
+        (O.STORES * length found.now) + 1)
         (syncs_before_commit twin.old.phase + 1) twin.old.device twin.new.device }
     ensures failed_most { result ≡ Outcome.Failed →
-        SpendsAtMost D.shown (writes_before_commit twin.old.phase twin.old.order)
+        SpendsAtMost D.shown (writes_before_commit twin.old.phase twin.old.order
+        (O.STORES * length found.now))
         (syncs_before_commit twin.old.phase) twin.old.device twin.new.device }
 {
     if begin_on(twin, shared, seat).is_err() {
         refuse(found, FAILED, answers);
         return Outcome::Failed;
     }
-    apply_all(shared, seat, place, found, answers);
-    if commit_on(twin, shared, seat).is_ok() {
+    apply_all(shared, seat, log, place, found, answers);
+    if commit_on(twin, shared, seat, log.list()).is_ok() {
         let now = twin.fault_count();
         shared.switch(seat, Side::Main, before, now);
         return Outcome::Published;
     }
-    put_back(shared, seat);
+    put_back(shared, seat, log.list());
+    log.clear();
     if twin.phase() == Phase::Doubt {
         refuse(found, DOUBT, answers);
         return Outcome::Doubt;

@@ -1,13 +1,13 @@
 //! What the lock holds: the device with its heap, and the writer's seat.
-ghost use Rattle.std.specs.Prelude.{Some, ◌≡◌, ◌≢◌, ◌⊎◌, ℕ, ◌<◌, ◌≤◌, List, length, IsTrue};
+ghost use Rattle.std.specs.Prelude.{Some, ◌≡◌, ◌≢◌, ◌⊎◌, ℕ, ◌*◌, ◌<◌, ◌≤◌, List, length, IsTrue};
 ghost use Rattle.rom_model.specs.Blocks.{IsOrder};
 ghost use Rattle.rom_model.specs.Machine.{on_words};
 ghost use Rattle.rom_model.specs.Passes.{HasFault};
 ghost use Rattle.rom_device.specs.Device.{Becomes, Does, Runs};
 ghost use Rattle.rom_twin.specs.Seen.{NeedsRepair, committed};
-ghost use Rattle.rom_combine.specs.AtRest.{IsAtRest, IsIn};
+ghost use Rattle.rom_combine.specs.AtRest.{IsAtRest, IsIn, IsReady};
 ghost use Rattle.rom_combine.specs.Causes.{FailsAtCommit, FailsBeforeCommit};
-ghost use Rattle.rom_combine.specs.Costs.{IsUnfailed, OnlyWrites, Spends, SpendsAtMost, WithinHeap, batch_syncs, batch_writes, syncs_before_commit, writes_before_commit};
+ghost use Rattle.rom_combine.specs.Costs.{IsUnfailed, OnlyWrites, SpendsAtMost, SpendsWithin, WithinHeap, batch_syncs, batch_writes, syncs_before_commit, writes_before_commit};
 ghost use Rattle.rom_combine.specs.Histories.{ImageAt, PassMakes};
 ghost use Rattle.rom_combine.specs.Passing.{IsPass};
 ghost use Rattle.rom_combine.specs.Told.{fate_of};
@@ -24,6 +24,7 @@ use arrayvec::ArrayVec;
 use rom_device::Device;
 use rom_lr::{Shared, WriterSeat};
 use rom_model::{COUNT, Object};
+use rom_ranges::RangeLog;
 use rom_twin::{Phase, Twin};
 use std::marker::{Model, PhantomData};
 use std::sync::Wait;
@@ -31,11 +32,14 @@ use std::sync::Wait;
 /// A heap on a device, and the writer's seat at the table whose sides are its images. It stands behind
 /// the one lock, and runs the passes. Whenever no pass is under way, both sides are the published
 /// image, which is also the committed one of a device that tells its images; readers are sent to back,
-/// nobody reads main, and each call that was found is answered.
+/// nobody reads main, and each call that was found is answered. The log is clear, and has room for the
+/// stores of a call of each caller.
 #[derive(Drop)]
 pub struct Core<D: Device, O: Object> {
     twin: Twin<D>,
     seat: WriterSeat,
+    // Where shared main differs from shared back, while a pass is under way.
+    log: RangeLog,
     // What a pass finds and answers. They stand here, so that no pass fills them anew.
     found: ArrayVec<Posted, 16>,
     answers: ArrayVec<Answer, 16>,
@@ -44,7 +48,7 @@ pub struct Core<D: Device, O: Object> {
 
 impl<D: Device, O: Object> Model for Core<D, O> {
     ghost use Rattle.rom_model.specs.Machine.{on_words};
-    ghost use Rattle.rom_combine.specs.AtRest.{IsAtRest, Locked};
+    ghost use Rattle.rom_combine.specs.AtRest.{IsAtRest, IsReady, Locked};
 
     ghost Value = { Locked D };
 
@@ -55,12 +59,14 @@ impl<D: Device, O: Object> Model for Core<D, O> {
       view = c.seat.token.me.0;
     } };
 
-    ghost invariant = { λ c. IsAtRest D.shown O.Contents (on_words O.machine) c.twin c.seat.token.me.0 };
+    ghost invariant = { λ c. IsAtRest D.shown O.Contents (on_words O.machine) c.twin c.seat.token.me.0
+        × IsReady O.STORES c.seat.token.me.0.base.callers c.log };
 }
 
 impl<D: Device, O: Object> Core<D, O> {
-    /// The core of a table that was just opened on the committed image of this device.
-    pub fn new(twin: Twin<D>, seat: WriterSeat) -> Core<D, O>
+    /// The core of a table that was just opened on the committed image of this device. The log is
+    /// empty and has room for the stores of a call of each caller, so that no pass takes memory.
+    pub fn new(twin: Twin<D>, log: RangeLog, seat: WriterSeat) -> Core<D, O>
         requires phase { twin.phase ≡ Phase.Clean }
         requires order { twin.order ≡ seat.token.me.0.base.order }
         requires order_fits { IsOrder twin.order }
@@ -71,6 +77,7 @@ impl<D: Device, O: Object> Core<D, O> {
         requires committed { IsTrue D.shown.tells_images →
             committed D.shown twin ≡ seat.token.me.0.base.image }
         requires faults { seat.token.me.0.base.faults ≤ D.shown.faults twin.device }
+        requires ready { IsReady O.STORES seat.token.me.0.base.callers log }
         ensures twin { result.twin ≡ twin }
         ensures seat { (result.table_id ≡ seat.token.table_id) × (result.id ≡ seat.token.id)
             × (result.view ≡ seat.token.me.0) }
@@ -80,6 +87,7 @@ impl<D: Device, O: Object> Core<D, O> {
         Core {
             twin,
             seat,
+            log,
             found: ArrayVec::new(),
             answers: ArrayVec::new(),
             of: PhantomData,
@@ -97,6 +105,7 @@ impl<D: Device, O: Object> Core<D, O> {
         let Core {
             twin,
             seat,
+            log: _,
             found: _,
             answers: _,
             of: _,
@@ -161,12 +170,15 @@ impl<D: Device, O: Object> Core<D, O> {
             (plan_of self.old.view).main self.old.twin.device self.new.twin.device }
         ensures spends { 0 < result.done →
             IsUnfailed D.shown self.old.twin.device self.new.twin.device →
-            Spends D.shown (batch_writes self.old.twin.phase self.old.twin.order)
+            SpendsWithin D.shown (batch_writes self.old.twin.phase self.old.twin.order
+            (O.STORES * result.done))
             (batch_syncs self.old.twin.phase) self.old.twin.device self.new.twin.device }
-        ensures most { SpendsAtMost D.shown (batch_writes self.old.twin.phase self.old.twin.order)
+        ensures most { SpendsAtMost D.shown (batch_writes self.old.twin.phase self.old.twin.order
+            (O.STORES * result.found))
             (batch_syncs self.old.twin.phase) self.old.twin.device self.new.twin.device }
         ensures failed_most { result.outcome ≡ Outcome.Failed →
-            SpendsAtMost D.shown (writes_before_commit self.old.twin.phase self.old.twin.order)
+            SpendsAtMost D.shown (writes_before_commit self.old.twin.phase self.old.twin.order
+            (O.STORES * result.found))
             (syncs_before_commit self.old.twin.phase)
             self.old.twin.device self.new.twin.device }
     {
@@ -202,6 +214,7 @@ impl<D: Device, O: Object> Core<D, O> {
             &mut self.twin,
             shared,
             &mut self.seat,
+            &mut self.log,
             before,
             place,
             self.found.as_slice(),
@@ -218,7 +231,14 @@ impl<D: Device, O: Object> Core<D, O> {
         }
         let done = (shared.load_main(&mut self.seat, COUNT) - place) as u32;
         gate.published(rt, done);
-        settle(rt, &mut self.twin, shared, &mut self.seat, before);
+        settle(
+            rt,
+            &mut self.twin,
+            shared,
+            &mut self.seat,
+            &mut self.log,
+            before,
+        );
         let now = self.twin.fault_count();
         answer_all(shared, &mut self.seat, self.answers.as_slice(), before, now);
         Passed {

@@ -1,6 +1,6 @@
 //! Shared main as words that are only loaded: queries of it, and the device through a batch with
 //! these words.
-ghost use Rattle.std.specs.Prelude.{◌≡◌, ◌⊎◌, ◌+◌, ◌≤◌, [], ◌∷◌, ℕ, List, OnOk, OnErr, IsTrue};
+ghost use Rattle.std.specs.Prelude.{◌≡◌, ◌⊎◌, ◌+◌, ◌≤◌, ℕ, List, OnOk, OnErr, IsTrue};
 ghost use Rattle.rom_model.specs.Blocks.{region_len};
 ghost use Rattle.rom_model.specs.Faults.{FailedLast};
 ghost use Rattle.rom_device.specs.Device.{Becomes, Does, Makes, Runs};
@@ -11,25 +11,16 @@ ghost use Rattle.rom_combine.specs.Images.{BeforeCommit, Committable, Counting};
 ghost use Rattle.rom_combine.specs.Looking.{unstepped};
 ghost use Rattle.rom_lr.specs.Seats.{IsWriterOf};
 ghost use Rattle.rom_lr.specs.Writing.{Writes};
+ghost use Rattle.rom_ranges.specs.Changes.{SameBut};
+ghost use Rattle.rom_ranges.specs.Ranges.{AreWithin, held_count};
 ghost use Rattle.rom_rule.specs.Views.{plan_of};
 
 use crate::steps::{begin_batch, commit_batch, finish_batch};
 use rom_device::{Device, Failed};
-use rom_header::Geometry;
 use rom_lr::{Shared, WriterSeat};
 use rom_model::{Look, Object};
 use rom_ranges::Range;
 use rom_twin::{Phase, Twin};
-
-// All offsets of a region.
-fn whole(geometry: Geometry) -> [Range; 1]
-    ensures { result ≡ record { start = 0; end = region_len geometry } ∷ [] }
-{
-    [Range {
-        start: 0,
-        end: geometry.region(),
-    }]
-}
 
 /// Shared main as words that are only loaded, whichever side is named. Each load is one of the
 /// writer's steps.
@@ -99,6 +90,8 @@ pub(crate) fn begin_on<D: Device, O: Object>(
     ensures order { twin.new.order ≡ twin.old.order }
     ensures committed { IsTrue D.shown.tells_images →
         committed D.shown twin.new ≡ committed D.shown twin.old }
+    ensures main { IsTrue D.shown.tells_images →
+        OnOk result (main_now D.shown twin.new ≡ committed D.shown twin.old) }
     ensures images { IsTrue D.shown.tells_images → InPhase D.shown twin.new }
     ensures since { IsTrue D.shown.tells_images →
         Runs D.shown (Becomes (Counting twin.old.order (committed D.shown twin.old)))
@@ -124,15 +117,19 @@ pub(crate) fn begin_on<D: Device, O: Object>(
     result
 }
 
-/// Writes shared main to main on the device, and commits.
+/// Writes shared main to main on the device, and commits. The ranges hold where they differ.
 pub(crate) fn commit_on<D: Device, O: Object>(
     twin: &mut Twin<D>,
     shared: &Shared<O>,
     seat: &mut WriterSeat,
+    ranges: &[Range],
 ) -> Result<(), Failed>
     requires of { IsWriterOf shared.now.table.shared.table_id shared.now.table.shared.key seat.old }
     requires phase { twin.old.phase ≡ Phase.Begun }
     requires order { twin.old.order ≡ seat.old.token.me.0.base.order }
+    requires within { AreWithin (region_len twin.old.order) ranges.now }
+    requires but { IsTrue D.shown.tells_images →
+        SameBut ranges.now (main_now D.shown twin.old) (plan_of seat.old.token.me.0).main }
     ensures same { Writes seat.old seat.new (plan_of seat.old.token.me.0) }
     ensures ok { OnOk result (twin.new.phase ≡ Phase.Committed) }
     ensures failed { OnErr result ((twin.new.phase ≡ Phase.Undo)
@@ -153,34 +150,38 @@ pub(crate) fn commit_on<D: Device, O: Object>(
     ensures only { OnlyWrites D.shown twin.old.device twin.new.device }
     ensures does { Does D.shown (WithinHeap twin.old.order) twin.old.device twin.new.device }
     ensures later { D.shown.faults twin.old.device ≤ D.shown.faults twin.new.device }
-    ensures makes { Makes D.shown 0 (region_len twin.old.order + 1) 2
+    ensures makes { Makes D.shown 0 (held_count ranges.now + 1) 2
         twin.old.device twin.new.device result }
     ensures undo { twin.new.phase ≡ Phase.Undo →
-        SpendsAtMost D.shown (region_len twin.old.order) 1 twin.old.device twin.new.device
+        SpendsAtMost D.shown (held_count ranges.now) 1 twin.old.device twin.new.device
         × FailsBeforeCommit D.shown Phase.Clean twin.old.order (committed D.shown twin.old)
         twin.old.device twin.new.device }
     ensures doubt { twin.new.phase ≡ Phase.Doubt →
         FailsAtCommit D.shown Phase.Clean twin.old.order (committed D.shown twin.old)
         twin.old.device twin.new.device }
 {
-    let ranges = whole(twin.geometry());
     let mut look = MainLook { shared, seat };
-    let result = commit_batch(twin, &ranges, &mut look);
+    let result = commit_batch(twin, ranges, &mut look);
     let MainLook { shared: _, seat: _ } = look;
     result
 }
 
-/// Writes shared main to back on the device, and ends the batch. A fault here changes no answer.
+/// Writes shared main to back on the device, and ends the batch. The ranges hold where they differ. A
+/// fault here changes no answer.
 pub(crate) fn finish_on<D: Device, O: Object>(
     twin: &mut Twin<D>,
     shared: &Shared<O>,
     seat: &mut WriterSeat,
+    ranges: &[Range],
 )
     requires of { IsWriterOf shared.now.table.shared.table_id shared.now.table.shared.key seat.old }
     requires phase { twin.old.phase ≡ Phase.Committed }
     requires order { twin.old.order ≡ seat.old.token.me.0.base.order }
+    requires within { AreWithin (region_len twin.old.order) ranges.now }
     requires main { IsTrue D.shown.tells_images →
         main_now D.shown twin.old ≡ (plan_of seat.old.token.me.0).main }
+    requires but { IsTrue D.shown.tells_images →
+        SameBut ranges.now (committed D.shown twin.old) (plan_of seat.old.token.me.0).main }
     ensures same { Writes seat.old seat.new (plan_of seat.old.token.me.0) }
     ensures phase { (twin.new.phase ≡ Phase.Clean) ⊎ (twin.new.phase ≡ Phase.Redo) }
     ensures order { twin.new.order ≡ twin.old.order }
@@ -191,8 +192,8 @@ pub(crate) fn finish_on<D: Device, O: Object>(
         Runs D.shown (Becomes (Counting twin.old.order (plan_of seat.old.token.me.0).main))
         twin.old.device twin.new.device }
     ensures spends { IsUnfailed D.shown twin.old.device twin.new.device →
-        Spends D.shown (region_len twin.old.order + 1) 1 twin.old.device twin.new.device }
-    ensures most { SpendsAtMost D.shown (region_len twin.old.order + 1) 1
+        Spends D.shown (held_count ranges.now + 1) 1 twin.old.device twin.new.device }
+    ensures most { SpendsAtMost D.shown (held_count ranges.now + 1) 1
         twin.old.device twin.new.device }
     ensures only { OnlyWrites D.shown twin.old.device twin.new.device }
     ensures does { Does D.shown (WithinHeap twin.old.order) twin.old.device twin.new.device }
@@ -200,8 +201,7 @@ pub(crate) fn finish_on<D: Device, O: Object>(
     ensures cause { twin.new.phase ≡ Phase.Redo → FailedLast (D.shown.faults twin.old.device)
         (D.shown.faults twin.new.device) (D.shown.failing twin.new.device) }
 {
-    let ranges = whole(twin.geometry());
     let mut look = MainLook { shared, seat };
-    finish_batch(twin, &ranges, &mut look);
+    finish_batch(twin, ranges, &mut look);
     let MainLook { shared: _, seat: _ } = look;
 }

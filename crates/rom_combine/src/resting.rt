@@ -1,15 +1,17 @@
 //! How a published batch comes to rest.
 ghost use Rattle.std.specs.Prelude.{◌≡◌, ◌⊎◌, ℕ, ◌+◌, ◌≤◌, IsTrue};
-ghost use Rattle.rom_model.specs.Blocks.{region_len};
 ghost use Rattle.rom_model.specs.Faults.{FailedLast};
 ghost use Rattle.rom_model.specs.Machine.{on_words};
 ghost use Rattle.rom_device.specs.Device.{Becomes, Does, Runs};
 ghost use Rattle.rom_twin.specs.Seen.{InPhase, committed, main_now};
+ghost use Rattle.rom_combine.specs.AtRest.{IsClear};
 ghost use Rattle.rom_combine.specs.Costs.{IsUnfailed, OnlyWrites, Spends, SpendsAtMost, WithinHeap};
 ghost use Rattle.rom_combine.specs.Images.{Counting};
 ghost use Rattle.rom_combine.specs.Resting.{rested};
 ghost use Rattle.rom_lr.specs.Seats.{IsWriterOf};
 ghost use Rattle.rom_lr.specs.Writing.{Writes};
+ghost use Rattle.rom_ranges.specs.Changes.{IsLogOf};
+ghost use Rattle.rom_ranges.specs.Ranges.{held_count};
 ghost use Rattle.rom_rule.specs.Kinds.{MayRaise};
 ghost use Rattle.rom_rule.specs.Readers.{Held, Settled};
 ghost use Rattle.rom_rule.specs.Views.{plan_of};
@@ -19,17 +21,20 @@ use crate::sides::copy_back;
 use rom_device::Device;
 use rom_lr::{Shared, Side, WriterSeat};
 use rom_model::Object;
+use rom_ranges::RangeLog;
 use rom_twin::{Phase, Twin};
 use std::sync::Wait;
 
 /// Waits until nobody reads back, makes back what main is, in memory and on the device, sends readers
-/// to back, and waits until nobody reads main. A fault of the device here changes no answer. No word
+/// to back, and waits until nobody reads main. Only the words that the log holds are copied, and it is
+/// cleared. A fault of the device here changes no answer. No word
 /// of a posted call is stored, so its answer may be given before this or after it.
 pub(crate) fn settle<D: Device, O: Object, R: Wait>(
     rt: &R,
     twin: &mut Twin<D>,
     shared: &Shared<O>,
     seat: &mut WriterSeat,
+    log: &mut RangeLog,
     before: u64,
 )
     requires of { IsWriterOf shared.now.table.shared.table_id shared.now.table.shared.key seat.old }
@@ -38,6 +43,9 @@ pub(crate) fn settle<D: Device, O: Object, R: Wait>(
     requires order { twin.old.order ≡ seat.old.token.me.0.base.order }
     requires main { IsTrue D.shown.tells_images →
         main_now D.shown twin.old ≡ (plan_of seat.old.token.me.0).main }
+    requires back { IsTrue D.shown.tells_images →
+        committed D.shown twin.old ≡ (plan_of seat.old.token.me.0).back }
+    requires logged { let p = plan_of seat.old.token.me.0 in IsLogOf p.back p.main log.old }
     requires raises { MayRaise before (D.shown.faults twin.old.device)
         (plan_of seat.old.token.me.0).mine }
     requires held { let b = seat.old.token.me.0.base in let p = plan_of seat.old.token.me.0 in
@@ -46,6 +54,8 @@ pub(crate) fn settle<D: Device, O: Object, R: Wait>(
     ensures rested { Writes seat.old seat.new
         (rested (D.shown.faults twin.new.device) (plan_of seat.old.token.me.0)) }
     ensures settled { Settled seat.new.token.me.0.base (plan_of seat.new.token.me.0) }
+    ensures cleared { IsClear log.new }
+    ensures room { log.new.room ≡ log.old.room }
     ensures phase { (twin.new.phase ≡ Phase.Clean) ⊎ (twin.new.phase ≡ Phase.Redo) }
     ensures order { twin.new.order ≡ twin.old.order }
     ensures committed { IsTrue D.shown.tells_images →
@@ -55,8 +65,8 @@ pub(crate) fn settle<D: Device, O: Object, R: Wait>(
         Runs D.shown (Becomes (Counting twin.old.order (plan_of seat.old.token.me.0).main))
         twin.old.device twin.new.device }
     ensures spends { IsUnfailed D.shown twin.old.device twin.new.device →
-        Spends D.shown (region_len twin.old.order + 1) 1 twin.old.device twin.new.device }
-    ensures most { SpendsAtMost D.shown (region_len twin.old.order + 1) 1
+        Spends D.shown (held_count log.old.ranges + 1) 1 twin.old.device twin.new.device }
+    ensures most { SpendsAtMost D.shown (held_count log.old.ranges + 1) 1
         twin.old.device twin.new.device }
     ensures only { OnlyWrites D.shown twin.old.device twin.new.device }
     ensures does { Does D.shown (WithinHeap twin.old.order) twin.old.device twin.new.device }
@@ -65,8 +75,9 @@ pub(crate) fn settle<D: Device, O: Object, R: Wait>(
         (D.shown.faults twin.new.device) (D.shown.failing twin.new.device) }
 {
     shared.settle(rt, seat);
-    copy_back(shared, seat);
-    finish_on(twin, shared, seat);
+    copy_back(shared, seat, log.list());
+    finish_on(twin, shared, seat, log.list());
+    log.clear();
     let now = twin.fault_count();
     shared.switch(seat, Side::Back, before, now);
     shared.settle(rt, seat);

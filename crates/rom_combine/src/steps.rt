@@ -4,8 +4,8 @@ ghost use Rattle.rom_model.specs.Blocks.{region_len};
 ghost use Rattle.rom_model.specs.Faults.{FailedLast, Rose};
 ghost use Rattle.rom_model.specs.Space.{Looks};
 ghost use Rattle.rom_device.specs.Device.{Becomes, Does, Makes, Runs};
+ghost use Rattle.rom_ranges.specs.Changes.{SameBut};
 ghost use Rattle.rom_ranges.specs.Ranges.{AreWithin, held_count};
-ghost use Rattle.rom_twin.specs.Ranges.{SameBut};
 ghost use Rattle.rom_twin.specs.Seen.{InPhase, NeedsRepair, Rests, committed, main_now};
 ghost use Rattle.rom_combine.specs.Causes.{FailsAtCommit, FailsBeforeCommit};
 ghost use Rattle.rom_combine.specs.Costs.{IsUnfailed, OnlyWrites, Spends, SpendsAtMost, WithinHeap, mending_syncs, mending_writes};
@@ -63,6 +63,8 @@ pub fn begin_batch<D: Device, M: Look>(twin: &mut Twin<D>, image: &mut M) -> Res
     ensures order { twin.new.order ≡ twin.old.order }
     ensures committed { IsTrue D.shown.tells_images →
         committed D.shown twin.new ≡ committed D.shown twin.old }
+    ensures main { IsTrue D.shown.tells_images →
+        OnOk result (main_now D.shown twin.new ≡ committed D.shown twin.old) }
     ensures images { IsTrue D.shown.tells_images → InPhase D.shown twin.new }
     ensures since { IsTrue D.shown.tells_images →
         Runs D.shown (Becomes (Counting twin.old.order (committed D.shown twin.old)))

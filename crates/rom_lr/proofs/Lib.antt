@@ -1,3 +1,4 @@
 pub mod Seated
 pub mod Sides
+pub mod Logging
 pub mod Dealing

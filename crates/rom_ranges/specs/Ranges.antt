@@ -20,3 +20,13 @@ AreWithin len (range ∷ ranges) = (range.end ≤ len) × AreWithin len ranges
 abbrev pub held_count : List Range → ℕ
 held_count [] = 0
 held_count (range ∷ ranges) = range.end - range.start + held_count ranges
+
+-- the first range begins past this offset
+abbrev pub BeginPast : ℕ → List Range → Type 0
+BeginPast at [] = Unit {0}
+BeginPast at (range ∷ ranges) = at < range.start
+
+-- Each range holds an offset, and the next one begins past its end: they are rising and disjoint, and do not touch.
+abbrev pub AreApart : List Range → Type 0
+AreApart [] = Unit {0}
+AreApart (range ∷ ranges) = (range.start < range.end) × BeginPast range.end ranges × AreApart ranges

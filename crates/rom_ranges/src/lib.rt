@@ -1,9 +1,17 @@
-//! Ranges of the words of a region, by which a part of it is named.
+//! Ranges of the words of a region, by which a part of it is named, and a log of offsets that are
+//! kept as ranges.
 //!
-//! `specs/Ranges` says which offsets some ranges hold, and how many. There is no code here beside
-//! the type.
+//! `specs/Ranges` says which offsets some ranges hold, and how many. The contract of [`RangeLog`]
+//! promises that it holds the offsets that were added since it was cleared, and no other, in ranges
+//! that rise, are disjoint and do not touch; within the room of its making it takes no memory.
 #![tactic(auto)]
 
+mod holding;
+mod log;
 mod range;
 
+pub use log::RangeLog;
 pub use range::Range;
+
+#[cfg(test)]
+mod tests;

@@ -18,7 +18,8 @@ use rom_device::Device;
 use rom_header::Geometry;
 use rom_heap::Trio;
 use rom_lr::{Seat, Shared};
-use rom_model::{COUNT, Call, Reply, Updated};
+use rom_model::{COUNT, Call, Object, Reply, Updated};
+use rom_ranges::RangeLog;
 use rom_store::{Opened, Refused, open_device};
 use rom_twin::Twin;
 use std::alloc::{AllocError, Global};
@@ -48,7 +49,8 @@ fn table_on<D: Device + Drop>(
     let twin = Twin::new(device, geometry);
     let faults = twin.fault_count();
     let (shared, writer, seats) = Shared::<Trio>::new(alloc, geometry.order(), 3, image, faults)?;
-    let core = Core::new(twin, writer);
+    let log = RangeLog::with_room(alloc, 3 * Trio::STORES)?;
+    let core = Core::new(twin, log, writer);
     Ok((core, shared, seats))
 }
 

@@ -11,14 +11,17 @@ use std::process::Abort;
 use std::sync::Wait;
 use std::test::Fail;
 
+/// How many words of a region the three calls store to.
+const CHANGED: u64 = 18;
+
 /// How many calls a pass has made once COPYING is written, before its sync. First MUTATING is written
-/// and synced, then the words of main.
-const COPYING_WRITTEN: u64 = 2 + 112 + 1 + 1;
+/// and synced, then the words of main that the three calls stored to.
+const COPYING_WRITTEN: u64 = 2 + CHANGED + 1 + 1;
 
 const COPYING_SYNCED: u64 = COPYING_WRITTEN + 1;
 
-/// Then the words of back, their sync, and IDLE.
-const ALL: u64 = COPYING_SYNCED + 112 + 1 + 1;
+/// Then the same words of back, their sync, and IDLE.
+const ALL: u64 = COPYING_SYNCED + CHANGED + 1 + 1;
 
 /// So many elements in the queue, the set and the map, and the count.
 fn heap(queue: u64, set: u64, map: u64, count: u64) -> (Answer, u64) {
@@ -187,11 +190,11 @@ fn a_fault_is_answered_and_repaired_by_the_next_pass(rt: HostRuntime) -> Result<
     let rows = [
         (state(1), Outcome::Failed, [absent; 3], 0, kept),
         (sync(2), Outcome::Failed, [absent; 3], 0, kept),
-        (main(50), Outcome::Failed, [absent; 3], 0, kept),
+        (main(9), Outcome::Failed, [absent; 3], 0, kept),
         (sync(3), Outcome::Failed, [absent; 3], 0, kept),
         (state(2), Outcome::Doubt, either, 0, kept),
         (sync(4), Outcome::Doubt, either, 0, kept),
-        (back(50), Outcome::Published, [whole; 3], 3, more),
+        (back(9), Outcome::Published, [whole; 3], 3, more),
         (sync(5), Outcome::Published, [whole; 3], 3, more),
         (state(3), Outcome::Published, [whole; 3], 3, more),
     ];

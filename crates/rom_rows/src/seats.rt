@@ -6,7 +6,8 @@ use crate::readers::seated;
 use crate::turns::{change_back, change_main, tell, to_main};
 use rom_heap::Trio;
 use rom_lr::{Side, apply_main};
-use rom_model::{Answer, COUNT, Call, Query, Reply, VERSION, new_region};
+use rom_model::{Answer, COUNT, Call, Object, Query, Reply, VERSION, new_region};
+use rom_ranges::RangeLog;
 use std::test::Fail;
 
 #[test]
@@ -30,7 +31,8 @@ fn an_update_on_main_is_not_seen_by_a_query_on_back(rt: HostRuntime) -> Result<(
     let heap = new_region::<Trio>(alloc, 4)?;
     let (shared, mut writer, (mut seat, _second, _third)) = seated(alloc, &heap)?;
     shared.enter(&mut seat);
-    let reply = apply_main(&shared, &mut writer, &Call::Enq(5));
+    let mut log = RangeLog::with_room(alloc, Trio::STORES)?;
+    let reply = apply_main(&shared, &mut writer, &mut log, &Call::Enq(5));
     let told = asked(&shared, &mut seat, Query::Len);
     shared.leave(&mut seat);
     let counted = shared.load_main(&mut writer, COUNT);

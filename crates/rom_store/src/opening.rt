@@ -9,6 +9,7 @@ ghost use Rattle.rom_header.specs.Regions.{IsHeap};
 ghost use Rattle.rom_lr.specs.Opening.{dealt_view};
 ghost use Rattle.rom_lr.specs.Seats.{IsWriterOf};
 ghost use Rattle.rom_recover.specs.Recovered.{IsDone, Mended};
+ghost use Rattle.rom_combine.specs.AtRest.{IsReady};
 ghost use Rattle.rom_combine.specs.Costs.{WithinHeap};
 ghost use Rattle.rom_rule.specs.Places.{AreCallers};
 ghost use Rattle.rom_rule.specs.Views.{base_of};
@@ -78,6 +79,8 @@ impl<D: Device, O: Object> Opening<D, O> {
         requires begun { let b = base_of seated.shared.table.shared.key in
             (seated.begun.order ≡ b.order) × (words_of seated.begun.image.value ≡ b.image)
             × (seated.begun.faults ≡ b.faults) × (b.order ≡ geometry) }
+        requires ready { IsReady O.STORES (base_of seated.shared.table.shared.key).callers
+            seated.log }
         requires formed { let b = base_of seated.shared.table.shared.key in
             (s : O.State) × (k : ℕ) × O.Contents b.order b.image s k }
         requires faults { seated.begun.faults ≤ D.shown.faults device }
@@ -91,11 +94,12 @@ impl<D: Device, O: Object> Opening<D, O> {
         let Seated {
             shared,
             writer,
+            log,
             passes,
             begun,
         } = seated;
         Opening {
-            core: Core::new(Twin::new(device, geometry), writer),
+            core: Core::new(Twin::new(device, geometry), log, writer),
             shared,
             passes,
             begun,

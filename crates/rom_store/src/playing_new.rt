@@ -13,6 +13,7 @@ ghost use Rattle.rom_header.specs.Layout.{words_needed};
 ghost use Rattle.rom_header.specs.declared.fresh.FormatRefused.{FormatRefused};
 ghost use Rattle.rom_lr.specs.Opening.{dealt_view};
 ghost use Rattle.rom_lr.specs.Seats.{IsWriterOf};
+ghost use Rattle.rom_combine.specs.AtRest.{IsReady};
 ghost use Rattle.rom_combine.specs.Session.{ImageNow, SessionImage};
 ghost use Rattle.rom_rule.specs.Views.{base_of};
 ghost use Rattle.rom_store.specs.Callers.{IsNewCaller};
@@ -82,6 +83,7 @@ where
     }) }
     ensures writer { IfOk result (λ made. made.seated.writer.token.me.0
         ≡ dealt_view (base_of made.seated.shared.table.shared.key) (length scripts.now)) }
+    ensures ready { IfOk result (λ made. IsReady O.STORES (length scripts.now) made.seated.log) }
     ensures many { IfOk result (λ made. length made.seated.passes.items ≡ length scripts.now) }
     ensures passes { IfOk result (λ made. Indexed (IsNewCaller O.Contents
         made.seated.shared.table.shared.table_id (base_of made.seated.shared.table.shared.key))

@@ -4,6 +4,7 @@ ghost use Rattle.rom_model.specs.Blocks.{IsOrder, region_len};
 ghost use Rattle.rom_model.specs.VecSpace.{words_of};
 ghost use Rattle.rom_lr.specs.Opening.{AreNew, dealt_view};
 ghost use Rattle.rom_lr.specs.Seats.{IsWriterOf};
+ghost use Rattle.rom_combine.specs.AtRest.{IsReady};
 ghost use Rattle.rom_rule.specs.Kinds.{IsIdle};
 ghost use Rattle.rom_rule.specs.Places.{AreCallers};
 ghost use Rattle.rom_rule.specs.Views.{base_of};
@@ -14,15 +15,18 @@ use crate::begun::Begun;
 use crate::pass::Pass;
 use rom_lr::{Seat, Shared, WriterSeat};
 use rom_model::{Object, VecSpace};
+use rom_ranges::RangeLog;
 use std::alloc::{AllocError, Global};
 use std::snapshot::Snapshot;
 
-/// The table of a heap's words, with the writer's seat and a pass for each caller. The device is still
+/// The table of a heap's words, with the writer's seat, a log with room for the stores of a call of
+/// each caller, and a pass for each. The device is still
 /// to come; nothing takes memory from here on.
 #[derive(Drop)]
 pub(crate) struct Seated<O: Object> {
     pub shared: Shared<O>,
     pub writer: WriterSeat,
+    pub log: RangeLog,
     pub passes: Vec<Pass>,
     pub begun: Begun,
 }
@@ -37,6 +41,16 @@ fn passes_of(alloc: Global, seats: Vec<Seat>) -> Result<Vec<Pass>, AllocError>
         passes.push_reserved(Pass { seat });
     }
     Ok(passes)
+}
+
+// A log with room for the stores of a call of each caller.
+fn log_for<O: Object>(alloc: Global, callers: u32) -> Result<RangeLog, AllocError>
+    ensures { IfOk result (λ log. IsReady O.STORES callers log) }
+{
+    match O::STORES.checked_mul(u64::from(callers)) {
+        Some(room) => RangeLog::with_room(alloc, room),
+        None => Err(AllocError),
+    }
 }
 
 impl<O: Object> Seated<O> {
@@ -61,6 +75,7 @@ impl<O: Object> Seated<O> {
         }) }
         ensures writer { IfOk result (λ t. t.writer.token.me.0
             ≡ dealt_view (base_of t.shared.table.shared.key) callers) }
+        ensures ready { IfOk result (λ t. IsReady O.STORES callers t.log) }
         ensures many { IfOk result (λ t. length t.passes.items ≡ callers) }
         ensures passes { IfOk result (λ t. Indexed (IsNewCaller O.Contents
             t.shared.table.shared.table_id (base_of t.shared.table.shared.key)) t.passes.items) }
@@ -68,6 +83,7 @@ impl<O: Object> Seated<O> {
             × (words_of t.begun.image.value ≡ words_of image.now) × (t.begun.faults ≡ faults)) }
     {
         let (shared, writer, seats) = Shared::new(alloc, order, callers, image.words(), faults)?;
+        let log = log_for::<O>(alloc, callers)?;
         let passes = passes_of(alloc, seats)?;
         let begun = Begun {
             order,
@@ -77,6 +93,7 @@ impl<O: Object> Seated<O> {
         Ok(Seated {
             shared,
             writer,
+            log,
             passes,
             begun,
         })

@@ -7,7 +7,8 @@ use Rattle.rom_header.specs.Layout.{MAIN, STATE, back_at, main_of, back_of}
 use Rattle.rom_header.specs.declared.header.State.TheVariants.{Idle, Mutating, Copying}
 use Rattle.rom_ranges.specs.declared.range.Range.{Range}
 use Rattle.rom_twin.specs.Images.{Twins, Stands, HasBack, HasMain, Committing}
-use Rattle.rom_twin.specs.Ranges.{SameBut, IsBut, WritesRanges}
+use Rattle.rom_ranges.specs.Changes.{SameBut}
+use Rattle.rom_twin.specs.Ranges.{IsBut, WritesRanges}
 use Rattle.rom_twin.specs.Seen.{Seen, InPhase, committed, committed_in, main_now}
 use Rattle.rom_twin.specs.declared.phase.Phase.{Phase}
 use Rattle.rom_twin.specs.declared.phase.Phase.TheVariants.{Clean, Begun, Persisted, Committed, Copied, Undo, Doubt, Redo}

@@ -10,7 +10,8 @@ use Rattle.rom_header.specs.declared.header.State.{State}
 use Rattle.rom_header.specs.declared.header.State.TheVariants.{Idle, Mutating, Copying}
 use Rattle.rom_header.proofs.Parts.{state_set, heap_within, part_before, part_behind, part_is, get_or-part}
 use Rattle.rom_twin.specs.Images.{ImageOf, Twins, Stands, HasBack, HasMain, KeepsBack, Committing}
-use Rattle.rom_twin.specs.Ranges.{SameBut, IsBut}
+use Rattle.rom_ranges.specs.Changes.{SameBut}
+use Rattle.rom_twin.specs.Ranges.{IsBut}
 use Rattle.rom_twin.specs.Seen.{Seen, InPhase, committed, committed_in}
 use Rattle.rom_twin.specs.declared.phase.Phase.{Phase}
 use Rattle.rom_twin.specs.declared.phase.Phase.TheVariants.{Clean, Begun, Persisted, Committed, Copied, Undo, Doubt, Redo}

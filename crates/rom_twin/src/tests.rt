@@ -2,8 +2,8 @@
 ghost use Rattle.std.specs.Prelude.{◌≡◌, ◌⊎◌, IfOk, IfSome, IsTrue, length, replicate};
 ghost use Rattle.rom_model.specs.Blocks.{region_len};
 ghost use Rattle.rom_device.specs.Memory.{shown_by_memory};
+ghost use Rattle.rom_ranges.specs.Changes.{SameBut};
 ghost use Rattle.rom_ranges.specs.Ranges.{AreWithin};
-ghost use Rattle.rom_twin.specs.Ranges.{SameBut};
 ghost use Rattle.rom_twin.specs.Seen.{committed};
 
 use crate::{Phase, Twin};

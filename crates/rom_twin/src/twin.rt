@@ -8,10 +8,11 @@ ghost use Rattle.rom_header.specs.Headers.{state_word};
 ghost use Rattle.rom_header.specs.Layout.{MAIN, STATE, back_at, words_needed, main_of, back_of};
 ghost use Rattle.rom_header.specs.Regions.{IsHeap};
 ghost use Rattle.rom_header.specs.Writing.{StateOrWithin};
+ghost use Rattle.rom_ranges.specs.Changes.{SameBut};
 ghost use Rattle.rom_ranges.specs.Ranges.{AreWithin, held_count};
 ghost use Rattle.rom_twin.specs.Calls.{rewritten_at, rewriting_writes, repair_writes, repair_syncs};
 ghost use Rattle.rom_twin.specs.Images.{Twins, HasBack, HasMain, Committing, Repairing};
-ghost use Rattle.rom_twin.specs.Ranges.{SameBut, WritesRanges};
+ghost use Rattle.rom_twin.specs.Ranges.{WritesRanges};
 ghost use Rattle.rom_twin.specs.Seen.{InPhase, NeedsRepair, committed, main_now};
 
 use crate::phase::Phase;

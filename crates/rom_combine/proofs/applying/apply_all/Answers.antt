@@ -1,9 +1,14 @@
 use Rattle.rom_model.specs.Machine.{on_words}
-use Rattle.std.proofs.Common.{rules, arith, ◌≡◌, ℕ, ◌+◌, ◌<◌, ◌≤◌, List, [], ◌∷◌, ◌++◌, length, sym, refl, ap, ◌∙◌, subst}
+use Rattle.std.proofs.Common.{rules, arith, ◌≡◌, ℕ, ◌+◌, ◌-◌, ◌*◌, ◌<◌, ◌≤◌, List, [], ◌∷◌, ◌++◌, length, sym, refl, ap, ◌∙◌, subst}
 use mathlib.Core.Option.{some}
 use lib.ListN.{get_elem?}
 use Rattle.atomic_table.proofs.Lists.{at_index}
-use Rattle.rom_model.specs.History.{after}
+use mathlib.Core.Logic.{dite}
+use native.Mathlib.Decide.{dec_le}
+use Rattle.rom_model.specs.History.{after, LAST_COUNT}
+use Rattle.rom_ranges.specs.Changes.{IsLogOf}
+use Rattle.rom_ranges.specs.Log.{Logged}
+use Rattle.rom_combine.proofs.Stores.{stores_more, room_for, stores_for}
 use Rattle.rom_rule.specs.declared.views.Base.{Base}
 use Rattle.rom_rule.specs.declared.views.Plan.{Plan}
 use Rattle.rom_rule.specs.declared.views.View.{View}
@@ -12,7 +17,7 @@ use Rattle.rom_rule.specs.Records.{IsCall}
 use Rattle.rom_combine.proofs.Writing.{main_writes, writes_still}
 use Rattle.rom_combine.specs.declared.answering.Answer.{Answer}
 use Rattle.rom_combine.specs.declared.scanning.Posted.{Posted}
-use Rattle.rom_combine.specs.Applying.{batch_first, IsApplied, IsDoneOne}
+use Rattle.rom_combine.specs.Applying.{batch_first, IsApplied, IsDoneOne, count_in}
 use Rattle.rom_combine.proofs.Applies.{posted_at, none_applied, next_state, one_applied}
 use Rattle.rom_combine.proofs.applying.apply_all.Goals as goal
 
@@ -27,6 +32,7 @@ loop-i-init g c = let u : View = c.args.seat.now.token.me.0 in let h = c.require
     h.4,
     subst (λ (l : List Answer). IsApplied g.O.Object.Contents (on_words g.O.Object.machine) u.base h.0 h.1 (plan_of u) (plan_of u).main 0 l) (sym c.requires.none) (none_applied g.O.Object.Contents (on_words g.O.Object.machine) u.base h.0 h.1 (plan_of u) (plan_of u).main h.3),
   ),
+  (c.requires.logged, omega (arith, c.requires.clear), omega (arith, c.requires.clear), refl),
 )
 
 pub apply_one-one-requires-clause-call : goal.apply_one-one-requires-clause-call
@@ -48,7 +54,17 @@ loop-i-preserved g c = let inv = c.loop-i.invariant in let u : View = c.args.sea
     let at : get_elem? items i ≡ some x = at_index items i x c.loop-i-test.true c.index-found-i.is in let f = posted_at items p.requests i x c.requires.found at in let base : v.base ≡ b = ap (λ (z : View). z.base) inv.0.2 in
     let did : IsDoneOne g.O.Object.Contents (on_words g.O.Object.machine) b (Rattle.rom_combine.specs.Scanning.posted_of f.0) (h.1 + length p.history + i) (plan_of v).main (plan_of c.apply_one-one.new.seat.token.me.0).main c.apply_one-one.result
     = subst (λ (z : Base × Posted × ℕ). IsDoneOne g.O.Object.Contents (on_words g.O.Object.machine) z.0 z.1 z.2 (plan_of v).main (plan_of c.apply_one-one.new.seat.token.me.0).main c.apply_one-one.result)
-    (λ j. (base j, sym f.2 j, (let e : c.args.place + i ≡ h.1 + length p.history + i = omega (arith, h.3) in e) j)) c.apply_one-one.ensures.done in let pushed = c.push.ensures.items in (
+    (λ j. (base j, sym f.2 j, (let e : c.args.place + i ≡ h.1 + length p.history + i = omega (arith, h.3) in e) j)) c.apply_one-one.ensures.done in let pushed = c.push.ensures.items in
+    let w : View = c.apply_one-one.new.seat.token.me.0 in let one = c.apply_one-one.ensures in let log : Logged = c.loop-i.log in let stores : ℕ = g.O.Object.STORES in
+    let back : (plan_of v).back ≡ p.back = ap (λ (z : View). (plan_of z).back) inv.0.2 in
+    let few : c.apply_one-one.new.log.added ≤ stores * (count_in (plan_of w).main - c.args.place)
+    = dite (dec_le LAST_COUNT (c.args.place + i))
+    (λ past. let spent = did.spent (omega (arith, past, h.3)) in subst (λ (z : List ℕ × Logged). z.1.added ≤ stores * (count_in z.0 - c.args.place)) (λ j. (sym spent.0 j, sym (one.spent past) j)) inv.3.1)
+    (λ below. let low : h.1 + length p.history + i < LAST_COUNT = omega (arith, below, h.3) in
+        let before = next_state g.O.Object.Contents (on_words g.O.Object.machine) b h.0 h.1 p (plan_of v).main i c.loop-i.answers.items f.0 h.4 c.requires.fresh f.1 low in
+        let after = did.done low _ before in
+        let was = (g.met.O.Object.contents_within b.order (plan_of v).main _ _ before).1 in let is = (g.met.O.Object.contents_within b.order (plan_of w).main _ _ after.3).1 in
+        stores_more stores c.args.place (count_in (plan_of v).main) (count_in (plan_of w).main) log.added c.apply_one-one.new.log.added (omega (arith, was, h.3)) (omega (arith, was, is)) inv.3.1 one.added) in (
       (
         c.apply_one-one.ensures.kept.0 ∙ inv.0.0,
         c.apply_one-one.ensures.kept.1 ∙ inv.0.1,
@@ -63,4 +79,22 @@ loop-i-preserved g c = let inv = c.loop-i.invariant in let u : View = c.args.sea
         subst (λ (l : List Answer). IsApplied g.O.Object.Contents (on_words g.O.Object.machine) b h.0 h.1 p (plan_of c.apply_one-one.new.seat.token.me.0).main (i + 1) l) (sym pushed)
             (one_applied g.O.Object.Contents (on_words g.O.Object.machine) b h.0 h.1 p (plan_of v).main (plan_of c.apply_one-one.new.seat.token.me.0).main i c.loop-i.answers.items f.0 c.apply_one-one.result h.4 c.requires.fresh f.1 did),
       ),
+      (
+        subst (λ (l : List ℕ). IsLogOf l (plan_of w).main c.apply_one-one.new.log) back one.logged,
+        few,
+        omega (arith, inv.3.2, one.added),
+        one.room ∙ inv.3.3,
+      ),
     )
+
+pub apply_one-one-requires-clause-logged : goal.apply_one-one-requires-clause-logged
+apply_one-one-requires-clause-logged g c =
+    let inv = c.loop-i.invariant in let v : View = c.loop-i.seat.token.me.0 in
+    subst (λ (l : List ℕ). IsLogOf l (plan_of v).main c.loop-i.log) (sym (ap (λ (z : View). (plan_of z).back) inv.0.2)) inv.3.0
+
+pub apply_one-one-requires-clause-room : goal.apply_one-one-requires-clause-room
+apply_one-one-requires-clause-room g c = let inv = c.loop-i.invariant in
+    subst (λ (n : ℕ). c.loop-i.log.added + g.O.Object.STORES ≤ n) (sym inv.3.3) (room_for g.O.Object.STORES c.loop-i.i (length c.args.found.now) c.loop-i.log.added c.args.log.now.room c.loop-i-test.true inv.3.2 c.requires.room)
+
+pub returns-clause-most : goal.returns-clause-most
+returns-clause-most g c = stores_for g.O.Object.STORES c.loop-i.i (length c.args.found.now) c.loop-i.log.added (omega arith) c.loop-i.invariant.3.2

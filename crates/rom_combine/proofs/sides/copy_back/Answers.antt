@@ -1,21 +1,54 @@
-use Rattle.std.proofs.Common.{Some, arith, ◌≡◌, ℕ, ◌+◌, List, length, get_or, set, sym, ap, ◌∙◌, subst}
+use Rattle.std.proofs.Common.{Some, arith, ◌≡◌, ℕ, ◌+◌, List, [], ◌∷◌, length, get_or, drop, sym, refl, ap, ◌∙◌, subst}
+use Rattle.std.proofs.lemmas.List.{drop_more, drop_all}
+use Rattle.rom_announce.proofs.Altered.{writes_chain}
+use Rattle.rom_combine.specs.Copying.{Copies}
+use Rattle.rom_combine.proofs.Copies.{same_all, same_but_more}
+use Rattle.rom_combine.proofs.Writing.{writes_still}
+use Rattle.rom_lr.specs.Writing.{Writes}
+use Rattle.rom_model.specs.Blocks.{region_len}
+use Rattle.rom_ranges.specs.Changes.{SameBut}
+use Rattle.rom_ranges.specs.Ranges.{AreWithin}
+use Rattle.rom_ranges.specs.declared.range.Range.{Range}
 use Rattle.rom_rule.specs.declared.views.Base.{Base}
 use Rattle.rom_rule.specs.declared.views.Plan.{Plan}
 use Rattle.rom_rule.specs.declared.views.View.{View}
-use Rattle.rom_model.specs.Blocks.{region_len}
 use Rattle.rom_rule.specs.Views.{plan_of}
-use Rattle.rom_announce.proofs.Altered.{writes_chain}
-use Rattle.rom_combine.proofs.Copies.{copied, copied_more}
 use Rattle.rom_combine.proofs.sides.copy_back.Goals as goal
 
-pub loop-at-preserved : goal.loop-at-preserved
-loop-at-preserved g c = let inv = c.loop-at.invariant in let u : View = c.args.seat.now.token.me.0 in let v : View = c.loop-at.seat.token.me.0 in let v₁ : View = c.load_main-word.new.seat.token.me.0 in let v₂ : View = c.store_back.new.seat.token.me.0 in let p : Plan = plan_of u in let at : ℕ = c.loop-at.at in
-    let load = c.load_main-word.ensures.still in let store = c.store_back.ensures.stored in let old : Plan = record p { back = copied at p.main p.back } in let new : Plan = record p { back = copied (at + 1) p.main p.back } in
-    let one : plan_of v ≡ old = ap plan_of inv.2 in let two : plan_of v₁ ≡ old = ap plan_of load.2 ∙ one in let sized = c.args.seat.now.sized in
-    let order : u.base.order ≡ c.args.shared.now.layout.order = ap (λ (z : Base). z.order) c.requires.of.1 ∙ sym (ap (λ l. l.order) c.args.shared.now.laid) in
-    let long : length p.main ≡ region_len c.args.shared.now.layout.order = sized.0 ∙ ap region_len order in let end = c.region_len-at-end.ensures.is ∙ ap region_len c.order.ensures.is in
-    let word : c.load_main-word.result ≡ get_or p.main at 0 = c.load_main-word.ensures.word ∙ ap (λ (z : Plan). get_or z.main at 0) one in
-    let plan : record (plan_of v₁) { back = set (plan_of v₁).back at c.load_main-word.result } ≡ new
-    = (λ i. record (two i) { back = set (two i).back at (word i) }) ∙ ap (λ (l : List ℕ). record p { back = l }) (copied_more at p.main p.back (omega (arith, long, end, c.loop-at-test.true)) (sized.0 ∙ sym sized.1)) in
-    let first = writes_chain u v v₁ old (plan_of v) inv.2 load.2 in
-    (store.0 ∙ (load.0 ∙ inv.0), store.1 ∙ (load.1 ∙ inv.1), writes_chain u v₁ v₂ (plan_of v) new first (subst (λ (z : Plan). v₂ ≡ record v₁ { plan = Some z; steps = v₂.steps }) plan store.2))
+pub loop-range-init : goal.loop-range-init
+loop-range-init g c = record {
+  kept = (refl, refl, writes_still c.args.seat.now.token.me.0 c.args.seat.now.writes);
+  within = c.requires.within;
+  but = c.requires.but;
+}
+
+pub copy_range_back-requires-clause-within : goal.copy_range_back-requires-clause-within
+copy_range_back-requires-clause-within g c =
+    let i : ℕ = c.loop-range.range-index in let rs : List Range = c.args.ranges.now in let r : Range = get_or rs i record { start = 0; end = 0 } in
+    let split : drop i rs ≡ r ∷ drop (i + 1) rs = drop_more rs i record { start = 0; end = 0 } (omega arith) in
+    let base = ap (λ (z : View). region_len z.base.order) c.loop-range.invariant.kept.2 in
+    omega (arith, (subst (λ (l : List Range). AreWithin (region_len c.args.seat.now.token.me.0.base.order) l) split c.loop-range.invariant.within).0, base)
+
+pub loop-range-preserved : goal.loop-range-preserved
+loop-range-preserved g c =
+    let inv = c.loop-range.invariant in let u : View = c.args.seat.now.token.me.0 in let v : View = c.loop-range.seat.token.me.0 in let w : View = c.copy_range_back.new.seat.token.me.0 in
+    let p : Plan = plan_of u in let was : List ℕ = (plan_of v).back in let now : List ℕ = (plan_of w).back in
+    let i : ℕ = c.loop-range.range-index in let rs : List Range = c.args.ranges.now in let r : Range = get_or rs i record { start = 0; end = 0 } in
+    let split : drop i rs ≡ r ∷ drop (i + 1) rs = drop_more rs i record { start = 0; end = 0 } (omega arith) in
+    let one : plan_of v ≡ record p { back = was } = ap plan_of inv.kept.2 in let kept = c.copy_range_back.ensures.kept in
+    let plan : record (plan_of v) { back = now } ≡ record p { back = now } = ap (λ (z : Plan). let q : Plan = record z { back = now } in q) one in
+    let copied : Copies r p.main was now = subst (λ (z : Plan). Copies r z.main was now) one c.copy_range_back.ensures.copied in
+    record {
+      kept = (kept.0 ∙ inv.kept.0, kept.1 ∙ inv.kept.1, subst (λ (z : Plan). w ≡ record u { plan = Some z; steps = w.steps }) plan (writes_chain u v w (record p { back = was }) (record (plan_of v) { back = now }) inv.kept.2 kept.2));
+      within = (subst (λ (l : List Range). AreWithin (region_len u.base.order) l) split inv.within).1;
+      but = same_but_more r (drop (i + 1) rs) p.main was now (subst (λ (l : List Range). SameBut l was p.main) split inv.but) copied;
+    }
+
+pub returns : goal.returns
+returns g c =
+    let inv = c.loop-range.invariant in let u : View = c.args.seat.now.token.me.0 in let v : View = c.loop-range.seat.token.me.0 in let p : Plan = plan_of u in let now : List ℕ = (plan_of v).back in
+    let none : drop c.loop-range.range-index c.args.ranges.now ≡ [] = drop_all c.loop-range.range-index c.args.ranges.now (omega arith) in
+    let base = ap (λ (z : View). region_len z.base.order) inv.kept.2 in
+    let long : length now ≡ length p.main = c.loop-range.seat.sized.1 ∙ (base ∙ sym c.args.seat.now.sized.0) in
+    let all : now ≡ p.main = same_all p.main now long (subst (λ (l : List Range). SameBut l now p.main) none inv.but) in
+    subst (λ (l : List ℕ). Writes c.args.seat.now c.loop-range.seat (record p { back = l })) all inv.kept

@@ -13,6 +13,17 @@ use Rattle.rom_store.specs.Refusals.{named_order}
 use Rattle.rom_store.proofs.Mending.{mends_within}
 use Rattle.rom_store.proofs.opening.open_store.Goals as goal
 
+pub returns-in-Ok-clause-held : goal.returns-in-Ok-clause-held
+returns-in-Ok-clause-held g c told s k contents =
+    let Contents = g.O.Object.Contents in
+    let words = g.D.Device.shown.words in
+    let opened = c.in_ok-device.field-0 in
+    let b : Base = base_of c.of.result.key in
+    let order_is : b.order ≡ opened.geometry = search rules in
+    let image_is : b.image ≡ opened.image.items = search rules in
+    let held : Contents opened.geometry opened.image.items s k = subst (λ (z : ℕ × List ℕ). Contents z.0 z.1 s k) (λ j. (order_is j, image_is j)) contents in
+    subst (λ (n : ℕ). Holds Contents n (words c.args.device) s k) (sym order_is) (c.in_ok-device.ensures.held told s k held)
+
 pub returns-in-Ok-clause-held_images : goal.returns-in-Ok-clause-held_images
 returns-in-Ok-clause-held_images g c told s k contents =
     let Contents = g.O.Object.Contents in

@@ -1,9 +1,11 @@
 use Rattle.std.proofs.Common.{◌≡◌, ◌∙◌, ℕ, List, subst, sym}
+use Rattle.rom_combine.specs.Costs.{WithinHeap}
 use Rattle.rom_combine.specs.Session.{SessionImage}
 use Rattle.rom_header.specs.Held.{Holds}
 use Rattle.rom_model.specs.Machine.{on_words}
 use Rattle.rom_rule.specs.Views.{base_of}
 use Rattle.rom_rule.specs.declared.views.Base.{Base}
+use Rattle.rom_store.specs.Refusals.{named_order}
 use Rattle.rom_store.proofs.Spans.{held_opening, leaves_both}
 use Rattle.rom_store.proofs.playing.play.Goals as goal
 
@@ -35,3 +37,17 @@ returns-clause-held g c = λ told story is.
     let same : story.order ≡ b.order = is.order_is ∙ order_is in
     let at : Contents b.order b.image story.opening story.opening_count = subst (λ (z : ℕ × List ℕ). Contents z.0 z.1 story.opening story.opening_count) (λ j. (order_is j, image_is j)) is.opening in
     subst (λ (n : ℕ). Holds Contents n (g.D.Device.shown.words c.args.device) story.opening story.opening_count) (sym same) (c.in_ok-opening.ensures.held told story.opening story.opening_count at)
+
+pub returns-clause-outside : goal.returns-clause-outside
+returns-clause-outside g c told =
+    let words = g.D.Device.shown.words in
+    let opening = c.in_ok-opening.opening in
+    let closed = c.play_on.result.closed in
+    let n : ℕ = named_order (words c.args.device) in
+    let first : WithinHeap n (words c.args.device) (words opening.device) = c.in_ok-opening.ensures.outside told in
+    let second : WithinHeap n (words opening.device) (words closed.device) = subst (λ (m : ℕ). WithinHeap m (words opening.device) (words closed.device)) (c.in_ok-opening.ensures.order told) (c.play_on.ensures.outside told) in
+    record {
+      as_long = second.as_long ∙ first.as_long;
+      before = λ k low other. second.before k low other ∙ first.before k low other;
+      behind = λ k high. second.behind k high ∙ first.behind k high;
+    }

@@ -1,10 +1,15 @@
-use Rattle.std.proofs.Common.{◌≡◌, ◌∙◌, ℕ, List, rules, subst}
+use Rattle.std.proofs.Common.{◌≡◌, ◌∙◌, ℕ, List, rules, sym, subst}
+use Rattle.rom_combine.specs.AtRest.{IsReady}
+use Rattle.rom_rule.specs.declared.views.Base.{Base}
 use Rattle.rom_combine.specs.Session.{SessionImage}
 use Rattle.rom_device.specs.Device.{Leaves}
 use Rattle.rom_model.specs.Machine.{on_words}
 use Rattle.rom_model.specs.VecSpace.{words_of}
 use Rattle.rom_rule.specs.Views.{base_of}
 use Rattle.rom_store.proofs.playing_new.play_new.Goals as goal
+
+pub of-opening-requires-clause-ready : goal.of-opening-requires-clause-ready
+of-opening-requires-clause-ready g c = subst (λ (b : Base). IsReady g.O.Object.STORES b.callers c.in-Ok.made.seated.log) (sym c.in-Ok.ensures.base) c.in-Ok.ensures.ready
 
 pub returns-clause-empty : goal.returns-clause-empty
 returns-clause-empty g c = λ story is.

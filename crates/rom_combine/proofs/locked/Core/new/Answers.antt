@@ -20,7 +20,7 @@ pub invariant_of-result : goal.invariant_of-result
 invariant_of-result g c = let v : View = c.args.seat.token.me.0 in let b : Base = v.base in let h = c.requires.formed in let p : Plan = plan_of v in let op = c.requires.opening in let t = c.args.twin in
     let held : Held g.O.Object.Contents (on_words g.O.Object.machine) b h.0 h.1 p.main p.history = subst (λ (z : Plan). Held g.O.Object.Contents (on_words g.O.Object.machine) b h.0 h.1 z.main z.history) (sym op)
     (subst (λ (k : ℕ). g.O.Object.Contents b.order b.image h.0 k) (let e : h.1 ≡ h.1 + 0 = omega arith in e) h.2) in
-    let main : p.main ≡ b.image = ap (λ (z : Plan). z.main) op in record {
+    let main : p.main ≡ b.image = ap (λ (z : Plan). z.main) op in (record {
       order_is = c.requires.order;
       order_fits = c.requires.order_fits;
       side_is = ap (λ (z : Plan). z.side) op;
@@ -37,4 +37,4 @@ invariant_of-result g c = let v : View = c.args.seat.token.me.0 in let b : Base 
       failed = λ needs. absurd (clean_needs_none t.phase c.requires.phase needs);
       answered = λ j f e. absurd (some-ne-none f (sym (subst (λ (l : List Request). get_elem? l j ≡ some f) (ap (λ (z : Plan). z.requests) op) e)));
       counts = subst (λ (z : Plan). faults_after b.faults (records_of z) ≤ g.D.Device.shown.faults t.device) (sym op) c.requires.faults;
-    }
+    }, c.requires.ready)

@@ -45,21 +45,21 @@ use Rattle.rom_combine.specs.Histories.{PassMakes, ImageAt}
 use Rattle.rom_combine.specs.AtRest.{IsAtRest, Locked}
 use Rattle.rom_combine.proofs.Bridge.{batch_now, same_held, list_settled}
 use Rattle.rom_combine.specs.Passing.{IsPass}
-use Rattle.rom_combine.proofs.Keeping.{scan_stays, rest_same, now_of, pass_nothing, none_answered}
+use Rattle.rom_combine.proofs.Keeping.{ready_by, scan_stays, rest_same, now_of, pass_nothing, none_answered}
 use Rattle.rom_combine.proofs.Failing.{clean_needs_none, failing_refused, first_left, made_by, pass_refused, passed_refused, none_refused, core_refused, core_spent, batch_done, passed_published}
 use Rattle.rom_combine.proofs.Refusing.{is_refused, may_spend}
 use Rattle.rom_combine.proofs.Writing.{keeps_by, keeps_then}
 use Rattle.rom_combine.proofs.locked.Core.pass.Goals as goal
 
 pub invariant_of-self : goal.invariant_of-self
-invariant_of-self g c = let v : View = c.self.inside.seat.token.me.0 in let w : View = c.scan.new.seat.token.me.0 in let inv = c.self.invariant in let sc = c.scan.ensures.scanned in
+invariant_of-self g c = let v : View = c.self.inside.seat.token.me.0 in let w : View = c.scan.new.seat.token.me.0 in let inv = c.self.invariant.0 in let sc = c.scan.ensures.scanned in
     let base : w.base ≡ v.base = ap (λ (z : View). z.base) c.scan.ensures.same.2 in
     let zero : length c.scan.new.found.items ≡ 0 = search rules in
     let now = rest_same g.O.Object.Contents (on_words g.O.Object.machine) g.D.Device.shown c.self.inside.twin v w inv base (scan_stays (plan_of v) (plan_of w) sc.rest) (none_answered g.O.Object.Contents (on_words g.O.Object.machine) v.base (plan_of v) (plan_of w) _ c.scan.new.found.items sc zero) in
-    now
+    (now, ready_by g.O.Object.STORES v.base w.base c.self.inside.log c.self.inside.log c.self.invariant.1 base c.self.invariant.1.clear refl)
 
 pub returns-then-is_empty-clause-passed : goal.returns-then-is_empty-clause-passed
-returns-then-is_empty-clause-passed g c = let v : View = c.self.inside.seat.token.me.0 in let w : View = c.scan.new.seat.token.me.0 in let inv = c.self.invariant in let sc = c.scan.ensures.scanned in
+returns-then-is_empty-clause-passed g c = let v : View = c.self.inside.seat.token.me.0 in let w : View = c.scan.new.seat.token.me.0 in let inv = c.self.invariant.0 in let sc = c.scan.ensures.scanned in
     let base : w.base ≡ v.base = ap (λ (z : View). z.base) c.scan.ensures.same.2 in
     let zero : length c.scan.new.found.items ≡ 0 = search rules in
     let x = pass_nothing g.O.Object.Contents (on_words g.O.Object.machine) v.base (plan_of v) (plan_of w) c.args.shared.now.layout.callers (g.D.Device.shown.faults c.self.inside.twin.device) (g.D.Device.shown.faults c.self.inside.twin.device) c.scan.new.found.items inv.start inv.count (λ s₁ s₂ j k. g.met.O.Object.one_contents v.base.order v.base.image s₁ s₂ j k) inv.opening sc zero
@@ -70,7 +70,7 @@ returns-then-is_empty-clause-passed g c = let v : View = c.self.inside.seat.toke
     c.self.view_is (x, (λ told s n op. becomes_none g.D.Device.shown (PassMakes g.O.Object.Contents (on_words g.O.Object.machine) v.base s n fate.Published (plan_of v).history x.more) c.self.inside.twin.device))
 
 pub returns-then-is_empty-clause-now : goal.returns-then-is_empty-clause-now
-returns-then-is_empty-clause-now g c told s n op i left = let v : View = c.self.inside.seat.token.me.0 in let w : View = c.scan.new.seat.token.me.0 in let inv = c.self.invariant in let sc = c.scan.ensures.scanned in
+returns-then-is_empty-clause-now g c told s n op i left = let v : View = c.self.inside.seat.token.me.0 in let w : View = c.scan.new.seat.token.me.0 in let inv = c.self.invariant.0 in let sc = c.scan.ensures.scanned in
     let base : w.base ≡ v.base = ap (λ (z : View). z.base) c.scan.ensures.same.2 in
     let zero : length c.scan.new.found.items ≡ 0 = search rules in
     let now = rest_same g.O.Object.Contents (on_words g.O.Object.machine) g.D.Device.shown c.self.inside.twin v w inv base (scan_stays (plan_of v) (plan_of w) sc.rest) (none_answered g.O.Object.Contents (on_words g.O.Object.machine) v.base (plan_of v) (plan_of w) _ c.scan.new.found.items sc zero) in
@@ -79,7 +79,7 @@ returns-then-is_empty-clause-now g c told s n op i left = let v : View = c.self.
     (now_of g.O.Object.Contents (on_words g.O.Object.machine) g.D.Device.shown c.self.inside.twin w s n (λ s₁ s₂ j k. g.met.O.Object.one_contents w.base.order w.base.image s₁ s₂ j k) now told (subst (λ (z : Base). g.O.Object.Contents z.order z.image s n) (sym same) op) i left)
 
 pub answer_all-requires-clause-left : goal.answer_all-requires-clause-left
-answer_all-requires-clause-left g c = let v : View = c.self.inside.seat.token.me.0 in let w : View = c.scan.new.seat.token.me.0 in let inv = c.self.invariant in let sc = c.scan.ensures.scanned in
+answer_all-requires-clause-left g c = let v : View = c.self.inside.seat.token.me.0 in let w : View = c.scan.new.seat.token.me.0 in let inv = c.self.invariant.0 in let sc = c.scan.ensures.scanned in
     let base : w.base ≡ v.base = ap (λ (z : View). z.base) c.scan.ensures.same.2 in
     let x : View = c.load_main-place.new.seat.token.me.0 in let q : Plan = plan_of w in let st = scan_stays (plan_of v) q sc.rest in let before : ℕ = c.fault_count-before.result in
     let plan_x : plan_of x ≡ q = ap plan_of c.load_main-place.ensures.still.2 in let base_x : x.base ≡ v.base = ap (λ (z : View). z.base) c.load_main-place.ensures.still.2 ∙ base in
@@ -98,13 +98,13 @@ answer_all-requires-clause-left g c = let v : View = c.self.inside.seat.token.me
     )
 
 pub publish-outcome-requires-clause-fresh : goal.publish-outcome-requires-clause-fresh
-publish-outcome-requires-clause-fresh g c = let v : View = c.self.inside.seat.token.me.0 in let w : View = c.scan.new.seat.token.me.0 in let inv = c.self.invariant in let sc = c.scan.ensures.scanned in
+publish-outcome-requires-clause-fresh g c = let v : View = c.self.inside.seat.token.me.0 in let w : View = c.scan.new.seat.token.me.0 in let inv = c.self.invariant.0 in let sc = c.scan.ensures.scanned in
     let base : w.base ≡ v.base = ap (λ (z : View). z.base) c.scan.ensures.same.2 in
     let x : View = c.load_main-place.new.seat.token.me.0 in let plan_x : plan_of x ≡ plan_of w = ap plan_of c.load_main-place.ensures.still.2 in let base_x : x.base ≡ v.base = ap (λ (z : View). z.base) c.load_main-place.ensures.still.2 ∙ base in
     subst (λ (z : Base × Plan). Each (λ _ f. IsFresh (IsCall (on_words g.O.Object.machine) z.0) f) z.1.requests) (λ j. (sym base_x j, sym plan_x j)) (λ j f e. (sc.fresh j f e).1)
 
 pub invariant_of-self-then-place-eq-LAST_COUNT : goal.invariant_of-self-then-place-eq-LAST_COUNT
-invariant_of-self-then-place-eq-LAST_COUNT g c = let v : View = c.self.inside.seat.token.me.0 in let w : View = c.scan.new.seat.token.me.0 in let inv = c.self.invariant in let sc = c.scan.ensures.scanned in
+invariant_of-self-then-place-eq-LAST_COUNT g c = let v : View = c.self.inside.seat.token.me.0 in let w : View = c.scan.new.seat.token.me.0 in let inv = c.self.invariant.0 in let sc = c.scan.ensures.scanned in
     let x : View = c.load_main-place.new.seat.token.me.0 in let q : Plan = plan_of x in let plan_x : q ≡ plan_of w = ap plan_of c.load_main-place.ensures.still.2 in
     let base_x : x.base ≡ v.base = ap (λ (z : View). z.base) c.load_main-place.ensures.still.2 ∙ ap (λ (z : View). z.base) c.scan.ensures.same.2 in
     let scan : but_requests q ≡ but_requests (beginning (plan_of v)) = ap but_requests plan_x ∙ sc.rest in
@@ -120,10 +120,10 @@ invariant_of-self-then-place-eq-LAST_COUNT g c = let v : View = c.self.inside.se
     let made = made_by g.O.Object.Contents (on_words g.O.Object.machine) x.base q (plan_of u) before before c.as_slice-then-place-eq-LAST_COUNT.result.now fate.Published (refused (2 ^ 62) first.0) at refl (ap (λ (z : Plan). z.mine) scan) c.answer_all.ensures.recorded in
     let batched = made.2 inv.start inv.count op in
     let none : made.1 ≡ [] = batched.1 ∙ full_batch (on_words g.O.Object.machine) x.base.order (after (on_words g.O.Object.machine) x.base.order inv.start inv.count q.history) made.0 (map found_of q.requests) (batched.0 ∙ full) in
-    core_spent g.O.Object.Contents (on_words g.O.Object.machine) g.D.Device.shown c.self.inside.twin v u q before made.0 made.1 inv base_u scan made.3 none found c.answer_all.ensures.answered (omega (arith, c.fault_count-before.ensures))
+    (core_spent g.O.Object.Contents (on_words g.O.Object.machine) g.D.Device.shown c.self.inside.twin v u q before made.0 made.1 inv base_u scan made.3 none found c.answer_all.ensures.answered (omega (arith, c.fault_count-before.ensures)), ready_by g.O.Object.STORES v.base u.base c.self.inside.log c.self.inside.log c.self.invariant.1 base_u c.self.invariant.1.clear refl)
 
 pub returns-then-place-eq-LAST_COUNT-clause-passed : goal.returns-then-place-eq-LAST_COUNT-clause-passed
-returns-then-place-eq-LAST_COUNT-clause-passed g c = let v : View = c.self.inside.seat.token.me.0 in let w : View = c.scan.new.seat.token.me.0 in let inv = c.self.invariant in let sc = c.scan.ensures.scanned in
+returns-then-place-eq-LAST_COUNT-clause-passed g c = let v : View = c.self.inside.seat.token.me.0 in let w : View = c.scan.new.seat.token.me.0 in let inv = c.self.invariant.0 in let sc = c.scan.ensures.scanned in
     let x : View = c.load_main-place.new.seat.token.me.0 in let q : Plan = plan_of x in let plan_x : q ≡ plan_of w = ap plan_of c.load_main-place.ensures.still.2 in
     let base_x : x.base ≡ v.base = ap (λ (z : View). z.base) c.load_main-place.ensures.still.2 ∙ ap (λ (z : View). z.base) c.scan.ensures.same.2 in
     let scan : but_requests q ≡ but_requests (beginning (plan_of v)) = ap but_requests plan_x ∙ sc.rest in
@@ -153,10 +153,10 @@ returns-then-place-eq-LAST_COUNT-clause-now g c told s n op i left = let v : Vie
     let base_x : x.base ≡ v.base = ap (λ (z : View). z.base) c.load_main-place.ensures.still.2 ∙ ap (λ (z : View). z.base) c.scan.ensures.same.2 in
     let same : u.base ≡ c.args.self.now.view.base = ap (λ (z : View). z.base) c.answer_all.ensures.same.2 ∙ (base_x ∙ ap (λ r. r.view.base) c.self.view_is) in
     subst (λ (r : Base). ImageAt g.O.Object.Contents (on_words g.O.Object.machine) r s n t.phase (plan_of u) i) same
-    (now_of g.O.Object.Contents (on_words g.O.Object.machine) g.D.Device.shown t u s n (λ s₁ s₂ j k. g.met.O.Object.one_contents u.base.order u.base.image s₁ s₂ j k) (invariant_of-self-then-place-eq-LAST_COUNT g c) told (subst (λ (r : Base). g.O.Object.Contents r.order r.image s n) (sym same) op) i left)
+    (now_of g.O.Object.Contents (on_words g.O.Object.machine) g.D.Device.shown t u s n (λ s₁ s₂ j k. g.met.O.Object.one_contents u.base.order u.base.image s₁ s₂ j k) (invariant_of-self-then-place-eq-LAST_COUNT g c).0 told (subst (λ (r : Base). g.O.Object.Contents r.order r.image s n) (sym same) op) i left)
 
 pub invariant_of-self-then-ne : goal.invariant_of-self-then-ne
-invariant_of-self-then-ne g c = let v : View = c.self.inside.seat.token.me.0 in let w : View = c.scan.new.seat.token.me.0 in let inv = c.self.invariant in let sc = c.scan.ensures.scanned in
+invariant_of-self-then-ne g c = let v : View = c.self.inside.seat.token.me.0 in let w : View = c.scan.new.seat.token.me.0 in let inv = c.self.invariant.0 in let sc = c.scan.ensures.scanned in
     let x : View = c.load_main-place.new.seat.token.me.0 in let q : Plan = plan_of x in let plan_x : q ≡ plan_of w = ap plan_of c.load_main-place.ensures.still.2 in
     let base_x : x.base ≡ v.base = ap (λ (z : View). z.base) c.load_main-place.ensures.still.2 ∙ ap (λ (z : View). z.base) c.scan.ensures.same.2 in
     let scan : but_requests q ≡ but_requests (beginning (plan_of v)) = ap but_requests plan_x ∙ sc.rest in
@@ -175,12 +175,12 @@ invariant_of-self-then-ne g c = let v : View = c.self.inside.seat.token.me.0 in 
     let made = made_by g.O.Object.Contents (on_words g.O.Object.machine) x.base q (plan_of u) before now given (fate_of o) first.0 at first.2 (ap (λ (z : Plan). z.mine) scan) recorded in
     let since : IsTrue g.D.Device.shown.tells_images → (s : g.O.Object.State) (n : ℕ) → g.O.Object.Contents x.base.order x.base.image s n → Runs g.D.Device.shown (Becomes (PassMakes g.O.Object.Contents (on_words g.O.Object.machine) x.base s n (fate_of o) q.history (batch_now g.O.Object.Contents (on_words g.O.Object.machine) x.base s n q))) c.self.inside.twin.device t.device = λ told s n o'. c.publish-outcome.ensures.since told s n o' in
     let last : now ≤ g.D.Device.shown.faults t.device = omega (arith, c.fault_count-now.ensures) in
-    core_refused g.O.Object.Contents (on_words g.O.Object.machine) g.D.Device.shown c.self.inside.twin t v u x.base q o before now made.0 made.1 inv base_x base_u not_published not_nothing scan made.3 found c.answer_all-then-ne.ensures.answered
+    (core_refused g.O.Object.Contents (on_words g.O.Object.machine) g.D.Device.shown c.self.inside.twin t v u x.base q o before now made.0 made.1 inv base_x base_u not_published not_nothing scan made.3 found c.answer_all-then-ne.ensures.answered
     c.publish-outcome.ensures.order (c.publish-outcome.ensures.committed not_published) c.publish-outcome.ensures.images c.publish-outcome.ensures.failed c.publish-outcome.ensures.doubt (failing_refused g.D.Device.shown t.device o not_published not_nothing (λ e. (c.publish-outcome.ensures.failed_cause e).last) (λ e. (c.publish-outcome.ensures.doubt_cause e).failed.last))
-    (λ told. since told inv.start inv.count op) (λ told is i left. c.publish-outcome.ensures.doubted told is inv.start inv.count op i left) last
+    (λ told. since told inv.start inv.count op) (λ told is i left. c.publish-outcome.ensures.doubted told is inv.start inv.count op i left) last, ready_by g.O.Object.STORES v.base u.base c.self.inside.log c.publish-outcome.new.log c.self.invariant.1 base_u (c.publish-outcome.ensures.cleared not_published) c.publish-outcome.ensures.room)
 
 pub returns-then-ne-clause-passed : goal.returns-then-ne-clause-passed
-returns-then-ne-clause-passed g c = let v : View = c.self.inside.seat.token.me.0 in let w : View = c.scan.new.seat.token.me.0 in let inv = c.self.invariant in let sc = c.scan.ensures.scanned in
+returns-then-ne-clause-passed g c = let v : View = c.self.inside.seat.token.me.0 in let w : View = c.scan.new.seat.token.me.0 in let inv = c.self.invariant.0 in let sc = c.scan.ensures.scanned in
     let x : View = c.load_main-place.new.seat.token.me.0 in let q : Plan = plan_of x in let plan_x : q ≡ plan_of w = ap plan_of c.load_main-place.ensures.still.2 in
     let base_x : x.base ≡ v.base = ap (λ (z : View). z.base) c.load_main-place.ensures.still.2 ∙ ap (λ (z : View). z.base) c.scan.ensures.same.2 in
     let scan : but_requests q ≡ but_requests (beginning (plan_of v)) = ap but_requests plan_x ∙ sc.rest in
@@ -210,10 +210,10 @@ returns-then-ne-clause-now g c told s n op i left = let v : View = c.self.inside
     let base_x : x.base ≡ v.base = ap (λ (z : View). z.base) c.load_main-place.ensures.still.2 ∙ ap (λ (z : View). z.base) c.scan.ensures.same.2 in
     let same : u.base ≡ c.args.self.now.view.base = ap (λ (z : View). z.base) c.answer_all-then-ne.ensures.same.2 ∙ (ap (λ (z : View). z.base) c.publish-outcome.ensures.same.2 ∙ (base_x ∙ ap (λ r. r.view.base) c.self.view_is)) in
     subst (λ (r : Base). ImageAt g.O.Object.Contents (on_words g.O.Object.machine) r s n t.phase (plan_of u) i) same
-    (now_of g.O.Object.Contents (on_words g.O.Object.machine) g.D.Device.shown t u s n (λ s₁ s₂ j k. g.met.O.Object.one_contents u.base.order u.base.image s₁ s₂ j k) (invariant_of-self-then-ne g c) told (subst (λ (r : Base). g.O.Object.Contents r.order r.image s n) (sym same) op) i left)
+    (now_of g.O.Object.Contents (on_words g.O.Object.machine) g.D.Device.shown t u s n (λ s₁ s₂ j k. g.met.O.Object.one_contents u.base.order u.base.image s₁ s₂ j k) (invariant_of-self-then-ne g c).0 told (subst (λ (r : Base). g.O.Object.Contents r.order r.image s n) (sym same) op) i left)
 
 pub overflow_sub-done : goal.overflow_sub-done
-overflow_sub-done g c = let v : View = c.self.inside.seat.token.me.0 in let w : View = c.scan.new.seat.token.me.0 in let inv = c.self.invariant in let sc = c.scan.ensures.scanned in
+overflow_sub-done g c = let v : View = c.self.inside.seat.token.me.0 in let w : View = c.scan.new.seat.token.me.0 in let inv = c.self.invariant.0 in let sc = c.scan.ensures.scanned in
     let base : w.base ≡ v.base = ap (λ (z : View). z.base) c.scan.ensures.same.2 in
     let x : View = c.load_main-place.new.seat.token.me.0 in let q : Plan = plan_of w in let st = scan_stays (plan_of v) q sc.rest in
     let plan_x : plan_of x ≡ q = ap plan_of c.load_main-place.ensures.still.2 in let base_x : x.base ≡ v.base = ap (λ (z : View). z.base) c.load_main-place.ensures.still.2 ∙ base in
@@ -226,7 +226,7 @@ overflow_sub-done g c = let v : View = c.self.inside.seat.token.me.0 in let w : 
     omega (arith, word, word₂, counts, history, log_x, c.load_main-place.ensures.word, c.load_main.ensures.word)
 
 pub overflow_cast-done : goal.overflow_cast-done
-overflow_cast-done g c = let v : View = c.self.inside.seat.token.me.0 in let w : View = c.scan.new.seat.token.me.0 in let inv = c.self.invariant in let sc = c.scan.ensures.scanned in
+overflow_cast-done g c = let v : View = c.self.inside.seat.token.me.0 in let w : View = c.scan.new.seat.token.me.0 in let inv = c.self.invariant.0 in let sc = c.scan.ensures.scanned in
     let base : w.base ≡ v.base = ap (λ (z : View). z.base) c.scan.ensures.same.2 in
     let x : View = c.load_main-place.new.seat.token.me.0 in let q : Plan = plan_of w in let st = scan_stays (plan_of v) q sc.rest in
     let plan_x : plan_of x ≡ q = ap plan_of c.load_main-place.ensures.still.2 in let base_x : x.base ≡ v.base = ap (λ (z : View). z.base) c.load_main-place.ensures.still.2 ∙ base in
@@ -243,7 +243,7 @@ overflow_cast-done g c = let v : View = c.self.inside.seat.token.me.0 in let w :
     search (rules, small)
 
 pub answer_all-requires-2-clause-left : goal.answer_all-requires-2-clause-left
-answer_all-requires-2-clause-left g c = let v : View = c.self.inside.seat.token.me.0 in let w : View = c.scan.new.seat.token.me.0 in let inv = c.self.invariant in let sc = c.scan.ensures.scanned in
+answer_all-requires-2-clause-left g c = let v : View = c.self.inside.seat.token.me.0 in let w : View = c.scan.new.seat.token.me.0 in let inv = c.self.invariant.0 in let sc = c.scan.ensures.scanned in
     let base : w.base ≡ v.base = ap (λ (z : View). z.base) c.scan.ensures.same.2 in
     let x : View = c.load_main-place.new.seat.token.me.0 in let q : Plan = plan_of w in let st = scan_stays (plan_of v) q sc.rest in
     let plan_x : plan_of x ≡ q = ap plan_of c.load_main-place.ensures.still.2 in let base_x : x.base ≡ v.base = ap (λ (z : View). z.base) c.load_main-place.ensures.still.2 ∙ base in
@@ -262,7 +262,7 @@ answer_all-requires-2-clause-left g c = let v : View = c.self.inside.seat.token.
     )
 
 pub invariant_of-self-2 : goal.invariant_of-self-2
-invariant_of-self-2 g c = let v : View = c.self.inside.seat.token.me.0 in let w : View = c.scan.new.seat.token.me.0 in let inv = c.self.invariant in let sc = c.scan.ensures.scanned in
+invariant_of-self-2 g c = let v : View = c.self.inside.seat.token.me.0 in let w : View = c.scan.new.seat.token.me.0 in let inv = c.self.invariant.0 in let sc = c.scan.ensures.scanned in
     let base : w.base ≡ v.base = ap (λ (z : View). z.base) c.scan.ensures.same.2 in
     let x : View = c.load_main-place.new.seat.token.me.0 in let q : Plan = plan_of w in let st = scan_stays (plan_of v) q sc.rest in
     let plan_x : plan_of x ≡ q = ap plan_of c.load_main-place.ensures.still.2 in let base_x : x.base ≡ v.base = ap (λ (z : View). z.base) c.load_main-place.ensures.still.2 ∙ base in
@@ -300,10 +300,10 @@ invariant_of-self-2 g c = let v : View = c.self.inside.seat.token.me.0 in let w 
       answered = c.answer_all-2.ensures.answered;
       counts = let e : faults_after u.base.faults (records_of (plan_of u)) ≡ end = ap (λ (r : Plan). faults_after u.base.faults (records_of r)) kept ∙ (ap (λ (l : List PassRecord). faults_after u.base.faults ((plan_of y).records ++ map (raised end) l)) pb.mine ∙ faults_rested end u.base.faults (plan_of y).records (map found_of (plan_of x).requests) _ (sym (ap is_made pb.mine) ∙ made)) in omega (arith, e);
     } in
-    now
+    (now, ready_by g.O.Object.STORES v.base u.base c.self.inside.log c.settle.new.log c.self.invariant.1 (base_u ∙ base_x) c.settle.ensures.cleared (c.settle.ensures.room ∙ c.publish-outcome.ensures.room))
 
 pub returns-clause-passed : goal.returns-clause-passed
-returns-clause-passed g c = let v : View = c.self.inside.seat.token.me.0 in let w : View = c.scan.new.seat.token.me.0 in let inv = c.self.invariant in let sc = c.scan.ensures.scanned in
+returns-clause-passed g c = let v : View = c.self.inside.seat.token.me.0 in let w : View = c.scan.new.seat.token.me.0 in let inv = c.self.invariant.0 in let sc = c.scan.ensures.scanned in
     let base : w.base ≡ v.base = ap (λ (z : View). z.base) c.scan.ensures.same.2 in
     let x : View = c.load_main-place.new.seat.token.me.0 in let q : Plan = plan_of w in let st = scan_stays (plan_of v) q sc.rest in
     let plan_x : plan_of x ≡ q = ap plan_of c.load_main-place.ensures.still.2 in let base_x : x.base ≡ v.base = ap (λ (z : View). z.base) c.load_main-place.ensures.still.2 ∙ base in
@@ -343,10 +343,10 @@ returns-clause-now g c told s n op i left = let v : View = c.self.inside.seat.to
     let base_u : u.base ≡ x.base = ap (λ (r : View). r.base) c.answer_all-2.ensures.same.2 ∙ (ap (λ (r : View). r.base) c.settle.ensures.rested.2 ∙ (ap (λ (r : View). r.base) c.load_main.ensures.still.2 ∙ ap (λ (r : View). r.base) c.publish-outcome.ensures.same.2)) in
     let same : u.base ≡ c.args.self.now.view.base = base_u ∙ (base_x ∙ ap (λ r. r.view.base) c.self.view_is) in
     subst (λ (r : Base). ImageAt g.O.Object.Contents (on_words g.O.Object.machine) r s n t.phase (plan_of u) i) same
-    (now_of g.O.Object.Contents (on_words g.O.Object.machine) g.D.Device.shown t u s n (λ s₁ s₂ j k. g.met.O.Object.one_contents u.base.order u.base.image s₁ s₂ j k) (invariant_of-self-2 g c) told (subst (λ (r : Base). g.O.Object.Contents r.order r.image s n) (sym same) op) i left)
+    (now_of g.O.Object.Contents (on_words g.O.Object.machine) g.D.Device.shown t u s n (λ s₁ s₂ j k. g.met.O.Object.one_contents u.base.order u.base.image s₁ s₂ j k) (invariant_of-self-2 g c).0 told (subst (λ (r : Base). g.O.Object.Contents r.order r.image s n) (sym same) op) i left)
 
 pub returns-clause-spent : goal.returns-clause-spent
-returns-clause-spent g c published none = let v : View = c.self.inside.seat.token.me.0 in let w : View = c.scan.new.seat.token.me.0 in let inv = c.self.invariant in let sc = c.scan.ensures.scanned in
+returns-clause-spent g c published none = let v : View = c.self.inside.seat.token.me.0 in let w : View = c.scan.new.seat.token.me.0 in let inv = c.self.invariant.0 in let sc = c.scan.ensures.scanned in
     let x : View = c.load_main-place.new.seat.token.me.0 in let q : Plan = plan_of x in let plan_x : q ≡ plan_of w = ap plan_of c.load_main-place.ensures.still.2 in let y : View = c.publish-outcome.new.seat.token.me.0 in
     let base_x : x.base ≡ v.base = ap (λ (z : View). z.base) c.load_main-place.ensures.still.2 ∙ ap (λ (z : View). z.base) c.scan.ensures.same.2 in
     let is_pub : c.publish-outcome.result ≡ outcome.Published = search rules in let pb = c.publish-outcome.ensures.published is_pub in let ph = c.publish-outcome.ensures.held is_pub in

@@ -3,7 +3,8 @@ use Rattle.rom_model.specs.Blocks.{region_len}
 use Rattle.rom_device.specs.Device.{Becomes, Does, Runs}
 use Rattle.rom_header.specs.Layout.{back_at}
 use Rattle.rom_twin.specs.Images.{HasMain}
-use Rattle.rom_twin.specs.Ranges.{SameBut, WritesRanges}
+use Rattle.rom_ranges.specs.Changes.{SameBut}
+use Rattle.rom_twin.specs.Ranges.{WritesRanges}
 use Rattle.rom_twin.specs.Seen.{committed, main_now}
 use Rattle.rom_twin.proofs.Calls.{copy_since, copy_kept, copy_failed, copy_done}
 use Rattle.rom_twin.proofs.twin.Twin.copy.Goals as goal

@@ -3,7 +3,8 @@ use Rattle.rom_model.specs.Blocks.{region_len}
 use Rattle.rom_device.specs.Device.{Becomes, Does, Runs}
 use Rattle.rom_header.specs.Layout.{MAIN}
 use Rattle.rom_twin.specs.Images.{HasBack}
-use Rattle.rom_twin.specs.Ranges.{SameBut, WritesRanges}
+use Rattle.rom_ranges.specs.Changes.{SameBut}
+use Rattle.rom_twin.specs.Ranges.{WritesRanges}
 use Rattle.rom_twin.specs.Seen.{committed, main_now}
 use Rattle.rom_twin.proofs.Calls.{persist_since, persist_kept, persist_failed, persist_done, persist_main}
 use Rattle.rom_twin.proofs.twin.Twin.persist.Goals as goal
