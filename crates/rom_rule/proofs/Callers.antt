@@ -171,7 +171,7 @@ module _ {S : Type 0} (Contents : ℕ → List ℕ → S → ℕ → Type 0) (go
           tt,
           reload Contents go b s i id w (caller_step Contents go b s r id v w s.words at refl refl refl refl (still Contents go b s r id v w at (λ _. refl)) (on_from v.position v.seen t.0 t.2.begins (r.images id (reading_in v) (at_map reading_in s.views id v at))) r.written (r.named id v.position (at_map position_in s.views id v at))
               record { seen = t.1; fronts = m.fronts; joined = m.joined } (l.4 w refl) (λ _. pos) (λ _ none. absurd (omega arith))),
-          ((λ odd. absurd (omega arith)), λ _. record { told = y; seen = t.0; found = l.2; is_told = subst (λ (z : Base). IsTold Contents go z y v.since v.seen t.0) (sym base) t.2; view = refl; own = knows_told Contents go b s r one v.base w base (knows_next Contents go b s r id v y t.0 at pos open_now l.1 (ap (λ (f : Found). f.caller) l.2) (ap (λ (f : Found). f.seq) l.2) t.1 t.3) }),
+          (ap (λ (z : Base). slot_at z.callers v.number 0) (sym base), (λ odd. absurd (omega arith)), λ _. record { told = y; seen = t.0; found = l.2; is_told = subst (λ (z : Base). IsTold Contents go z y v.since v.seen t.0) (sym base) t.2; view = refl; own = knows_told Contents go b s r one v.base w base (knows_next Contents go b s r id v y t.0 at pos open_now l.1 (ap (λ (f : Found). f.caller) l.2) (ap (λ (f : Found). f.seq) l.2) t.1 t.3) }),
         ))
         (λ odd. let w : View = record v { steps = v.steps + 1 } in (
           w,
@@ -179,7 +179,7 @@ module _ {S : Type 0} (Contents : ℕ → List ℕ → S → ℕ → Type 0) (go
           tt,
           reload Contents go b s i id w (caller_step Contents go b s r id v w s.words at refl refl refl refl (still Contents go b s r id v w at (λ _. refl)) (r.images id (reading_in v) (at_map reading_in s.views id v at)) r.written (r.named id v.position (at_map position_in s.views id v at)) m
               (announced_on Contents go b s r id v w (shown b s.words).slots at refl refl) (λ _. pos) (λ h. h)),
-          ((λ _. refl), λ even. absurd (odd even)),
+          (ap (λ (z : Base). slot_at z.callers v.number 0) (sym base), (λ _. refl), λ even. absurd (odd even)),
         ))
       where
         on_from : (q : Position) (seen seen' : List Entry) → StartsWith seen' seen → KeepsImage Contents go b r.plan.main r.plan.back q seen → KeepsImage Contents go b r.plan.main r.plan.back q seen'

@@ -52,6 +52,13 @@ elsewhere i v (Holds w) h ne = refl
 elsewhere i v (Arrived w) h ne = dite (ℕ_discrete v w) (λ e. stands_one i w (λ d. ne (d ∙ sym e))) (λ n. let z = stands_one v w n in absurd (omega arith))
 elsewhere i v (Reads w s f image) h ne = dite (ℕ_discrete v w) (λ e. stands_one i w (λ d. ne (d ∙ sym e))) (λ n. let z = stands_one v w n in absurd (omega arith))
 
+-- where it stands
+stands_only : (v : ℕ) (p : Position) → stands v p ≡ 1 → v ≡ indicator_in p
+stands_only v Out h = cc
+stands_only v (Holds w) h = cc
+stands_only v (Arrived w) h = dite (ℕ_discrete v w) (λ e. e) (λ n. let z = stands_one v w n in absurd (omega arith))
+stands_only v (Reads w s f image) h = dite (ℕ_discrete v w) (λ e. e) (λ n. let z = stands_one v w n in absurd (omega arith))
+
 module _ {S : Type 0} (Contents : ℕ → List ℕ → S → ℕ → Type 0) (go : ℕ → S → ℕ → List ℕ → Option (S × List ℕ)) (b : Base) where
   abbrev pub St : Type 0
   St = State ℕ View
@@ -164,7 +171,7 @@ module _ {S : Type 0} (Contents : ℕ → List ℕ → S → ℕ → Type 0) (go
     keeps,
     tt,
     reload s 1 id w (caller_step s r id v w s.words at refl refl refl refl (still s r id v w at (λ i. ap (stands i) out)) tt r.written tt (remembered_of s r id v at) (announced_on s r id v w (shown b s.words).slots at refl refl) (λ _. mark) (λ h. h)),
-    (omega arith, refl),
+    (refl, omega arith, refl),
   )
 
   -- it arrives
@@ -176,7 +183,7 @@ module _ {S : Type 0} (Contents : ℕ → List ℕ → S → ℕ → Type 0) (go
         tt,
         caller_step s r id u w (set s.words (2 + v) x) at refl refl refl (length-set s.words (2 + v) x) (counted s r id v x u w at low (omega arith) (λ i ne. ap (stands i) holds ∙ sym (stands_one i v ne))) tt (beside s r v x low) tt
             (remembered_of s r id u at) (announced_on s r id u w (shown b (set s.words (2 + v) x)).slots at (ap (λ (t : Shown). t.slots) (shown_indicators b s.words v x low)) refl) (λ _. mark) (λ h. h),
-        ap (λ (p : Position). let z : M = (moved u (Arrived (version_of p)), me.1) in z) (sym holds),
+        (ap (λ (p : Position). indicator_at (indicator_of u.number (version_of p))) (sym holds), ap (λ (p : Position). let z : M = (moved u (Arrived (version_of p)), me.1) in z) (sym holds)),
       )
 
   module _ (one : (order : ℕ) (words : List ℕ) (s t : S) (j k : ℕ) → Contents order words s j → Contents order words t k → (s ≡ t) × (j ≡ k)) where
@@ -197,6 +204,7 @@ module _ {S : Type 0} (Contents : ℕ → List ℕ → S → ℕ → Type 0) (go
               }
               (announced_on s r id u w (shown b s.words).slots at refl refl) (λ _. mark) (λ _ none. absurd (omega arith))),
           (
+            refl,
             f,
             image,
             p.history,
@@ -248,7 +256,7 @@ module _ {S : Type 0} (Contents : ℕ → List ℕ → S → ℕ → Type 0) (go
         tt,
         caller_step s r id u w (set s.words (2 + v) x) at refl refl refl (length-set s.words (2 + v) x) (counted s r id v x u w at low (omega arith) (λ i ne. elsewhere i v u.position here ne)) tt (beside s r v x low) tt
             (remembered_of s r id u at) (announced_on s r id u w (shown b (set s.words (2 + v) x)).slots at (ap (λ (t : Shown). t.slots) (shown_indicators b s.words v x low)) refl) (λ h. absurd (h refl)) (λ h. h),
-        refl,
+        (ap indicator_at (stands_only v u.position here), refl),
       )
 
 pub reading_stands : (v : ℕ) (p : Position) → is_reading p ≡ true → v ≡ indicator_in p → stands v p ≡ 1

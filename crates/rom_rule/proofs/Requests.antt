@@ -117,7 +117,7 @@ module _ {S : Type 0} (Contents : ℕ → List ℕ → S → ℕ → Type 0) (go
         reload Contents go b s i id (planned v q) (call_step s r id v q s.words (shown b s.words).slots at is.1 refl refl
             record { main = refl; back = refl; side = refl; version = refl; clear = refl; dealt = refl; book = λ j. record { history = p.history; records = append-nil (p.records ++ p.mine) j; told = p.told } }
             (scans (IsCall go b) b.callers r.count (shown b s.words).slots (plan_calls p') (map calls_in s.views) none_found 1 turn refl refl low (slot_word Contents go b s r 1 0 (omega arith) low (omega arith)))),
-        same_view Contents go b me (λ z. found_after 1 turn (beginning z)) p (plan_of v) (sym is.0),
+        (ap (λ (z : Base). slot_at z.callers 1 0) (sym (base_is Contents go b s r id v at)), same_view Contents go b me (λ z. found_after 1 turn (beginning z)) p (plan_of v) (sym is.0)),
       )
 
   -- the writer loads a word of a request's call

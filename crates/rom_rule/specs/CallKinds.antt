@@ -72,7 +72,7 @@ abbrev pub beginning : Plan → Plan
 beginning p = record p { records = p.records ++ p.mine; mine = []; requests = []; passes = p.passes + 1; scanned = 0 }
 
 abbrev pub begun : Step ℕ → Seated → ℕ → Seated → Type 0
-begun st m turn m' = m' ≡ (planned m.0 (found_after 1 turn (beginning (plan_of m.0))), m.1)
+begun st m turn m' = (st.word ≡ slot_at m.0.base.callers 1 0) × (m' ≡ (planned m.0 (found_after 1 turn (beginning (plan_of m.0))), m.1))
 
 -- the request of caller c, as g makes it
 abbrev pub alter : ℕ → (Request → Request) → Request → Request
@@ -191,7 +191,7 @@ module _ {S : Type 0} (Contents : ℕ → List ℕ → S → ℕ → Type 0) (st
     pub own : (s : S) (n : ℕ) → Contents m.0.base.order m.0.base.image s n → KnowsEntries m.0.base.callers n m'.0
 
   abbrev pub loaded_turn : Step ℕ → Seated → ℕ → Seated → Type 0
-  loaded_turn st m turn m' = (turn % 2 ≡ 1 → m' ≡ (record m.0 { steps = m.0.steps + 1 }, m.1)) × (turn % 2 ≡ 0 → Learnt m m')
+  loaded_turn st m turn m' = (st.word ≡ slot_at m.0.base.callers m.0.number 0) × (turn % 2 ≡ 1 → m' ≡ (record m.0 { steps = m.0.steps + 1 }, m.1)) × (turn % 2 ≡ 0 → Learnt m m')
 
 -- the last of a caller's outcomes
 abbrev pub IsLast : View → Told → Type 0

@@ -14,7 +14,7 @@ use Rattle.rom_model.specs.declared.record.Fate.TheVariants.{Published}
 use Rattle.rom_model.specs.declared.record.Found.{Found}
 use Rattle.rom_model.specs.declared.record.PassRecord.{PassRecord}
 use Rattle.rom_rule.specs.Calls.{IsWhole, found_of, told_to}
-use Rattle.rom_rule.specs.Places.{back_at, indicator_at, indicator_count, indicator_of, main_at, version_of_indicator, word_at}
+use Rattle.rom_rule.specs.Places.{back_at, indicator_at, indicator_count, indicator_of, main_at, side_at, version_at, version_of_indicator, word_at}
 use Rattle.rom_rule.specs.Readers.{Held, Settled, Stands, stands}
 use Rattle.rom_rule.specs.Records.{IsKept, KnowsEntries, Recorded}
 use Rattle.rom_rule.specs.Views.{Each, IsWriter, Told, book_in, fresh_view, image_of, indicator_in, is_reading, kept_of, plan_of, side_of, side_read, version_of}
@@ -39,7 +39,7 @@ abbrev pub IsOut : View → Type 0
 IsOut v = (v.position ≡ Out) × (0 < v.number)
 
 abbrev pub loaded_version : Step ℕ → Seated → ℕ → Seated → Type 0
-loaded_version st m found m' = (found < 2) × (m' ≡ (moved m.0 (Holds found), m.1))
+loaded_version st m found m' = (st.word ≡ version_at) × (found < 2) × (m' ≡ (moved m.0 (Holds found), m.1))
 
 -- A caller adds one to an indicator.
 -- When: it has loaded that indicator's version.
@@ -47,7 +47,7 @@ abbrev pub HoldsVersion : View → ℕ → Type 0
 HoldsVersion v version = (v.position ≡ Holds version) × (version < 2) × (0 < v.number)
 
 abbrev pub arrived : Step ℕ → Seated → ℕ → Seated → Type 0
-arrived st m found m' = m' ≡ (moved m.0 (Arrived (indicator_of m.0.number (version_of m.0.position))), m.1)
+arrived st m found m' = (st.word ≡ indicator_at (indicator_of m.0.number (version_of m.0.position))) × (m' ≡ (moved m.0 (Arrived (indicator_of m.0.number (version_of m.0.position))), m.1))
 
 -- A caller loads `side`. What it has seen becomes a published history that begins with what it had seen, and its front is that history's count, which it keeps among its fronts. With no call posted, it knows which entries of that history are its own.
 -- When: it has arrived.
@@ -59,7 +59,7 @@ entering v k side front image seen = record v { position = Reads k side front im
 
 module _ {S : Type 0} (Contents : ℕ → List ℕ → S → ℕ → Type 0) (step : ℕ → S → ℕ → List ℕ → Option (S × List ℕ)) where
   abbrev pub loaded_side : Step ℕ → Seated → ℕ → Seated → Type 0
-  loaded_side st m found m' = (front : ℕ) × (image : List ℕ) × (seen : List Entry) × (found < 2) × StartsWith seen m.0.seen × Stands Contents step m.0.base image seen front
+  loaded_side st m found m' = (st.word ≡ side_at) × (front : ℕ) × (image : List ℕ) × (seen : List Entry) × (found < 2) × StartsWith seen m.0.seen × Stands Contents step m.0.base image seen front
       × (m' ≡ (entering m.0 (indicator_in m.0.position) found front image seen, m.1))
       × (length m.0.calls ≡ length m.0.outcomes → (s : S) (n : ℕ) → Contents m.0.base.order m.0.base.image s n → KnowsEntries m.0.base.callers n m'.0)
 
@@ -78,7 +78,7 @@ abbrev pub StandsAt : View → ℕ → Type 0
 StandsAt v k = (stands k v.position ≡ 1) × (k < indicator_count v.base.callers) × (0 < v.number)
 
 abbrev pub departed : Step ℕ → Seated → ℕ → Seated → Type 0
-departed st m found m' = m' ≡ (moved m.0 Out, m.1)
+departed st m found m' = (st.word ≡ indicator_at (indicator_in m.0.position)) × (m' ≡ (moved m.0 Out, m.1))
 
 -- the writer's view after a step to the plan p
 abbrev pub planned : View → Plan → View
