@@ -1,5 +1,5 @@
 -- What the writer's calls ask for, and what they leave.
-use Rattle.std.specs.Prelude.{◌≡◌, ◌-◌, [], ◌∷◌, Some}
+use Rattle.std.specs.Prelude.{◌≡◌, ℕ, ◌-◌, List, [], ◌∷◌, Some}
 use Rattle.rom_lr.specs.Side.{other_side, side_number}
 use Rattle.rom_lr.specs.declared.seats.WriterSeat.{WriterSeat}
 use Rattle.rom_lr.specs.declared.side.Side.{Side}
@@ -15,6 +15,12 @@ NobodyReads v side = ((plan_of v).side ≡ side_number (other_side side)) × Set
 -- After some steps the writer's plan is p, and nothing else of its view has changed but their number.
 abbrev pub Writes : WriterSeat → WriterSeat → Plan → Type 0
 Writes s t p = (t.token.table_id ≡ s.token.table_id) × (t.token.id ≡ s.token.id) × (t.token.me.0 ≡ record s.token.me.0 { plan = Some p; steps = t.token.me.0.steps })
+
+-- After both waits nothing of the writer's plan has changed but `version` and which indicators count as loaded, and nothing else of its view but the number of its steps.
+pub record HasWaited (s t : WriterSeat) : Type 0 where
+  pub version : ℕ
+  pub clear : List (ℕ × ℕ)
+  pub writes : Writes s t (record (plan_of s.token.me.0) { version = version; clear = clear })
 
 -- The plan after both waits: the indicator of the other version was loaded as 0 while `version` named the former, then `version` was stored as the other, then the indicator of the former was loaded as 0 while `version` named the other. The list has the last first, each with what `version` was at that load.
 abbrev pub settled : Plan → Plan

@@ -3,7 +3,7 @@ ghost use Rattle.std.specs.Prelude.{◌≡◌, ◌≢◌, ℕ, ◌+◌, ◌-◌,
 ghost use Rattle.rom_model.specs.Machine.{on_words};
 ghost use Rattle.rom_lr.specs.Seats.{IsWriterOf};
 ghost use Rattle.rom_lr.specs.Switch.{CanSwitch, HasSwitched};
-ghost use Rattle.rom_lr.specs.Writing.{Writes, settled};
+ghost use Rattle.rom_lr.specs.Writing.{HasWaited, Writes, settled};
 ghost use Rattle.rom_lr.specs.declared.side.Side.TheVariants.{Back, Main};
 ghost use Rattle.rom_rule.specs.Kinds.{CanSwitchToBack, CanSwitchToMain, observed};
 ghost use Rattle.rom_rule.specs.Readers.{Settled};
@@ -67,7 +67,8 @@ impl<O: Object> Shared<O> {
     /// before.
     pub fn settle<R: Wait>(&self, rt: &R, seat: &mut WriterSeat)
         requires of { IsWriterOf self.now.table.shared.table_id self.now.table.shared.key seat.old }
-        ensures waited { Writes seat.old seat.new (settled (plan_of seat.old.token.me.0)) }
+        ensures waited { HasWaited seat.old seat.new }
+        ensures loads { plan_of seat.new.token.me.0 ≡ settled (plan_of seat.old.token.me.0) }
         ensures settled { Settled seat.new.token.me.0.base (plan_of seat.new.token.me.0) }
     {
         let former = seat.version;
