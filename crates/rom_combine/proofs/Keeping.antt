@@ -155,10 +155,10 @@ raised_list n [] r = refl
 raised_list n (f ∷ fs) r = refl
 
 -- a pass whose batch was published, and that has settled
-pub pass_published : {S : Type 0} (Contents : ℕ → List ℕ → S → ℕ → Type 0) (step : ℕ → S → ℕ → List ℕ → Option (S × List ℕ)) (b : Base) (p q m u : Plan) (callers before mid end many done : ℕ) (items : List Posted) (o : Rattle.rom_combine.specs.declared.passed.Outcome.Outcome)
-    → IsScan (IsCall step b) p q callers items → (pb : IsPublished Contents step b q m before mid) → but_requests u ≡ but_requests (rested end m) → 0 < length items → many ≡ length items → done ≡ length pb.more → Each (λ _ f. f.answered ≡ true) u.requests → o ≡ outcome.Published → SameCalls q u
+pub pass_published : {S : Type 0} (Contents : ℕ → List ℕ → S → ℕ → Type 0) (step : ℕ → S → ℕ → List ℕ → Option (S × List ℕ)) (b : Base) (p q m u : Plan) (callers before mid end version : ℕ) (clear : List (ℕ × ℕ)) (many done : ℕ) (items : List Posted) (o : Rattle.rom_combine.specs.declared.passed.Outcome.Outcome)
+    → IsScan (IsCall step b) p q callers items → (pb : IsPublished Contents step b q m before mid) → but_requests u ≡ but_requests (rested end version clear m) → 0 < length items → many ≡ length items → done ≡ length pb.more → Each (λ _ f. f.answered ≡ true) u.requests → o ≡ outcome.Published → SameCalls q u
     → (x : IsPass Contents step b p u callers before end (record { found = many; done = done; outcome = o })) × (x.more ≡ pb.more)
-pass_published Contents step b p q m u callers before mid end many done items o scan pb kept some many_is done_is answered is calls =
+pass_published Contents step b p q m u callers before mid end version clear many done items o scan pb kept some many_is done_is answered is calls =
     let st = scan_stays p q scan.rest in let history : u.history ≡ q.history ++ pb.more = ap (λ (z : Plan). z.history) kept ∙ pb.history in
     let long : length q.history + length pb.more ≡ length u.history = sym (ap length history ∙ length-append q.history pb.more) in
     subst (λ (w : Rattle.rom_combine.specs.declared.passed.Outcome.Outcome). (x : IsPass Contents step b p u callers before end (record { found = many; done = done; outcome = w })) × (x.more ≡ pb.more)) (sym is) (

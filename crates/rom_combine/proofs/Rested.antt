@@ -23,17 +23,17 @@ made_raised n [] = refl
 made_raised n (r ∷ rs) = refl
 
 -- settling changes no answer that is still to be given
-pub left_rested : {S : Type 0} (Contents : ℕ → List ℕ → S → ℕ → Type 0) (step : ℕ → S → ℕ → List ℕ → Option (S × List ℕ)) (b : Base) (fate : Fate) (before now end : ℕ) (p : Plan) (given : List Answer)
-    → is_made p.mine ≡ true → IsLeft Contents step b fate before now p 0 given → IsLeft Contents step b fate before end (rested end p) 0 given
-left_rested Contents step b fate before now end p given made l = record {
+pub left_rested : {S : Type 0} (Contents : ℕ → List ℕ → S → ℕ → Type 0) (step : ℕ → S → ℕ → List ℕ → Option (S × List ℕ)) (b : Base) (fate : Fate) (before now end version : ℕ) (clear : List (ℕ × ℕ)) (p : Plan) (given : List Answer)
+    → is_made p.mine ≡ true → IsLeft Contents step b fate before now p 0 given → IsLeft Contents step b fate before end (rested end version clear p) 0 given
+left_rested Contents step b fate before now end version clear p given made l = record {
   rising = l.rising;
   same = l.same;
   done = l.done;
   left = λ j f x le e at. let o = l.left j f x le e at in (o.0, o.1, ((λ _. o.2.0 made), (λ unmade. absurd (let z : true ≡ false = sym made ∙ (sym (made_raised end p.mine) ∙ unmade) in cc))));
 }
 
-pub made_rested : (n : ℕ) (p : Plan) → is_made p.mine ≡ true → is_made (rested n p).mine ≡ true
-made_rested n p made = made_raised n p.mine ∙ made
+pub made_rested : (n version : ℕ) (clear : List (ℕ × ℕ)) (p : Plan) → is_made p.mine ≡ true → is_made (rested n version clear p).mine ≡ true
+made_rested n version clear p made = made_raised n p.mine ∙ made
 
 -- the count after the last record
 pub faults_last : (f : ℕ) (rs : List PassRecord) (r : PassRecord) → Rattle.rom_model.specs.Passes.faults_after f (rs ++ r ∷ []) ≡ r.faults_after

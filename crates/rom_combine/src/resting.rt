@@ -7,9 +7,8 @@ ghost use Rattle.rom_twin.specs.Seen.{InPhase, committed, main_now};
 ghost use Rattle.rom_combine.specs.AtRest.{IsClear};
 ghost use Rattle.rom_combine.specs.Costs.{IsUnfailed, OnlyWrites, Spends, SpendsAtMost, WithinHeap};
 ghost use Rattle.rom_combine.specs.Images.{Counting};
-ghost use Rattle.rom_combine.specs.Resting.{rested};
+ghost use Rattle.rom_combine.specs.Resting.{HasRested};
 ghost use Rattle.rom_lr.specs.Seats.{IsWriterOf};
-ghost use Rattle.rom_lr.specs.Writing.{Writes};
 ghost use Rattle.rom_ranges.specs.Changes.{IsLogOf};
 ghost use Rattle.rom_ranges.specs.Ranges.{held_count};
 ghost use Rattle.rom_rule.specs.Kinds.{MayRaise};
@@ -51,8 +50,7 @@ pub(crate) fn settle<D: Device, O: Object, R: Wait>(
     requires held { let b = seat.old.token.me.0.base in let p = plan_of seat.old.token.me.0 in
         (s : O.State) × (n : ℕ) × O.Contents b.order b.image s n
         × Held O.Contents (on_words O.machine) b s n p.main p.history }
-    ensures rested { Writes seat.old seat.new
-        (rested (D.shown.faults twin.new.device) (plan_of seat.old.token.me.0)) }
+    ensures rested { HasRested (D.shown.faults twin.new.device) seat.old seat.new }
     ensures settled { Settled seat.new.token.me.0.base (plan_of seat.new.token.me.0) }
     ensures cleared { IsClear log.new }
     ensures room { log.new.room ≡ log.old.room }

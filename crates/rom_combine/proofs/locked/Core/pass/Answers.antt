@@ -250,15 +250,15 @@ answer_all-requires-2-clause-left g c = let v : View = c.self.inside.seat.token.
     let y : View = c.publish-outcome.new.seat.token.me.0 in let is_pub : c.publish-outcome.result ≡ outcome.Published = search rules in let pb = c.publish-outcome.ensures.published is_pub in let ph = c.publish-outcome.ensures.held is_pub in
     let lm : View = c.load_main.new.seat.token.me.0 in let z : View = c.settle.new.seat.token.me.0 in let plan_lm : plan_of lm ≡ plan_of y = ap plan_of c.load_main.ensures.still.2 in
     let end : ℕ = g.D.Device.shown.faults c.settle.new.twin.device in
-    let settled : plan_of z ≡ rested end (plan_of y) = ap plan_of c.settle.ensures.rested.2 ∙ ap (λ (r : Plan). rested end r) plan_lm in
+    let settled : plan_of z ≡ rested end c.settle.ensures.rested.version c.settle.ensures.rested.clear (plan_of y) = ap plan_of c.settle.ensures.rested.writes.2 ∙ ap (λ (r : Plan). rested end c.settle.ensures.rested.version c.settle.ensures.rested.clear r) plan_lm in
     let some_found : 0 < length c.scan.new.found.items = search rules in
     let first = at_some (plan_of x).requests 0 (let e : 0 < length (plan_of x).requests = omega (arith, some_found, ap length sc.items_are, length_map posted_of q.requests, ap (λ (r : Plan). length r.requests) plan_x) in e) in
     let made : is_made (plan_of y).mine ≡ true = ap is_made pb.mine ∙ made_some (map found_of (plan_of x).requests) _ 0 (found_of first.0) (at_map found_of (plan_of x).requests 0 first.0 first.1) in
-    let base_z : z.base ≡ x.base = ap (λ (r : View). r.base) c.settle.ensures.rested.2 ∙ (ap (λ (r : View). r.base) c.load_main.ensures.still.2 ∙ ap (λ (r : View). r.base) c.publish-outcome.ensures.same.2) in
-    let left = left_rested g.O.Object.Contents (on_words g.O.Object.machine) x.base (fate_of c.publish-outcome.result) c.fault_count-before.result _ c.fault_count-now-2.result (plan_of y) c.publish-outcome.new.answers.items made c.publish-outcome.ensures.left in (
+    let base_z : z.base ≡ x.base = ap (λ (r : View). r.base) c.settle.ensures.rested.writes.2 ∙ (ap (λ (r : View). r.base) c.load_main.ensures.still.2 ∙ ap (λ (r : View). r.base) c.publish-outcome.ensures.same.2) in
+    let left = left_rested g.O.Object.Contents (on_words g.O.Object.machine) x.base (fate_of c.publish-outcome.result) c.fault_count-before.result _ c.fault_count-now-2.result c.settle.ensures.rested.version c.settle.ensures.rested.clear (plan_of y) c.publish-outcome.new.answers.items made c.publish-outcome.ensures.left in (
       fate_of c.publish-outcome.result,
       subst (λ (r : Base × Plan × List Answer). IsLeft g.O.Object.Contents (on_words g.O.Object.machine) r.0 (fate_of c.publish-outcome.result) c.fault_count-before.result c.fault_count-now-2.result r.1 0 r.2)
-          (λ j. (sym base_z j, (ap (λ (n : ℕ). rested n (plan_of y)) c.fault_count-now-2.ensures ∙ sym settled) j, sym c.as_slice-3.ensures.value j)) left,
+          (λ j. (sym base_z j, (ap (λ (n : ℕ). rested n c.settle.ensures.rested.version c.settle.ensures.rested.clear (plan_of y)) c.fault_count-now-2.ensures ∙ sym settled) j, sym c.as_slice-3.ensures.value j)) left,
     )
 
 pub invariant_of-self-2 : goal.invariant_of-self-2
@@ -269,13 +269,13 @@ invariant_of-self-2 g c = let v : View = c.self.inside.seat.token.me.0 in let w 
     let y : View = c.publish-outcome.new.seat.token.me.0 in let is_pub : c.publish-outcome.result ≡ outcome.Published = search rules in let pb = c.publish-outcome.ensures.published is_pub in let ph = c.publish-outcome.ensures.held is_pub in
     let lm : View = c.load_main.new.seat.token.me.0 in let z : View = c.settle.new.seat.token.me.0 in let plan_lm : plan_of lm ≡ plan_of y = ap plan_of c.load_main.ensures.still.2 in
     let end : ℕ = g.D.Device.shown.faults c.settle.new.twin.device in
-    let settled : plan_of z ≡ rested end (plan_of y) = ap plan_of c.settle.ensures.rested.2 ∙ ap (λ (r : Plan). rested end r) plan_lm in
+    let settled : plan_of z ≡ rested end c.settle.ensures.rested.version c.settle.ensures.rested.clear (plan_of y) = ap plan_of c.settle.ensures.rested.writes.2 ∙ ap (λ (r : Plan). rested end c.settle.ensures.rested.version c.settle.ensures.rested.clear r) plan_lm in
     let some_found : 0 < length c.scan.new.found.items = search rules in
     let first = at_some (plan_of x).requests 0 (let e : 0 < length (plan_of x).requests = omega (arith, some_found, ap length sc.items_are, length_map posted_of q.requests, ap (λ (r : Plan). length r.requests) plan_x) in e) in
     let made : is_made (plan_of y).mine ≡ true = ap is_made pb.mine ∙ made_some (map found_of (plan_of x).requests) _ 0 (found_of first.0) (at_map found_of (plan_of x).requests 0 first.0 first.1) in
-    let base_z : z.base ≡ x.base = ap (λ (r : View). r.base) c.settle.ensures.rested.2 ∙ (ap (λ (r : View). r.base) c.load_main.ensures.still.2 ∙ ap (λ (r : View). r.base) c.publish-outcome.ensures.same.2) in
+    let base_z : z.base ≡ x.base = ap (λ (r : View). r.base) c.settle.ensures.rested.writes.2 ∙ (ap (λ (r : View). r.base) c.load_main.ensures.still.2 ∙ ap (λ (r : View). r.base) c.publish-outcome.ensures.same.2) in
     let t = c.settle.new.twin in let u : View = c.answer_all-2.new.seat.token.me.0 in let base_u : u.base ≡ x.base = ap (λ (r : View). r.base) c.answer_all-2.ensures.same.2 ∙ base_z in
-    let kept : but_requests (plan_of u) ≡ but_requests (rested end (plan_of y)) = c.answer_all-2.ensures.kept (ap (λ (r : Plan). is_made r.mine) settled ∙ made_rested end (plan_of y) made) ∙ ap but_requests settled in
+    let kept : but_requests (plan_of u) ≡ but_requests (rested end c.settle.ensures.rested.version c.settle.ensures.rested.clear (plan_of y)) = c.answer_all-2.ensures.kept (ap (λ (r : Plan). is_made r.mine) settled ∙ made_rested end c.settle.ensures.rested.version c.settle.ensures.rested.clear (plan_of y) made) ∙ ap but_requests settled in
     let main : (plan_of u).main ≡ (plan_of y).main = ap (λ (r : Plan). r.main) kept in let history : (plan_of u).history ≡ (plan_of y).history = ap (λ (r : Plan). r.history) kept in
     let order : t.order ≡ u.base.order = c.settle.ensures.order ∙ (c.publish-outcome.ensures.order ∙ (inv.order_is ∙ ap (λ (r : Base). r.order) (sym (base_u ∙ base_x)))) in
     let held : rule.Held g.O.Object.Contents (on_words g.O.Object.machine) u.base ph.0 ph.1 (plan_of u).main (plan_of u).history = subst (λ (r : Base × List ℕ × List Entry). rule.Held g.O.Object.Contents (on_words g.O.Object.machine) r.0 ph.0 ph.1 r.1 r.2) (λ j. (sym base_u j, sym main j, sym history j)) ph.3 in
@@ -310,13 +310,13 @@ returns-clause-passed g c = let v : View = c.self.inside.seat.token.me.0 in let 
     let y : View = c.publish-outcome.new.seat.token.me.0 in let is_pub : c.publish-outcome.result ≡ outcome.Published = search rules in let pb = c.publish-outcome.ensures.published is_pub in let ph = c.publish-outcome.ensures.held is_pub in
     let lm : View = c.load_main.new.seat.token.me.0 in let z : View = c.settle.new.seat.token.me.0 in let plan_lm : plan_of lm ≡ plan_of y = ap plan_of c.load_main.ensures.still.2 in
     let end : ℕ = g.D.Device.shown.faults c.settle.new.twin.device in
-    let settled : plan_of z ≡ rested end (plan_of y) = ap plan_of c.settle.ensures.rested.2 ∙ ap (λ (r : Plan). rested end r) plan_lm in
+    let settled : plan_of z ≡ rested end c.settle.ensures.rested.version c.settle.ensures.rested.clear (plan_of y) = ap plan_of c.settle.ensures.rested.writes.2 ∙ ap (λ (r : Plan). rested end c.settle.ensures.rested.version c.settle.ensures.rested.clear r) plan_lm in
     let some_found : 0 < length c.scan.new.found.items = search rules in
     let first = at_some (plan_of x).requests 0 (let e : 0 < length (plan_of x).requests = omega (arith, some_found, ap length sc.items_are, length_map posted_of q.requests, ap (λ (r : Plan). length r.requests) plan_x) in e) in
     let made : is_made (plan_of y).mine ≡ true = ap is_made pb.mine ∙ made_some (map found_of (plan_of x).requests) _ 0 (found_of first.0) (at_map found_of (plan_of x).requests 0 first.0 first.1) in
-    let base_z : z.base ≡ x.base = ap (λ (r : View). r.base) c.settle.ensures.rested.2 ∙ (ap (λ (r : View). r.base) c.load_main.ensures.still.2 ∙ ap (λ (r : View). r.base) c.publish-outcome.ensures.same.2) in
+    let base_z : z.base ≡ x.base = ap (λ (r : View). r.base) c.settle.ensures.rested.writes.2 ∙ (ap (λ (r : View). r.base) c.load_main.ensures.still.2 ∙ ap (λ (r : View). r.base) c.publish-outcome.ensures.same.2) in
     let t = c.settle.new.twin in let u : View = c.answer_all-2.new.seat.token.me.0 in let base_u : u.base ≡ x.base = ap (λ (r : View). r.base) c.answer_all-2.ensures.same.2 ∙ base_z in
-    let kept : but_requests (plan_of u) ≡ but_requests (plan_of z) = c.answer_all-2.ensures.kept (ap (λ (r : Plan). is_made r.mine) settled ∙ made_rested end (plan_of y) made) in
+    let kept : but_requests (plan_of u) ≡ but_requests (plan_of z) = c.answer_all-2.ensures.kept (ap (λ (r : Plan). is_made r.mine) settled ∙ made_rested end c.settle.ensures.rested.version c.settle.ensures.rested.clear (plan_of y) made) in
     let held₀ : rule.Held g.O.Object.Contents (on_words g.O.Object.machine) v.base inv.start inv.count q.main q.history = subst (λ (z : List ℕ × List Entry). rule.Held g.O.Object.Contents (on_words g.O.Object.machine) v.base inv.start inv.count z.0 z.1) (λ j. (sym st.main j, sym st.history j)) inv.held in
     let word : slice_index q.main 2 ≡ inv.count + length q.history = (g.met.O.Object.contents_within v.base.order q.main _ _ held₀).1 in
     let word₂ : slice_index (plan_of y).main 2 ≡ ph.1 + length (plan_of y).history = (g.met.O.Object.contents_within x.base.order (plan_of y).main _ _ ph.3).1 in
@@ -332,7 +332,7 @@ returns-clause-passed g c = let v : View = c.self.inside.seat.token.me.0 in let 
     (same_held g.O.Object.Contents (on_words g.O.Object.machine) x.base s n ph.0 ph.1 (plan_of y).history (plan_of y).main (g.met.O.Object.one_contents x.base.order x.base.image s ph.0 n ph.1 op ph.2) ph.3) in
     list_settled g.O.Object.Contents (on_words g.O.Object.machine) x.base s n g.D.Device.shown (fate_of o) (plan_of x).history (batch_now g.O.Object.Contents (on_words g.O.Object.machine) x.base s n (plan_of x)) c.publish-outcome.new.twin.order (plan_of lm).main a c.publish-outcome.new.twin.device d
     (c.publish-outcome.ensures.order ∙ (inv.order_is ∙ ap (λ (r : Base). r.order) (sym base_x))) (subst (λ w. MayPublish (fate_of w)) (sym is_pub) tt) heldm (c.publish-outcome.ensures.since told s n op) (c.settle.ensures.since told) in
-    let whole = passed_published g.O.Object.Contents (on_words g.O.Object.machine) g.D.Device.shown a d x.base (plan_of v) (plan_of x) (plan_of y) (plan_of z) (plan_of u) c.args.shared.now.layout.callers c.fault_count-before.result (g.D.Device.shown.faults c.publish-outcome.new.twin.device) end many diff c.scan.new.found.items o scan pb settled kept some_found many_is done c.answer_all-2.ensures.answered is_pub c.publish-outcome.ensures.calls c.answer_all-2.ensures.calls run in
+    let whole = passed_published g.O.Object.Contents (on_words g.O.Object.machine) g.D.Device.shown a d x.base (plan_of v) (plan_of x) (plan_of y) (plan_of z) (plan_of u) c.args.shared.now.layout.callers c.fault_count-before.result (g.D.Device.shown.faults c.publish-outcome.new.twin.device) end c.settle.ensures.rested.version c.settle.ensures.rested.clear many diff c.scan.new.found.items o scan pb settled kept some_found many_is done c.answer_all-2.ensures.answered is_pub c.publish-outcome.ensures.calls c.answer_all-2.ensures.calls run in
     subst (λ (r : Base × Locked g.row.D.Denot × ℕ). (z' : IsPass g.O.Object.Contents (on_words g.O.Object.machine) r.0 (plan_of r.1.view) (plan_of u) c.args.shared.now.layout.callers r.2 end (record { found = many; done = diff; outcome = o }))
     × (IsTrue g.D.Device.shown.tells_images → (s : g.O.Object.State) (n : ℕ) → g.O.Object.Contents r.0.order r.0.image s n → Runs g.D.Device.shown (Becomes (PassMakes g.O.Object.Contents (on_words g.O.Object.machine) r.0 s n (fate_of o) (plan_of r.1.view).history z'.more)) r.1.twin.device d))
     (λ j. ((base_x ∙ ap (λ r. r.view.base) c.self.view_is) j, c.self.view_is j, (c.fault_count-before.ensures ∙ ap (λ r. g.D.Device.shown.faults r.twin.device) c.self.view_is) j)) whole
@@ -340,7 +340,7 @@ returns-clause-passed g c = let v : View = c.self.inside.seat.token.me.0 in let 
 pub returns-clause-now : goal.returns-clause-now
 returns-clause-now g c told s n op i left = let v : View = c.self.inside.seat.token.me.0 in let w : View = c.scan.new.seat.token.me.0 in let x : View = c.load_main-place.new.seat.token.me.0 in let u : View = c.answer_all-2.new.seat.token.me.0 in let t = c.settle.new.twin in
     let base_x : x.base ≡ v.base = ap (λ (z : View). z.base) c.load_main-place.ensures.still.2 ∙ ap (λ (z : View). z.base) c.scan.ensures.same.2 in
-    let base_u : u.base ≡ x.base = ap (λ (r : View). r.base) c.answer_all-2.ensures.same.2 ∙ (ap (λ (r : View). r.base) c.settle.ensures.rested.2 ∙ (ap (λ (r : View). r.base) c.load_main.ensures.still.2 ∙ ap (λ (r : View). r.base) c.publish-outcome.ensures.same.2)) in
+    let base_u : u.base ≡ x.base = ap (λ (r : View). r.base) c.answer_all-2.ensures.same.2 ∙ (ap (λ (r : View). r.base) c.settle.ensures.rested.writes.2 ∙ (ap (λ (r : View). r.base) c.load_main.ensures.still.2 ∙ ap (λ (r : View). r.base) c.publish-outcome.ensures.same.2)) in
     let same : u.base ≡ c.args.self.now.view.base = base_u ∙ (base_x ∙ ap (λ r. r.view.base) c.self.view_is) in
     subst (λ (r : Base). ImageAt g.O.Object.Contents (on_words g.O.Object.machine) r s n t.phase (plan_of u) i) same
     (now_of g.O.Object.Contents (on_words g.O.Object.machine) g.D.Device.shown t u s n (λ s₁ s₂ j k. g.met.O.Object.one_contents u.base.order u.base.image s₁ s₂ j k) (invariant_of-self-2 g c).0 told (subst (λ (r : Base). g.O.Object.Contents r.order r.image s n) (sym same) op) i left)
@@ -386,4 +386,4 @@ returns-then-ne-clause-kept g c = let v : View = c.self.inside.seat.token.me.0 i
 
 pub returns-clause-kept : goal.returns-clause-kept
 returns-clause-kept g c = let v : View = c.self.inside.seat.token.me.0 in let w : View = c.scan.new.seat.token.me.0 in let x : View = c.load_main-place.new.seat.token.me.0 in let y : View = c.publish-outcome.new.seat.token.me.0 in let l : View = c.load_main.new.seat.token.me.0 in let z : View = c.settle.new.seat.token.me.0 in let u : View = c.answer_all-2.new.seat.token.me.0 in
-    subst (λ r. u ≡ record r.view { plan = Some (plan_of u); steps = u.steps }) c.self.view_is (keeps_then v w u c.scan.ensures.same.2 (keeps_then w x u (keeps_by w x (plan_of w) c.load_main-place.ensures.still.2) (keeps_then x y u c.publish-outcome.ensures.same.2 (keeps_then y l u (keeps_by y l (plan_of y) c.load_main.ensures.still.2) (keeps_then l z u (keeps_by l z _ c.settle.ensures.rested.2) c.answer_all-2.ensures.same.2)))))
+    subst (λ r. u ≡ record r.view { plan = Some (plan_of u); steps = u.steps }) c.self.view_is (keeps_then v w u c.scan.ensures.same.2 (keeps_then w x u (keeps_by w x (plan_of w) c.load_main-place.ensures.still.2) (keeps_then x y u c.publish-outcome.ensures.same.2 (keeps_then y l u (keeps_by y l (plan_of y) c.load_main.ensures.still.2) (keeps_then l z u (keeps_by l z _ c.settle.ensures.rested.writes.2) c.answer_all-2.ensures.same.2)))))
