@@ -17,7 +17,7 @@ use Rattle.rom_model.proofs.Recorded.{history_more, told_more}
 use Rattle.rom_rule.specs.CallKinds.{CanPost, CanStoreArgument, HasNonePosted, HasPosted, IsTold, loaded_answer, loaded_turn, longer, posted, posting, stored_argument}
 use Rattle.rom_rule.specs.Calls.{Announced, IsLater, slot_word_at, told_to}
 use Rattle.rom_rule.specs.Places.{Shown, shown, slot_at, slots_at}
-use Rattle.rom_rule.specs.Readers.{CountsArrivals, IsWritten, KeepsImage, ReadsNamedSide, stands}
+use Rattle.rom_rule.specs.Readers.{ShowsArrivals, IsWritten, KeepsImage, ReadsNamedSide, stands}
 use Rattle.rom_rule.specs.Records.{IsCall, Remembers}
 use Rattle.rom_rule.specs.Rule.{IsRuled}
 use Rattle.rom_rule.specs.Views.{Told, book_in, calls_in, number_in, plan_calls, position_in, reading_in, records_of, remembered_in}
@@ -36,8 +36,9 @@ use Rattle.rom_model.specs.Passes.{AreInOrder}
 use Rattle.std.specs.List.{AllByRecursion}
 use Rattle.rom_rule.proofs.Books.{all_inside, fault_inside, source, told_at, history_starts, longer_begins, fate_entry, entry_of, told_by}
 use Rattle.rom_rule.proofs.Own.{GoesTo, knows_next, knows_told}
+use Rattle.rom_rule.proofs.Standing.{own_on}
 use Rattle.rom_rule.proofs.Readers.{caller_step, still, remembered_of, announced_on, reload}
-use Rattle.rom_rule.proofs.Writes.{base_is}
+use Rattle.rom_rule.proofs.Writes.{base_is, callers_are}
 
 module _ {S : Type 0} (Contents : ℕ → List ℕ → S → ℕ → Type 0) (go : ℕ → S → ℕ → List ℕ → Option (S × List ℕ)) (b : Base) where
   abbrev St : Type 0
@@ -69,13 +70,13 @@ module _ {S : Type 0} (Contents : ℕ → List ℕ → S → ℕ → Type 0) (go
       → Announced (IsCall go b) b.callers (changed (shown b s.words).slots v.number j x) r.count (plan_calls r.plan) (map calls_in (set s.views id w)) → R (after_step s (set s.words (slot_at b.callers v.number j) x) id w)
   slot_step s r id j x v w at pos lj base plan_same number position seen memory announced = let c : ℕ = v.number in let k : ℕ = 64 * (c - 1) + j in let low = (number_low s r id v at).0 in let now = shown_slots b s.words k x (omega arith) in
       caller_step Contents go b s r id v w (set s.words (slots_at b.callers + k) x) at base plan_same number (length-set s.words (slots_at b.callers + k) x)
-      (subst (λ (z : Shown). CountsArrivals b.callers z.indicators (map position_in (set s.views id w))) (sym now) (still Contents go b s r id v w at (λ i. ap (stands i) (sym position))))
+      (subst (λ (z : Shown). ShowsArrivals b.callers z.indicators (map position_in (set s.views id w))) (sym now) (still Contents go b s r id v w at (λ i. ap (stands i) (sym position))))
       (subst (λ (z : Position × List Entry). KeepsImage Contents go b r.plan.main r.plan.back z.0 z.1) (λ i. (sym position i, sym seen i)) (r.images id (reading_in v) (at_map reading_in s.views id v at)))
       (subst (λ (z : Shown). IsWritten Contents go b r.start r.count z r.plan) (sym now) record { side = r.written.side; version = r.written.version; main = r.written.main; back = r.written.back; side_low = r.written.side_low; version_low = r.written.version_low; published = r.written.published })
       (subst (ReadsNamedSide b.callers r.plan) (sym position) (r.named id v.position (at_map position_in s.views id v at)))
       (subst (Remembers r.count (book_in r.plan)) (sym memory) (remembered_of Contents go b s r id v at))
       (subst (λ (z : Shown). Announced (IsCall go b) b.callers z.slots r.count (plan_calls r.plan) (map calls_in (set s.views id w))) (sym now) announced)
-      (λ _. subst (λ (n : ℕ). 0 < n) (sym number) pos) (λ _ none. absurd (omega arith))
+      (λ _. subst (λ (n : ℕ). 0 < n) (sym number) pos) (own_on v w position number) (λ _ none. absurd (omega arith))
 
   -- a caller stores a word of its next call
   pub stores_argument : (slots id : ℕ) (me : M) (j x : ℕ) → CanStoreArgument me.0 j
@@ -86,7 +87,7 @@ module _ {S : Type 0} (Contents : ℕ → List ℕ → S → ℕ → Type 0) (go
     tt,
     slot_step s r id (1 + j) x v w at pos (omega arith) refl refl refl refl refl refl
         (lays (IsCall go b) b.callers r.count (shown b s.words).slots (plan_calls r.plan) s.views r.announced id j x v w at pos low.0 low.1 r.seats.differ (long s r) none_open lj few refl),
-    λ j' same. let e : j ≡ j' = omega arith in ap (λ (n : ℕ). let y : M = (record v { laid = take n v.laid ++ x ∷ []; steps = v.steps + 1 }, me.1) in y) e,
+    λ j' same. let many = callers_are Contents go b s r id v at in let e : j ≡ j' = omega arith in ap (λ (n : ℕ). let y : M = (record v { laid = take n v.laid ++ x ∷ []; steps = v.steps + 1 }, me.1) in y) e,
   )
 
   -- it posts the call
@@ -109,11 +110,11 @@ module _ {S : Type 0} (Contents : ℕ → List ℕ → S → ℕ → Type 0) (go
     keeps,
     tt,
     reload Contents go b s i id w (caller_step Contents go b s r id v w s.words at refl refl refl refl (still Contents go b s r id v w at (λ _. refl)) (r.images id (reading_in v) (at_map reading_in s.views id v at)) r.written (r.named id v.position (at_map position_in s.views id v at))
-        (remembered_of Contents go b s r id v at) (announced_on Contents go b s r id v w (shown b s.words).slots at refl refl) (λ _. pos) (λ h. h)),
+        (remembered_of Contents go b s r id v at) (announced_on Contents go b s r id v w (shown b s.words).slots at refl refl) (λ _. pos) (λ h. h) (λ h. h)),
     (
       refl,
       λ x last. let t = takes (IsCall go b) b.callers r.count (shown b s.words).slots (plan_calls r.plan) s.views r.announced id v last.0 x at pos low.0 none_open last.1 in let few = t.0 in
-          (few, λ j lt is. ap (λ (n : ℕ). get_or s.words n 0) is ∙ (slot_word s r v.number (42 + j) pos low.0 (omega arith) ∙ t.1 j lt)),
+          (few, λ j lt is. ap (λ (n : ℕ). get_or s.words n 0) (is ∙ ap (λ (n : ℕ). slot_at n v.number (42 + j)) (callers_are Contents go b s r id v at)) ∙ (slot_word s r v.number (42 + j) pos low.0 (omega arith) ∙ t.1 j lt)),
     ),
   )
 
@@ -170,7 +171,7 @@ module _ {S : Type 0} (Contents : ℕ → List ℕ → S → ℕ → Type 0) (go
           keeps,
           tt,
           reload Contents go b s i id w (caller_step Contents go b s r id v w s.words at refl refl refl refl (still Contents go b s r id v w at (λ _. refl)) (on_from v.position v.seen t.0 t.2.begins (r.images id (reading_in v) (at_map reading_in s.views id v at))) r.written (r.named id v.position (at_map position_in s.views id v at))
-              record { seen = t.1; fronts = m.fronts; joined = m.joined } (l.4 w refl) (λ _. pos) (λ _ none. absurd (omega arith))),
+              record { seen = t.1; fronts = m.fronts; joined = m.joined } (l.4 w refl) (λ _. pos) (λ h. h) (λ _ none. absurd (omega arith))),
           (ap (λ (z : Base). slot_at z.callers v.number 0) (sym base), (λ odd. absurd (omega arith)), λ _. record { told = y; seen = t.0; found = l.2; is_told = subst (λ (z : Base). IsTold Contents go z y v.since v.seen t.0) (sym base) t.2; view = refl; own = knows_told Contents go b s r one v.base w base (knows_next Contents go b s r id v y t.0 at pos open_now l.1 (ap (λ (f : Found). f.caller) l.2) (ap (λ (f : Found). f.seq) l.2) t.1 t.3) }),
         ))
         (λ odd. let w : View = record v { steps = v.steps + 1 } in (
@@ -178,7 +179,7 @@ module _ {S : Type 0} (Contents : ℕ → List ℕ → S → ℕ → Type 0) (go
           keeps,
           tt,
           reload Contents go b s i id w (caller_step Contents go b s r id v w s.words at refl refl refl refl (still Contents go b s r id v w at (λ _. refl)) (r.images id (reading_in v) (at_map reading_in s.views id v at)) r.written (r.named id v.position (at_map position_in s.views id v at)) m
-              (announced_on Contents go b s r id v w (shown b s.words).slots at refl refl) (λ _. pos) (λ h. h)),
+              (announced_on Contents go b s r id v w (shown b s.words).slots at refl refl) (λ _. pos) (λ h. h) (λ h. h)),
           (ap (λ (z : Base). slot_at z.callers v.number 0) (sym base), (λ _. refl), λ even. absurd (odd even)),
         ))
       where

@@ -1,10 +1,9 @@
 -- What a step leaves alone: a list of views seen through one part of them, and facts about each of its members
-use Rattle.std.proofs.Common.{◌≡◌, ◌≢◌, ℕ, ◌+◌, ◌⊎◌, List, [], ◌∷◌, ◌++◌, map, length, get_or, set, sym, refl, ap, ◌∙◌, subst, inl, inr, ⊎_elim, arith}
-use mathlib.Core.Option.{some, some-injective}
+use Rattle.std.proofs.Common.{◌≡◌, ◌≢◌, ℕ, List, map, set, sym, ap, ◌∙◌, subst, ⊎_elim}
+use mathlib.Core.Option.{some}
 use lib.ListN.{get_elem?}
 use lib.Seq.{map-set}
 use Rattle.atomic_table.proofs.Lists.{at_set, at_map, set_again}
-use Rattle.rom_rule.specs.Readers.{total}
 use Rattle.rom_rule.specs.Views.{Each}
 
 module _ {A B : Type 0} where
@@ -32,9 +31,3 @@ module _ {A B : Type 0} where
 
   pub each_at : (P : ℕ → B → Type 0) (p : A → B) (xs : List A) (id : ℕ) (v : A) → get_elem? xs id ≡ some v → Each P (map p xs) → P id (p v)
   each_at P p xs id v at h = h id (p v) (at_map p xs id v at)
-
--- a sum over a list, where one member changes
-pub total_set : {A : Type 0} (f : A → ℕ) (xs : List A) (i : ℕ) (a b : A) → get_elem? xs i ≡ some a → total f (set xs i b) + f a ≡ total f xs + f b
-total_set f [] i a b e = absurd (mathlib.Core.Option.some-ne-none a (sym e))
-total_set f (x ∷ xs) Rattle.std.proofs.Common.zero a b e = let same : f x ≡ f a = ap f (some-injective x a e) in omega arith
-total_set f (x ∷ xs) (Rattle.std.proofs.Common.suc i) a b e = let h = total_set f xs i a b e in omega arith

@@ -1,6 +1,6 @@
 pub mod Frames
 pub mod Parts
-pub mod Crowd
+pub mod Standing
 pub mod One
 pub mod Slots
 pub mod Told

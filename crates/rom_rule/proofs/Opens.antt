@@ -5,12 +5,13 @@ use Rattle.std.proofs.lemmas.List.{get_or-replicate, take-append-le, drop-append
 use Rattle.std.proofs.Math.Seq.{take-append_seam, drop-append_seam}
 use Rattle.rom_rule.specs.Calls.{SlotHolds}
 use Rattle.rom_rule.specs.Places.{Shown, indicator_count, opening_words, part, shown, slots_at, table_len}
-use Rattle.rom_rule.specs.Readers.{CountsArrivals, HoldsNothing, IsNumbered, IsWritten}
+use Rattle.rom_rule.specs.Readers.{ShowsArrivals, HoldsNothing, IsNumbered, IsWritten, StandsAtOwn}
 use Rattle.rom_rule.specs.Records.{IsCall}
 use Rattle.rom_rule.specs.Rule.{IsRuled}
 use Rattle.rom_rule.specs.Views.{Each, opening_plan, opening_view}
 use Rattle.rom_rule.specs.declared.views.Base.{Base}
 use Rattle.rom_rule.specs.declared.views.Position.TheVariants.{Out}
+use Rattle.rom_rule.proofs.Standing.{own_nowhere}
 use Rattle.rom_rule.proofs.Parts.{part_before}
 use mathlib.Core.Option.{some, some-injective, some-ne-none}
 use lib.ListN.{get_elem?, length-replicate}
@@ -36,7 +37,7 @@ module _ {S : Type 0} (Contents : ℕ → List ℕ → S → ℕ → Type 0) (go
     limits = (few, omega arith);
     bases = each_one (λ _ c. c ≡ b) b refl;
     plans = each_one _ _ (refl, refl);
-    arrivals = subst (λ (t : Shown). CountsArrivals b.callers t.indicators (Out ∷ [])) (sym shows) (λ v low. get_or-replicate {A = ℕ} (indicator_count b.callers) v 0 0 low);
+    arrivals = subst (λ (t : Shown). ShowsArrivals b.callers t.indicators (Out ∷ [])) (sym shows) (λ v low. get_or-replicate {A = ℕ} (indicator_count b.callers) v 0 0 low);
     images = each_one _ _ tt;
     written = subst (λ (t : Shown). IsWritten Contents go b start count t (opening_plan b)) (sym shows) record {
       side = refl;
@@ -84,6 +85,7 @@ module _ {S : Type 0} (Contents : ℕ → List ℕ → S → ℕ → Type 0) (go
       differ = λ i j n e f pos. absurd (none_positive i n e pos);
       given = each_one (λ _ n. n ≤ 0) 0 (omega arith);
       standing = each_one (λ _. IsNumbered) (opening_view b) (λ h. absurd (h refl));
+      own = each_one (λ _. StandsAtOwn) (opening_view b) (own_nowhere (opening_view b) (λ _. refl));
       bare = each_one (λ _. HoldsNothing) (opening_view b) (λ _. (refl, refl, refl, refl));
     };
   }

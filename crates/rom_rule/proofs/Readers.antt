@@ -1,19 +1,19 @@
 -- Each kind of step keeps the rule
 use Rattle.rom_model.specs.Blocks.{region_len}
-use Rattle.std.proofs.Common.{◌≡◌, ◌≢◌, ℕ, ◌+◌, ◌-◌, ◌*◌, ◌%◌, ◌^◌, ◌<◌, ◌≤◌, List, [], ◌∷◌, map, length, get_or, set, sym, refl, ap, ◌∙◌, subst, ⊎_elim, arith, Option, length-set, get_or-set_other, get_or-set_same, eq-eqb, ne_eqb, eqb, cond, Bool, true, false}
+use Rattle.std.proofs.Common.{◌≡◌, ◌≢◌, ℕ, ◌+◌, ◌*◌, ◌<◌, ◌≤◌, List, [], ◌∷◌, map, length, get_or, set, sym, refl, ap, ◌∙◌, subst, ⊎_elim, arith, Option, length-set, get_or-set_other, get_or-set_same, eqb, cond, Bool, true, false}
 use mathlib.Core.Logic.{dite}
 use mathlib.Core.Option.{some}
 use native.Mathlib.Decide.{ℕ_discrete}
 use lib.ListN.{get_elem?}
-use lib.Seq.{set-get_or, map-set}
+use lib.Seq.{set-get_or}
 use Rattle.atomic_table.specs.Table.{State, Me, step, keeps, Allows}
 use mathlib.Core.Option.{none}
-use Rattle.atomic_table.proofs.Lists.{at_set, at_map}
+use Rattle.atomic_table.proofs.Lists.{at_set}
 use Rattle.rom_model.specs.declared.entry.Entry.{Entry}
 use Rattle.rom_rule.specs.Calls.{Announced}
 use Rattle.rom_rule.specs.Kinds.{HasArrived, HoldsVersion, IsOut, IsReading, StandsAt, arrived, departed, entering, loaded_image, loaded_side, loaded_version, moved}
 use Rattle.rom_rule.specs.Places.{Shown, back_at, indicator_at, indicator_count, indicator_of, main_at, shown, side_at, slots_at, version_at, word_at}
-use Rattle.rom_rule.specs.Readers.{CountsArrivals, Differ, HoldsNothing, IsNumbered, IsWritten, KeepsImage, ReadsNamedSide, Stands, hit, stands, total}
+use Rattle.rom_rule.specs.Readers.{ShowsArrivals, Differ, HoldsNothing, IsNumbered, IsWritten, KeepsImage, ReadsNamedSide, Stands, StandsAtOwn, any_stands, stands}
 use Rattle.rom_rule.specs.Records.{IsCall, IsFront, Remembers}
 use Rattle.rom_rule.specs.Rule.{IsOnlyPlan, IsRuled}
 use Rattle.rom_rule.specs.Views.{CallerCalls, Each, base_in, book_in, calls_in, image_of, indicator_in, is_reading, number_in, plan_calls, plan_in, position_in, reading_in, records_of, remembered_in, side_of, side_read, version_of}
@@ -21,43 +21,13 @@ use Rattle.rom_rule.specs.declared.views.Base.{Base}
 use Rattle.rom_rule.specs.declared.views.Position.{Position}
 use Rattle.rom_rule.specs.declared.views.Position.TheVariants.{Arrived, Holds, Out, Reads}
 use Rattle.rom_rule.specs.declared.views.View.{View}
-use Rattle.rom_rule.proofs.Frames.{frame, each_set, each_at, total_set}
+use Rattle.rom_rule.proofs.Frames.{frame, each_set, each_at}
 use Rattle.rom_rule.proofs.Parts.{part_get, part_long, shown_indicators}
-use Rattle.rom_rule.proofs.Crowd.{crowd}
+use Rattle.rom_rule.proofs.Standing.{any_left, any_now, any_same, elsewhere, own_here, own_nowhere, stands_here, stands_one, stands_only}
 use Rattle.rom_rule.proofs.Told.{all_append}
 use Rattle.rom_rule.proofs.Joining.{same_calls}
 use Rattle.rom_rule.proofs.Books.{front_now}
 use Rattle.rom_rule.proofs.Own.{knows_told, knows_whole, told_all}
-
--- facts on positions
-stands_one : (i v : ℕ) → i ≢ v → hit v i ≡ 0
-stands_one i v ne = ap (λ (c : Bool). let z : ℕ = cond c 1 0 in z) (ne_eqb v i (λ e. ne (sym e)))
-
-pub stands_here : (v : ℕ) → hit v v ≡ 1
-stands_here v = ap (λ (c : Bool). let z : ℕ = cond c 1 0 in z) (eq-eqb v v refl)
-
-light : (i : ℕ) (p : Position) → stands i p ≤ 1
-light i Out = omega arith
-light i (Holds v) = omega arith
-light i (Arrived v) = dite (ℕ_discrete i v) (λ e. let h = stands_here v in subst (λ (k : ℕ). hit v k ≤ 1) (sym e) (omega arith)) (λ n. let h = stands_one i v n in omega arith)
-light i (Reads v s f image) = dite (ℕ_discrete i v) (λ e. let h = stands_here v in subst (λ (k : ℕ). hit v k ≤ 1) (sym e) (omega arith)) (λ n. let h = stands_one i v n in omega arith)
-
-not_out : (i : ℕ) (p : Position) → 0 < stands i p → p ≢ Out
-not_out i p h e = let z : stands i p ≡ 0 = ap (stands i) e in omega arith
-
--- it stands at one indicator at most
-elsewhere : (i v : ℕ) (p : Position) → stands v p ≡ 1 → i ≢ v → stands i p ≡ 0
-elsewhere i v Out h ne = refl
-elsewhere i v (Holds w) h ne = refl
-elsewhere i v (Arrived w) h ne = dite (ℕ_discrete v w) (λ e. stands_one i w (λ d. ne (d ∙ sym e))) (λ n. let z = stands_one v w n in absurd (omega arith))
-elsewhere i v (Reads w s f image) h ne = dite (ℕ_discrete v w) (λ e. stands_one i w (λ d. ne (d ∙ sym e))) (λ n. let z = stands_one v w n in absurd (omega arith))
-
--- where it stands
-stands_only : (v : ℕ) (p : Position) → stands v p ≡ 1 → v ≡ indicator_in p
-stands_only v Out h = cc
-stands_only v (Holds w) h = cc
-stands_only v (Arrived w) h = dite (ℕ_discrete v w) (λ e. e) (λ n. let z = stands_one v w n in absurd (omega arith))
-stands_only v (Reads w s f image) h = dite (ℕ_discrete v w) (λ e. e) (λ n. let z = stands_one v w n in absurd (omega arith))
 
 module _ {S : Type 0} (Contents : ℕ → List ℕ → S → ℕ → Type 0) (go : ℕ → S → ℕ → List ℕ → Option (S × List ℕ)) (b : Base) where
   abbrev pub St : Type 0
@@ -72,30 +42,14 @@ module _ {S : Type 0} (Contents : ℕ → List ℕ → S → ℕ → Type 0) (go
   abbrev pub after_step : St → List ℕ → ℕ → View → St
   after_step s ws id w = record { words = ws; homes = s.homes; views = set s.views id w }
 
-  -- the number that stands at an indicator, after a step of one view
-  pub weigh : (i : ℕ) (views : List View) (id : ℕ) (v w : View) → get_elem? views id ≡ some v
-      → total (stands i) (map position_in (set views id w)) + stands i v.position ≡ total (stands i) (map position_in views) + stands i w.position
-  weigh i views id v w at = ap (λ (l : List Position). total (stands i) l + stands i v.position) (map-set position_in views id w) ∙ total_set (stands i) (map position_in views) id v.position w.position (at_map position_in views id v at)
-
-  total_map : (i : ℕ) (views : List View) → total (stands i) (map position_in views) ≡ total (λ (v : View). stands i v.position) views
-  total_map i [] = refl
-  total_map i (v ∷ vs) = ap (λ (k : ℕ). stands i v.position + k) (total_map i vs)
-
-  -- no indicator counts more than 16
-  at_most : (s : St) (r : R s) (i : ℕ) → total (stands i) (map position_in s.views) ≤ 16
-  at_most s r i = let l = r.limits in let l₀ = l.0 in let l₁ = l.1 in
-      let c = crowd (λ (v : View). stands i v.position) number_in r.plan.dealt s.views (λ v. light i v.position) (λ j v e p. r.seats.standing j v e (not_out i v.position p))
-      (λ j v e. each_at (λ _ n. n ≤ r.plan.dealt) number_in s.views j v e r.seats.given) r.seats.differ in
-      let m = total_map i s.views in omega arith
-
   abbrev pub AnnouncedIn : (s : St) → R s → List ℕ → List CallerCalls → Type 0
   AnnouncedIn s r slots all_calls = Announced (IsCall go b) b.callers slots r.count (plan_calls r.plan) all_calls
 
   -- what stays the same at each step of a caller's
   unfoldable pub caller_step : (s : St) (r : R s) (id : ℕ) (v w : View) (ws : List ℕ) → get_elem? s.views id ≡ some v → w.base ≡ v.base → w.plan ≡ v.plan → w.number ≡ v.number → length ws ≡ length s.words
-      → CountsArrivals b.callers (shown b ws).indicators (map position_in (set s.views id w)) → KeepsImage Contents go b r.plan.main r.plan.back w.position w.seen → IsWritten Contents go b r.start r.count (shown b ws) r.plan
-      → ReadsNamedSide b.callers r.plan w.position → Remembers r.count (book_in r.plan) (remembered_in w) → AnnouncedIn s r (shown b ws).slots (map calls_in (set s.views id w)) → IsNumbered w → (HoldsNothing v → HoldsNothing w) → R (after_step s ws id w)
-  caller_step s r id v w ws at base plan_same number wide counts image written behind memory announced holder bare = record {
+      → ShowsArrivals b.callers (shown b ws).indicators (map position_in (set s.views id w)) → KeepsImage Contents go b r.plan.main r.plan.back w.position w.seen → IsWritten Contents go b r.start r.count (shown b ws) r.plan
+      → ReadsNamedSide b.callers r.plan w.position → Remembers r.count (book_in r.plan) (remembered_in w) → AnnouncedIn s r (shown b ws).slots (map calls_in (set s.views id w)) → IsNumbered w → (StandsAtOwn v → StandsAtOwn w) → (HoldsNothing v → HoldsNothing w) → R (after_step s ws id w)
+  caller_step s r id v w ws at base plan_same number wide counts image written behind memory announced holder own bare = record {
     plan = r.plan;
     writer = r.writer;
     start = r.start;
@@ -116,6 +70,7 @@ module _ {S : Type 0} (Contents : ℕ → List ℕ → S → ℕ → Type 0) (go
       differ = frame number_in Differ s.views id v w at number r.seats.differ;
       given = frame number_in (Each (λ _ n. n ≤ r.plan.dealt)) s.views id v w at number r.seats.given;
       standing = λ j c e. ⊎_elim (λ (t : (j ≡ id) × (w ≡ c)). subst IsNumbered t.1 holder) (λ (t : (j ≢ id) × (get_elem? s.views j ≡ some c)). r.seats.standing j c t.1) (at_set s.views id j w c e);
+      own = λ j c e. ⊎_elim (λ (t : (j ≡ id) × (w ≡ c)). subst StandsAtOwn t.1 (own (r.seats.own id v at))) (λ (t : (j ≢ id) × (get_elem? s.views j ≡ some c)). r.seats.own j c t.1) (at_set s.views id j w c e);
       bare = λ j c e. ⊎_elim (λ (t : (j ≡ id) × (w ≡ c)). subst HoldsNothing t.1 (bare (r.seats.bare id v at))) (λ (t : (j ≢ id) × (get_elem? s.views j ≡ some c)). r.seats.bare j c t.1) (at_set s.views id j w c e);
     };
   }
@@ -130,8 +85,8 @@ module _ {S : Type 0} (Contents : ℕ → List ℕ → S → ℕ → Type 0) (go
   pub reload : (s : St) (i id : ℕ) (w : View) → R (after_step s s.words id w) → R (after_step s (set s.words i (get_or s.words i 0)) id w)
   reload s i id w r = subst (λ (ws : List ℕ). R (after_step s ws id w)) (sym (set-get_or s.words i 0)) r
 
-  -- the word of an indicator is the number of views that stand there
-  pub indicator_is : (s : St) (r : R s) (i : ℕ) → i < indicator_count b.callers → get_or s.words (2 + i) 0 ≡ total (stands i) (map position_in s.views)
+  -- the word of an indicator is 1 where a view stands there, else 0
+  pub indicator_is : (s : St) (r : R s) (i : ℕ) → i < indicator_count b.callers → get_or s.words (2 + i) 0 ≡ any_stands i (map position_in s.views)
   unfolding shown
   indicator_is s r i low = sym (part_get 2 (indicator_count b.callers) s.words i low) ∙ r.arrivals i low
 
@@ -139,14 +94,13 @@ module _ {S : Type 0} (Contents : ℕ → List ℕ → S → ℕ → Type 0) (go
   unfolding shown
   indicators_long s r = let w = r.wide in part_long 2 (indicator_count b.callers) s.words (omega arith)
 
-  -- a step on the indicator v, after which the view stands there or not
-  counted : (s : St) (r : R s) (id v x : ℕ) (u w : View) → get_elem? s.views id ≡ some u → v < indicator_count b.callers → x + stands v u.position ≡ get_or s.words (2 + v) 0 + stands v w.position
-      → ((i : ℕ) → i ≢ v → stands i u.position ≡ stands i w.position) → CountsArrivals b.callers (shown b (set s.words (2 + v) x)).indicators (map position_in (set s.views id w))
-  counted s r id v x u w at low sum others i lt = let here = weigh i s.views id u w at in ap (λ (t : Shown). get_or t.indicators i 0) (shown_indicators b s.words v x low) ∙ dite (ℕ_discrete i v)
-      (λ e. let was = indicator_is s r v low in let now = weigh v s.views id u w at in
-      subst (λ (k : ℕ). get_or (set (shown b s.words).indicators v x) k 0 ≡ total (stands k) (map position_in (set s.views id w))) (sym e)
-      (get_or-set_same (shown b s.words).indicators v x 0 (omega (arith, indicators_long s r)) ∙ omega arith))
-      (λ n. get_or-set_other (shown b s.words).indicators v i x 0 n ∙ (let c = r.arrivals i lt in let o = others i n in omega arith))
+  -- a store of x to the indicator v, after which one view or none stands there
+  stored : (s : St) (r : R s) (id v x : ℕ) (u w : View) → get_elem? s.views id ≡ some u → v < indicator_count b.callers → any_stands v (map position_in (set s.views id w)) ≡ x
+      → ((i : ℕ) → i ≢ v → stands i w.position ≡ stands i u.position) → ShowsArrivals b.callers (shown b (set s.words (2 + v) x)).indicators (map position_in (set s.views id w))
+  stored s r id v x u w at low now others i lt = ap (λ (t : Shown). get_or t.indicators i 0) (shown_indicators b s.words v x low) ∙ dite (ℕ_discrete i v)
+      (λ e. subst (λ (k : ℕ). get_or (set (shown b s.words).indicators v x) k 0 ≡ any_stands k (map position_in (set s.views id w))) (sym e)
+      (get_or-set_same (shown b s.words).indicators v x 0 (omega (arith, indicators_long s r)) ∙ sym now))
+      (λ n. get_or-set_other (shown b s.words).indicators v i x 0 n ∙ (r.arrivals i lt ∙ sym (any_same i id s.views u w at (others i n))))
 
   -- what the other words show stays
   beside : (s : St) (r : R s) (v x : ℕ) → v < indicator_count b.callers → IsWritten Contents go b r.start r.count (shown b (set s.words (2 + v) x)) r.plan
@@ -160,8 +114,8 @@ module _ {S : Type 0} (Contents : ℕ → List ℕ → S → ℕ → Type 0) (go
     published = k.published;
   }
 
-  pub still : (s : St) (r : R s) (id : ℕ) (v w : View) → get_elem? s.views id ≡ some v → ((i : ℕ) → stands i v.position ≡ stands i w.position) → CountsArrivals b.callers (shown b s.words).indicators (map position_in (set s.views id w))
-  still s r id v w at same i low = let h = weigh i s.views id v w at in let e = same i in let c = r.arrivals i low in omega arith
+  pub still : (s : St) (r : R s) (id : ℕ) (v w : View) → get_elem? s.views id ≡ some v → ((i : ℕ) → stands i v.position ≡ stands i w.position) → ShowsArrivals b.callers (shown b s.words).indicators (map position_in (set s.views id w))
+  still s r id v w at same i low = r.arrivals i low ∙ sym (any_same i id s.views v w at (sym (same i)))
 
   -- a caller loads `version`
   pub loads_version : (slots id : ℕ) (me : M) → IsOut me.0 → Allows R slots id me version_at (λ n. n) (loaded_version (step slots version_at 0 0 none) me)
@@ -170,28 +124,33 @@ module _ {S : Type 0} (Contents : ℕ → List ℕ → S → ℕ → Type 0) (go
     w,
     keeps,
     tt,
-    reload s 1 id w (caller_step s r id v w s.words at refl refl refl refl (still s r id v w at (λ i. ap (stands i) out)) tt r.written tt (remembered_of s r id v at) (announced_on s r id v w (shown b s.words).slots at refl refl) (λ _. mark) (λ h. h)),
+    reload s 1 id w (caller_step s r id v w s.words at refl refl refl refl (still s r id v w at (λ i. ap (stands i) out)) tt r.written tt (remembered_of s r id v at) (announced_on s r id v w (shown b s.words).slots at refl refl) (λ _. mark) (λ _. own_nowhere w (λ _. refl)) (λ h. h)),
     (refl, omega arith, refl),
   )
 
+  -- its number is that of a caller
+  given_low : (s : St) (r : R s) (id : ℕ) (v : View) → get_elem? s.views id ≡ some v → v.number ≤ b.callers
+  given_low s r id v at = let n = each_at (λ _ z. z ≤ r.plan.dealt) number_in s.views id v at r.seats.given in let l = r.limits.1 in omega arith
+
   -- it arrives
-  pub arrives : (slots id : ℕ) (me : M) (v : ℕ) → HoldsVersion me.0 v → Allows R slots id me (indicator_at (indicator_of me.0.number v)) (λ n. (n + 1) % 2 ^ 64) (arrived (step slots (indicator_at (indicator_of me.0.number v)) 1 0 none) me)
-  arrives slots id me v can s r _ at fits = let holds = can.0 in let low = can.1 in let mark = can.2 in let u = me.0 in let n : ℕ = get_or s.words (2 + v) 0 in let x : ℕ = (n + 1) % 18446744073709551616 in let w : View = moved u (Arrived v) in
-      let count = indicator_is s r v low in let few = at_most s r v in let is : x ≡ n + 1 = omega arith in let none_yet : stands v u.position ≡ 0 = ap (stands v) holds in let one = stands_here v in (
+  pub arrives : (slots id : ℕ) (me : M) (v : ℕ) → HoldsVersion me.0 v → Allows R slots id me (indicator_at (indicator_of me.0.number v)) (λ _. 1) (λ _. arrived (step slots (indicator_at (indicator_of me.0.number v)) 1 0 none) me 1)
+  arrives slots id me v can s r _ at _ = let holds = can.0 in let low = can.1 in let mark = can.2 in let u = me.0 in let k : ℕ = indicator_of u.number v in let w : View = moved u (Arrived k) in
+      let few = given_low s r id u at in let inside : k < indicator_count b.callers = omega arith in (
         w,
         keeps,
         tt,
-        caller_step s r id u w (set s.words (2 + v) x) at refl refl refl (length-set s.words (2 + v) x) (counted s r id v x u w at low (omega arith) (λ i ne. ap (stands i) holds ∙ sym (stands_one i v ne))) tt (beside s r v x low) tt
-            (remembered_of s r id u at) (announced_on s r id u w (shown b (set s.words (2 + v) x)).slots at (ap (λ (t : Shown). t.slots) (shown_indicators b s.words v x low)) refl) (λ _. mark) (λ h. h),
-        (ap (λ (p : Position). indicator_at (indicator_of u.number (version_of p))) (sym holds), ap (λ (p : Position). let z : M = (moved u (Arrived (version_of p)), me.1) in z) (sym holds)),
+        caller_step s r id u w (set s.words (2 + k) 1) at refl refl refl (length-set s.words (2 + k) 1) (stored s r id k 1 u w at inside (any_now k id s.views u w at (stands_here k)) (λ i ne. stands_one i k ne ∙ sym (ap (stands i) holds))) tt (beside s r k 1 inside) tt
+            (remembered_of s r id u at) (announced_on s r id u w (shown b (set s.words (2 + k) 1)).slots at (ap (λ (t : Shown). t.slots) (shown_indicators b s.words k 1 inside)) refl) (λ _. mark)
+            (λ _ i there. own_here u.number v i mark low (stands_only i w.position there)) (λ h. h),
+        (ap (λ (p : Position). indicator_at (indicator_of u.number (version_of p))) (sym holds), ap (λ (p : Position). let z : M = (moved u (Arrived (indicator_of u.number (version_of p))), me.1) in z) (sym holds)),
       )
 
   module _ (one : (order : ℕ) (words : List ℕ) (s t : S) (j k : ℕ) → Contents order words s j → Contents order words t k → (s ≡ t) × (j ≡ k)) where
     -- it loads `side`
     pub loads_side : (slots id : ℕ) (me : M) (v : ℕ) → HasArrived me.0 v → Allows R slots id me side_at (λ n. n) (loaded_side Contents go (step slots side_at 0 0 none) me)
     unfolding shown
-    loads_side slots id me v can s r _ at _ = let arrived_at = can.0 in let v_low = can.1 in let mark = can.2 in let u = me.0 in let k = r.written in let found : ℕ = get_or s.words 0 0 in let p = r.plan in let is : found ≡ p.side = k.side in let low = k.side_low in let image : List ℕ = side_of p.side p.main p.back in
-        let f : ℕ = r.count + length p.history in let w : View = entering u v found f image p.history in let same : u.base ≡ b = each_at (λ _ c. c ≡ b) base_in s.views id u at r.bases in let m = remembered_of s r id u at in
+    loads_side slots id me v can s r _ at _ = let arrived_at = can.0 in let mark = can.2 in let u = me.0 in let k = r.written in let found : ℕ = get_or s.words 0 0 in let p = r.plan in let is : found ≡ p.side = k.side in let low = k.side_low in let image : List ℕ = side_of p.side p.main p.back in
+        let f : ℕ = r.count + length p.history in let w : View = entering u v found f image p.history in let same : u.base ≡ b = each_at (λ _ c. c ≡ b) base_in s.views id u at r.bases in let v_low : v < indicator_count b.callers = subst (λ (z : Base). v < indicator_count z.callers) same can.1 in let m = remembered_of s r id u at in
         let whole : Stands Contents go b image p.history f = record { start = r.start; count = r.count; opening = r.opening; front_is = refl; held = k.published } in (
           w,
           keeps,
@@ -202,7 +161,7 @@ module _ {S : Type 0} (Contents : ℕ → List ℕ → S → ℕ → Type 0) (go
                 fronts = all_append (IsFront r.count (records_of p)) u.fronts (f ∷ []) m.fronts (front_now Contents go b r.start r.count (book_in p) r.recorded, tt);
                 joined = m.joined;
               }
-              (announced_on s r id u w (shown b s.words).slots at refl refl) (λ _. mark) (λ _ none. absurd (omega arith))),
+              (announced_on s r id u w (shown b s.words).slots at refl refl) (λ _. mark) (λ h j z. h j (ap (stands j) arrived_at ∙ z)) (λ _ none. absurd (omega arith))),
           (
             refl,
             f,
@@ -239,7 +198,7 @@ module _ {S : Type 0} (Contents : ℕ → List ℕ → S → ℕ → Type 0) (go
         w,
         keeps,
         tt,
-        reload s i id w (caller_step s r id u w s.words there refl refl refl refl (still s r id u w there (λ j. refl)) kept r.written (each_at (λ _. ReadsNamedSide b.callers r.plan) position_in s.views id u there r.named) (remembered_of s r id u there) (announced_on s r id u w (shown b s.words).slots there refl refl) (λ _. mark) (λ h. h)),
+        reload s i id w (caller_step s r id u w s.words there refl refl refl refl (still s r id u w there (λ j. refl)) kept r.written (each_at (λ _. ReadsNamedSide b.callers r.plan) position_in s.views id u there r.named) (remembered_of s r id u there) (announced_on s r id u w (shown b s.words).slots there refl refl) (λ _. mark) (λ h. h) (λ h. h)),
         (
           refl,
           λ at inside is. side_word s r (side_read u.position) at i known.1 (subst (λ (z : Base). at < region_len z.order) same inside) (is ∙ ap (λ (z : Base). word_at z.order z.callers (side_read u.position) at) same)
@@ -248,19 +207,12 @@ module _ {S : Type 0} (Contents : ℕ → List ℕ → S → ℕ → Type 0) (go
       )
 
   -- it departs
-  pub departs : (slots id : ℕ) (me : M) (v : ℕ) → StandsAt me.0 v → Allows R slots id me (indicator_at v) (λ n. (n + (2 ^ 64 - 1)) % 2 ^ 64) (departed (step slots (indicator_at v) 1 0 none) me)
-  departs slots id me v can s r _ at fits = let here = can.0 in let low = can.1 in let u = me.0 in let n : ℕ = get_or s.words (2 + v) 0 in let x : ℕ = (n + 18446744073709551615) % 18446744073709551616 in let w : View = moved u Out in
-      let count = indicator_is s r v low in let now = weigh v s.views id u w at in let is : x + 1 ≡ n = omega arith in (
-        w,
-        keeps,
-        tt,
-        caller_step s r id u w (set s.words (2 + v) x) at refl refl refl (length-set s.words (2 + v) x) (counted s r id v x u w at low (omega arith) (λ i ne. elsewhere i v u.position here ne)) tt (beside s r v x low) tt
-            (remembered_of s r id u at) (announced_on s r id u w (shown b (set s.words (2 + v) x)).slots at (ap (λ (t : Shown). t.slots) (shown_indicators b s.words v x low)) refl) (λ h. absurd (h refl)) (λ h. h),
-        (ap indicator_at (stands_only v u.position here), refl),
-      )
-
-pub reading_stands : (v : ℕ) (p : Position) → is_reading p ≡ true → v ≡ indicator_in p → stands v p ≡ 1
-reading_stands v Out h e = cc
-reading_stands v (Holds w) h e = cc
-reading_stands v (Arrived w) h e = cc
-reading_stands v (Reads w s f image) h e = subst (λ (k : ℕ). hit w k ≡ 1) (sym e) (stands_here w)
+  pub departs : (slots id : ℕ) (me : M) (v : ℕ) → StandsAt me.0 v → Allows R slots id me (indicator_at v) (λ _. 0) (λ _. departed (step slots (indicator_at v) 0 0 none) me 0)
+  departs slots id me v can s r _ at _ = let here = can.0 in let mark = can.2 in let u = me.0 in let w : View = moved u Out in let low : v < indicator_count b.callers = subst (λ (z : Base). v < indicator_count z.callers) (each_at (λ _ c. c ≡ b) base_in s.views id u at r.bases) can.1 in (
+    w,
+    keeps,
+    tt,
+    caller_step s r id u w (set s.words (2 + v) 0) at refl refl refl (length-set s.words (2 + v) 0) (stored s r id v 0 u w at low (any_left v id s.views u w r.seats.differ r.seats.own at mark here refl) (λ i ne. sym (elsewhere i v u.position here ne))) tt (beside s r v 0 low) tt
+        (remembered_of s r id u at) (announced_on s r id u w (shown b (set s.words (2 + v) 0)).slots at (ap (λ (t : Shown). t.slots) (shown_indicators b s.words v 0 low)) refl) (λ h. absurd (h refl)) (λ _. own_nowhere w (λ _. refl)) (λ h. h),
+    (ap indicator_at (stands_only v u.position here), refl),
+  )

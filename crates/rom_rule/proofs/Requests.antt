@@ -30,7 +30,7 @@ use Rattle.rom_rule.proofs.Recording.{hears_few, hears_call, tells_each}
 use Rattle.rom_rule.proofs.Scanning.{begins, scans, hears, open_at}
 use Rattle.rom_rule.proofs.Books.{full_batch}
 use Rattle.rom_rule.proofs.Readers.{reload}
-use Rattle.rom_rule.proofs.Writes.{plan_is, base_is, writer_step, announced_with, same_view}
+use Rattle.rom_rule.proofs.Writes.{plan_is, base_is, callers_are, writer_step, announced_with, same_view}
 use Rattle.rom_rule.proofs.Switching.{makes_record, the_batch}
 use Rattle.rom_rule.proofs.Callers.{slot_word, long}
 
@@ -104,7 +104,7 @@ module _ {S : Type 0} (Contents : ℕ → List ℕ → S → ℕ → Type 0) (go
         tt,
         reload Contents go b s i id (planned v q) (call_step s r id v q s.words (shown b s.words).slots at is.1 refl refl (alike p q.requests c)
             (scans (IsCall go b) b.callers r.count (shown b s.words).slots (plan_calls p) (map calls_in s.views) r.announced c turn (ap (λ (z : Plan). is_made z.mine) (sym is.0) ∙ ap is_made unmade) next' low (slot_word Contents go b s r c 0 (omega arith) low (omega arith)))),
-        λ c' pos same. let e : c ≡ c' = omega arith in ap (λ (x : ℕ × Plan). let y : M = (planned v (found_after x.0 turn x.1), me.1) in y) (λ j. (e j, sym is.0 j)),
+        λ c' pos same. let many = callers_are Contents go b s r id v at in let e : c ≡ c' = omega arith in ap (λ (x : ℕ × Plan). let y : M = (planned v (found_after x.0 turn x.1), me.1) in y) (λ j. (e j, sym is.0 j)),
       )
 
   -- the writer loads the first turn, with which a pass begins
@@ -133,7 +133,7 @@ module _ {S : Type 0} (Contents : ℕ → List ℕ → S → ℕ → Type 0) (go
         tt,
         reload Contents go b s i id (planned v q) (call_step s r id v q s.words (shown b s.words).slots at is.1 refl refl (alike p q.requests p.scanned)
             (hears (IsCall go b) b.callers r.count (shown b s.words).slots (plan_calls p) (map calls_in s.views) r.announced here.0 j f x here.1 here.3 le next word)),
-        λ c' j' pos lj same. let pos' = o.0 in let e : c ≡ c' = omega arith in let e' : j ≡ j' = omega arith in (
+        λ c' j' pos lj same. let pos' = o.0 in let many = callers_are Contents go b s r id v at in let e : c ≡ c' = omega arith in let e' : j ≡ j' = omega arith in (
           ap (λ (z : ℕ × ℕ × Plan). let y : M = (planned v (altered z.0 (loading z.1 x) z.2), me.1) in y) (λ k. (e k, e' k, sym is.0 k)),
           (λ z. subst (λ (n : ℕ). n ≤ 40) (sym word) (few.1 (e' ∙ z))),
           λ g args found whole. let g_here : IsPending p c g = subst (λ (z : ℕ × Plan). IsPending z.1 z.0 g) (λ k. (sym e k, is.0 k)) found in
@@ -157,7 +157,7 @@ module _ {S : Type 0} (Contents : ℕ → List ℕ → S → ℕ → Type 0) (go
         keeps,
         tt,
         stores_word s r id v c (43 + i) x (laying i x) at is.1 o.0 o.1 (omega arith) (lays_down (IsCall go b) b.callers r.count (shown b s.words).slots (plan_calls p) (map calls_in s.views) r.announced here.0 i f x here.1 here.3 le few (long Contents go b s r)),
-        λ c' j' pos lj same. let pos' = o.0 in let e : c ≡ c' = omega arith in let e' : i ≡ j' = omega arith in ap (λ (z : ℕ × ℕ × Plan). let y : M = (planned v (altered z.0 (laying z.1 x) z.2), me.1) in y) (λ j. (e j, e' j, sym is.0 j)),
+        λ c' j' pos lj same. let pos' = o.0 in let many = callers_are Contents go b s r id v at in let e : c ≡ c' = omega arith in let e' : i ≡ j' = omega arith in ap (λ (z : ℕ × ℕ × Plan). let y : M = (planned v (altered z.0 (laying z.1 x) z.2), me.1) in y) (λ j. (e j, e' j, sym is.0 j)),
       )
 
   -- the writer stores a place
@@ -169,7 +169,7 @@ module _ {S : Type 0} (Contents : ℕ → List ℕ → S → ℕ → Type 0) (go
         keeps,
         tt,
         stores_word s r id v c 42 x (placing x) at is.1 o.0 o.1 (omega arith) (puts_down (IsCall go b) b.callers r.count (shown b s.words).slots (plan_calls p) (map calls_in s.views) r.announced here.0 f x here.1 here.3 (long Contents go b s r)),
-        λ c' pos same. let pos' = o.0 in let e : c ≡ c' = omega arith in ap (λ (z : ℕ × Plan). let y : M = (planned v (altered z.0 (placing x) z.1), me.1) in y) (λ j. (e j, sym is.0 j)),
+        λ c' pos same. let pos' = o.0 in let many = callers_are Contents go b s r id v at in let e : c ≡ c' = omega arith in ap (λ (z : ℕ × Plan). let y : M = (planned v (altered z.0 (placing x) z.1), me.1) in y) (λ j. (e j, sym is.0 j)),
       )
 
   -- the writer stores a turn, even
@@ -182,7 +182,7 @@ module _ {S : Type 0} (Contents : ℕ → List ℕ → S → ℕ → Type 0) (go
         tt,
         stores_word s r id v c 0 (2 * f.seq + 2) answering at is.1 o.0 o.1 (omega arith)
             (answers (IsCall go b) b.callers r.count (shown b s.words).slots (plan_calls p) (map calls_in s.views) r.announced here.0 f (found_of f, u) place here.1 here.3 (subst (λ (z : Plan). IsAnswer z f u) is.0 told) placed whole (long Contents go b s r)),
-        λ c' pos same. let pos' = o.0 in let e : c ≡ c' = omega arith in ap (λ (z : ℕ × Plan). let y : M = (planned v (altered z.0 answering z.1), me.1) in y) (λ j. (e j, sym is.0 j)),
+        λ c' pos same. let pos' = o.0 in let many = callers_are Contents go b s r id v at in let e : c ≡ c' = omega arith in ap (λ (z : ℕ × Plan). let y : M = (planned v (altered z.0 answering z.1), me.1) in y) (λ j. (e j, sym is.0 j)),
       )
 
   -- the same by raising the turn by one
@@ -236,7 +236,7 @@ module _ {S : Type 0} (Contents : ℕ → List ℕ → S → ℕ → Type 0) (go
             more,
             the_batch Contents go b one s r v (plan_of v) k more base is.0 refl refl,
             subst (TellsEach fate k more) (sym is.0) (tells_each (IsCall go b) b.callers r.count (shown b s.words).slots (plan_calls p) (map calls_in s.views) r.announced fate k more (ap is_made can'.unmade)),
-            λ c' j' pos lj same. let pos' = o.0 in let e : c ≡ c' = omega arith in let e' : i ≡ j' = omega arith in ap (λ (z : ℕ × ℕ × Plan). let y : M = (planned v (altered z.0 (laying z.1 x) (making fate before now k more z.2)), me.1) in y) (λ h. (e h, e' h, sym is.0 h)),
+            λ c' j' pos lj same. let pos' = o.0 in let many = callers_are Contents go b s r id v at in let e : c ≡ c' = omega arith in let e' : i ≡ j' = omega arith in ap (λ (z : ℕ × ℕ × Plan). let y : M = (planned v (altered z.0 (laying z.1 x) (making fate before now k more z.2)), me.1) in y) (λ h. (e h, e' h, sym is.0 h)),
           ),
         )
 

@@ -11,7 +11,7 @@ use Rattle.rom_model.specs.Seen.{StartsWith}
 use Rattle.rom_rule.specs.Calls.{Announced, told_to}
 use Rattle.rom_rule.specs.Kinds.{CanDeal, CanJoin, caught_up, dealing, informed, newcomer, note_of, noting, planned, reviewed, spent_as}
 use Rattle.rom_rule.specs.Places.{shown}
-use Rattle.rom_rule.specs.Readers.{CountsArrivals, Differ, HoldsNothing, IsNumbered, IsWritten, KeepsImage, ReadsNamedSide, stands, total}
+use Rattle.rom_rule.specs.Readers.{ShowsArrivals, Differ, HoldsNothing, IsNumbered, IsWritten, KeepsImage, ReadsNamedSide, StandsAtOwn, any_stands, stands}
 use Rattle.rom_rule.specs.Records.{IsCall, IsKept, KnowsEntries, Recorded, Remembers}
 use Rattle.rom_rule.specs.Rule.{IsOnlyPlan, IsRuled}
 use Rattle.rom_rule.specs.Views.{Book, CallerCalls, Each, IsWriter, base_in, book_in, calls_in, kept_of, number_in, plan_calls, plan_in, plan_of, position_in, reading_in, remembered_in}
@@ -22,6 +22,7 @@ use Rattle.rom_rule.specs.declared.views.Position.TheVariants.{Arrived, Holds, O
 use Rattle.rom_rule.specs.declared.views.View.{View}
 use Rattle.rom_rule.proofs.Frames.{each_set, frame, unseen}
 use Rattle.rom_rule.proofs.Readers.{caller_step, still, remembered_of, announced_on, reload}
+use Rattle.rom_rule.proofs.Standing.{any_more, own_nowhere}
 use Rattle.rom_rule.proofs.Told.{all_append, all_map}
 use Rattle.rom_rule.proofs.Own.{knows_on, told_all}
 use Rattle.rom_rule.proofs.Joining.{notes, deals, merges, all_told_whole}
@@ -31,10 +32,6 @@ module _ {A B : Type 0} where
   pub each_snoc : (P : ℕ → B → Type 0) (p : A → B) (xs : List A) (a : A) → Each P (map p xs) → ((j : ℕ) → P j (p a)) → Each P (map p (xs ++ a ∷ []))
   each_snoc P p xs a h here j b e = ⊎_elim (λ (t : get_elem? (map p xs) j ≡ some b). h j b t) (λ (t : p a ≡ b). subst (P j) t (here j))
       (at_snoc (map p xs) (p a) b j (subst (λ (l : List B). get_elem? l j ≡ some b) (map-append p xs (a ∷ [])) e))
-
-total_snoc : {A : Type 0} (f : A → ℕ) (xs : List A) (a : A) → total f (xs ++ a ∷ []) ≡ total f xs + f a
-total_snoc f [] a = omega arith
-total_snoc f (x ∷ xs) a = let h = total_snoc f xs a in omega arith
 
 -- a new number, above the others
 pub differ_snoc : (ns : List ℕ) (n : ℕ) → Differ ns → (0 < n → Each (λ _ k. k < n) ns) → Differ (ns ++ n ∷ [])
@@ -77,8 +74,7 @@ module _ {S : Type 0} (Contents : ℕ → List ℕ → S → ℕ → Type 0) (go
     limits = r.limits;
     bases = each_snoc (λ _ c. c ≡ b) base_in s.views w r.bases (λ _. base);
     plans = each_snoc (IsOnlyPlan r.plan r.writer) plan_in s.views w r.plans (λ j. subst (IsOnlyPlan r.plan r.writer j) (sym plan_same) tt);
-    arrivals = λ v lt. r.arrivals v lt ∙ (let h = total_snoc (stands v) (map position_in s.views) w.position in let z : stands v w.position ≡ 0 = ap (stands v) out in
-        sym (ap (total (stands v)) (map-append position_in s.views (w ∷ [])) ∙ (h ∙ omega arith)));
+    arrivals = λ v lt. r.arrivals v lt ∙ sym (ap (any_stands v) (map-append position_in s.views (w ∷ [])) ∙ any_more v (map position_in s.views) w.position (ap (stands v) out));
     images = each_snoc (λ _ c. KeepsImage Contents go b r.plan.main r.plan.back c.0 c.1) reading_in s.views w r.images (λ _. subst (λ (p : Position). KeepsImage Contents go b r.plan.main r.plan.back p w.seen) (sym out) tt);
     written = r.written;
     named = each_snoc (λ _. ReadsNamedSide b.callers r.plan) position_in s.views w r.named (λ _. subst (ReadsNamedSide b.callers r.plan) (sym out) tt);
@@ -89,6 +85,7 @@ module _ {S : Type 0} (Contents : ℕ → List ℕ → S → ℕ → Type 0) (go
       differ = subst Differ (sym (map-append number_in s.views (w ∷ []))) (differ_snoc (map number_in s.views) w.number r.seats.differ fresh);
       given = each_snoc (λ _ n. n ≤ r.plan.dealt) number_in s.views w r.seats.given (λ _. low);
       standing = λ j c e. ⊎_elim (r.seats.standing j c) (λ (t : w ≡ c). subst IsNumbered t (λ h. absurd (h out))) (at_snoc s.views w c j e);
+      own = λ j c e. ⊎_elim (r.seats.own j c) (λ (t : w ≡ c). subst StandsAtOwn t (own_nowhere w (λ k. ap (stands k) out))) (at_snoc s.views w c j e);
       bare = λ j c e. ⊎_elim (r.seats.bare j c) (λ (t : w ≡ c). subst HoldsNothing t bare) (at_snoc s.views w c j e);
     };
   }
@@ -108,7 +105,7 @@ module _ {S : Type 0} (Contents : ℕ → List ℕ → S → ℕ → Type 0) (go
   steps_out : (s : St) (r : R s) (id : ℕ) (v w : View) → get_elem? s.views id ≡ some v → v.position ≡ Out → w.position ≡ Out → w.base ≡ v.base → w.plan ≡ v.plan → w.number ≡ v.number → Remembers r.count (book_in r.plan) (remembered_in w) → calls_in w ≡ calls_in v → (HoldsNothing v → HoldsNothing w)
       → R record { words = s.words; homes = s.homes; views = set s.views id w }
   steps_out s r id v w at out out' base plan_same number memory same_calls_too bare = caller_step Contents go b s r id v w s.words at base plan_same number refl (still Contents go b s r id v w at (λ i. ap (stands i) (out ∙ sym out')))
-      (subst (λ (p : Position). KeepsImage Contents go b r.plan.main r.plan.back p w.seen) (sym out') tt) r.written (subst (ReadsNamedSide b.callers r.plan) (sym out') tt) memory (announced_on Contents go b s r id v w (shown b s.words).slots at refl same_calls_too) (λ h. absurd (h out')) bare
+      (subst (λ (p : Position). KeepsImage Contents go b r.plan.main r.plan.back p w.seen) (sym out') tt) r.written (subst (ReadsNamedSide b.callers r.plan) (sym out') tt) memory (announced_on Contents go b s r id v w (shown b s.words).slots at refl same_calls_too) (λ h. absurd (h out')) (λ _. own_nowhere w (λ k. ap (stands k) out')) bare
 
   -- a note is taken
   pub takes_note : (id : ℕ) (v : View) → v.position ≡ Out → Splits R id v (noting v) (note_of v)
@@ -174,7 +171,7 @@ module _ {S : Type 0} (Contents : ℕ → List ℕ → S → ℕ → Type 0) (go
         limits = r.limits;
         bases = each_set (λ _ c. c ≡ b) (λ _ c. c ≡ b) base_in views' other w' (λ _ _ _ h. h) (same ∙ base_is Contents go b s r id v at) (frame base_in (Each (λ _ c. c ≡ b)) s.views id v v' at refl r.bases);
         plans = each_set (IsOnlyPlan r.plan r.writer) (IsOnlyPlan r.plan r.writer) plan_in views' other w' (λ _ _ _ h. h) tt (frame plan_in (Each (IsOnlyPlan r.plan r.writer)) s.views id v v' at refl r.plans);
-        arrivals = subst (λ (l : List Position). CountsArrivals b.callers (shown b s.words).indicators l) (sym (unseen position_in views' other w w' there (sym idle.0) ∙ unseen position_in s.views id v v' at refl)) r.arrivals;
+        arrivals = subst (λ (l : List Position). ShowsArrivals b.callers (shown b s.words).indicators l) (sym (unseen position_in views' other w w' there (sym idle.0) ∙ unseen position_in s.views id v v' at refl)) r.arrivals;
         images = each_set (λ _ c. KeepsImage Contents go b r.plan.main r.plan.back c.0 c.1) (λ _ c. KeepsImage Contents go b r.plan.main r.plan.back c.0 c.1) reading_in views' other w' (λ _ _ _ h. h) tt (frame reading_in (Each (λ _ c. KeepsImage Contents go b r.plan.main r.plan.back c.0 c.1)) s.views id v v' at refl r.images);
         written = r.written;
         named = frame position_in (Each (λ _. ReadsNamedSide b.callers r.plan)) views' other w w' there (sym idle.0) (frame position_in (Each (λ _. ReadsNamedSide b.callers r.plan)) s.views id v v' at refl r.named);
@@ -191,6 +188,8 @@ module _ {S : Type 0} (Contents : ℕ → List ℕ → S → ℕ → Type 0) (go
           given = each_set (λ _ k. k ≤ r.plan.dealt) (λ _ k. k ≤ r.plan.dealt) number_in views' other w' (λ _ _ _ h. h) (omega arith) (frame number_in (Each (λ _ k. k ≤ r.plan.dealt)) s.views id v v' at refl r.seats.given);
           standing = λ j c e. ⊎_elim (λ (t : (j ≡ other) × (w' ≡ c)). subst IsNumbered t.1 (λ h. absurd (h refl))) (λ (t : (j ≢ other) × (get_elem? views' j ≡ some c)).
               ⊎_elim (λ (u : (j ≡ id) × (v' ≡ c)). subst IsNumbered u.1 (r.seats.standing id v at)) (λ (u : (j ≢ id) × (get_elem? s.views j ≡ some c)). r.seats.standing j c u.1) (at_set s.views id j v' c t.1)) (at_set views' other j w' c e);
+          own = λ j c e. ⊎_elim (λ (t : (j ≡ other) × (w' ≡ c)). subst StandsAtOwn t.1 (own_nowhere w' (λ _. refl))) (λ (t : (j ≢ other) × (get_elem? views' j ≡ some c)).
+              ⊎_elim (λ (u : (j ≡ id) × (v' ≡ c)). subst StandsAtOwn u.1 (r.seats.own id v at)) (λ (u : (j ≢ id) × (get_elem? s.views j ≡ some c)). r.seats.own j c u.1) (at_set s.views id j v' c t.1)) (at_set views' other j w' c e);
           bare = λ j c e. ⊎_elim (λ (t : (j ≡ other) × (w' ≡ c)). subst HoldsNothing t.1 (λ _. (refl, refl, refl, refl))) (λ (t : (j ≢ other) × (get_elem? views' j ≡ some c)).
               ⊎_elim (λ (u : (j ≡ id) × (v' ≡ c)). subst HoldsNothing u.1 (r.seats.bare id v at)) (λ (u : (j ≢ id) × (get_elem? s.views j ≡ some c)). r.seats.bare j c u.1) (at_set s.views id j v' c t.1)) (at_set views' other j w' c e);
         };

@@ -11,8 +11,8 @@ use Rattle.atomic_table.proofs.Lists.{at_set}
 use Rattle.rom_model.specs.declared.entry.Entry.{Entry}
 use Rattle.rom_rule.specs.Calls.{Announced}
 use Rattle.rom_rule.specs.Kinds.{CanCheck, CanStore, CanStoreVersion, checked_indicator, loaded_region, observed, planned, stored_back, stored_main, stored_version}
-use Rattle.rom_rule.specs.Places.{Shown, back_at, indicator_at, indicator_count, main_at, shown, version_at, word_at}
-use Rattle.rom_rule.specs.Readers.{CountsArrivals, Differ, Held, HoldsNothing, IsNumbered, IsWritten, KeepsImage, ReadsNamedSide, Settled, hit, stands, total}
+use Rattle.rom_rule.specs.Places.{Shown, back_at, indicator_at, indicator_count, main_at, shown, version_at, version_of_indicator, word_at}
+use Rattle.rom_rule.specs.Readers.{ShowsArrivals, Differ, Held, HoldsNothing, IsNumbered, IsWritten, KeepsImage, ReadsNamedSide, Settled, StandsAtOwn, hit}
 use Rattle.rom_rule.specs.Records.{IsCall, Recorded, Remembers}
 use Rattle.rom_rule.specs.Rule.{IsOnlyPlan, IsRuled}
 use Rattle.rom_rule.specs.Views.{Book, CallerCalls, Each, IsWriter, PlanCalls, Remembered, base_in, book_in, calls_in, has, number_in, plan_calls, plan_in, plan_of, position_in, reading_in, remembered_in, side_of}
@@ -23,13 +23,8 @@ use Rattle.rom_rule.specs.declared.views.Position.TheVariants.{Arrived, Holds, O
 use Rattle.rom_rule.specs.declared.views.View.{View}
 use Rattle.rom_rule.proofs.Frames.{unseen, frame, each_set, each_at}
 use Rattle.rom_rule.proofs.Parts.{shown_version, shown_main, shown_back}
-use Rattle.rom_rule.proofs.Readers.{stands_here, indicator_is, reload, side_word}
-
--- where nothing stands, no member stands
-none_stands : (f : Position → ℕ) (ps : List Position) (j : ℕ) (p : Position) → total f ps ≡ 0 → get_elem? ps j ≡ some p → f p ≡ 0
-none_stands f [] j p z e = absurd (mathlib.Core.Option.some-ne-none p (sym e))
-none_stands f (q ∷ qs) Rattle.std.proofs.Common.zero p z e = let same : f q ≡ f p = ap f (mathlib.Core.Option.some-injective q p e) in omega arith
-none_stands f (q ∷ qs) (Rattle.std.proofs.Common.suc j) p z e = none_stands f qs j p (omega arith) e
+use Rattle.rom_rule.proofs.Standing.{any_here, own_on, stands_here}
+use Rattle.rom_rule.proofs.Readers.{indicator_is, reload, side_word}
 
 pub observed_parts : (v found : ℕ) (p : Plan) → ((observed v found p).main ≡ p.main) × ((observed v found p).back ≡ p.back) × ((observed v found p).side ≡ p.side) × ((observed v found p).version ≡ p.version) × ((observed v found p).dealt ≡ p.dealt) × (book_in (observed v found p) ≡ book_in p) × (plan_calls (observed v found p) ≡ plan_calls p)
 observed_parts v found p = cases (eqb found 0)
@@ -57,6 +52,9 @@ module _ {S : Type 0} (Contents : ℕ → List ℕ → S → ℕ → Type 0) (go
 
   pub base_is : (s : St) (r : R s) (id : ℕ) (v : View) → get_elem? s.views id ≡ some v → v.base ≡ b
   base_is s r id v at = each_at (λ _ c. c ≡ b) base_in s.views id v at r.bases
+
+  pub callers_are : (s : St) (r : R s) (id : ℕ) (v : View) → get_elem? s.views id ≡ some v → v.base.callers ≡ b.callers
+  callers_are s r id v at = ap (λ (z : Base). z.callers) (base_is s r id v at)
 
   pub other_plan : (p q : Plan) (writer j : ℕ) (d : Option Plan) → j ≢ writer → IsOnlyPlan p writer j d → IsOnlyPlan q writer j d
   other_plan p q writer j None ne h = tt
@@ -90,7 +88,7 @@ module _ {S : Type 0} (Contents : ℕ → List ℕ → S → ℕ → Type 0) (go
     limits = (r.limits.0, dealt.1);
     bases = frame base_in (Each (λ _ c. c ≡ b)) s.views id v w at base r.bases;
     plans = each_set (IsOnlyPlan r.plan r.writer) (IsOnlyPlan p r.writer) plan_in s.views id w (λ j d ne. other_plan r.plan p r.writer j d (λ e. ne (e ∙ sym writes))) (subst (IsOnlyPlan p r.writer id) (sym plan_same) (refl, writes)) r.plans;
-    arrivals = subst (λ (x : List ℕ × List Position). CountsArrivals b.callers x.0 x.1) (λ c. (sym indicators c, sym same c)) r.arrivals;
+    arrivals = subst (λ (x : List ℕ × List Position). ShowsArrivals b.callers x.0 x.1) (λ c. (sym indicators c, sym same c)) r.arrivals;
     images = λ j c e. let e' = subst (λ (l : List (Position × List Entry)). get_elem? l j ≡ some c) (unseen reading_in s.views id v w at reading) e in
         images c.0 c.1 (r.named j c.0 (pos_at s.views j c e')) (r.images j c e');
     written = written;
@@ -102,6 +100,7 @@ module _ {S : Type 0} (Contents : ℕ → List ℕ → S → ℕ → Type 0) (go
       differ = frame number_in Differ s.views id v w at number r.seats.differ;
       given = (λ j n e. let k = frame number_in (Each (λ _ m. m ≤ r.plan.dealt)) s.views id v w at number r.seats.given j n e in omega (arith, dealt.0));
       standing = λ j c e. ⊎_elim (λ (t : (j ≡ id) × (w ≡ c)). subst IsNumbered t.1 (holder (r.seats.standing id v at))) (λ (t : (j ≢ id) × (get_elem? s.views j ≡ some c)). r.seats.standing j c t.1) (at_set s.views id j w c e);
+      own = λ j c e. ⊎_elim (λ (t : (j ≡ id) × (w ≡ c)). subst StandsAtOwn t.1 (own_on v w (ap (λ (z : Position × List Entry). z.0) reading) number (r.seats.own id v at))) (λ (t : (j ≢ id) × (get_elem? s.views j ≡ some c)). r.seats.own j c t.1) (at_set s.views id j w c e);
       bare = λ j c e. ⊎_elim (λ (t : (j ≡ id) × (w ≡ c)). subst HoldsNothing t.1 (bare (r.seats.bare id v at))) (λ (t : (j ≢ id) × (get_elem? s.views j ≡ some c)). r.seats.bare j c t.1) (at_set s.views id j w c e);
     };
   }
@@ -157,13 +156,13 @@ module _ {S : Type 0} (Contents : ℕ → List ℕ → S → ℕ → Type 0) (go
   still_behind s r v found low is j (Reads w x f image) e h = (
     h.0,
     λ clear. (⊎_elim h.1 (λ (t : (w ≡ v) × (found ≡ 0)).
-        let count = indicator_is Contents go b s r v low in let z = t.1 in let zero : total (stands v) (map position_in s.views) ≡ 0 = omega arith in let none_here = none_stands (stands v) (map position_in s.views) j (Reads w x f image) zero e in
-        let one = stands_here v in absurd (let z : hit v v ≡ 0 = subst (λ (k : ℕ). hit k v ≡ 0) t.0 none_here in omega arith)) (observed_clear v found w r.plan clear)) ∙ sym ((observed_parts v found r.plan).2),
+        let count = indicator_is Contents go b s r v low in let z = t.1 in let one = any_here v j (map position_in s.views) (Reads w x f image) e (subst (λ (k : ℕ). hit k v ≡ 1) (sym t.0) (stands_here v)) in
+        absurd (omega arith)) (observed_clear v found w r.plan clear)) ∙ sym ((observed_parts v found r.plan).2),
   )
 
   -- the writer loads the indicator of the version that isn't named
   pub checks_indicator : (slots id : ℕ) (me : M) (v : ℕ) → CanCheck me.0 v → Allows R slots id me (indicator_at v) (λ n. n) (checked_indicator (step slots (indicator_at v) 0 0 none) me)
-  checks_indicator slots id me v can s r _ at _ = let writes = can.0 in let low = can.1 in let apart = can.2 in let u = me.0 in let found : ℕ = get_or s.words (2 + v) 0 in let is = plan_is s r id u at writes in let p : Plan = r.plan in let q : Plan = observed v found p in let n = observed_parts v found p in (
+  checks_indicator slots id me v can s r _ at _ = let writes = can.0 in let apart = can.2 in let u = me.0 in let low : v < indicator_count b.callers = subst (λ (n : ℕ). v < indicator_count n) (callers_are s r id u at) can.1 in let found : ℕ = get_or s.words (2 + v) 0 in let is = plan_is s r id u at writes in let p : Plan = r.plan in let q : Plan = observed v found p in let n = observed_parts v found p in (
     planned u q,
     keeps,
     tt,
@@ -179,7 +178,7 @@ module _ {S : Type 0} (Contents : ℕ → List ℕ → S → ℕ → Type 0) (go
           published = subst (λ (z : ℕ × List ℕ × List ℕ × Book). Held Contents go b r.start r.count (side_of z.0 z.1 z.2) z.3.history) (λ c. (sym n.2 c, sym n.0 c, sym n.1 c, sym n.5 c)) r.written.published;
         }
         (λ j x e h. still_behind s r v found low refl j x e h)),
-    λ v' same. let e : v ≡ v' = omega arith in ((λ z. apart (z ∙ sym e)), ap (λ (x : ℕ × Plan). let y : M = (planned u (observed x.0 found x.1), me.1) in y) (λ c. (e c, sym is.0 c))),
+    λ v' same. let e : v ≡ v' = omega arith in ((λ z. apart (z ∙ ap version_of_indicator (sym e))), ap (λ (x : ℕ × Plan). let y : M = (planned u (observed x.0 found x.1), me.1) in y) (λ c. (e c, sym is.0 c))),
   )
 
   -- it stores `version`
@@ -227,7 +226,7 @@ module _ {S : Type 0} (Contents : ℕ → List ℕ → S → ℕ → Type 0) (go
   pub stores_main : (slots id : ℕ) (me : M) (k x : ℕ) → CanStore me.0 1 → k < region_len b.order
       → Allows R slots id me (main_at b.order b.callers k) (λ _. x) (λ _. stored_main (step slots (main_at b.order b.callers k) x 0 none) me x)
   stores_main slots id me k x can inside s r _ at _ = let writes = can.0 in let clear = can.1 in let named = can.2 in let v = me.0 in let is = plan_is s r id v at writes in let p : Plan = r.plan in let q : Plan = record p { main = set p.main k x } in let i : ℕ = main_at b.order b.callers k in
-      let same = base_is s r id v at in let now_shown = shown_main b s.words k x inside in let clear' : Settled b p = subst (Settled b) is.0 clear in let named' : p.side ≡ 1 = ap (λ (z : Plan). z.side) (sym is.0) ∙ named in (
+      let same = base_is s r id v at in let now_shown = shown_main b s.words k x inside in let clear' : Settled b p = subst (λ (z : Base × Plan). Settled z.0 z.1) (λ i. (same i, is.0 i)) clear in let named' : p.side ≡ 1 = ap (λ (z : Plan). z.side) (sym is.0) ∙ named in (
         planned v q,
         keeps,
         tt,
@@ -264,7 +263,7 @@ module _ {S : Type 0} (Contents : ℕ → List ℕ → S → ℕ → Type 0) (go
   pub stores_back : (slots id : ℕ) (me : M) (k x : ℕ) → CanStore me.0 0 → k < region_len b.order
       → Allows R slots id me (back_at b.order b.callers k) (λ _. x) (λ _. stored_back (step slots (back_at b.order b.callers k) x 0 none) me x)
   stores_back slots id me k x can inside s r _ at _ = let writes = can.0 in let clear = can.1 in let named = can.2 in let v = me.0 in let is = plan_is s r id v at writes in let p : Plan = r.plan in let q : Plan = record p { back = set p.back k x } in let i : ℕ = back_at b.order b.callers k in
-      let same = base_is s r id v at in let now_shown = shown_back b s.words k x inside in let clear' : Settled b p = subst (Settled b) is.0 clear in let named' : p.side ≡ 0 = ap (λ (z : Plan). z.side) (sym is.0) ∙ named in (
+      let same = base_is s r id v at in let now_shown = shown_back b s.words k x inside in let clear' : Settled b p = subst (λ (z : Base × Plan). Settled z.0 z.1) (λ i. (same i, is.0 i)) clear in let named' : p.side ≡ 0 = ap (λ (z : Plan). z.side) (sym is.0) ∙ named in (
         planned v q,
         keeps,
         tt,

@@ -1,4 +1,4 @@
--- The kinds of step. Each is one load, store, fetch_add or fetch_sub of one word by one seat, and changes that seat's view alone; a view is cut in two or two are joined at a load of word 0. For each kind: who makes it and what it does; when it may be made, which is a condition on the seat's own view, or on the plan in it; and what it tells, which is the view after it. Each step adds one to the steps of the view that makes it. Here are the kinds by which readers read, the writer switches and changes a side, and seats are made and joined; those on posted calls stand in `CallKinds.antt`.
+-- The kinds of step. Each is one load, store or fetch_add of one word by one seat, and changes that seat's view alone; a view is cut in two or two are joined at a load of word 0. For each kind: who makes it and what it does; when it may be made, which is a condition on the seat's own view, or on the plan in it; and what it tells, which is the view after it. Each step adds one to the steps of the view that makes it. Here are the kinds by which readers read, the writer switches and changes a side, and seats are made and joined; those on posted calls stand in `CallKinds.antt`.
 use Rattle.std.specs.Prelude.{◌≡◌, ◌≢◌, ℕ, ◌+◌, ◌<◌, ◌≤◌, List, [], ◌∷◌, ◌++◌, map, length, slice_index, slice_set, Option, Some, None, true, ◌==◌, if◌then◌else◌}
 use Rattle.std.specs.List.{AllByRecursion}
 use mathlib.Core.Option.{some}
@@ -41,8 +41,8 @@ IsOut v = (v.position ≡ Out) × (0 < v.number)
 abbrev pub loaded_version : Step ℕ → Seated → ℕ → Seated → Type 0
 loaded_version st m found m' = (st.word ≡ version_at) × (found < 2) × (m' ≡ (moved m.0 (Holds found), m.1))
 
--- A caller adds one to an indicator.
--- When: it has loaded that indicator's version.
+-- A caller stores 1 in its indicator of the version that it has loaded.
+-- When: it holds a version.
 abbrev pub HoldsVersion : View → ℕ → Type 0
 HoldsVersion v version = (v.position ≡ Holds version) × (version < 2) × (0 < v.number)
 
@@ -72,7 +72,7 @@ abbrev pub loaded_image : Step ℕ → Seated → ℕ → Seated → Type 0
 loaded_image st m found m' = (m' ≡ (moved m.0 m.0.position, m.1))
     × ((at : ℕ) → at < region_len m.0.base.order → st.word ≡ word_at m.0.base.order m.0.base.callers (side_read m.0.position) at → found ≡ slice_index (image_of m.0.position) at)
 
--- A caller subtracts one from an indicator.
+-- A caller stores 0 in its indicator.
 -- When: it stands there.
 abbrev pub StandsAt : View → ℕ → Type 0
 StandsAt v k = (stands k v.position ≡ 1) × (k < indicator_count v.base.callers) × (0 < v.number)
@@ -152,8 +152,8 @@ module _ {S : Type 0} (Contents : ℕ → List ℕ → S → ℕ → Type 0) (st
 abbrev pub switched_to_back : ℕ → Step ℕ → Seated → ℕ → Seated → Type 0
 switched_to_back faults st m found m' = m' ≡ (planned m.0 (switched 1 (raising faults (plan_of m.0))), m.1)
 
--- The writer loads an indicator, and keeps that it was 0.
--- When: `version` names the other one.
+-- The writer loads an indicator of one caller, and keeps that it was 0: then this caller doesn't read the side left after arriving there.
+-- When: `version` names the other version.
 abbrev pub CanCheck : View → ℕ → Type 0
 CanCheck v k = IsWriter v (plan_of v) × (k < indicator_count v.base.callers) × ((plan_of v).version ≢ version_of_indicator k)
 
@@ -178,7 +178,7 @@ loaded_region st m found m' = (m' ≡ (planned m.0 (plan_of m.0), m.1))
     × ((side at : ℕ) → side < 2 → at < region_len m.0.base.order → st.word ≡ word_at m.0.base.order m.0.base.callers side at → found ≡ slice_index (side_of side (plan_of m.0).main (plan_of m.0).back) at)
 
 -- The writer stores a word of main, or of back.
--- When: `side` names the other side, and both waits are over since it was stored.
+-- When: `side` names the other side, and all indicators were loaded as 0 since.
 abbrev pub CanStore : View → ℕ → Type 0
 CanStore v other = IsWriter v (plan_of v) × Settled v.base (plan_of v) × ((plan_of v).side ≡ other)
 

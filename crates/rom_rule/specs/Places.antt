@@ -1,5 +1,5 @@
 -- Where the shared words stand, and what they are for.
-use Rattle.std.specs.Prelude.{ℕ, ◌+◌, ◌-◌, ◌*◌, ◌≤◌, List, ◌++◌, take, drop, slice_index, slice_set, replicate, ◌==◌, if◌then◌else◌}
+use Rattle.std.specs.Prelude.{ℕ, ◌+◌, ◌-◌, ◌*◌, ◌/◌, ◌%◌, ◌≤◌, List, ◌++◌, take, drop, slice_index, slice_set, replicate, ◌==◌, if◌then◌else◌}
 use Rattle.rom_model.specs.Blocks.{region_len}
 use Rattle.rom_rule.specs.declared.views.Base.{Base}
 
@@ -7,23 +7,26 @@ use Rattle.rom_rule.specs.declared.views.Base.{Base}
 abbrev pub AreCallers : ℕ → Type 0
 AreCallers callers = (1 ≤ callers) × (callers ≤ 16)
 
--- the word that names the side that readers are sent to, and the one that names the version of the indicator that they arrive at
+-- the word that names the side that readers are sent to, and the one that names the version that they arrive at
 abbrev pub side_at : ℕ
 side_at = 0
 
 abbrev pub version_at : ℕ
 version_at = 1
 
--- how many read indicators there are
+-- how many read indicators there are: one for each caller and version
 abbrev pub indicator_count : ℕ → ℕ
-indicator_count callers = 2
+indicator_count callers = 2 * callers
 
--- the indicator at which a caller that has loaded this version arrives, and the version of an indicator
+-- a caller's indicator of a version, and the caller and the version of an indicator
 abbrev pub indicator_of : ℕ → ℕ → ℕ
-indicator_of caller version = version
+indicator_of caller version = 2 * (caller - 1) + version
+
+abbrev pub caller_of_indicator : ℕ → ℕ
+caller_of_indicator k = k / 2 + 1
 
 abbrev pub version_of_indicator : ℕ → ℕ
-version_of_indicator k = k
+version_of_indicator k = k % 2
 
 abbrev pub indicator_at : ℕ → ℕ
 indicator_at k = 2 + k

@@ -1,4 +1,4 @@
--- What the rule says of readers: how many stand at an indicator, what they read, and which side.
+-- What the rule says of readers: who stands at an indicator, what they read, and which side.
 use Rattle.std.specs.Prelude.{◌≡◌, ◌≢◌, ℕ, ◌+◌, ◌<◌, List, [], ◌∷◌, length, slice_index, true, Option, ◌==◌, if◌then◌else◌}
 use mathlib.Core.Option.{some}
 use lib.ListN.{get_elem?}
@@ -10,13 +10,8 @@ use Rattle.rom_rule.specs.declared.views.Plan.{Plan}
 use Rattle.rom_rule.specs.declared.views.Position.{Position}
 use Rattle.rom_rule.specs.declared.views.Position.TheVariants.{Out, Holds, Arrived, Reads}
 use Rattle.rom_rule.specs.declared.views.View.{View}
-use Rattle.rom_rule.specs.Places.{Shown, indicator_count}
+use Rattle.rom_rule.specs.Places.{Shown, caller_of_indicator, indicator_count}
 use Rattle.rom_rule.specs.Views.{has, side_of}
-
--- f of each member, added up
-abbrev pub total : {A : Type 0} → (A → ℕ) → List A → ℕ
-total f [] = 0
-total f (x ∷ xs) = f x + total f xs
 
 abbrev pub hit : ℕ → ℕ → ℕ
 hit x y = if x == y then 1 else 0
@@ -28,16 +23,25 @@ stands k (Holds version) = 0
 stands k (Arrived i) = hit i k
 stands k (Reads i side front image) = hit i k
 
--- Each indicator is the number of views that stand there.
-abbrev pub CountsArrivals : ℕ → List ℕ → List Position → Type 0
-CountsArrivals callers indicators positions = (k : ℕ) → k < indicator_count callers → slice_index indicators k ≡ total (stands k) positions
+-- 1 where one of the positions stands at the indicator k, else 0
+abbrev pub any_stands : ℕ → List Position → ℕ
+any_stands k [] = 0
+any_stands k (p ∷ ps) = if stands k p == 1 then 1 else any_stands k ps
 
--- Once an indicator was loaded as 0 since the last store of `side`, no view that arrived there reads the other side.
+-- Each indicator is 1 where a view has arrived there or reads after arriving there, and 0 else. It is the view of the indicator's caller, since a view stands only at its own number's indicators.
+abbrev pub ShowsArrivals : ℕ → List ℕ → List Position → Type 0
+ShowsArrivals callers indicators positions = (k : ℕ) → k < indicator_count callers → slice_index indicators k ≡ any_stands k positions
+
+-- A view stands only at an indicator of its own number.
+abbrev pub StandsAtOwn : View → Type 0
+StandsAtOwn v = (k : ℕ) → stands k v.position ≡ 1 → caller_of_indicator k ≡ v.number
+
+-- Where the indicator of a caller and a version was loaded as 0 since the last store of `side`, that caller's view doesn't read the other side after arriving there.
 abbrev pub ReadsNamedSide : ℕ → Plan → Position → Type 0
 ReadsNamedSide callers p (Reads k side front image) = (k < indicator_count callers) × (has k p.clear ≡ true → side ≡ p.side)
 ReadsNamedSide callers p _ = Unit {0}
 
--- Both waits are over since the last store of `side`: every indicator was loaded as 0.
+-- Both waits are over since the last store of `side`: all indicators were loaded as 0.
 abbrev pub Settled : Base → Plan → Type 0
 Settled b p = (k : ℕ) → k < indicator_count b.callers → has k p.clear ≡ true
 

@@ -6,7 +6,7 @@ use Rattle.rom_rule.specs.declared.views.Plan.{Plan}
 use Rattle.rom_rule.specs.declared.views.View.{View}
 use Rattle.rom_rule.specs.Calls.{Announced}
 use Rattle.rom_rule.specs.Places.{shown, table_len}
-use Rattle.rom_rule.specs.Readers.{CountsArrivals, ReadsNamedSide, Differ, HoldsNothing, IsNumbered, KeepsImage, IsWritten}
+use Rattle.rom_rule.specs.Readers.{ShowsArrivals, StandsAtOwn, ReadsNamedSide, Differ, HoldsNothing, IsNumbered, KeepsImage, IsWritten}
 use Rattle.rom_rule.specs.Records.{Remembers, Recorded, IsCall}
 use Rattle.rom_rule.specs.Views.{Each, base_in, number_in, position_in, reading_in, remembered_in, calls_in, plan_in, book_in, plan_calls}
 
@@ -15,11 +15,12 @@ abbrev pub IsOnlyPlan : Plan → ℕ → ℕ → Option Plan → Type 0
 IsOnlyPlan p writer id None = Unit {0}
 IsOnlyPlan p writer id (Some q) = (q ≡ p) × (id ≡ writer)
 
--- Callers' numbers differ and are at most as many as were given, and only a view with a number stands at an indicator or holds anything of a caller's: a note or a view that was spent has no number and holds nothing.
+-- Callers' numbers differ and are at most as many as were given, and only a view with a number stands at an indicator, one of its own, or holds anything of a caller's: a note or a view that was spent has no number and holds nothing.
 pub record AreSeats (dealt : ℕ) (views : List View) : Type 0 where
   pub differ : Differ (map number_in views)
   pub given : Each (λ _ n. n ≤ dealt) (map number_in views)
   pub standing : Each (λ _. IsNumbered) views
+  pub own : Each (λ _. StandsAtOwn) views
   pub bare : Each (λ _. HoldsNothing) views
 
 -- Of an object: what a region's words stand for, and its step on words. Of what the table was opened with, and the table as it is between two steps.
@@ -36,13 +37,13 @@ module _ {S : Type 0} (Contents : ℕ → List ℕ → S → ℕ → Type 0) (st
     pub limits : (b.callers ≤ 16) × (plan.dealt ≤ b.callers)
     pub bases : Each (λ _ c. c ≡ b) (map base_in s.views)
     pub plans : Each (IsOnlyPlan plan writer) (map plan_in s.views)
-    -- each indicator is the number of views that stand there
-    pub arrivals : CountsArrivals b.callers (shown b s.words).indicators (map position_in s.views)
+    -- each indicator is 1 where its caller's view stands there, and 0 else
+    pub arrivals : ShowsArrivals b.callers (shown b s.words).indicators (map position_in s.views)
     -- a reading view's image is its side's words, at its front
     pub images : Each (λ _ c. KeepsImage Contents step b plan.main plan.back c.0 c.1) (map reading_in s.views)
     -- the words are those of the writer's plan, and the side that `side` names is whole
     pub written : IsWritten Contents step b start count (shown b s.words) plan
-    -- no view that arrived at an indicator that was loaded as 0 since reads the side that was left
+    -- no caller's view that arrived at an indicator that was loaded as 0 since reads the side that was left
     pub named : Each (λ _. ReadsNamedSide b.callers plan) (map position_in s.views)
     -- what views have seen begins the history, and their fronts are boundaries
     pub remembered : Each (λ _. Remembers count (book_in plan)) (map remembered_in s.views)

@@ -16,7 +16,7 @@ impl Play<u8, View> for LoadsVersion {
     ghost then = { loaded_version };
 }
 
-/// A caller arrives: it adds one to the indicator of the version that it has loaded.
+/// A caller arrives: it stores 1 in its indicator of the version that it has loaded.
 pub struct Arrives;
 
 impl Play<u8, View> for Arrives {
@@ -41,7 +41,7 @@ impl Play<u8, View> for LoadsImage {
     ghost then = { loaded_image };
 }
 
-/// A caller departs: it subtracts one from the indicator at which it stands.
+/// A caller departs: it stores 0 in its indicator at which it stands.
 pub struct Departs;
 
 impl Play<u8, View> for Departs {
@@ -91,7 +91,7 @@ impl<N: PassEnd> Play<u8, View> for SwitchesToBack<N> {
     ghost then = { switched_to_back N.after };
 }
 
-/// The writer loads an indicator.
+/// The writer loads an indicator of one caller.
 pub struct ChecksIndicator;
 
 impl Play<u8, View> for ChecksIndicator {

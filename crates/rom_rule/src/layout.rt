@@ -1,7 +1,7 @@
 //! Where each word stands in the shared table.
 ghost use Rattle.std.specs.Prelude.{◌≡◌, ◌^◌, ◌<◌, ◌≤◌};
 ghost use Rattle.rom_model.specs.Blocks.{IsOrder, region_len};
-ghost use Rattle.rom_rule.specs.Places.{AreCallers, side_at, version_at, indicator_at, slot_at, main_at, back_at, table_len};
+ghost use Rattle.rom_rule.specs.Places.{AreCallers, side_at, version_at, indicator_at, indicator_of, slot_at, main_at, back_at, table_len};
 
 use rom_model::region_len;
 
@@ -56,26 +56,28 @@ impl Layout {
         0
     }
 
-    /// The word that names the indicator that readers arrive at: 0 or 1.
+    /// The word that names the version that readers arrive at: 0 or 1.
     pub fn version(&self) -> u64
         ensures is { result ≡ version_at }
     {
         1
     }
 
-    /// The read indicator of a version: how many readers have arrived at it and not yet departed.
-    pub fn indicator(&self, version: u64) -> u64
+    /// A caller's read indicator of a version: 1 from its arrival there to its departure, else 0.
+    /// Callers are numbered from 1.
+    pub fn indicator(&self, caller: u32, version: u64) -> u64
+        requires caller { (1 ≤ caller) × (caller ≤ self.now.callers) }
         requires version { version < 2 }
-        ensures is { result ≡ indicator_at version }
+        ensures is { result ≡ indicator_at (indicator_of caller version) }
     {
-        2 + version
+        2 + 2 * (caller as u64 - 1) + version
     }
 
     // where the first slot begins
     fn slots(&self) -> u64
         ensures is { result ≡ slot_at self.now.callers 1 0 }
     {
-        4
+        2 + 2 * self.callers as u64
     }
 
     /// Word j, below 64, of the slot in which a caller posts its calls and finds their answers;
