@@ -13,11 +13,6 @@ use Rattle.rom_combine.specs.declared.answering.Answer.{Answer}
 use Rattle.rom_combine.specs.Answering.{IsLeft}
 use Rattle.rom_combine.specs.Resting.{rested}
 
--- at the opening each indicator counts as loaded
-pub has_below : (n k : ℕ) → k < n → has k (below n) ≡ true
-has_below zero k lt = absurd (omega arith)
-has_below (suc n) k lt = dite (ℕ_discrete k n) (λ e. ap (λ (t : Bool). t || has k (below n)) (eq-eqb k n e)) (λ ne. ap (λ (t : Bool). t || has k (below n)) (ne_eqb k n ne) ∙ has_below n k (omega (arith, lt)))
-
 made_raised : (n : ℕ) (rs : List PassRecord) → is_made (map (raised n) rs) ≡ is_made rs
 made_raised n [] = refl
 made_raised n (r ∷ rs) = refl

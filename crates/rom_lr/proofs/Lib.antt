@@ -2,3 +2,4 @@ pub mod Seated
 pub mod Sides
 pub mod Logging
 pub mod Dealing
+pub mod Waiting

@@ -1,5 +1,5 @@
 -- One store more, logged.
-use Rattle.std.proofs.Common.{◌≡◌, ◌≢◌, ◌⊎◌, ◌↔◌, inl, inr, ℕ, ◌+◌, ◌<◌, ◌≤◌, List, length, get_or, set, sym, ◌∙◌, subst, arith, length-set, get_or-set_other}
+use Rattle.std.proofs.Common.{◌≡◌, ◌≢◌, ◌⊎◌, ◌↔◌, inl, inr, ℕ, ◌+◌, ◌<◌, ◌≤◌, List, length, set, sym, ◌∙◌, subst, arith, length-set, get_or-set_other}
 use Rattle.rom_ranges.specs.Changes.{IsLogOf}
 use Rattle.rom_ranges.specs.Log.{Logged}
 use Rattle.rom_ranges.specs.Ranges.{AreWithin, IsHeld, held_count}

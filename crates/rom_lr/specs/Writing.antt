@@ -1,8 +1,9 @@
 -- What the writer's calls ask for, and what they leave.
-use Rattle.std.specs.Prelude.{◌≡◌, ℕ, ◌-◌, List, [], ◌∷◌, Some}
+use Rattle.std.specs.Prelude.{◌≡◌, ℕ, zero, suc, ◌-◌, List, [], ◌∷◌, ◌++◌, Some}
 use Rattle.rom_lr.specs.Side.{other_side, side_number}
 use Rattle.rom_lr.specs.declared.seats.WriterSeat.{WriterSeat}
 use Rattle.rom_lr.specs.declared.side.Side.{Side}
+use Rattle.rom_rule.specs.Places.{indicator_of}
 use Rattle.rom_rule.specs.Readers.{Settled}
 use Rattle.rom_rule.specs.Views.{plan_of}
 use Rattle.rom_rule.specs.declared.views.Plan.{Plan}
@@ -22,9 +23,18 @@ pub record HasWaited (s t : WriterSeat) : Type 0 where
   pub clear : List (ℕ × ℕ)
   pub writes : Writes s t (record (plan_of s.token.me.0) { version = version; clear = clear })
 
--- The plan after both waits: the indicator of the other version was loaded as 0 while `version` named the former, then `version` was stored as the other, then the indicator of the former was loaded as 0 while `version` named the other. The list has the last first, each with what `version` was at that load.
-abbrev pub settled : Plan → Plan
-settled p = record p { version = 1 - p.version; clear = (p.version, 1 - p.version) ∷ (1 - p.version, p.version) ∷ p.clear }
+-- the loads of one wait, of the callers up to this number, the last caller's first: each caller's indicator of the version, with what `version` was then
+abbrev pub checks : ℕ → ℕ → ℕ → List (ℕ × ℕ)
+checks version named zero = []
+checks version named (suc n) = (indicator_of (suc n) version, named) ∷ checks version named n
+
+-- The plan after one wait: all callers' indicators of this version were loaded as 0.
+abbrev pub checked : ℕ → ℕ → Plan → Plan
+checked version callers p = record p { clear = checks version p.version callers ++ p.clear }
+
+-- The plan after both waits: all indicators of the other version were loaded as 0 while `version` named the former, then `version` was stored as the other, then all of the former were loaded as 0 while `version` named the other. The list has the last first, each with what `version` was at that load.
+abbrev pub settled : ℕ → Plan → Plan
+settled callers p = checked p.version callers (record (checked (1 - p.version) callers p) { version = 1 - p.version })
 
 -- the writer's view but for main and the number of its steps
 abbrev pub but_main : View → View

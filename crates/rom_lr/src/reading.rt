@@ -28,8 +28,8 @@ impl<O: Object> Shared<O> {
     {
         let table = &self.table.shared;
         let version = table.load::<LoadsVersion>(&mut seat.token, self.layout.version() as usize);
-        let indicator = self.layout.indicator(version) as usize;
-        table.fetch_add::<Arrives>(&mut seat.token, indicator, 1);
+        let indicator = self.layout.indicator(seat.number, version) as usize;
+        table.store::<Arrives>(&mut seat.token, indicator, 1);
         let side = table.load::<LoadsSide<O>>(&mut seat.token, self.layout.side() as usize);
         seat.version = version;
         seat.side = if side == 0 { Side::Main } else { Side::Back };
@@ -60,9 +60,9 @@ impl<O: Object> Shared<O> {
         ensures same { IsSameSeat seat.old seat.new }
         ensures out { seat.new.token.me.0 ≡ moved seat.old.token.me.0 Out }
     {
-        let indicator = self.layout.indicator(seat.version) as usize;
+        let indicator = self.layout.indicator(seat.number, seat.version) as usize;
         self.table
             .shared
-            .fetch_sub::<Departs>(&mut seat.token, indicator, 1);
+            .store::<Departs>(&mut seat.token, indicator, 0);
     }
 }

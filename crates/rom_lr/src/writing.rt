@@ -3,9 +3,10 @@ ghost use Rattle.std.specs.Prelude.{◌≡◌, ◌≢◌, ℕ, ◌+◌, ◌-◌,
 ghost use Rattle.rom_model.specs.Machine.{on_words};
 ghost use Rattle.rom_lr.specs.Seats.{IsWriterOf};
 ghost use Rattle.rom_lr.specs.Switch.{CanSwitch, HasSwitched};
-ghost use Rattle.rom_lr.specs.Writing.{HasWaited, Writes, settled};
+ghost use Rattle.rom_lr.specs.Writing.{HasWaited, Writes, checked, settled};
 ghost use Rattle.rom_lr.specs.declared.side.Side.TheVariants.{Back, Main};
 ghost use Rattle.rom_rule.specs.Kinds.{CanSwitchToBack, CanSwitchToMain, observed};
+ghost use Rattle.rom_rule.specs.Places.{indicator_of};
 ghost use Rattle.rom_rule.specs.Readers.{Settled};
 ghost use Rattle.rom_rule.specs.Views.{plan_of};
 
@@ -61,37 +62,51 @@ impl<O: Object> Shared<O> {
     }
 
     /// Waits until nobody reads the side that readers were sent from. It returns only after it has
-    /// loaded each indicator as 0 since the last [`Shared::switch`]: that of the other version first,
-    /// then, with `version` stored as the other one, that of the former. An indicator is loaded only
-    /// while `version` names the other one, so nobody newly arrives at it but who had loaded `version`
-    /// before.
+    /// loaded each caller's two indicators as 0 since the last [`Shared::switch`]: all of the other
+    /// version first, then, with `version` stored as the other one, all of the former. An indicator is
+    /// loaded only while `version` names the other one, so a caller that loads `version` meanwhile
+    /// arrives at its other indicator.
     pub fn settle<R: Wait>(&self, rt: &R, seat: &mut WriterSeat)
         requires of { IsWriterOf self.now.table.shared.table_id self.now.table.shared.key seat.old }
         ensures waited { HasWaited seat.old seat.new }
-        ensures loads { plan_of seat.new.token.me.0 ≡ settled (plan_of seat.old.token.me.0) }
+        ensures loads { plan_of seat.new.token.me.0 ≡ settled self.now.layout.callers (plan_of seat.old.token.me.0) }
         ensures settled { Settled seat.new.token.me.0.base (plan_of seat.new.token.me.0) }
     {
         let former = seat.version;
-        self.wait_for(rt, seat, 1 - former);
+        self.wait_for_all(rt, seat, 1 - former);
         self.name_version(seat, 1 - former);
-        self.wait_for(rt, seat, former);
+        self.wait_for_all(rt, seat, former);
     }
 
-    // Loads the indicator of the version that isn't named until it is 0.
-    fn wait_for<R: Wait>(&self, rt: &R, seat: &mut WriterSeat, version: u64)
+    // Loads the indicators of the version that isn't named, one caller after the other, each until it
+    // is 0.
+    fn wait_for_all<R: Wait>(&self, rt: &R, seat: &mut WriterSeat, version: u64)
         requires of { IsWriterOf self.now.table.shared.table_id self.now.table.shared.key seat.old }
         requires low { version < 2 }
         requires other { (plan_of seat.old.token.me.0).version ≢ version }
-        ensures waited { Writes seat.old seat.new (observed version 0 (plan_of seat.old.token.me.0)) }
+        ensures waited { Writes seat.old seat.new (checked version self.now.layout.callers (plan_of seat.old.token.me.0)) }
+    {
+        for i in 0..self.layout.callers() {
+            self.wait_for(rt, seat, i + 1, version);
+        }
+    }
+
+    // Loads a caller's indicator of the version that isn't named until it is 0.
+    fn wait_for<R: Wait>(&self, rt: &R, seat: &mut WriterSeat, caller: u32, version: u64)
+        requires of { IsWriterOf self.now.table.shared.table_id self.now.table.shared.key seat.old }
+        requires caller { (1 ≤ caller) × (caller ≤ self.now.layout.callers) }
+        requires low { version < 2 }
+        requires other { (plan_of seat.old.token.me.0).version ≢ version }
+        ensures waited { Writes seat.old seat.new (observed (indicator_of caller version) 0 (plan_of seat.old.token.me.0)) }
     {
         let backoff = Backoff::new();
-        let word = self.layout.indicator(version) as usize;
+        let word = self.layout.indicator(caller, version) as usize;
         for _ in rt.forever() {
-            let readers = self
+            let found = self
                 .table
                 .shared
                 .load::<ChecksIndicator>(&mut seat.token, word);
-            if readers == 0 {
+            if found == 0 {
                 return;
             }
             backoff.snooze();

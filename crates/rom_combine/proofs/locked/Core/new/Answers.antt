@@ -5,7 +5,7 @@ use lib.ListN.{get_elem?}
 use Rattle.rom_header.specs.Regions.{IsCurrentRegion}
 use Rattle.rom_combine.proofs.Counting.{after_region}
 use Rattle.rom_combine.proofs.Failing.{clean_needs_none}
-use Rattle.rom_combine.proofs.Rested.{has_below}
+use Rattle.rom_lr.proofs.Waiting.{has_below}
 use Rattle.rom_model.specs.Passes.{faults_after}
 use Rattle.rom_rule.specs.declared.views.Base.{Base}
 use Rattle.rom_rule.specs.declared.views.Request.{Request}

@@ -1,4 +1,4 @@
-use Rattle.std.proofs.Common.{◌≡◌, ℕ, ◌+◌, ◌<◌, ◌≤◌, List, length, set, sym, refl, ap, subst, arith}
+use Rattle.std.proofs.Common.{◌+◌, ◌≤◌, sym, refl, ap, subst, arith}
 use Rattle.rom_lr.specs.Writing.{NobodyReads}
 use Rattle.rom_lr.specs.declared.side.Side.TheVariants.{Main}
 use Rattle.rom_lr.proofs.Logging.{log_stored}
