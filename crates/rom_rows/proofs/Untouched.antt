@@ -3,7 +3,6 @@ use Rattle.std.proofs.Common.{◌≡◌, ℕ, ◌+◌, ◌≤◌, List, [], ◌+
 use mathlib.Core.Option.{some, some-ne-none}
 use lib.ListN.{get_elem?}
 use Rattle.rom_lr.specs.Opening.{dealt_view}
-use Rattle.rom_lr.specs.Writing.{settled}
 use Rattle.rom_model.specs.History.{after, batch}
 use Rattle.rom_model.specs.Machine.{on_words}
 use Rattle.rom_model.specs.Passes.{faults_after}
@@ -64,8 +63,8 @@ module _ (b : Base) (p : Plan) (u : IsUntouched b p) where
     back = u.back;
   }
 
-  pub after_wait : IsUntouched b (settled p)
-  after_wait = record { opening = u.opening; faults = u.faults; history = u.history; records = u.records; mine = u.mine; requests = u.requests; main = u.main; back = u.back }
+  pub after_wait : (version : ℕ) (clear : List (ℕ × ℕ)) → IsUntouched b (record p { version = version; clear = clear })
+  after_wait version clear = record { opening = u.opening; faults = u.faults; history = u.history; records = u.records; mine = u.mine; requests = u.requests; main = u.main; back = u.back }
 
   pub after_back : IsUntouched b (switched 1 (raising 0 p))
   after_back = record { opening = u.opening; faults = u.faults; history = u.history; records = u.records; mine = ap (map (raised 0)) u.mine; requests = u.requests; main = u.main; back = u.back }
@@ -78,8 +77,8 @@ rests_on v w q n e h = subst AtRest (sym e) h
 pub at_main : (v w : View) (n k : ℕ) (more : List Entry) → AtRest v → IsBatch Contents go v.base (plan_of v) k more → w ≡ record v { plan = Some (switched 0 (making Published 0 0 k more (plan_of v))); steps = n } → AtRest w
 at_main v w n k more u batch_is e = rests_on v w _ n e (after_main v.base (plan_of v) u k more batch_is)
 
-pub has_waited : (v w : View) (n : ℕ) → AtRest v → w ≡ record v { plan = Some (settled (plan_of v)); steps = n } → AtRest w
-has_waited v w n u e = rests_on v w _ n e (after_wait v.base (plan_of v) u)
+pub has_waited : (v w : View) (version : ℕ) (clear : List (ℕ × ℕ)) (n : ℕ) → AtRest v → w ≡ record v { plan = Some (record (plan_of v) { version = version; clear = clear }); steps = n } → AtRest w
+has_waited v w version clear n u e = rests_on v w _ n e (after_wait v.base (plan_of v) u version clear)
 
 pub at_back : (v w : View) (n : ℕ) → AtRest v → w ≡ record v { plan = Some (switched 1 (raising 0 (plan_of v))); steps = n } → AtRest w
 at_back v w n u e = rests_on v w _ n e (after_back v.base (plan_of v) u)
