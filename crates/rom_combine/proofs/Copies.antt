@@ -1,10 +1,10 @@
 -- Words that are copied one after another, range by range.
 use Rattle.std.proofs.Common.{◌≡◌, ◌≢◌, ◌⊎◌, inl, inr, ⊎_elim, ℕ, ◌+◌, ◌<◌, ◌≤◌, List, [], ◌∷◌, length, get_or, set, sym, refl, ◌∙◌, arith, get_or-set_same, get_or-set_other}
-use Rattle.std.proofs.lemmas.Bool.{cases_lt, cases_eq}
+use Rattle.std.proofs.lemmas.Bool.{cases_lt}
 use Rattle.std.proofs.lemmas.List.{ext_get_or}
 use Rattle.rom_combine.specs.Copying.{Copies}
 use Rattle.rom_ranges.specs.Changes.{SameBut}
-use Rattle.rom_ranges.specs.Ranges.{IsHeld, IsIn}
+use Rattle.rom_ranges.specs.Ranges.{IsIn}
 use Rattle.rom_ranges.specs.declared.range.Range.{Range}
 
 -- the words from one offset on and before another are copied

@@ -1,13 +1,10 @@
 -- Answers that are given after settling
-use Rattle.std.proofs.Common.{◌≡◌, ℕ, List, [], ◌∷◌, ◌++◌, map, sym, refl, ap, ◌∙◌, Bool, true, false, Option, zero, suc, ◌<◌, arith, eq-eqb, ne_eqb}
-use Rattle.std.specs.Prelude.{◌||◌}
-use mathlib.Core.Logic.{dite}
-use native.Mathlib.Decide.{ℕ_discrete}
+use Rattle.std.proofs.Common.{◌≡◌, ℕ, List, [], ◌∷◌, ◌++◌, map, sym, refl, ◌∙◌, true, false, Option}
 use Rattle.rom_model.specs.declared.record.Fate.{Fate}
 use Rattle.rom_model.specs.declared.record.PassRecord.{PassRecord}
 use Rattle.rom_rule.specs.declared.views.Base.{Base}
 use Rattle.rom_rule.specs.declared.views.Plan.{Plan}
-use Rattle.rom_rule.specs.Views.{below, has, is_made}
+use Rattle.rom_rule.specs.Views.{is_made}
 use Rattle.rom_rule.specs.Kinds.{raised}
 use Rattle.rom_combine.specs.declared.answering.Answer.{Answer}
 use Rattle.rom_combine.specs.Answering.{IsLeft}

@@ -1,5 +1,5 @@
 -- How records and histories end.
-use Rattle.std.proofs.Common.{◌≡◌, ℕ, ◌+◌, ◌-◌, List, [], ◌∷◌, ◌++◌, length, take, Option, refl, ap, arith}
+use Rattle.std.proofs.Common.{◌≡◌, ℕ, ◌-◌, List, [], ◌∷◌, ◌++◌, take, Option, refl, ap, arith}
 use Rattle.std.proofs.lemmas.List.{take_all}
 use Rattle.rom_model.specs.History.{after}
 use Rattle.rom_model.specs.Story.{Story, count, len_after, state_at}

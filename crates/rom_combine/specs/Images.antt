@@ -1,9 +1,8 @@
 -- What a stop during a pass leaves.
-use Rattle.std.specs.Prelude.{◌≢◌, ◌⊎◌, ℕ, ◌+◌, List, length, Option}
-use Rattle.rom_model.specs.History.{after, batch}
+use Rattle.std.specs.Prelude.{◌≢◌, ◌⊎◌, ℕ, List}
+use Rattle.rom_model.specs.History.{after}
 use Rattle.rom_model.specs.declared.record.Fate.{Fate}
 use Rattle.rom_model.specs.declared.record.Fate.TheVariants as fate
-use Rattle.rom_model.specs.declared.record.Found.{Found}
 use Rattle.rom_header.specs.Held.{Holds}
 use Rattle.rom_header.specs.Regions.{IsCurrentRegion}
 use Rattle.rom_twin.specs.Images.{HasBack, Repairing}

@@ -61,10 +61,10 @@ loop-i-preserved g c = let inv = c.loop-i.invariant in let u : View = c.args.sea
     = dite (dec_le LAST_COUNT (c.args.place + i))
     (λ past. let spent = did.spent (omega (arith, past, h.3)) in subst (λ (z : List ℕ × Logged). z.1.added ≤ stores * (count_in z.0 - c.args.place)) (λ j. (sym spent.0 j, sym (one.spent past) j)) inv.3.1)
     (λ below. let low : h.1 + length p.history + i < LAST_COUNT = omega (arith, below, h.3) in
-        let before = next_state g.O.Object.Contents (on_words g.O.Object.machine) b h.0 h.1 p (plan_of v).main i c.loop-i.answers.items f.0 h.4 c.requires.fresh f.1 low in
-        let after = did.done low _ before in
-        let was = (g.met.O.Object.contents_within b.order (plan_of v).main _ _ before).1 in let is = (g.met.O.Object.contents_within b.order (plan_of w).main _ _ after.3).1 in
-        stores_more stores c.args.place (count_in (plan_of v).main) (count_in (plan_of w).main) log.added c.apply_one-one.new.log.added (omega (arith, was, h.3)) (omega (arith, was, is)) inv.3.1 one.added) in (
+    let before = next_state g.O.Object.Contents (on_words g.O.Object.machine) b h.0 h.1 p (plan_of v).main i c.loop-i.answers.items f.0 h.4 c.requires.fresh f.1 low in
+    let after = did.done low _ before in
+    let was = (g.met.O.Object.contents_within b.order (plan_of v).main _ _ before).1 in let is = (g.met.O.Object.contents_within b.order (plan_of w).main _ _ after.3).1 in
+    stores_more stores c.args.place (count_in (plan_of v).main) (count_in (plan_of w).main) log.added c.apply_one-one.new.log.added (omega (arith, was, h.3)) (omega (arith, was, is)) inv.3.1 one.added) in (
       (
         c.apply_one-one.ensures.kept.0 ∙ inv.0.0,
         c.apply_one-one.ensures.kept.1 ∙ inv.0.1,

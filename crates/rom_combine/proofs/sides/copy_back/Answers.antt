@@ -9,7 +9,6 @@ use Rattle.rom_model.specs.Blocks.{region_len}
 use Rattle.rom_ranges.specs.Changes.{SameBut}
 use Rattle.rom_ranges.specs.Ranges.{AreWithin}
 use Rattle.rom_ranges.specs.declared.range.Range.{Range}
-use Rattle.rom_rule.specs.declared.views.Base.{Base}
 use Rattle.rom_rule.specs.declared.views.Plan.{Plan}
 use Rattle.rom_rule.specs.declared.views.View.{View}
 use Rattle.rom_rule.specs.Views.{plan_of}

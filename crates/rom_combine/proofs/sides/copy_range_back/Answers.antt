@@ -1,4 +1,4 @@
-use Rattle.std.proofs.Common.{Some, rules, arith, inl, inr, ◌≡◌, ℕ, ◌+◌, ◌<◌, ◌≤◌, List, length, get_or, set, sym, refl, ap, ◌∙◌, subst}
+use Rattle.std.proofs.Common.{Some, arith, inl, inr, ◌≡◌, ℕ, ◌+◌, List, length, get_or, set, sym, refl, ap, ◌∙◌, subst}
 use Rattle.rom_model.specs.Blocks.{region_len}
 use Rattle.rom_rule.specs.declared.views.Base.{Base}
 use Rattle.rom_rule.specs.declared.views.Plan.{Plan}

@@ -1,4 +1,4 @@
-use Rattle.std.proofs.Common.{length, drop}
+use Rattle.std.proofs.Common.{drop}
 use Rattle.rom_model.specs.Blocks.{region_len}
 use Rattle.rom_rule.specs.Views.{plan_of}
 use Rattle.rom_lr.specs.Writing.{Writes}

@@ -174,10 +174,12 @@ invariant_of-self-then-ne g c = let v : View = c.self.inside.seat.token.me.0 in 
     let recorded : IsRecordedBy g.O.Object.Contents (on_words g.O.Object.machine) x.base q (plan_of u) before now given = subst (λ (z : Base × Plan). IsRecordedBy g.O.Object.Contents (on_words g.O.Object.machine) z.0 z.1 (plan_of u) before now given) (λ j. (base_y j, stays j)) c.answer_all-then-ne.ensures.recorded in
     let made = made_by g.O.Object.Contents (on_words g.O.Object.machine) x.base q (plan_of u) before now given (fate_of o) first.0 at first.2 (ap (λ (z : Plan). z.mine) scan) recorded in
     let since : IsTrue g.D.Device.shown.tells_images → (s : g.O.Object.State) (n : ℕ) → g.O.Object.Contents x.base.order x.base.image s n → Runs g.D.Device.shown (Becomes (PassMakes g.O.Object.Contents (on_words g.O.Object.machine) x.base s n (fate_of o) q.history (batch_now g.O.Object.Contents (on_words g.O.Object.machine) x.base s n q))) c.self.inside.twin.device t.device = λ told s n o'. c.publish-outcome.ensures.since told s n o' in
-    let last : now ≤ g.D.Device.shown.faults t.device = omega (arith, c.fault_count-now.ensures) in
-    (core_refused g.O.Object.Contents (on_words g.O.Object.machine) g.D.Device.shown c.self.inside.twin t v u x.base q o before now made.0 made.1 inv base_x base_u not_published not_nothing scan made.3 found c.answer_all-then-ne.ensures.answered
-    c.publish-outcome.ensures.order (c.publish-outcome.ensures.committed not_published) c.publish-outcome.ensures.images c.publish-outcome.ensures.failed c.publish-outcome.ensures.doubt (failing_refused g.D.Device.shown t.device o not_published not_nothing (λ e. (c.publish-outcome.ensures.failed_cause e).last) (λ e. (c.publish-outcome.ensures.doubt_cause e).failed.last))
-    (λ told. since told inv.start inv.count op) (λ told is i left. c.publish-outcome.ensures.doubted told is inv.start inv.count op i left) last, ready_by g.O.Object.STORES v.base u.base c.self.inside.log c.publish-outcome.new.log c.self.invariant.1 base_u (c.publish-outcome.ensures.cleared not_published) c.publish-outcome.ensures.room)
+    let last : now ≤ g.D.Device.shown.faults t.device = omega (arith, c.fault_count-now.ensures) in (
+      core_refused g.O.Object.Contents (on_words g.O.Object.machine) g.D.Device.shown c.self.inside.twin t v u x.base q o before now made.0 made.1 inv base_x base_u not_published not_nothing scan made.3 found c.answer_all-then-ne.ensures.answered
+          c.publish-outcome.ensures.order (c.publish-outcome.ensures.committed not_published) c.publish-outcome.ensures.images c.publish-outcome.ensures.failed c.publish-outcome.ensures.doubt (failing_refused g.D.Device.shown t.device o not_published not_nothing (λ e. (c.publish-outcome.ensures.failed_cause e).last) (λ e. (c.publish-outcome.ensures.doubt_cause e).failed.last))
+          (λ told. since told inv.start inv.count op) (λ told is i left. c.publish-outcome.ensures.doubted told is inv.start inv.count op i left) last,
+      ready_by g.O.Object.STORES v.base u.base c.self.inside.log c.publish-outcome.new.log c.self.invariant.1 base_u (c.publish-outcome.ensures.cleared not_published) c.publish-outcome.ensures.room,
+    )
 
 pub returns-then-ne-clause-passed : goal.returns-then-ne-clause-passed
 returns-then-ne-clause-passed g c = let v : View = c.self.inside.seat.token.me.0 in let w : View = c.scan.new.seat.token.me.0 in let inv = c.self.invariant.0 in let sc = c.scan.ensures.scanned in
