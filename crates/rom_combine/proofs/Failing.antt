@@ -137,15 +137,16 @@ module _ {S : Type 0} (Contents : ℕ → List ℕ → S → ℕ → Type 0) (st
             subst (λ (r : List Entry × List Entry). Runs shown (Becomes (PassMakes Contents step b s n (outcomes.fate_of o) r.0 r.1)) a d) (λ j. (ap (λ (z : Plan). z.history) scan.rest j, (same ∙ sym x.1) j)) (runs told s n op),
       )
 
-  -- The same of a pass whose batch was published, and that has settled, from its plans: as it began, with what was found, published, settled, and with all answered.
-  pub passed_published : {D : Type 0} (shown : ShownDevice D) (a d : D) (b : Base) (p q m z u : Plan) (callers before mid end version : ℕ) (clear : List (ℕ × ℕ)) (many done : ℕ) (items : List Posted) (o : Outcome)
-      → IsScan (IsCall step b) p q callers items → (pb : IsPublished Contents step b q m before mid) → z ≡ rested end version clear m → but_requests u ≡ but_requests z → 0 < length items → many ≡ length items → done ≡ length pb.more → Each (λ _ f. f.answered ≡ true) u.requests → o ≡ outcome.Published → SameCalls q m → SameCalls z u
+  -- The same of a pass whose batch was published, and that has settled, from its plans: as it began, with what was found, published, with all answered, and settled.
+  pub passed_published : {D : Type 0} (shown : ShownDevice D) (a d : D) (b : Base) (p q m u z : Plan) (callers before mid end version : ℕ) (clear : List (ℕ × ℕ)) (many done : ℕ) (items : List Posted) (o : Outcome)
+      → IsScan (IsCall step b) p q callers items → (pb : IsPublished Contents step b q m before mid) → but_requests u ≡ but_requests m → z ≡ rested end version clear u → 0 < length items → many ≡ length items → done ≡ length pb.more → Each (λ _ f. f.answered ≡ true) u.requests → o ≡ outcome.Published → SameCalls q m → SameCalls m u
       → (IsTrue shown.tells_images → (s : S) (n : ℕ) → Contents b.order b.image s n → Runs shown (Becomes (PassMakes Contents step b s n (outcomes.fate_of o) q.history (batch_now Contents step b s n q))) a d)
-      → (x : IsPass Contents step b p u callers before end (record { found = many; done = done; outcome = o }))
+      → (x : IsPass Contents step b p z callers before end (record { found = many; done = done; outcome = o }))
       × (IsTrue shown.tells_images → (s : S) (n : ℕ) → Contents b.order b.image s n → Runs shown (Becomes (PassMakes Contents step b s n (outcomes.fate_of o) p.history x.more)) a d)
-  passed_published shown a d b p q m z u callers before mid end version clear many done items o scan pb settled kept any_found many_is done_is answered is out given runs =
-      let calls : SameCalls q u = (given.0 ∙ (ap (λ (r : Plan). r.scanned) settled ∙ out.0), given.1 ∙ (ap (λ (r : Plan). map found_of r.requests) settled ∙ out.1)) in
-      let x = pass_published Contents step b p q m u callers before mid end version clear many done items o scan pb (kept ∙ ap but_requests settled) any_found many_is done_is answered is calls in (
+  passed_published shown a d b p q m u z callers before mid end version clear many done items o scan pb kept settled any_found many_is done_is answered is out given runs =
+      let calls : SameCalls q z = (ap (λ (r : Plan). r.scanned) settled ∙ (given.0 ∙ out.0), ap (λ (r : Plan). map found_of r.requests) settled ∙ (given.1 ∙ out.1)) in
+      let last : but_requests z ≡ but_requests (rested end version clear m) = ap but_requests settled ∙ ap (λ (r : Plan). but_requests (rested end version clear r)) kept in
+      let x = pass_published Contents step b p q m z callers before mid end version clear many done items o scan pb last any_found many_is done_is (subst (λ (r : Plan). Each (λ _ f. f.answered ≡ true) r.requests) (sym settled) answered) is calls in (
         x.0,
         λ told s n op. let e = pb.batch s n op in let same : batch_now Contents step b s n q ≡ pb.more = ap (λ (k : ℕ). batch step b.order (after step b.order s n q.history) k (map found_of q.requests)) (sym e.0) ∙ sym e.1 in
             subst (λ (r : List Entry × List Entry). Runs shown (Becomes (PassMakes Contents step b s n (outcomes.fate_of o) r.0 r.1)) a d) (λ j. (ap (λ (r : Plan). r.history) scan.rest j, (same ∙ sym x.1) j)) (runs told s n op),

@@ -220,8 +220,8 @@ impl<D: Device, O: Object> Core<D, O> {
             self.found.as_slice(),
             &mut self.answers,
         );
+        let now = self.twin.fault_count();
         if outcome != Outcome::Published {
-            let now = self.twin.fault_count();
             answer_all(shared, &mut self.seat, self.answers.as_slice(), before, now);
             return Passed {
                 found: many,
@@ -231,6 +231,7 @@ impl<D: Device, O: Object> Core<D, O> {
         }
         let done = (shared.load_main(&mut self.seat, COUNT) - place) as u32;
         gate.published(rt, done);
+        answer_all(shared, &mut self.seat, self.answers.as_slice(), before, now);
         settle(
             rt,
             &mut self.twin,
@@ -239,8 +240,6 @@ impl<D: Device, O: Object> Core<D, O> {
             &mut self.log,
             before,
         );
-        let now = self.twin.fault_count();
-        answer_all(shared, &mut self.seat, self.answers.as_slice(), before, now);
         Passed {
             found: many,
             done,

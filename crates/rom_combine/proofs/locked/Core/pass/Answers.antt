@@ -1,5 +1,5 @@
 use Rattle.rom_model.specs.Machine.{on_words}
-use Rattle.std.proofs.Common.{Some, rules, arith, ◌≡◌, ◌⊎◌, inl, inr, ⊎_elim, ℕ, ◌+◌, ◌-◌, ◌^◌, ◌<◌, ◌≤◌, List, [], ◌∷◌, ◌++◌, map, length, length-append, slice_index, sym, refl, ap, ◌∙◌, subst, true, false, ◌≢◌, IsTrue}
+use Rattle.std.proofs.Common.{Some, rules, arith, ◌≡◌, ◌⊎◌, inl, inr, ⊎_elim, ℕ, ◌+◌, ◌-◌, ◌*◌, ◌^◌, ◌<◌, ◌≤◌, List, [], ◌∷◌, ◌++◌, map, length, length-append, slice_index, sym, refl, ap, ◌∙◌, subst, true, false, ◌≢◌, IsTrue}
 use mathlib.Core.Option.{some}
 use lib.ListN.{get_elem?}
 use Rattle.rom_combine.proofs.Since.{becomes_none}
@@ -8,7 +8,10 @@ use Rattle.rom_twin.specs.Seen.{committed}
 use Rattle.rom_header.specs.Regions.{IsCurrentRegion}
 use Rattle.rom_device.specs.Device.{Does, Runs}
 use Rattle.rom_device.specs.Device.{Becomes}
-use Rattle.rom_combine.specs.Costs.{WithinHeap}
+use Rattle.std.proofs.Math.Nat.{mul-le-mul_left}
+use Rattle.rom_combine.specs.Costs.{SpendsAtMost, WithinHeap, batch_syncs, batch_writes, syncs_before_commit, writes_before_commit}
+use Rattle.rom_ranges.specs.Changes.{IsLogOf}
+use Rattle.rom_ranges.specs.Ranges.{held_count}
 use Rattle.rom_combine.specs.Images.{MayPublish}
 use Rattle.rom_combine.specs.Told.{fate_of}
 use Rattle.rom_combine.proofs.Outside.{within_then}
@@ -18,7 +21,7 @@ use Rattle.rom_rule.proofs.Told.{length_map, at_some}
 use Rattle.rom_combine.specs.Resting.{rested}
 use Rattle.rom_combine.proofs.Gives.{made_some}
 use Rattle.rom_combine.proofs.Limits.{batch_short}
-use Rattle.rom_combine.proofs.Rested.{left_rested, made_rested, faults_rested}
+use Rattle.rom_combine.proofs.Rested.{may_raise, faults_rested}
 use Rattle.rom_model.specs.declared.entry.Entry.{Entry}
 use Rattle.rom_model.specs.declared.record.Fate.TheVariants as fate
 use Rattle.rom_model.specs.declared.record.PassRecord.{PassRecord}
@@ -30,11 +33,10 @@ use Rattle.rom_rule.specs.declared.views.Plan.{Plan}
 use Rattle.rom_rule.specs.declared.views.View.{View}
 use Rattle.rom_rule.specs.Views.{Each, base_of, has, is_made, plan_of, records_of}
 use Rattle.rom_rule.specs.Calls.{AreScanned, caller_in, found_of}
-use Rattle.rom_rule.specs.Kinds.{raised}
+use Rattle.rom_rule.specs.Kinds.{MayRaise, raised}
 use Rattle.rom_rule.specs.CallKinds.{beginning}
 use Rattle.rom_rule.proofs.Books.{full_batch}
 use Rattle.rom_rule.specs.Records.{IsCall}
-use Rattle.rom_rule.specs.Places.{indicator_count}
 use Rattle.rom_rule.specs.Readers as rule
 use Rattle.rom_combine.specs.declared.answering.Answer.{Answer}
 use Rattle.rom_combine.specs.Scanning.{IsFresh, IsScan, posted_of, but_requests}
@@ -250,17 +252,99 @@ answer_all-requires-2-clause-left g c = let v : View = c.self.inside.seat.token.
     let x : View = c.load_main-place.new.seat.token.me.0 in let q : Plan = plan_of w in let st = scan_stays (plan_of v) q sc.rest in
     let plan_x : plan_of x ≡ q = ap plan_of c.load_main-place.ensures.still.2 in let base_x : x.base ≡ v.base = ap (λ (z : View). z.base) c.load_main-place.ensures.still.2 ∙ base in
     let y : View = c.publish-outcome.new.seat.token.me.0 in let is_pub : c.publish-outcome.result ≡ outcome.Published = search rules in let pb = c.publish-outcome.ensures.published is_pub in let ph = c.publish-outcome.ensures.held is_pub in
-    let lm : View = c.load_main.new.seat.token.me.0 in let z : View = c.settle.new.seat.token.me.0 in let plan_lm : plan_of lm ≡ plan_of y = ap plan_of c.load_main.ensures.still.2 in
-    let end : ℕ = g.D.Device.shown.faults c.settle.new.twin.device in
-    let settled : plan_of z ≡ rested end c.settle.ensures.rested.version c.settle.ensures.rested.clear (plan_of y) = ap plan_of c.settle.ensures.rested.writes.2 ∙ ap (λ (r : Plan). rested end c.settle.ensures.rested.version c.settle.ensures.rested.clear r) plan_lm in
+    let lm : View = c.load_main.new.seat.token.me.0 in let plan_lm : plan_of lm ≡ plan_of y = ap plan_of c.load_main.ensures.still.2 in
+    let base_lm : lm.base ≡ x.base = ap (λ (r : View). r.base) c.load_main.ensures.still.2 ∙ ap (λ (r : View). r.base) c.publish-outcome.ensures.same.2 in
+    (
+      fate_of c.publish-outcome.result,
+      subst (λ (r : Base × Plan × ℕ × List Answer). IsLeft g.O.Object.Contents (on_words g.O.Object.machine) r.0 (fate_of c.publish-outcome.result) c.fault_count-before.result r.2 r.1 0 r.3)
+          (λ j. (sym base_lm j, sym plan_lm j, sym c.fault_count-now.ensures j, sym c.as_slice-3.ensures.value j)) c.publish-outcome.ensures.left,
+    )
+
+pub settle-requires-clause-main : goal.settle-requires-clause-main
+settle-requires-clause-main g c = let v : View = c.self.inside.seat.token.me.0 in let w : View = c.scan.new.seat.token.me.0 in let inv = c.self.invariant.0 in let sc = c.scan.ensures.scanned in
+    let base : w.base ≡ v.base = ap (λ (z : View). z.base) c.scan.ensures.same.2 in
+    let x : View = c.load_main-place.new.seat.token.me.0 in let q : Plan = plan_of w in let st = scan_stays (plan_of v) q sc.rest in
+    let plan_x : plan_of x ≡ q = ap plan_of c.load_main-place.ensures.still.2 in let base_x : x.base ≡ v.base = ap (λ (z : View). z.base) c.load_main-place.ensures.still.2 ∙ base in
+    let y : View = c.publish-outcome.new.seat.token.me.0 in let is_pub : c.publish-outcome.result ≡ outcome.Published = search rules in let pb = c.publish-outcome.ensures.published is_pub in let ph = c.publish-outcome.ensures.held is_pub in
+    let lm : View = c.load_main.new.seat.token.me.0 in let plan_lm : plan_of lm ≡ plan_of y = ap plan_of c.load_main.ensures.still.2 in
+    let base_lm : lm.base ≡ x.base = ap (λ (r : View). r.base) c.load_main.ensures.still.2 ∙ ap (λ (r : View). r.base) c.publish-outcome.ensures.same.2 in
     let some_found : 0 < length c.scan.new.found.items = search rules in
     let first = at_some (plan_of x).requests 0 (let e : 0 < length (plan_of x).requests = omega (arith, some_found, ap length sc.items_are, length_map posted_of q.requests, ap (λ (r : Plan). length r.requests) plan_x) in e) in
     let made : is_made (plan_of y).mine ≡ true = ap is_made pb.mine ∙ made_some (map found_of (plan_of x).requests) _ 0 (found_of first.0) (at_map found_of (plan_of x).requests 0 first.0 first.1) in
-    let base_z : z.base ≡ x.base = ap (λ (r : View). r.base) c.settle.ensures.rested.writes.2 ∙ (ap (λ (r : View). r.base) c.load_main.ensures.still.2 ∙ ap (λ (r : View). r.base) c.publish-outcome.ensures.same.2) in
-    let left = left_rested g.O.Object.Contents (on_words g.O.Object.machine) x.base (fate_of c.publish-outcome.result) c.fault_count-before.result _ c.fault_count-now-2.result c.settle.ensures.rested.version c.settle.ensures.rested.clear (plan_of y) c.publish-outcome.new.answers.items made c.publish-outcome.ensures.left in (
-      fate_of c.publish-outcome.result,
-      subst (λ (r : Base × Plan × List Answer). IsLeft g.O.Object.Contents (on_words g.O.Object.machine) r.0 (fate_of c.publish-outcome.result) c.fault_count-before.result c.fault_count-now-2.result r.1 0 r.2)
-          (λ j. (sym base_z j, (ap (λ (n : ℕ). rested n c.settle.ensures.rested.version c.settle.ensures.rested.clear (plan_of y)) c.fault_count-now-2.ensures ∙ sym settled) j, sym c.as_slice-3.ensures.value j)) left,
+    let u : View = c.answer_all-2.new.seat.token.me.0 in let base_u : u.base ≡ x.base = ap (λ (r : View). r.base) c.answer_all-2.ensures.same.2 ∙ base_lm in
+    let given : but_requests (plan_of u) ≡ but_requests (plan_of y) = c.answer_all-2.ensures.kept (ap (λ (r : Plan). is_made r.mine) plan_lm ∙ made) ∙ ap but_requests plan_lm in
+    let main : (plan_of u).main ≡ (plan_of y).main = ap (λ (r : Plan). r.main) given in let back : (plan_of u).back ≡ (plan_of y).back = ap (λ (r : Plan). r.back) given in let history : (plan_of u).history ≡ (plan_of y).history = ap (λ (r : Plan). r.history) given in
+    λ told. c.publish-outcome.ensures.main is_pub told ∙ sym main
+
+pub settle-requires-clause-back : goal.settle-requires-clause-back
+settle-requires-clause-back g c = let v : View = c.self.inside.seat.token.me.0 in let w : View = c.scan.new.seat.token.me.0 in let inv = c.self.invariant.0 in let sc = c.scan.ensures.scanned in
+    let base : w.base ≡ v.base = ap (λ (z : View). z.base) c.scan.ensures.same.2 in
+    let x : View = c.load_main-place.new.seat.token.me.0 in let q : Plan = plan_of w in let st = scan_stays (plan_of v) q sc.rest in
+    let plan_x : plan_of x ≡ q = ap plan_of c.load_main-place.ensures.still.2 in let base_x : x.base ≡ v.base = ap (λ (z : View). z.base) c.load_main-place.ensures.still.2 ∙ base in
+    let y : View = c.publish-outcome.new.seat.token.me.0 in let is_pub : c.publish-outcome.result ≡ outcome.Published = search rules in let pb = c.publish-outcome.ensures.published is_pub in let ph = c.publish-outcome.ensures.held is_pub in
+    let lm : View = c.load_main.new.seat.token.me.0 in let plan_lm : plan_of lm ≡ plan_of y = ap plan_of c.load_main.ensures.still.2 in
+    let base_lm : lm.base ≡ x.base = ap (λ (r : View). r.base) c.load_main.ensures.still.2 ∙ ap (λ (r : View). r.base) c.publish-outcome.ensures.same.2 in
+    let some_found : 0 < length c.scan.new.found.items = search rules in
+    let first = at_some (plan_of x).requests 0 (let e : 0 < length (plan_of x).requests = omega (arith, some_found, ap length sc.items_are, length_map posted_of q.requests, ap (λ (r : Plan). length r.requests) plan_x) in e) in
+    let made : is_made (plan_of y).mine ≡ true = ap is_made pb.mine ∙ made_some (map found_of (plan_of x).requests) _ 0 (found_of first.0) (at_map found_of (plan_of x).requests 0 first.0 first.1) in
+    let u : View = c.answer_all-2.new.seat.token.me.0 in let base_u : u.base ≡ x.base = ap (λ (r : View). r.base) c.answer_all-2.ensures.same.2 ∙ base_lm in
+    let given : but_requests (plan_of u) ≡ but_requests (plan_of y) = c.answer_all-2.ensures.kept (ap (λ (r : Plan). is_made r.mine) plan_lm ∙ made) ∙ ap but_requests plan_lm in
+    let main : (plan_of u).main ≡ (plan_of y).main = ap (λ (r : Plan). r.main) given in let back : (plan_of u).back ≡ (plan_of y).back = ap (λ (r : Plan). r.back) given in let history : (plan_of u).history ≡ (plan_of y).history = ap (λ (r : Plan). r.history) given in
+    λ told. c.publish-outcome.ensures.back is_pub told ∙ sym back
+
+pub settle-requires-clause-logged : goal.settle-requires-clause-logged
+settle-requires-clause-logged g c = let v : View = c.self.inside.seat.token.me.0 in let w : View = c.scan.new.seat.token.me.0 in let inv = c.self.invariant.0 in let sc = c.scan.ensures.scanned in
+    let base : w.base ≡ v.base = ap (λ (z : View). z.base) c.scan.ensures.same.2 in
+    let x : View = c.load_main-place.new.seat.token.me.0 in let q : Plan = plan_of w in let st = scan_stays (plan_of v) q sc.rest in
+    let plan_x : plan_of x ≡ q = ap plan_of c.load_main-place.ensures.still.2 in let base_x : x.base ≡ v.base = ap (λ (z : View). z.base) c.load_main-place.ensures.still.2 ∙ base in
+    let y : View = c.publish-outcome.new.seat.token.me.0 in let is_pub : c.publish-outcome.result ≡ outcome.Published = search rules in let pb = c.publish-outcome.ensures.published is_pub in let ph = c.publish-outcome.ensures.held is_pub in
+    let lm : View = c.load_main.new.seat.token.me.0 in let plan_lm : plan_of lm ≡ plan_of y = ap plan_of c.load_main.ensures.still.2 in
+    let base_lm : lm.base ≡ x.base = ap (λ (r : View). r.base) c.load_main.ensures.still.2 ∙ ap (λ (r : View). r.base) c.publish-outcome.ensures.same.2 in
+    let some_found : 0 < length c.scan.new.found.items = search rules in
+    let first = at_some (plan_of x).requests 0 (let e : 0 < length (plan_of x).requests = omega (arith, some_found, ap length sc.items_are, length_map posted_of q.requests, ap (λ (r : Plan). length r.requests) plan_x) in e) in
+    let made : is_made (plan_of y).mine ≡ true = ap is_made pb.mine ∙ made_some (map found_of (plan_of x).requests) _ 0 (found_of first.0) (at_map found_of (plan_of x).requests 0 first.0 first.1) in
+    let u : View = c.answer_all-2.new.seat.token.me.0 in let base_u : u.base ≡ x.base = ap (λ (r : View). r.base) c.answer_all-2.ensures.same.2 ∙ base_lm in
+    let given : but_requests (plan_of u) ≡ but_requests (plan_of y) = c.answer_all-2.ensures.kept (ap (λ (r : Plan). is_made r.mine) plan_lm ∙ made) ∙ ap but_requests plan_lm in
+    let main : (plan_of u).main ≡ (plan_of y).main = ap (λ (r : Plan). r.main) given in let back : (plan_of u).back ≡ (plan_of y).back = ap (λ (r : Plan). r.back) given in let history : (plan_of u).history ≡ (plan_of y).history = ap (λ (r : Plan). r.history) given in
+    subst (λ (r : List ℕ × List ℕ). IsLogOf r.0 r.1 c.publish-outcome.new.log) (λ j. (sym back j, sym main j)) (c.publish-outcome.ensures.logged is_pub)
+
+pub settle-requires-clause-raises : goal.settle-requires-clause-raises
+settle-requires-clause-raises g c = let v : View = c.self.inside.seat.token.me.0 in let w : View = c.scan.new.seat.token.me.0 in let inv = c.self.invariant.0 in let sc = c.scan.ensures.scanned in
+    let base : w.base ≡ v.base = ap (λ (z : View). z.base) c.scan.ensures.same.2 in
+    let x : View = c.load_main-place.new.seat.token.me.0 in let q : Plan = plan_of w in let st = scan_stays (plan_of v) q sc.rest in
+    let plan_x : plan_of x ≡ q = ap plan_of c.load_main-place.ensures.still.2 in let base_x : x.base ≡ v.base = ap (λ (z : View). z.base) c.load_main-place.ensures.still.2 ∙ base in
+    let y : View = c.publish-outcome.new.seat.token.me.0 in let is_pub : c.publish-outcome.result ≡ outcome.Published = search rules in let pb = c.publish-outcome.ensures.published is_pub in let ph = c.publish-outcome.ensures.held is_pub in
+    let lm : View = c.load_main.new.seat.token.me.0 in let plan_lm : plan_of lm ≡ plan_of y = ap plan_of c.load_main.ensures.still.2 in
+    let base_lm : lm.base ≡ x.base = ap (λ (r : View). r.base) c.load_main.ensures.still.2 ∙ ap (λ (r : View). r.base) c.publish-outcome.ensures.same.2 in
+    let some_found : 0 < length c.scan.new.found.items = search rules in
+    let first = at_some (plan_of x).requests 0 (let e : 0 < length (plan_of x).requests = omega (arith, some_found, ap length sc.items_are, length_map posted_of q.requests, ap (λ (r : Plan). length r.requests) plan_x) in e) in
+    let made : is_made (plan_of y).mine ≡ true = ap is_made pb.mine ∙ made_some (map found_of (plan_of x).requests) _ 0 (found_of first.0) (at_map found_of (plan_of x).requests 0 first.0 first.1) in
+    let u : View = c.answer_all-2.new.seat.token.me.0 in let base_u : u.base ≡ x.base = ap (λ (r : View). r.base) c.answer_all-2.ensures.same.2 ∙ base_lm in
+    let given : but_requests (plan_of u) ≡ but_requests (plan_of y) = c.answer_all-2.ensures.kept (ap (λ (r : Plan). is_made r.mine) plan_lm ∙ made) ∙ ap but_requests plan_lm in
+    let main : (plan_of u).main ≡ (plan_of y).main = ap (λ (r : Plan). r.main) given in let back : (plan_of u).back ≡ (plan_of y).back = ap (λ (r : Plan). r.back) given in let history : (plan_of u).history ≡ (plan_of y).history = ap (λ (r : Plan). r.history) given in
+    let after : ℕ = g.D.Device.shown.faults c.publish-outcome.new.twin.device in let founds = map found_of (plan_of x).requests in
+    subst (λ (r : List PassRecord). MayRaise c.fault_count-before.result after r) (sym (ap (λ (r : Plan). r.mine) given ∙ pb.mine))
+    (may_raise founds (record { found = founds; fate = fate.Published; faults_before = c.fault_count-before.result; faults_after = after; len = length (plan_of x).history + length pb.more }))
+
+pub settle-requires-clause-held : goal.settle-requires-clause-held
+settle-requires-clause-held g c = let v : View = c.self.inside.seat.token.me.0 in let w : View = c.scan.new.seat.token.me.0 in let inv = c.self.invariant.0 in let sc = c.scan.ensures.scanned in
+    let base : w.base ≡ v.base = ap (λ (z : View). z.base) c.scan.ensures.same.2 in
+    let x : View = c.load_main-place.new.seat.token.me.0 in let q : Plan = plan_of w in let st = scan_stays (plan_of v) q sc.rest in
+    let plan_x : plan_of x ≡ q = ap plan_of c.load_main-place.ensures.still.2 in let base_x : x.base ≡ v.base = ap (λ (z : View). z.base) c.load_main-place.ensures.still.2 ∙ base in
+    let y : View = c.publish-outcome.new.seat.token.me.0 in let is_pub : c.publish-outcome.result ≡ outcome.Published = search rules in let pb = c.publish-outcome.ensures.published is_pub in let ph = c.publish-outcome.ensures.held is_pub in
+    let lm : View = c.load_main.new.seat.token.me.0 in let plan_lm : plan_of lm ≡ plan_of y = ap plan_of c.load_main.ensures.still.2 in
+    let base_lm : lm.base ≡ x.base = ap (λ (r : View). r.base) c.load_main.ensures.still.2 ∙ ap (λ (r : View). r.base) c.publish-outcome.ensures.same.2 in
+    let some_found : 0 < length c.scan.new.found.items = search rules in
+    let first = at_some (plan_of x).requests 0 (let e : 0 < length (plan_of x).requests = omega (arith, some_found, ap length sc.items_are, length_map posted_of q.requests, ap (λ (r : Plan). length r.requests) plan_x) in e) in
+    let made : is_made (plan_of y).mine ≡ true = ap is_made pb.mine ∙ made_some (map found_of (plan_of x).requests) _ 0 (found_of first.0) (at_map found_of (plan_of x).requests 0 first.0 first.1) in
+    let u : View = c.answer_all-2.new.seat.token.me.0 in let base_u : u.base ≡ x.base = ap (λ (r : View). r.base) c.answer_all-2.ensures.same.2 ∙ base_lm in
+    let given : but_requests (plan_of u) ≡ but_requests (plan_of y) = c.answer_all-2.ensures.kept (ap (λ (r : Plan). is_made r.mine) plan_lm ∙ made) ∙ ap but_requests plan_lm in
+    let main : (plan_of u).main ≡ (plan_of y).main = ap (λ (r : Plan). r.main) given in let back : (plan_of u).back ≡ (plan_of y).back = ap (λ (r : Plan). r.back) given in let history : (plan_of u).history ≡ (plan_of y).history = ap (λ (r : Plan). r.history) given in
+    (
+      ph.0,
+      ph.1,
+      subst (λ (r : Base). g.O.Object.Contents r.order r.image ph.0 ph.1) (sym base_u) ph.2,
+      subst (λ (r : Base × List ℕ × List Entry). rule.Held g.O.Object.Contents (on_words g.O.Object.machine) r.0 ph.0 ph.1 r.1 r.2) (λ j. (sym base_u j, sym main j, sym history j)) ph.3,
     )
 
 pub invariant_of-self-2 : goal.invariant_of-self-2
@@ -269,40 +353,41 @@ invariant_of-self-2 g c = let v : View = c.self.inside.seat.token.me.0 in let w 
     let x : View = c.load_main-place.new.seat.token.me.0 in let q : Plan = plan_of w in let st = scan_stays (plan_of v) q sc.rest in
     let plan_x : plan_of x ≡ q = ap plan_of c.load_main-place.ensures.still.2 in let base_x : x.base ≡ v.base = ap (λ (z : View). z.base) c.load_main-place.ensures.still.2 ∙ base in
     let y : View = c.publish-outcome.new.seat.token.me.0 in let is_pub : c.publish-outcome.result ≡ outcome.Published = search rules in let pb = c.publish-outcome.ensures.published is_pub in let ph = c.publish-outcome.ensures.held is_pub in
-    let lm : View = c.load_main.new.seat.token.me.0 in let z : View = c.settle.new.seat.token.me.0 in let plan_lm : plan_of lm ≡ plan_of y = ap plan_of c.load_main.ensures.still.2 in
-    let end : ℕ = g.D.Device.shown.faults c.settle.new.twin.device in
-    let settled : plan_of z ≡ rested end c.settle.ensures.rested.version c.settle.ensures.rested.clear (plan_of y) = ap plan_of c.settle.ensures.rested.writes.2 ∙ ap (λ (r : Plan). rested end c.settle.ensures.rested.version c.settle.ensures.rested.clear r) plan_lm in
+    let lm : View = c.load_main.new.seat.token.me.0 in let plan_lm : plan_of lm ≡ plan_of y = ap plan_of c.load_main.ensures.still.2 in
+    let base_lm : lm.base ≡ x.base = ap (λ (r : View). r.base) c.load_main.ensures.still.2 ∙ ap (λ (r : View). r.base) c.publish-outcome.ensures.same.2 in
     let some_found : 0 < length c.scan.new.found.items = search rules in
     let first = at_some (plan_of x).requests 0 (let e : 0 < length (plan_of x).requests = omega (arith, some_found, ap length sc.items_are, length_map posted_of q.requests, ap (λ (r : Plan). length r.requests) plan_x) in e) in
     let made : is_made (plan_of y).mine ≡ true = ap is_made pb.mine ∙ made_some (map found_of (plan_of x).requests) _ 0 (found_of first.0) (at_map found_of (plan_of x).requests 0 first.0 first.1) in
-    let base_z : z.base ≡ x.base = ap (λ (r : View). r.base) c.settle.ensures.rested.writes.2 ∙ (ap (λ (r : View). r.base) c.load_main.ensures.still.2 ∙ ap (λ (r : View). r.base) c.publish-outcome.ensures.same.2) in
-    let t = c.settle.new.twin in let u : View = c.answer_all-2.new.seat.token.me.0 in let base_u : u.base ≡ x.base = ap (λ (r : View). r.base) c.answer_all-2.ensures.same.2 ∙ base_z in
-    let kept : but_requests (plan_of u) ≡ but_requests (rested end c.settle.ensures.rested.version c.settle.ensures.rested.clear (plan_of y)) = c.answer_all-2.ensures.kept (ap (λ (r : Plan). is_made r.mine) settled ∙ made_rested end c.settle.ensures.rested.version c.settle.ensures.rested.clear (plan_of y) made) ∙ ap but_requests settled in
-    let main : (plan_of u).main ≡ (plan_of y).main = ap (λ (r : Plan). r.main) kept in let history : (plan_of u).history ≡ (plan_of y).history = ap (λ (r : Plan). r.history) kept in
-    let order : t.order ≡ u.base.order = c.settle.ensures.order ∙ (c.publish-outcome.ensures.order ∙ (inv.order_is ∙ ap (λ (r : Base). r.order) (sym (base_u ∙ base_x)))) in
-    let held : rule.Held g.O.Object.Contents (on_words g.O.Object.machine) u.base ph.0 ph.1 (plan_of u).main (plan_of u).history = subst (λ (r : Base × List ℕ × List Entry). rule.Held g.O.Object.Contents (on_words g.O.Object.machine) r.0 ph.0 ph.1 r.1 r.2) (λ j. (sym base_u j, sym main j, sym history j)) ph.3 in
-    let committed_is : Rattle.std.proofs.Common.IsTrue g.D.Device.shown.tells_images → committed g.D.Device.shown t ≡ (plan_of u).main = λ told. c.settle.ensures.committed told ∙ (ap (λ (r : Plan). r.main) plan_lm ∙ sym main) in
+    let u : View = c.answer_all-2.new.seat.token.me.0 in let base_u : u.base ≡ x.base = ap (λ (r : View). r.base) c.answer_all-2.ensures.same.2 ∙ base_lm in
+    let given : but_requests (plan_of u) ≡ but_requests (plan_of y) = c.answer_all-2.ensures.kept (ap (λ (r : Plan). is_made r.mine) plan_lm ∙ made) ∙ ap but_requests plan_lm in
+    let main : (plan_of u).main ≡ (plan_of y).main = ap (λ (r : Plan). r.main) given in let back : (plan_of u).back ≡ (plan_of y).back = ap (λ (r : Plan). r.back) given in let history : (plan_of u).history ≡ (plan_of y).history = ap (λ (r : Plan). r.history) given in
+    let t = c.settle.new.twin in let end : ℕ = g.D.Device.shown.faults t.device in let z : View = c.settle.new.seat.token.me.0 in
+    let settled : plan_of z ≡ rested end c.settle.ensures.rested.version c.settle.ensures.rested.clear (plan_of u) = ap plan_of c.settle.ensures.rested.writes.2 in let base_z : z.base ≡ x.base = ap (λ (r : View). r.base) c.settle.ensures.rested.writes.2 ∙ base_u in
+    let kept : but_requests (plan_of z) ≡ but_requests (rested end c.settle.ensures.rested.version c.settle.ensures.rested.clear (plan_of y)) = ap but_requests settled ∙ ap (λ (r : Plan). but_requests (rested end c.settle.ensures.rested.version c.settle.ensures.rested.clear r)) given in
+    let order : t.order ≡ z.base.order = c.settle.ensures.order ∙ (c.publish-outcome.ensures.order ∙ (inv.order_is ∙ ap (λ (r : Base). r.order) (sym (base_z ∙ base_x)))) in
+    let main_z : (plan_of z).main ≡ (plan_of y).main = ap (λ (r : Plan). r.main) kept in
+    let held : rule.Held g.O.Object.Contents (on_words g.O.Object.machine) z.base ph.0 ph.1 (plan_of z).main (plan_of z).history = subst (λ (r : Base × List ℕ × List Entry). rule.Held g.O.Object.Contents (on_words g.O.Object.machine) r.0 ph.0 ph.1 r.1 r.2) (λ j. (sym base_z j, sym main_z j, sym (ap (λ (r : Plan). r.history) kept) j)) ph.3 in
+    let committed_is : IsTrue g.D.Device.shown.tells_images → committed g.D.Device.shown t ≡ (plan_of z).main = λ told. c.settle.ensures.committed told ∙ (main ∙ sym main_z) in
     let order_t : t.order ≡ c.self.inside.twin.order = c.settle.ensures.order ∙ c.publish-outcome.ensures.order in
-    let clear : (plan_of u).clear ≡ (plan_of z).clear = ap (λ (r : Plan). r.clear) kept ∙ sym (ap (λ (r : Plan). r.clear) settled) in let base_uz : u.base ≡ z.base = ap (λ (r : View). r.base) c.answer_all-2.ensures.same.2 in
-    let now : IsAtRest g.D.Device.shown g.O.Object.Contents (on_words g.O.Object.machine) t u = record {
+    let now : IsAtRest g.D.Device.shown g.O.Object.Contents (on_words g.O.Object.machine) t z = record {
       order_is = order;
       order_fits = subst IsOrder (sym order_t) inv.order_fits;
       side_is = ap (λ (r : Plan). r.side) kept;
-      settled = subst (λ (r : Base × List (ℕ × ℕ)). (k : ℕ) → k < indicator_count r.0.callers → has k r.1 ≡ true) (λ j. (sym base_uz j, sym clear j)) c.settle.ensures.settled;
-      same = main ∙ sym (ap (λ (r : Plan). r.back) kept);
+      settled = c.settle.ensures.settled;
+      same = main_z ∙ sym (ap (λ (r : Plan). r.back) kept);
       start = ph.0;
       count = ph.1;
-      opening = subst (λ (r : Base). g.O.Object.Contents r.order r.image ph.0 ph.1) (sym base_u) ph.2;
+      opening = subst (λ (r : Base). g.O.Object.Contents r.order r.image ph.0 ph.1) (sym base_z) ph.2;
       held = held;
       rests = ⊎_elim (λ e. inl e) (λ e. inr (inr (inr e))) c.settle.ensures.phase;
       committed_is = committed_is;
       images = λ told i left. let counts = after_region g.D.Device.shown t c.settle.ensures.phase (g.met.D.Device.reads_image t.device told) (c.settle.ensures.images told) i left in
-          inl (record { region = (plan_of u).main; current = subst (λ (r : ℕ × List ℕ). IsCurrentRegion r.0 i r.1) (λ j. (order j, committed_is told j)) counts; contents = held });
+          inl (record { region = (plan_of z).main; current = subst (λ (r : ℕ × List ℕ). IsCurrentRegion r.0 i r.1) (λ j. (order j, committed_is told j)) counts; contents = held });
       failed = λ needs. ⊎_elim (λ e. absurd (clean_needs_none t.phase e needs)) (λ e. (c.settle.ensures.cause e).last) c.settle.ensures.phase;
-      answered = c.answer_all-2.ensures.answered;
-      counts = let e : faults_after u.base.faults (records_of (plan_of u)) ≡ end = ap (λ (r : Plan). faults_after u.base.faults (records_of r)) kept ∙ (ap (λ (l : List PassRecord). faults_after u.base.faults ((plan_of y).records ++ map (raised end) l)) pb.mine ∙ faults_rested end u.base.faults (plan_of y).records (map found_of (plan_of x).requests) _ (sym (ap is_made pb.mine) ∙ made)) in omega (arith, e);
+      answered = subst (λ (r : Plan). Each (λ _ f. f.answered ≡ true) r.requests) (sym settled) c.answer_all-2.ensures.answered;
+      counts = let e : faults_after z.base.faults (records_of (plan_of z)) ≡ end = ap (λ (r : Plan). faults_after z.base.faults (records_of r)) kept ∙ (ap (λ (l : List PassRecord). faults_after z.base.faults ((plan_of y).records ++ map (raised end) l)) pb.mine ∙ faults_rested end z.base.faults (plan_of y).records (map found_of (plan_of x).requests) _ (sym (ap is_made pb.mine) ∙ made)) in omega (arith, e);
     } in
-    (now, ready_by g.O.Object.STORES v.base u.base c.self.inside.log c.settle.new.log c.self.invariant.1 (base_u ∙ base_x) c.settle.ensures.cleared (c.settle.ensures.room ∙ c.publish-outcome.ensures.room))
+    (now, ready_by g.O.Object.STORES v.base z.base c.self.inside.log c.settle.new.log c.self.invariant.1 (base_z ∙ base_x) c.settle.ensures.cleared (c.settle.ensures.room ∙ c.publish-outcome.ensures.room))
 
 pub returns-clause-passed : goal.returns-clause-passed
 returns-clause-passed g c = let v : View = c.self.inside.seat.token.me.0 in let w : View = c.scan.new.seat.token.me.0 in let inv = c.self.invariant.0 in let sc = c.scan.ensures.scanned in
@@ -310,15 +395,17 @@ returns-clause-passed g c = let v : View = c.self.inside.seat.token.me.0 in let 
     let x : View = c.load_main-place.new.seat.token.me.0 in let q : Plan = plan_of w in let st = scan_stays (plan_of v) q sc.rest in
     let plan_x : plan_of x ≡ q = ap plan_of c.load_main-place.ensures.still.2 in let base_x : x.base ≡ v.base = ap (λ (z : View). z.base) c.load_main-place.ensures.still.2 ∙ base in
     let y : View = c.publish-outcome.new.seat.token.me.0 in let is_pub : c.publish-outcome.result ≡ outcome.Published = search rules in let pb = c.publish-outcome.ensures.published is_pub in let ph = c.publish-outcome.ensures.held is_pub in
-    let lm : View = c.load_main.new.seat.token.me.0 in let z : View = c.settle.new.seat.token.me.0 in let plan_lm : plan_of lm ≡ plan_of y = ap plan_of c.load_main.ensures.still.2 in
-    let end : ℕ = g.D.Device.shown.faults c.settle.new.twin.device in
-    let settled : plan_of z ≡ rested end c.settle.ensures.rested.version c.settle.ensures.rested.clear (plan_of y) = ap plan_of c.settle.ensures.rested.writes.2 ∙ ap (λ (r : Plan). rested end c.settle.ensures.rested.version c.settle.ensures.rested.clear r) plan_lm in
+    let lm : View = c.load_main.new.seat.token.me.0 in let plan_lm : plan_of lm ≡ plan_of y = ap plan_of c.load_main.ensures.still.2 in
+    let base_lm : lm.base ≡ x.base = ap (λ (r : View). r.base) c.load_main.ensures.still.2 ∙ ap (λ (r : View). r.base) c.publish-outcome.ensures.same.2 in
     let some_found : 0 < length c.scan.new.found.items = search rules in
     let first = at_some (plan_of x).requests 0 (let e : 0 < length (plan_of x).requests = omega (arith, some_found, ap length sc.items_are, length_map posted_of q.requests, ap (λ (r : Plan). length r.requests) plan_x) in e) in
     let made : is_made (plan_of y).mine ≡ true = ap is_made pb.mine ∙ made_some (map found_of (plan_of x).requests) _ 0 (found_of first.0) (at_map found_of (plan_of x).requests 0 first.0 first.1) in
-    let base_z : z.base ≡ x.base = ap (λ (r : View). r.base) c.settle.ensures.rested.writes.2 ∙ (ap (λ (r : View). r.base) c.load_main.ensures.still.2 ∙ ap (λ (r : View). r.base) c.publish-outcome.ensures.same.2) in
-    let t = c.settle.new.twin in let u : View = c.answer_all-2.new.seat.token.me.0 in let base_u : u.base ≡ x.base = ap (λ (r : View). r.base) c.answer_all-2.ensures.same.2 ∙ base_z in
-    let kept : but_requests (plan_of u) ≡ but_requests (plan_of z) = c.answer_all-2.ensures.kept (ap (λ (r : Plan). is_made r.mine) settled ∙ made_rested end c.settle.ensures.rested.version c.settle.ensures.rested.clear (plan_of y) made) in
+    let u : View = c.answer_all-2.new.seat.token.me.0 in let base_u : u.base ≡ x.base = ap (λ (r : View). r.base) c.answer_all-2.ensures.same.2 ∙ base_lm in
+    let given : but_requests (plan_of u) ≡ but_requests (plan_of y) = c.answer_all-2.ensures.kept (ap (λ (r : Plan). is_made r.mine) plan_lm ∙ made) ∙ ap but_requests plan_lm in
+    let main : (plan_of u).main ≡ (plan_of y).main = ap (λ (r : Plan). r.main) given in let back : (plan_of u).back ≡ (plan_of y).back = ap (λ (r : Plan). r.back) given in let history : (plan_of u).history ≡ (plan_of y).history = ap (λ (r : Plan). r.history) given in
+    let t = c.settle.new.twin in let end : ℕ = g.D.Device.shown.faults t.device in let z : View = c.settle.new.seat.token.me.0 in
+    let settled : plan_of z ≡ rested end c.settle.ensures.rested.version c.settle.ensures.rested.clear (plan_of u) = ap plan_of c.settle.ensures.rested.writes.2 in let base_z : z.base ≡ x.base = ap (λ (r : View). r.base) c.settle.ensures.rested.writes.2 ∙ base_u in
+    let kept : but_requests (plan_of z) ≡ but_requests (rested end c.settle.ensures.rested.version c.settle.ensures.rested.clear (plan_of y)) = ap but_requests settled ∙ ap (λ (r : Plan). but_requests (rested end c.settle.ensures.rested.version c.settle.ensures.rested.clear r)) given in
     let held₀ : rule.Held g.O.Object.Contents (on_words g.O.Object.machine) v.base inv.start inv.count q.main q.history = subst (λ (z : List ℕ × List Entry). rule.Held g.O.Object.Contents (on_words g.O.Object.machine) v.base inv.start inv.count z.0 z.1) (λ j. (sym st.main j, sym st.history j)) inv.held in
     let word : slice_index q.main 2 ≡ inv.count + length q.history = (g.met.O.Object.contents_within v.base.order q.main _ _ held₀).1 in
     let word₂ : slice_index (plan_of y).main 2 ≡ ph.1 + length (plan_of y).history = (g.met.O.Object.contents_within x.base.order (plan_of y).main _ _ ph.3).1 in
@@ -330,22 +417,52 @@ returns-clause-passed g c = let v : View = c.self.inside.seat.token.me.0 in let 
     let a = c.self.inside.twin.device in let d = c.settle.new.twin.device in
     let run : IsTrue g.D.Device.shown.tells_images → (s : g.O.Object.State) (n : ℕ) → g.O.Object.Contents x.base.order x.base.image s n → Runs g.D.Device.shown (Becomes (PassMakes g.O.Object.Contents (on_words g.O.Object.machine) x.base s n (fate_of o) (plan_of x).history (batch_now g.O.Object.Contents (on_words g.O.Object.machine) x.base s n (plan_of x)))) a d
     = λ told s n op. let bq : pb.more ≡ batch_now g.O.Object.Contents (on_words g.O.Object.machine) x.base s n (plan_of x) = (pb.batch s n op).1 ∙ ap (λ (k : ℕ). batch (on_words g.O.Object.machine) x.base.order (after (on_words g.O.Object.machine) x.base.order s n (plan_of x).history) k (map found_of (plan_of x).requests)) (pb.batch s n op).0 in
-    let heldm : rule.Held g.O.Object.Contents (on_words g.O.Object.machine) x.base s n (plan_of lm).main ((plan_of x).history ++ batch_now g.O.Object.Contents (on_words g.O.Object.machine) x.base s n (plan_of x)) = subst (λ (r : List ℕ × List Entry). rule.Held g.O.Object.Contents (on_words g.O.Object.machine) x.base s n r.0 r.1) (λ j. (ap (λ (r : Plan). r.main) (sym plan_lm) j, (pb.history ∙ ap (λ (l : List Entry). (plan_of x).history ++ l) bq) j))
+    let heldm : rule.Held g.O.Object.Contents (on_words g.O.Object.machine) x.base s n (plan_of u).main ((plan_of x).history ++ batch_now g.O.Object.Contents (on_words g.O.Object.machine) x.base s n (plan_of x)) = subst (λ (r : List ℕ × List Entry). rule.Held g.O.Object.Contents (on_words g.O.Object.machine) x.base s n r.0 r.1) (λ j. (sym main j, (pb.history ∙ ap (λ (l : List Entry). (plan_of x).history ++ l) bq) j))
     (same_held g.O.Object.Contents (on_words g.O.Object.machine) x.base s n ph.0 ph.1 (plan_of y).history (plan_of y).main (g.met.O.Object.one_contents x.base.order x.base.image s ph.0 n ph.1 op ph.2) ph.3) in
-    list_settled g.O.Object.Contents (on_words g.O.Object.machine) x.base s n g.D.Device.shown (fate_of o) (plan_of x).history (batch_now g.O.Object.Contents (on_words g.O.Object.machine) x.base s n (plan_of x)) c.publish-outcome.new.twin.order (plan_of lm).main a c.publish-outcome.new.twin.device d
+    list_settled g.O.Object.Contents (on_words g.O.Object.machine) x.base s n g.D.Device.shown (fate_of o) (plan_of x).history (batch_now g.O.Object.Contents (on_words g.O.Object.machine) x.base s n (plan_of x)) c.publish-outcome.new.twin.order (plan_of u).main a c.publish-outcome.new.twin.device d
     (c.publish-outcome.ensures.order ∙ (inv.order_is ∙ ap (λ (r : Base). r.order) (sym base_x))) (subst (λ w. MayPublish (fate_of w)) (sym is_pub) tt) heldm (c.publish-outcome.ensures.since told s n op) (c.settle.ensures.since told) in
-    let whole = passed_published g.O.Object.Contents (on_words g.O.Object.machine) g.D.Device.shown a d x.base (plan_of v) (plan_of x) (plan_of y) (plan_of z) (plan_of u) c.args.shared.now.layout.callers c.fault_count-before.result (g.D.Device.shown.faults c.publish-outcome.new.twin.device) end c.settle.ensures.rested.version c.settle.ensures.rested.clear many diff c.scan.new.found.items o scan pb settled kept some_found many_is done c.answer_all-2.ensures.answered is_pub c.publish-outcome.ensures.calls c.answer_all-2.ensures.calls run in
-    subst (λ (r : Base × Locked g.row.D.Denot × ℕ). (z' : IsPass g.O.Object.Contents (on_words g.O.Object.machine) r.0 (plan_of r.1.view) (plan_of u) c.args.shared.now.layout.callers r.2 end (record { found = many; done = diff; outcome = o }))
+    let whole = passed_published g.O.Object.Contents (on_words g.O.Object.machine) g.D.Device.shown a d x.base (plan_of v) (plan_of x) (plan_of y) (plan_of u) (plan_of z) c.args.shared.now.layout.callers c.fault_count-before.result (g.D.Device.shown.faults c.publish-outcome.new.twin.device) end c.settle.ensures.rested.version c.settle.ensures.rested.clear many diff c.scan.new.found.items o scan pb given settled some_found many_is done c.answer_all-2.ensures.answered is_pub c.publish-outcome.ensures.calls
+    (subst (λ (r : Plan). SameCalls r (plan_of u)) plan_lm c.answer_all-2.ensures.calls) run in
+    subst (λ (r : Base × Locked g.row.D.Denot × ℕ). (z' : IsPass g.O.Object.Contents (on_words g.O.Object.machine) r.0 (plan_of r.1.view) (plan_of z) c.args.shared.now.layout.callers r.2 end (record { found = many; done = diff; outcome = o }))
     × (IsTrue g.D.Device.shown.tells_images → (s : g.O.Object.State) (n : ℕ) → g.O.Object.Contents r.0.order r.0.image s n → Runs g.D.Device.shown (Becomes (PassMakes g.O.Object.Contents (on_words g.O.Object.machine) r.0 s n (fate_of o) (plan_of r.1.view).history z'.more)) r.1.twin.device d))
     (λ j. ((base_x ∙ ap (λ r. r.view.base) c.self.view_is) j, c.self.view_is j, (c.fault_count-before.ensures ∙ ap (λ r. g.D.Device.shown.faults r.twin.device) c.self.view_is) j)) whole
 
 pub returns-clause-now : goal.returns-clause-now
-returns-clause-now g c told s n op i left = let v : View = c.self.inside.seat.token.me.0 in let w : View = c.scan.new.seat.token.me.0 in let x : View = c.load_main-place.new.seat.token.me.0 in let u : View = c.answer_all-2.new.seat.token.me.0 in let t = c.settle.new.twin in
+returns-clause-now g c told s n op i left = let v : View = c.self.inside.seat.token.me.0 in let w : View = c.scan.new.seat.token.me.0 in let x : View = c.load_main-place.new.seat.token.me.0 in let z : View = c.settle.new.seat.token.me.0 in let t = c.settle.new.twin in
     let base_x : x.base ≡ v.base = ap (λ (z : View). z.base) c.load_main-place.ensures.still.2 ∙ ap (λ (z : View). z.base) c.scan.ensures.same.2 in
-    let base_u : u.base ≡ x.base = ap (λ (r : View). r.base) c.answer_all-2.ensures.same.2 ∙ (ap (λ (r : View). r.base) c.settle.ensures.rested.writes.2 ∙ (ap (λ (r : View). r.base) c.load_main.ensures.still.2 ∙ ap (λ (r : View). r.base) c.publish-outcome.ensures.same.2)) in
-    let same : u.base ≡ c.args.self.now.view.base = base_u ∙ (base_x ∙ ap (λ r. r.view.base) c.self.view_is) in
-    subst (λ (r : Base). ImageAt g.O.Object.Contents (on_words g.O.Object.machine) r s n t.phase (plan_of u) i) same
-    (now_of g.O.Object.Contents (on_words g.O.Object.machine) g.D.Device.shown t u s n (λ s₁ s₂ j k. g.met.O.Object.one_contents u.base.order u.base.image s₁ s₂ j k) (invariant_of-self-2 g c).0 told (subst (λ (r : Base). g.O.Object.Contents r.order r.image s n) (sym same) op) i left)
+    let base_z : z.base ≡ x.base = ap (λ (r : View). r.base) c.settle.ensures.rested.writes.2 ∙ (ap (λ (r : View). r.base) c.answer_all-2.ensures.same.2 ∙ (ap (λ (r : View). r.base) c.load_main.ensures.still.2 ∙ ap (λ (r : View). r.base) c.publish-outcome.ensures.same.2)) in
+    let same : z.base ≡ c.args.self.now.view.base = base_z ∙ (base_x ∙ ap (λ r. r.view.base) c.self.view_is) in
+    subst (λ (r : Base). ImageAt g.O.Object.Contents (on_words g.O.Object.machine) r s n t.phase (plan_of z) i) same
+    (now_of g.O.Object.Contents (on_words g.O.Object.machine) g.D.Device.shown t z s n (λ s₁ s₂ j k. g.met.O.Object.one_contents z.base.order z.base.image s₁ s₂ j k) (invariant_of-self-2 g c).0 told (subst (λ (r : Base). g.O.Object.Contents r.order r.image s n) (sym same) op) i left)
+
+pub returns-clause-most : goal.returns-clause-most
+returns-clause-most g c = let v : View = c.self.inside.seat.token.me.0 in let w : View = c.scan.new.seat.token.me.0 in let inv = c.self.invariant.0 in let sc = c.scan.ensures.scanned in
+    let base : w.base ≡ v.base = ap (λ (z : View). z.base) c.scan.ensures.same.2 in
+    let x : View = c.load_main-place.new.seat.token.me.0 in let q : Plan = plan_of w in let st = scan_stays (plan_of v) q sc.rest in
+    let plan_x : plan_of x ≡ q = ap plan_of c.load_main-place.ensures.still.2 in let base_x : x.base ≡ v.base = ap (λ (z : View). z.base) c.load_main-place.ensures.still.2 ∙ base in
+    let y : View = c.publish-outcome.new.seat.token.me.0 in let is_pub : c.publish-outcome.result ≡ outcome.Published = search rules in let pb = c.publish-outcome.ensures.published is_pub in let ph = c.publish-outcome.ensures.held is_pub in
+    let lm : View = c.load_main.new.seat.token.me.0 in let plan_lm : plan_of lm ≡ plan_of y = ap plan_of c.load_main.ensures.still.2 in
+    let base_lm : lm.base ≡ x.base = ap (λ (r : View). r.base) c.load_main.ensures.still.2 ∙ ap (λ (r : View). r.base) c.publish-outcome.ensures.same.2 in
+    let held₀ : rule.Held g.O.Object.Contents (on_words g.O.Object.machine) v.base inv.start inv.count q.main q.history = subst (λ (z : List ℕ × List Entry). rule.Held g.O.Object.Contents (on_words g.O.Object.machine) v.base inv.start inv.count z.0 z.1) (λ j. (sym st.main j, sym st.history j)) inv.held in
+    let word : slice_index q.main 2 ≡ inv.count + length q.history = (g.met.O.Object.contents_within v.base.order q.main _ _ held₀).1 in
+    let word₂ : slice_index (plan_of y).main 2 ≡ ph.1 + length (plan_of y).history = (g.met.O.Object.contents_within x.base.order (plan_of y).main _ _ ph.3).1 in
+    let same = g.met.O.Object.one_contents x.base.order x.base.image ph.0 inv.start ph.1 inv.count ph.2 (subst (λ (z : Base). g.O.Object.Contents z.order z.image inv.start inv.count) (sym base_x) inv.opening) in let counts = same.1 in
+    let log₂ : length (plan_of y).history ≡ length (plan_of x).history + length pb.more = ap length pb.history ∙ length-append (plan_of x).history pb.more in let log_x : length (plan_of x).history ≡ length q.history = ap (λ (z : Plan). length z.history) plan_x in
+    let b = pb.batch ph.0 ph.1 ph.2 in let short = batch_short (on_words g.O.Object.machine) x.base.order (after (on_words g.O.Object.machine) x.base.order ph.0 ph.1 (plan_of x).history) pb.front (map found_of (plan_of x).requests) in
+    let more : length pb.more ≤ length (plan_of x).requests = omega (arith, ap length b.1, short, length_map found_of (plan_of x).requests) in
+    let few : length (plan_of x).requests ≡ length c.as_slice-2.result.now = omega (arith, ap (λ (z : Plan). length z.requests) plan_x, ap length sc.items_are, length_map posted_of q.requests, ap length c.as_slice-2.ensures.value) in
+    let shown = g.D.Device.shown in let many : ℕ = c.len-many.result in let found : ℕ = length c.as_slice-2.result.now in
+    let many_is : found ≡ many = omega (arith, c.len-many.ensures.value, ap length c.as_slice-2.ensures.value) in
+    let diff : ℕ = slice_index (plan_of y).main 2 - c.load_main-place.result in
+    let done : diff ≤ many = omega (arith, word, word₂, counts, log₂, log_x, more, few, many_is, c.load_main-place.ensures.word) in
+    let stored : g.O.Object.STORES * diff ≤ g.O.Object.STORES * many = mul-le-mul_left g.O.Object.STORES done in
+    let logged : held_count c.publish-outcome.new.log.ranges ≤ g.O.Object.STORES * many = omega (arith, stored, c.publish-outcome.ensures.few is_pub) in
+    let a = c.self.inside.twin in let m = c.publish-outcome.new.twin.device in let d = c.settle.new.twin.device in
+    let first : SpendsAtMost shown (writes_before_commit a.phase a.order (g.O.Object.STORES * many) + 1) (syncs_before_commit a.phase + 1) a.device m = subst (λ (n : ℕ). SpendsAtMost shown (writes_before_commit a.phase a.order (g.O.Object.STORES * n) + 1) (syncs_before_commit a.phase + 1) a.device m) many_is c.publish-outcome.ensures.most in
+    subst (λ (r : Locked g.row.D.Denot). SpendsAtMost shown (batch_writes r.twin.phase r.twin.order (g.O.Object.STORES * many)) (batch_syncs r.twin.phase) r.twin.device d) c.self.view_is (record {
+      most_writes = record { later = omega (arith, first.most_writes.later, c.settle.ensures.most.most_writes.later); most = omega (arith, logged, first.most_writes.most, c.settle.ensures.most.most_writes.most) };
+      most_syncs = record { later = omega (arith, first.most_syncs.later, c.settle.ensures.most.most_syncs.later); most = omega (arith, first.most_syncs.most, c.settle.ensures.most.most_syncs.most) };
+    })
 
 pub returns-clause-spent : goal.returns-clause-spent
 returns-clause-spent g c published none = let v : View = c.self.inside.seat.token.me.0 in let w : View = c.scan.new.seat.token.me.0 in let inv = c.self.invariant.0 in let sc = c.scan.ensures.scanned in
@@ -387,5 +504,5 @@ returns-then-ne-clause-kept g c = let v : View = c.self.inside.seat.token.me.0 i
     subst (λ r. u ≡ record r.view { plan = Some (plan_of u); steps = u.steps }) c.self.view_is (keeps_then v w u c.scan.ensures.same.2 (keeps_then w x u (keeps_by w x (plan_of w) c.load_main-place.ensures.still.2) (keeps_then x y u c.publish-outcome.ensures.same.2 c.answer_all-then-ne.ensures.same.2)))
 
 pub returns-clause-kept : goal.returns-clause-kept
-returns-clause-kept g c = let v : View = c.self.inside.seat.token.me.0 in let w : View = c.scan.new.seat.token.me.0 in let x : View = c.load_main-place.new.seat.token.me.0 in let y : View = c.publish-outcome.new.seat.token.me.0 in let l : View = c.load_main.new.seat.token.me.0 in let z : View = c.settle.new.seat.token.me.0 in let u : View = c.answer_all-2.new.seat.token.me.0 in
-    subst (λ r. u ≡ record r.view { plan = Some (plan_of u); steps = u.steps }) c.self.view_is (keeps_then v w u c.scan.ensures.same.2 (keeps_then w x u (keeps_by w x (plan_of w) c.load_main-place.ensures.still.2) (keeps_then x y u c.publish-outcome.ensures.same.2 (keeps_then y l u (keeps_by y l (plan_of y) c.load_main.ensures.still.2) (keeps_then l z u (keeps_by l z _ c.settle.ensures.rested.writes.2) c.answer_all-2.ensures.same.2)))))
+returns-clause-kept g c = let v : View = c.self.inside.seat.token.me.0 in let w : View = c.scan.new.seat.token.me.0 in let x : View = c.load_main-place.new.seat.token.me.0 in let y : View = c.publish-outcome.new.seat.token.me.0 in let l : View = c.load_main.new.seat.token.me.0 in let u : View = c.answer_all-2.new.seat.token.me.0 in let z : View = c.settle.new.seat.token.me.0 in
+    subst (λ r. z ≡ record r.view { plan = Some (plan_of z); steps = z.steps }) c.self.view_is (keeps_then v w z c.scan.ensures.same.2 (keeps_then w x z (keeps_by w x (plan_of w) c.load_main-place.ensures.still.2) (keeps_then x y z c.publish-outcome.ensures.same.2 (keeps_then y l z (keeps_by y l (plan_of y) c.load_main.ensures.still.2) (keeps_then l u z c.answer_all-2.ensures.same.2 (keeps_by u z _ c.settle.ensures.rested.writes.2))))))
