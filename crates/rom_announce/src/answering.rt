@@ -11,13 +11,15 @@ ghost use Rattle.rom_rule.specs.Views.{is_made, plan_of};
 ghost use Rattle.rom_rule.specs.declared.views.Plan.{Plan};
 ghost use Rattle.rom_rule.specs.declared.views.Request.{Request};
 
+use crate::waiting::wake;
 use rom_lr::{Shared, WriterSeat};
 use rom_model::{Back, Object};
 use rom_rule::{Answers, BeginsAnswer, PassEnd, StoresPlace, StoresReply};
 use std::marker::Brand;
 
 /// Answers a found call: it stores the number of the reply's words and the words, then the place or a
-/// code, and last the turn, even, from which on the caller may take them. Where the pass has no record
+/// code, and last the turn, even, from which on the caller may take them, and wakes the caller where
+/// it sleeps. Where the pass has no record
 /// yet, this call makes it: the code gives its outcome, and `before` and `after` are the device's
 /// counts of faults at the pass's start and now.
 pub fn answer<O: Object>(
@@ -39,6 +41,7 @@ pub fn answer<O: Object>(
     store_reply(shared, seat, caller, reply);
     store_place(shared, seat, caller, place);
     finish(shared, seat, caller);
+    wake(shared, caller);
 }
 
 // The number of the reply's words, which makes the record where there is none.

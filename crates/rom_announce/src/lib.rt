@@ -3,7 +3,8 @@
 //!
 //! [`post`], [`answered`] and [`take`] are a caller's, [`posted`], [`arguments`] and [`answer`] the
 //! writer's. None waits, takes memory or can be refused, and each makes a number of steps that its
-//! contract tells, each of one word.
+//! contract tells, each of one word. A caller whose call is not answered yet may [`nap`]: the answer
+//! wakes it, and so does [`wake_next`].
 //!
 //! Each contract says what its seat's view becomes as a whole, so nothing else of the view changes.
 //! `specs/Scanning.antt` and `specs/Answering.antt` have what the writer's calls ask for and leave.
@@ -16,8 +17,10 @@ mod answering;
 mod posting;
 mod scanning;
 mod taking;
+mod waiting;
 
 pub use answering::answer;
 pub use posting::post;
 pub use scanning::{arguments, posted};
 pub use taking::{answered, take};
+pub use waiting::{nap, wake_next};

@@ -13,18 +13,22 @@ ghost use Rattle.rom_rule.specs.Views.{kept_of};
 ghost use Rattle.rom_store.specs.Callers.{IsCallerOf, IsSameCaller};
 ghost use Rattle.rom_store.specs.Updating.{HasBeenTold, IsDoneIn, IsWithinPlaces};
 
+use crate::held::Held;
 use crate::label::Label;
 use crate::pass::Pass;
 use crate::store::Store;
-use rom_announce::{answered, post, take};
+use rom_announce::{answered, nap, post, take, wake_next};
 use rom_combine::Gate;
 use rom_device::Device;
 use rom_lr::Seat;
 use rom_model::{Back, Object, Updated};
-use std::sync::Wait;
+use std::sync::{MutexGuard, Wait};
 
 /// The greatest count, and the most calls of one caller.
 const LAST: u64 = 1 << 62;
+
+/// How often a caller looks at its turn before it waits for the lock.
+const LOOKS: u64 = 64;
 
 /// What stands for a place where a call was not done.
 const SPENT: u64 = 1 << 62;
@@ -104,7 +108,7 @@ impl<D: Device, O: Object, N: Label> Store<D, O, N> {
         told_by::<O>(place, &reply)
     }
 
-    // Until the posted call is answered, takes the lock, looks, and runs a pass where it is not.
+    // Until the posted call is answered: looks at the turn some times, and then takes the lock.
     fn await_answer<R: Wait, G: Gate>(&self, rt: &R, seat: &mut Seat, gate: &G)
         requires of { IsSeatOf N.table self.now.shared.table.shared.key seat.old }
         requires posted { length seat.old.token.me.0.calls
@@ -113,15 +117,19 @@ impl<D: Device, O: Object, N: Label> Store<D, O, N> {
         ensures told { HasBeenTold O.Contents (on_words O.machine) seat.old.token.me.0
             seat.new.token.me.0 }
     {
+        if self.look(rt, seat, gate) {
+            return;
+        }
         for _ in rt.forever() {
-            if self.look_or_pass(rt, seat, gate) {
+            let held = self.held.lock(rt);
+            if self.look_or_pass(rt, seat, gate, held) {
                 break;
             }
         }
     }
 
-    // Under the lock: whether the posted call is answered, after a pass where it was not.
-    fn look_or_pass<R: Wait, G: Gate>(&self, rt: &R, seat: &mut Seat, gate: &G) -> bool
+    // Looks at the turn up to 64 times: under the lock, where it is free, and else after a sleep.
+    fn look<R: Wait, G: Gate>(&self, rt: &R, seat: &mut Seat, gate: &G) -> bool
         requires of { IsSeatOf N.table self.now.shared.table.shared.key seat.old }
         requires posted { length seat.old.token.me.0.calls
             ≡ length seat.old.token.me.0.outcomes + 1 }
@@ -132,11 +140,59 @@ impl<D: Device, O: Object, N: Label> Store<D, O, N> {
         ensures told { OnTrue result (HasBeenTold O.Contents (on_words O.machine)
             seat.old.token.me.0 seat.new.token.me.0) }
     {
-        let mut held = self.held.lock(rt);
-        if answered(&self.shared, seat) {
-            return true;
+        for _ in 0..LOOKS {
+            if self.look_once(rt, seat, gate) {
+                return true;
+            }
         }
-        held.pass(rt, &self.shared, gate);
-        answered(&self.shared, seat)
+        false
+    }
+
+    fn look_once<R: Wait, G: Gate>(&self, rt: &R, seat: &mut Seat, gate: &G) -> bool
+        requires of { IsSeatOf N.table self.now.shared.table.shared.key seat.old }
+        requires posted { length seat.old.token.me.0.calls
+            ≡ length seat.old.token.me.0.outcomes + 1 }
+        ensures same { IsSameSeat seat.old seat.new }
+        ensures not_yet { OnFalse result (seat.new.token.me.0 ≡ record seat.old.token.me.0 {
+          steps = seat.new.token.me.0.steps;
+        }) }
+        ensures told { OnTrue result (HasBeenTold O.Contents (on_words O.machine)
+            seat.old.token.me.0 seat.new.token.me.0) }
+    {
+        match self.held.try_lock() {
+            Some(held) => self.look_or_pass(rt, seat, gate, held),
+            None => {
+                nap(rt, &self.shared, seat);
+                answered(&self.shared, seat)
+            }
+        }
+    }
+
+    // Under the lock: whether the posted call is answered, after a pass where it was not. Then the
+    // lock is given back, and another caller is woken that may take it.
+    fn look_or_pass<R: Wait, G: Gate>(
+        &self,
+        rt: &R,
+        seat: &mut Seat,
+        gate: &G,
+        mut held: MutexGuard<'_, Held<D, O, N>>,
+    ) -> bool
+        requires of { IsSeatOf N.table self.now.shared.table.shared.key seat.old }
+        requires posted { length seat.old.token.me.0.calls
+            ≡ length seat.old.token.me.0.outcomes + 1 }
+        ensures same { IsSameSeat seat.old seat.new }
+        ensures not_yet { OnFalse result (seat.new.token.me.0 ≡ record seat.old.token.me.0 {
+          steps = seat.new.token.me.0.steps;
+        }) }
+        ensures told { OnTrue result (HasBeenTold O.Contents (on_words O.machine)
+            seat.old.token.me.0 seat.new.token.me.0) }
+    {
+        let told = answered(&self.shared, seat);
+        if !told {
+            held.pass(rt, &self.shared, gate);
+        }
+        drop(held);
+        wake_next(&self.shared);
+        told || answered(&self.shared, seat)
     }
 }
