@@ -1,3 +1,4 @@
 pub mod Untouched
 pub mod Callers
 pub mod Stores
+pub mod Staying

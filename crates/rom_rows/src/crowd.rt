@@ -35,10 +35,10 @@ const READS: u32 = 1000;
 const COUNTED: u64 = 10;
 
 /// How often a thread looks before it gives up.
-const TURNS: u64 = 10_000_000;
+const TURNS: u64 = 20_000_000;
 
 /// Looks for the answer until it is there.
-fn await_answer(shared: &Shared<Trio>, seat: &mut Seat) -> Option<(u64, Back)>
+pub(crate) fn await_answer(shared: &Shared<Trio>, seat: &mut Seat) -> Option<(u64, Back)>
     requires of { IsSeatOf shared.now.table.shared.table_id shared.now.table.shared.key seat.old }
     requires posted { length seat.old.token.me.0.calls ≡ length seat.old.token.me.0.outcomes + 1 }
     ensures of { IsSeatOf shared.now.table.shared.table_id shared.now.table.shared.key seat.new }
@@ -128,7 +128,12 @@ fn read_all(shared: &Shared<Trio>, seat: &mut Seat) -> bool
 }
 
 /// Runs passes until so many calls are done.
-fn pass_until<R: Wait>(rt: &R, shared: &Shared<Trio>, core: &mut Core<Ram, Trio>, many: u32) -> bool
+pub(crate) fn pass_until<R: Wait>(
+    rt: &R,
+    shared: &Shared<Trio>,
+    core: &mut Core<Ram, Trio>,
+    many: u32,
+) -> bool
     requires of { IsIn shared.now.table.shared.table_id shared.now.table.shared.key core.old }
 {
     let backoff = Backoff::new();

@@ -19,6 +19,8 @@ mod counting;
 #[cfg(test)]
 mod crowd;
 #[cfg(test)]
+mod early;
+#[cfg(test)]
 mod heaps;
 #[cfg(test)]
 mod hindered;
@@ -37,6 +39,7 @@ mod readers;
 mod scripts;
 #[cfg(test)]
 mod seats;
+mod stay;
 #[cfg(test)]
 mod stores;
 #[cfg(test)]
