@@ -31,7 +31,7 @@ use Rattle.rom_model.specs.Passes.{faults_after}
 use Rattle.rom_rule.specs.declared.views.Base.{Base}
 use Rattle.rom_rule.specs.declared.views.Plan.{Plan}
 use Rattle.rom_rule.specs.declared.views.View.{View}
-use Rattle.rom_rule.specs.Views.{Each, base_of, has, is_made, plan_of, records_of}
+use Rattle.rom_rule.specs.Views.{Each, base_of, is_made, plan_of, records_of}
 use Rattle.rom_rule.specs.Calls.{AreScanned, caller_in, found_of}
 use Rattle.rom_rule.specs.Kinds.{MayRaise, raised}
 use Rattle.rom_rule.specs.CallKinds.{beginning}
@@ -253,8 +253,7 @@ answer_all-requires-2-clause-left g c = let v : View = c.self.inside.seat.token.
     let plan_x : plan_of x ≡ q = ap plan_of c.load_main-place.ensures.still.2 in let base_x : x.base ≡ v.base = ap (λ (z : View). z.base) c.load_main-place.ensures.still.2 ∙ base in
     let y : View = c.publish-outcome.new.seat.token.me.0 in let is_pub : c.publish-outcome.result ≡ outcome.Published = search rules in let pb = c.publish-outcome.ensures.published is_pub in let ph = c.publish-outcome.ensures.held is_pub in
     let lm : View = c.load_main.new.seat.token.me.0 in let plan_lm : plan_of lm ≡ plan_of y = ap plan_of c.load_main.ensures.still.2 in
-    let base_lm : lm.base ≡ x.base = ap (λ (r : View). r.base) c.load_main.ensures.still.2 ∙ ap (λ (r : View). r.base) c.publish-outcome.ensures.same.2 in
-    (
+    let base_lm : lm.base ≡ x.base = ap (λ (r : View). r.base) c.load_main.ensures.still.2 ∙ ap (λ (r : View). r.base) c.publish-outcome.ensures.same.2 in (
       fate_of c.publish-outcome.result,
       subst (λ (r : Base × Plan × ℕ × List Answer). IsLeft g.O.Object.Contents (on_words g.O.Object.machine) r.0 (fate_of c.publish-outcome.result) c.fault_count-before.result r.2 r.1 0 r.3)
           (λ j. (sym base_lm j, sym plan_lm j, sym c.fault_count-now.ensures j, sym c.as_slice-3.ensures.value j)) c.publish-outcome.ensures.left,
@@ -339,8 +338,7 @@ settle-requires-clause-held g c = let v : View = c.self.inside.seat.token.me.0 i
     let made : is_made (plan_of y).mine ≡ true = ap is_made pb.mine ∙ made_some (map found_of (plan_of x).requests) _ 0 (found_of first.0) (at_map found_of (plan_of x).requests 0 first.0 first.1) in
     let u : View = c.answer_all-2.new.seat.token.me.0 in let base_u : u.base ≡ x.base = ap (λ (r : View). r.base) c.answer_all-2.ensures.same.2 ∙ base_lm in
     let given : but_requests (plan_of u) ≡ but_requests (plan_of y) = c.answer_all-2.ensures.kept (ap (λ (r : Plan). is_made r.mine) plan_lm ∙ made) ∙ ap but_requests plan_lm in
-    let main : (plan_of u).main ≡ (plan_of y).main = ap (λ (r : Plan). r.main) given in let back : (plan_of u).back ≡ (plan_of y).back = ap (λ (r : Plan). r.back) given in let history : (plan_of u).history ≡ (plan_of y).history = ap (λ (r : Plan). r.history) given in
-    (
+    let main : (plan_of u).main ≡ (plan_of y).main = ap (λ (r : Plan). r.main) given in let back : (plan_of u).back ≡ (plan_of y).back = ap (λ (r : Plan). r.back) given in let history : (plan_of u).history ≡ (plan_of y).history = ap (λ (r : Plan). r.history) given in (
       ph.0,
       ph.1,
       subst (λ (r : Base). g.O.Object.Contents r.order r.image ph.0 ph.1) (sym base_u) ph.2,
