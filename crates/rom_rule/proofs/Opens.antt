@@ -4,7 +4,7 @@ use Rattle.std.proofs.Common.{◌≡◌, ◌≢◌, ℕ, ◌+◌, ◌-◌, ◌*�
 use Rattle.std.proofs.lemmas.List.{get_or-replicate, take-append-le, drop-append-le, take_all, get_or_append_left}
 use Rattle.std.proofs.Math.Seq.{take-append_seam, drop-append_seam}
 use Rattle.rom_rule.specs.Calls.{SlotHolds}
-use Rattle.rom_rule.specs.Places.{Shown, indicator_count, opening_words, part, shown, slots_at, table_len}
+use Rattle.rom_rule.specs.Places.{Shown, offset_of_indicator, opening_words, part, shown, slots_at, table_len}
 use Rattle.rom_rule.specs.Readers.{ShowsArrivals, HoldsNothing, IsNumbered, IsWritten, StandsAtOwn}
 use Rattle.rom_rule.specs.Records.{IsCall}
 use Rattle.rom_rule.specs.Rule.{IsRuled}
@@ -18,7 +18,7 @@ use lib.ListN.{get_elem?, length-replicate}
 use Rattle.atomic_table.specs.Table.{opening}
 
 abbrev pub opened : Base → Shown
-opened b = record { side = 1; version = 0; indicators = replicate (indicator_count b.callers) 0; slots = replicate (64 * b.callers) 0; main = b.image; back = b.image }
+opened b = record { side = 1; version = 0; indicators = replicate (8 * b.callers) 0; slots = replicate (64 * b.callers) 0; main = b.image; back = b.image }
 
 each_one : {A : Type 0} (P : ℕ → A → Type 0) (a : A) → P 0 a → Each P (a ∷ [])
 each_one P a h Rattle.std.proofs.Common.zero c e = subst (P 0) (some-injective a c e) h
@@ -37,7 +37,7 @@ module _ {S : Type 0} (Contents : ℕ → List ℕ → S → ℕ → Type 0) (go
     limits = (few, omega arith);
     bases = each_one (λ _ c. c ≡ b) b refl;
     plans = each_one _ _ (refl, refl);
-    arrivals = subst (λ (t : Shown). ShowsArrivals b.callers t.indicators (Out ∷ [])) (sym shows) (λ v low. get_or-replicate {A = ℕ} (indicator_count b.callers) v 0 0 low);
+    arrivals = subst (λ (t : Shown). ShowsArrivals b.callers t.indicators (Out ∷ [])) (sym shows) (λ v low. get_or-replicate {A = ℕ} (8 * b.callers) (offset_of_indicator v) 0 0 (omega (arith, low)));
     images = each_one _ _ tt;
     written = subst (λ (t : Shown). IsWritten Contents go b start count t (opening_plan b)) (sym shows) record {
       side = refl;
@@ -110,7 +110,7 @@ opening_shows b long = let n : ℕ = region_len b.order in let k : ℕ = slots_a
     ∙ (part_before from m (replicate k 0) 0 1 pos ∙ part_replicate from m k 0 h)))) in λ c. record {
       side = (get_or_append_left (head ++ b.image) b.image 0 0 (omega (arith, length-append head b.image)) ∙ (get_or_append_left head b.image 0 0 (omega arith) ∙ get_or-set_same (replicate k 0) 0 1 0 (omega (arith, length-replicate {A = ℕ} k 0)))) c;
       version = (get_or_append_left (head ++ b.image) b.image 0 1 (omega (arith, length-append head b.image)) ∙ (get_or_append_left head b.image 0 1 (omega arith) ∙ (get_or-set_other (replicate k 0) 0 1 1 0 (λ e. omega arith) ∙ get_or-replicate {A = ℕ} k 1 0 0 (omega arith)))) c;
-      indicators = early 2 (indicator_count b.callers) (omega arith) (omega arith) c;
+      indicators = early 14 (8 * b.callers) (omega arith) (omega arith) c;
       slots = early (slots_at b.callers) (64 * b.callers) (omega arith) (omega arith) c;
       main = (ap (λ (l : List ℕ). take n (drop k l)) (append_assoc head b.image b.image) ∙ (ap (take n) (ap (λ (z : ℕ). drop z (head ++ (b.image ++ b.image))) (sym hl) ∙ drop-append_seam head (b.image ++ b.image))
           ∙ (ap (λ (z : ℕ). take z (b.image ++ b.image)) (sym long) ∙ take-append_seam b.image b.image))) c;

@@ -3,7 +3,7 @@ use Rattle.rom_model.specs.Blocks.{region_len}
 use Rattle.std.proofs.Common.{◌≡◌, ℕ, ◌+◌, ◌-◌, ◌*◌, ◌<◌, ◌≤◌, List, length, get_or, set, take, drop, sym, ap, ◌∙◌, arith, get_or-set_other, get_or-set_same, get_or-take, get_or-drop, length-take, length-drop}
 use Rattle.std.proofs.lemmas.List.{take-set-le, drop-set-lt, drop-set-add}
 use Rattle.std.proofs.Math.Seq.{take-set-lt}
-use Rattle.rom_rule.specs.Places.{indicator_count, part, shown, slots_at, table_len}
+use Rattle.rom_rule.specs.Places.{part, shown, slots_at, table_len}
 use Rattle.rom_rule.specs.declared.views.Base.{Base}
 
 -- a word past or before the part
@@ -29,7 +29,7 @@ module _ (b : Base) (ws : List ℕ) where
   shown_side x long = λ c. record {
     side = get_or-set_same ws 0 x 0 long c;
     version = get_or-set_other ws 0 1 x 0 (λ e. omega arith) c;
-    indicators = part_before 2 (indicator_count b.callers) ws 0 x (omega arith) c;
+    indicators = part_before 14 (8 * b.callers) ws 0 x (omega arith) c;
     slots = part_before (slots_at b.callers) (64 * b.callers) ws 0 x (omega arith) c;
     main = part_before (slots_at b.callers + 64 * b.callers) (region_len b.order) ws 0 x (omega arith) c;
     back = part_before (slots_at b.callers + 64 * b.callers + region_len b.order) (region_len b.order) ws 0 x (omega arith) c;
@@ -40,21 +40,21 @@ module _ (b : Base) (ws : List ℕ) where
   shown_version x long = λ c. record {
     side = get_or-set_other ws 1 0 x 0 (λ e. omega arith) c;
     version = get_or-set_same ws 1 x 0 long c;
-    indicators = part_before 2 (indicator_count b.callers) ws 1 x (omega arith) c;
+    indicators = part_before 14 (8 * b.callers) ws 1 x (omega arith) c;
     slots = part_before (slots_at b.callers) (64 * b.callers) ws 1 x (omega arith) c;
     main = part_before (slots_at b.callers + 64 * b.callers) (region_len b.order) ws 1 x (omega arith) c;
     back = part_before (slots_at b.callers + 64 * b.callers + region_len b.order) (region_len b.order) ws 1 x (omega arith) c;
   }
 
-  pub shown_indicators : (v x : ℕ) → v < indicator_count b.callers → shown b (set ws (2 + v) x) ≡ record (shown b ws) { indicators = set (shown b ws).indicators v x }
+  pub shown_indicators : (v x : ℕ) → v < 8 * b.callers → shown b (set ws (14 + v) x) ≡ record (shown b ws) { indicators = set (shown b ws).indicators v x }
   unfolding shown
   shown_indicators v x low = λ c. record {
-    side = get_or-set_other ws (2 + v) 0 x 0 (λ e. omega arith) c;
-    version = get_or-set_other ws (2 + v) 1 x 0 (λ e. omega arith) c;
-    indicators = part_inside 2 (indicator_count b.callers) ws v x low c;
-    slots = part_before (slots_at b.callers) (64 * b.callers) ws (2 + v) x (omega arith) c;
-    main = part_before (slots_at b.callers + 64 * b.callers) (region_len b.order) ws (2 + v) x (omega arith) c;
-    back = part_before (slots_at b.callers + 64 * b.callers + region_len b.order) (region_len b.order) ws (2 + v) x (omega arith) c;
+    side = get_or-set_other ws (14 + v) 0 x 0 (λ e. omega arith) c;
+    version = get_or-set_other ws (14 + v) 1 x 0 (λ e. omega arith) c;
+    indicators = part_inside 14 (8 * b.callers) ws v x low c;
+    slots = part_before (slots_at b.callers) (64 * b.callers) ws (14 + v) x (omega arith) c;
+    main = part_before (slots_at b.callers + 64 * b.callers) (region_len b.order) ws (14 + v) x (omega arith) c;
+    back = part_before (slots_at b.callers + 64 * b.callers + region_len b.order) (region_len b.order) ws (14 + v) x (omega arith) c;
   }
 
   pub shown_main : (i x : ℕ) → i < region_len b.order → shown b (set ws (slots_at b.callers + 64 * b.callers + i) x) ≡ record (shown b ws) { main = set (shown b ws).main i x }
@@ -62,7 +62,7 @@ module _ (b : Base) (ws : List ℕ) where
   shown_main i x low = let n : ℕ = region_len b.order in let k : ℕ = slots_at b.callers + 64 * b.callers in λ c. record {
     side = get_or-set_other ws (k + i) 0 x 0 (λ e. omega arith) c;
     version = get_or-set_other ws (k + i) 1 x 0 (λ e. omega arith) c;
-    indicators = part_after 2 (indicator_count b.callers) ws (k + i) x (omega arith) c;
+    indicators = part_after 14 (8 * b.callers) ws (k + i) x (omega arith) c;
     slots = part_after (slots_at b.callers) (64 * b.callers) ws (k + i) x (omega arith) c;
     main = part_inside k n ws i x low c;
     back = part_before (k + n) n ws (k + i) x (omega arith) c;
@@ -73,7 +73,7 @@ module _ (b : Base) (ws : List ℕ) where
   shown_back i x low = let n : ℕ = region_len b.order in let k : ℕ = slots_at b.callers + 64 * b.callers in λ c. record {
     side = get_or-set_other ws (k + n + i) 0 x 0 (λ e. omega arith) c;
     version = get_or-set_other ws (k + n + i) 1 x 0 (λ e. omega arith) c;
-    indicators = part_after 2 (indicator_count b.callers) ws (k + n + i) x (omega arith) c;
+    indicators = part_after 14 (8 * b.callers) ws (k + n + i) x (omega arith) c;
     slots = part_after (slots_at b.callers) (64 * b.callers) ws (k + n + i) x (omega arith) c;
     main = part_after k n ws (k + n + i) x (omega arith) c;
     back = part_inside (k + n) n ws i x low c;
@@ -84,7 +84,7 @@ module _ (b : Base) (ws : List ℕ) where
   shown_slots k x low = let n : ℕ = region_len b.order in let c : ℕ = slots_at b.callers + 64 * b.callers in λ e. record {
     side = get_or-set_other ws (slots_at b.callers + k) 0 x 0 (λ f. omega arith) e;
     version = get_or-set_other ws (slots_at b.callers + k) 1 x 0 (λ f. omega arith) e;
-    indicators = part_after 2 (indicator_count b.callers) ws (slots_at b.callers + k) x (omega arith) e;
+    indicators = part_after 14 (8 * b.callers) ws (slots_at b.callers + k) x (omega arith) e;
     slots = part_inside (slots_at b.callers) (64 * b.callers) ws k x low e;
     main = part_before c n ws (slots_at b.callers + k) x (omega arith) e;
     back = part_before (c + n) n ws (slots_at b.callers + k) x (omega arith) e;

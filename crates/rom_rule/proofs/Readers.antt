@@ -12,7 +12,7 @@ use Rattle.atomic_table.proofs.Lists.{at_set}
 use Rattle.rom_model.specs.declared.entry.Entry.{Entry}
 use Rattle.rom_rule.specs.Calls.{Announced}
 use Rattle.rom_rule.specs.Kinds.{HasArrived, HoldsVersion, IsOut, IsReading, StandsAt, arrived, departed, entering, loaded_image, loaded_side, loaded_version, moved}
-use Rattle.rom_rule.specs.Places.{Shown, back_at, indicator_at, indicator_count, indicator_of, main_at, shown, side_at, slots_at, version_at, word_at}
+use Rattle.rom_rule.specs.Places.{Shown, back_at, indicator_at, indicator_count, indicator_of, main_at, offset_of_indicator, shown, side_at, slots_at, version_at, word_at}
 use Rattle.rom_rule.specs.Readers.{ShowsArrivals, Differ, HoldsNothing, IsNumbered, IsWritten, KeepsImage, ReadsNamedSide, Stands, StandsAtOwn, any_stands, stands}
 use Rattle.rom_rule.specs.Records.{IsCall, IsFront, Remembers}
 use Rattle.rom_rule.specs.Rule.{IsOnlyPlan, IsRuled}
@@ -86,25 +86,26 @@ module _ {S : Type 0} (Contents : ℕ → List ℕ → S → ℕ → Type 0) (go
   reload s i id w r = subst (λ (ws : List ℕ). R (after_step s ws id w)) (sym (set-get_or s.words i 0)) r
 
   -- the word of an indicator is 1 where a view stands there, else 0
-  pub indicator_is : (s : St) (r : R s) (i : ℕ) → i < indicator_count b.callers → get_or s.words (2 + i) 0 ≡ any_stands i (map position_in s.views)
+  pub indicator_is : (s : St) (r : R s) (i : ℕ) → i < indicator_count b.callers → get_or s.words (indicator_at i) 0 ≡ any_stands i (map position_in s.views)
   unfolding shown
-  indicator_is s r i low = sym (part_get 2 (indicator_count b.callers) s.words i low) ∙ r.arrivals i low
+  indicator_is s r i low = sym (part_get 14 (8 * b.callers) s.words (offset_of_indicator i) (omega (arith, low))) ∙ r.arrivals i low
 
-  pub indicators_long : (s : St) (r : R s) → length (shown b s.words).indicators ≡ indicator_count b.callers
+  pub indicators_long : (s : St) (r : R s) → length (shown b s.words).indicators ≡ 8 * b.callers
   unfolding shown
-  indicators_long s r = let w = r.wide in part_long 2 (indicator_count b.callers) s.words (omega arith)
+  indicators_long s r = let w = r.wide in part_long 14 (8 * b.callers) s.words (omega arith)
 
   -- a store of x to the indicator v, after which one view or none stands there
   stored : (s : St) (r : R s) (id v x : ℕ) (u w : View) → get_elem? s.views id ≡ some u → v < indicator_count b.callers → any_stands v (map position_in (set s.views id w)) ≡ x
-      → ((i : ℕ) → i ≢ v → stands i w.position ≡ stands i u.position) → ShowsArrivals b.callers (shown b (set s.words (2 + v) x)).indicators (map position_in (set s.views id w))
-  stored s r id v x u w at low now others i lt = ap (λ (t : Shown). get_or t.indicators i 0) (shown_indicators b s.words v x low) ∙ dite (ℕ_discrete i v)
-      (λ e. subst (λ (k : ℕ). get_or (set (shown b s.words).indicators v x) k 0 ≡ any_stands k (map position_in (set s.views id w))) (sym e)
-      (get_or-set_same (shown b s.words).indicators v x 0 (omega (arith, indicators_long s r)) ∙ sym now))
-      (λ n. get_or-set_other (shown b s.words).indicators v i x 0 n ∙ (r.arrivals i lt ∙ sym (any_same i id s.views u w at (others i n))))
+      → ((i : ℕ) → i ≢ v → stands i w.position ≡ stands i u.position) → ShowsArrivals b.callers (shown b (set s.words (indicator_at v) x)).indicators (map position_in (set s.views id w))
+  stored s r id v x u w at low now others i lt = let o : ℕ = offset_of_indicator v in let inside : o < 8 * b.callers = omega (arith, low) in
+      ap (λ (t : Shown). get_or t.indicators (offset_of_indicator i) 0) (shown_indicators b s.words o x inside) ∙ dite (ℕ_discrete i v)
+      (λ e. subst (λ (k : ℕ). get_or (set (shown b s.words).indicators o x) (offset_of_indicator k) 0 ≡ any_stands k (map position_in (set s.views id w))) (sym e)
+      (get_or-set_same (shown b s.words).indicators o x 0 (omega (arith, indicators_long s r)) ∙ sym now))
+      (λ n. get_or-set_other (shown b s.words).indicators o (offset_of_indicator i) x 0 (λ same. n (omega (arith, same))) ∙ (r.arrivals i lt ∙ sym (any_same i id s.views u w at (others i n))))
 
   -- what the other words show stays
-  beside : (s : St) (r : R s) (v x : ℕ) → v < indicator_count b.callers → IsWritten Contents go b r.start r.count (shown b (set s.words (2 + v) x)) r.plan
-  beside s r v x low = let k = r.written in subst (λ (t : Shown). IsWritten Contents go b r.start r.count t r.plan) (sym (shown_indicators b s.words v x low)) record {
+  beside : (s : St) (r : R s) (v x : ℕ) → v < indicator_count b.callers → IsWritten Contents go b r.start r.count (shown b (set s.words (indicator_at v) x)) r.plan
+  beside s r v x low = let k = r.written in subst (λ (t : Shown). IsWritten Contents go b r.start r.count t r.plan) (sym (shown_indicators b s.words (offset_of_indicator v) x (omega (arith, low)))) record {
     side = k.side;
     version = k.version;
     main = k.main;
@@ -139,8 +140,8 @@ module _ {S : Type 0} (Contents : ℕ → List ℕ → S → ℕ → Type 0) (go
         w,
         keeps,
         tt,
-        caller_step s r id u w (set s.words (2 + k) 1) at refl refl refl (length-set s.words (2 + k) 1) (stored s r id k 1 u w at inside (any_now k id s.views u w at (stands_here k)) (λ i ne. stands_one i k ne ∙ sym (ap (stands i) holds))) tt (beside s r k 1 inside) tt
-            (remembered_of s r id u at) (announced_on s r id u w (shown b (set s.words (2 + k) 1)).slots at (ap (λ (t : Shown). t.slots) (shown_indicators b s.words k 1 inside)) refl) (λ _. mark)
+        caller_step s r id u w (set s.words (indicator_at k) 1) at refl refl refl (length-set s.words (indicator_at k) 1) (stored s r id k 1 u w at inside (any_now k id s.views u w at (stands_here k)) (λ i ne. stands_one i k ne ∙ sym (ap (stands i) holds))) tt (beside s r k 1 inside) tt
+            (remembered_of s r id u at) (announced_on s r id u w (shown b (set s.words (indicator_at k) 1)).slots at (ap (λ (t : Shown). t.slots) (shown_indicators b s.words (offset_of_indicator k) 1 (omega (arith, inside)))) refl) (λ _. mark)
             (λ _ i there. own_here u.number v i mark low (stands_only i w.position there)) (λ h. h),
         (ap (λ (p : Position). indicator_at (indicator_of u.number (version_of p))) (sym holds), ap (λ (p : Position). let z : M = (moved u (Arrived (indicator_of u.number (version_of p))), me.1) in z) (sym holds)),
       )
@@ -212,7 +213,7 @@ module _ {S : Type 0} (Contents : ℕ → List ℕ → S → ℕ → Type 0) (go
     w,
     keeps,
     tt,
-    caller_step s r id u w (set s.words (2 + v) 0) at refl refl refl (length-set s.words (2 + v) 0) (stored s r id v 0 u w at low (any_left v id s.views u w r.seats.differ r.seats.own at mark here refl) (λ i ne. sym (elsewhere i v u.position here ne))) tt (beside s r v 0 low) tt
-        (remembered_of s r id u at) (announced_on s r id u w (shown b (set s.words (2 + v) 0)).slots at (ap (λ (t : Shown). t.slots) (shown_indicators b s.words v 0 low)) refl) (λ h. absurd (h refl)) (λ _. own_nowhere w (λ _. refl)) (λ h. h),
+    caller_step s r id u w (set s.words (indicator_at v) 0) at refl refl refl (length-set s.words (indicator_at v) 0) (stored s r id v 0 u w at low (any_left v id s.views u w r.seats.differ r.seats.own at mark here refl) (λ i ne. sym (elsewhere i v u.position here ne))) tt (beside s r v 0 low) tt
+        (remembered_of s r id u at) (announced_on s r id u w (shown b (set s.words (indicator_at v) 0)).slots at (ap (λ (t : Shown). t.slots) (shown_indicators b s.words (offset_of_indicator v) 0 (omega (arith, low)))) refl) (λ h. absurd (h refl)) (λ _. own_nowhere w (λ _. refl)) (λ h. h),
     (ap indicator_at (stands_only v u.position here), refl),
   )

@@ -149,7 +149,7 @@ module _ {S : Type 0} (Contents : ℕ → List ℕ → S → ℕ → Type 0) (go
       cut : w ≢ v → has w ((v, p.version) ∷ p.clear) ≡ true → has w p.clear ≡ true
       cut ne k = subst (λ (t : Bool). t || has w p.clear ≡ true) (ne_eqb w v ne) k
 
-  still_behind : (s : St) (r : R s) (v found : ℕ) → v < indicator_count b.callers → found ≡ get_or s.words (2 + v) 0 → (j : ℕ) (q : Position) → get_elem? (map position_in s.views) j ≡ some q → ReadsNamedSide b.callers r.plan q → ReadsNamedSide b.callers (observed v found r.plan) q
+  still_behind : (s : St) (r : R s) (v found : ℕ) → v < indicator_count b.callers → found ≡ get_or s.words (indicator_at v) 0 → (j : ℕ) (q : Position) → get_elem? (map position_in s.views) j ≡ some q → ReadsNamedSide b.callers r.plan q → ReadsNamedSide b.callers (observed v found r.plan) q
   still_behind s r v found low is j Out e h = tt
   still_behind s r v found low is j (Holds w) e h = tt
   still_behind s r v found low is j (Arrived w) e h = tt
@@ -162,11 +162,11 @@ module _ {S : Type 0} (Contents : ℕ → List ℕ → S → ℕ → Type 0) (go
 
   -- the writer loads the indicator of the version that isn't named
   pub checks_indicator : (slots id : ℕ) (me : M) (v : ℕ) → CanCheck me.0 v → Allows R slots id me (indicator_at v) (λ n. n) (checked_indicator (step slots (indicator_at v) 0 0 none) me)
-  checks_indicator slots id me v can s r _ at _ = let writes = can.0 in let apart = can.2 in let u = me.0 in let low : v < indicator_count b.callers = subst (λ (n : ℕ). v < indicator_count n) (callers_are s r id u at) can.1 in let found : ℕ = get_or s.words (2 + v) 0 in let is = plan_is s r id u at writes in let p : Plan = r.plan in let q : Plan = observed v found p in let n = observed_parts v found p in (
+  checks_indicator slots id me v can s r _ at _ = let writes = can.0 in let apart = can.2 in let u = me.0 in let low : v < indicator_count b.callers = subst (λ (n : ℕ). v < indicator_count n) (callers_are s r id u at) can.1 in let found : ℕ = get_or s.words (indicator_at v) 0 in let is = plan_is s r id u at writes in let p : Plan = r.plan in let q : Plan = observed v found p in let n = observed_parts v found p in (
     planned u q,
     keeps,
     tt,
-    reload Contents go b s (2 + v) id (planned u q) (quiet_step s r id u q s.words at is.1 refl n.4 refl refl n.5 n.6
+    reload Contents go b s (indicator_at v) id (planned u q) (quiet_step s r id u q s.words at is.1 refl n.4 refl refl n.5 n.6
         (λ x seen _ k. subst (λ (z : List ℕ × List ℕ). KeepsImage Contents go b z.0 z.1 x seen) (λ c. (sym n.0 c, sym n.1 c)) k)
         record {
           side = r.written.side ∙ sym n.2;

@@ -28,12 +28,17 @@ caller_of_indicator k = k / 2 + 1
 abbrev pub version_of_indicator : ℕ → ℕ
 version_of_indicator k = k % 2
 
+-- Where it stands among the words of the indicators. A caller has eight of them, as many as a line of a processor's cache holds, so that no two callers store to one line; the first two are its indicators, and the others are not used.
+abbrev pub offset_of_indicator : ℕ → ℕ
+offset_of_indicator k = 8 * (k / 2) + k % 2
+
+-- the words 2 to 13 are not used
 abbrev pub indicator_at : ℕ → ℕ
-indicator_at k = 2 + k
+indicator_at k = 14 + offset_of_indicator k
 
 -- where the first slot begins; a slot has 64 words
 abbrev pub slots_at : ℕ → ℕ
-slots_at callers = 2 + indicator_count callers
+slots_at callers = 14 + 8 * callers
 
 -- word j of the slot of caller c
 abbrev pub slot_at : ℕ → ℕ → ℕ → ℕ
@@ -70,7 +75,7 @@ unfoldable pub shown : Base → List ℕ → Shown
 shown b words = record {
   side = slice_index words 0;
   version = slice_index words 1;
-  indicators = part 2 (indicator_count b.callers) words;
+  indicators = part 14 (8 * b.callers) words;
   slots = part (slots_at b.callers) (64 * b.callers) words;
   main = part (slots_at b.callers + 64 * b.callers) (region_len b.order) words;
   back = part (slots_at b.callers + 64 * b.callers + region_len b.order) (region_len b.order) words;

@@ -10,7 +10,7 @@ use Rattle.rom_rule.specs.declared.views.Plan.{Plan}
 use Rattle.rom_rule.specs.declared.views.Position.{Position}
 use Rattle.rom_rule.specs.declared.views.Position.TheVariants.{Out, Holds, Arrived, Reads}
 use Rattle.rom_rule.specs.declared.views.View.{View}
-use Rattle.rom_rule.specs.Places.{Shown, caller_of_indicator, indicator_count}
+use Rattle.rom_rule.specs.Places.{Shown, caller_of_indicator, indicator_count, offset_of_indicator}
 use Rattle.rom_rule.specs.Views.{has, side_of}
 
 abbrev pub hit : ℕ → ℕ → ℕ
@@ -30,7 +30,7 @@ any_stands k (p ∷ ps) = if stands k p == 1 then 1 else any_stands k ps
 
 -- Each indicator is 1 where a view has arrived there or reads after arriving there, and 0 else. It is the view of the indicator's caller, since a view stands only at its own number's indicators.
 abbrev pub ShowsArrivals : ℕ → List ℕ → List Position → Type 0
-ShowsArrivals callers indicators positions = (k : ℕ) → k < indicator_count callers → slice_index indicators k ≡ any_stands k positions
+ShowsArrivals callers indicators positions = (k : ℕ) → k < indicator_count callers → slice_index indicators (offset_of_indicator k) ≡ any_stands k positions
 
 -- A view stands only at an indicator of its own number.
 abbrev pub StandsAtOwn : View → Type 0

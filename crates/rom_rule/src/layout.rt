@@ -5,6 +5,13 @@ ghost use Rattle.rom_rule.specs.Places.{AreCallers, side_at, version_at, indicat
 
 use rom_model::region_len;
 
+/// The first caller's read indicator of version 0.
+const FIRST: u64 = 14;
+
+/// The number of words from a caller's read indicators to the next caller's, those of a line of a
+/// processor's cache: so no two callers store to one line.
+const LINE: u64 = 8;
+
 /// The number of words of a caller's slot.
 const SLOT: u64 = 64;
 
@@ -70,14 +77,14 @@ impl Layout {
         requires version { version < 2 }
         ensures is { result ≡ indicator_at (indicator_of caller version) }
     {
-        2 + 2 * (caller as u64 - 1) + version
+        FIRST + LINE * (caller as u64 - 1) + version
     }
 
     // where the first slot begins
     fn slots(&self) -> u64
         ensures is { result ≡ slot_at self.now.callers 1 0 }
     {
-        2 + 2 * self.callers as u64
+        FIRST + LINE * self.callers as u64
     }
 
     /// Word j, below 64, of the slot in which a caller posts its calls and finds their answers;

@@ -8,16 +8,16 @@ fn a_table_of_order_4_for_three_callers(rt: HostRuntime) -> Result<(), Fail> {
     let layout = Layout::new(4, 3);
     assert_eq!(rt;
         (layout.order(), layout.callers(), layout.len()),
-        (4, 3, 424)
+        (4, 3, 454)
     );
     assert_eq!(rt; (layout.side(), layout.version()), (0, 1));
-    assert_eq!(rt; (layout.indicator(1, 0), layout.indicator(1, 1)), (2, 3));
-    assert_eq!(rt; (layout.indicator(2, 0), layout.indicator(3, 1)), (4, 7));
+    assert_eq!(rt; (layout.indicator(1, 0), layout.indicator(1, 1)), (14, 15));
+    assert_eq!(rt; (layout.indicator(2, 0), layout.indicator(3, 1)), (22, 31));
     assert_eq!(rt;
         (layout.slot(1, 0), layout.slot(2, 0), layout.slot(3, 63)),
-        (8, 72, 199)
+        (38, 102, 229)
     );
-    assert_eq!(rt; (layout.main(0), layout.main(111)), (200, 311));
-    assert_eq!(rt; (layout.back(0), layout.back(111)), (312, 423));
+    assert_eq!(rt; (layout.main(0), layout.main(111)), (230, 341));
+    assert_eq!(rt; (layout.back(0), layout.back(111)), (342, 453));
     Ok(())
 }
