@@ -59,8 +59,9 @@ impl<D: Device, O: Object, N: Label> Store<D, O, N> {
     /// Does an update in one pass with those of other callers, and tells its reply and place, or
     /// why it was not done. `Failed` and `Doubt` come only where the device failed in the pass that
     /// took it, and `Spent` only where the count stood at 2^62, or this caller has posted 2^62
-    /// calls: then nothing is posted. It may wait for the lock, and a pass that it runs waits for
-    /// readers.
+    /// calls: then nothing is posted. It may sleep until it is answered, and wait for the lock, and a
+    /// pass that it runs waits for readers. It is answered before the pass that did it waits, so
+    /// the count of faults in that pass's record may still rise.
     pub fn update<R: Wait, G: Gate>(
         &self,
         rt: &R,
