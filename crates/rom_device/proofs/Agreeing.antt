@@ -1,9 +1,10 @@
 -- What the windows have and what waits agree, as words are put, read ahead and handed over.
-use Rattle.std.proofs.Common.{◌≡◌, ◌≢◌, inl, inr, ℕ, ◌+◌, ◌<◌, ◌≤◌, Option, Some, None, IfSome, sym, ap, ◌∙◌, subst}
+use Rattle.std.proofs.Common.{◌≡◌, ◌≢◌, inl, inr, ℕ, ◌+◌, ◌<◌, ◌≤◌, Bool, true, false, refl, Option, Some, None, IfSome, sym, ap, ◌∙◌, subst}
 use Rattle.std.proofs.lemmas.Bool.{cases_eq, cases_lt}
 use Rattle.rom_device.specs.declared.run.Run.{Run}
 use Rattle.rom_device.specs.declared.windows.Windows.{Windows}
 use Rattle.rom_device.specs.Run.{word_of}
+use Rattle.rom_device.specs.Cached.{Gives, HandedOver}
 use Rattle.rom_device.specs.Windows.{HasSame, Agrees, Puts, Reads}
 
 abbrev or_none : Option ℕ → ℕ
@@ -13,7 +14,7 @@ or_none (Some word) = word
 same_some : (o : Option ℕ) (v w : ℕ) → o ≡ Some v → o ≡ Some w → v ≡ w
 same_some o v w is_v is_w = ap or_none (sym is_v ∙ is_w)
 
-none_some : (o : Option ℕ) (w : ℕ) → o ≡ None → o ≡ Some w → ⊥
+pub none_some : (o : Option ℕ) (w : ℕ) → o ≡ None → o ≡ Some w → ⊥
 none_some o w none some = subst (λ (p : Option ℕ). IfSome p (λ word. ⊥)) (sym none ∙ some) tt
 
 put_same : (old new window after : Run) (at value : ℕ) → word_of new at ≡ Some value → ((b : ℕ) → b ≢ at → word_of new b ≡ word_of old b) → Puts at value window after → HasSame old window → HasSame new after
@@ -41,3 +42,16 @@ read_same waiting window after first clear (inr reads) same = λ b word seen wai
 pub read_agrees : (waiting : Run) (windows after : Windows) (first : ℕ) → ((b : ℕ) → first ≤ b → b < first + 512 → word_of waiting b ≡ None) → Reads first windows.left after.left → Reads first windows.right after.right → Agrees waiting windows → Agrees waiting after
 read_agrees waiting windows after first clear left right agree =
     (read_same waiting windows.left after.left first clear left agree.0, read_same waiting windows.right after.right first clear right agree.1)
+
+-- what is as it waits goes on so
+pub waits_on : (old new : Run) (b seen : ℕ) → HandedOver old new → IfSome (word_of old b) (λ word. seen ≡ word) → IfSome (word_of new b) (λ word. seen ≡ word)
+waits_on old new b seen (inl same) holds = subst (λ (run : Run). IfSome (word_of run b) (λ word. seen ≡ word)) (sym same) holds
+waits_on old new b seen (inr none) holds = subst (λ (o : Option ℕ). IfSome o (λ word. seen ≡ word)) (sym (none b)) tt
+
+pub gives_word : (there found : Option ℕ) (seen : ℕ) → found ≡ Some seen → Gives there found → IfSome there (λ word. seen ≡ word)
+gives_word None found seen is gives = tt
+gives_word (Some word) found seen is gives = same_some found seen word is gives
+
+pub not_true : (test : Bool) → (test ≡ true → ⊥) → test ≡ false
+not_true true never = absurd (never refl)
+not_true false never = refl

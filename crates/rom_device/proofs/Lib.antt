@@ -5,6 +5,16 @@ mod Writing
 mod Agreeing
 mod Copied
 mod Paged
+mod Told
+mod Waiting
+mod Handing
+mod Over
+mod Reading
+mod Knowing
+mod Caching
+mod OnMedium
+mod Logged
+mod Laid
 mod Listing
 mod Passing
 pub mod Many

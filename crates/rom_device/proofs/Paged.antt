@@ -22,7 +22,7 @@ pub zero_word : (b n : ℕ) → little_number 8 (drop b (replicate n 0)) ≡ 0
 zero_word b n = ap (little_number 8) (drop-replicate b n 0) ∙ zero_bytes 8 0 (n - b)
 
 -- a word is that of the eight bytes at its place, whatever comes behind them
-number_front : (b : ℕ) (xs ys : List ℕ) → b + 8 ≤ length xs → little_number 8 (drop b (xs ++ ys)) ≡ little_number 8 (drop b xs)
+pub number_front : (b : ℕ) (xs ys : List ℕ) → b + 8 ≤ length xs → little_number 8 (drop b (xs ++ ys)) ≡ little_number 8 (drop b xs)
 number_front b xs ys fits =
     ap (little_number 8) (drop-append-le b xs ys (omega (arith, fits)))
     ∙ little_from-append 8 (drop b xs) ys (omega (arith, fits, length-drop b xs))

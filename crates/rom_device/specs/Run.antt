@@ -1,6 +1,7 @@
--- What a contract sees of some adjacent words of a file.
-use Rattle.std.specs.Prelude.{◌≡◌, ◌⊎◌, ℕ, ◌+◌, ◌-◌, ◌%◌, ◌<◌, ◌≢◌, nat_le, nat_lt, ◌&&◌, Option, None, Some, if◌then◌else◌}
+-- What a contract sees of some adjacent words of a medium.
+use Rattle.std.specs.Prelude.{◌≡◌, ◌⊎◌, ℕ, ◌+◌, ◌-◌, ◌%◌, ◌<◌, ◌≢◌, nat_le, nat_lt, ◌&&◌, List, Option, None, Some, if◌then◌else◌}
 use Rattle.rom_device.specs.Page.{word_at}
+use Rattle.rom_device.specs.Laid.{firsts, laid}
 use Rattle.rom_device.specs.declared.run.Run.{Run}
 
 -- where that place is among the words
@@ -15,3 +16,19 @@ word_of run at = if nat_le run.first at && nat_lt (at - run.first) run.count the
 -- place is next to no words.
 abbrev pub Follows : Run → ℕ → Type 0
 Follows run at = (run.count ≡ 0) ⊎ ((run.count < 512) × (run.first + run.count ≡ at) × (at % 512 ≢ 0))
+
+abbrev pub or_zero : Option ℕ → ℕ
+or_zero None = 0
+or_zero (Some word) = word
+
+-- the word of that number among those that the run has
+unfoldable pub nth_of : Run → ℕ → ℕ
+nth_of run k = or_zero (word_of run (run.first + k))
+
+-- the words that the run has
+abbrev pub words_of : Run → List ℕ
+words_of run = firsts (nth_of run) run.count
+
+-- these words, with those of the run in their places
+abbrev pub with_run : Run → List ℕ → List ℕ
+with_run run words = laid run.first (nth_of run) run.count words

@@ -44,3 +44,11 @@ Reads first old new = (new ≡ old) ⊎ (((b : ℕ) → b < first → word_of ne
 -- no window has any of the 512 words from the first that waits on
 abbrev pub IsApart : Run → Windows → Type 0
 IsApart waiting windows = (b : ℕ) → waiting.first ≤ b → b < waiting.first + 512 → IsMissed windows b
+
+-- a window is as before, or has words of these alone
+abbrev pub ReadsOf : List ℕ → Run → Run → Type 0
+ReadsOf words old new = (new ≡ old) ⊎ ((b seen : ℕ) → word_of new b ≡ Some seen → seen ≡ slice_index words b)
+
+-- whatever word a window has is the one of these
+abbrev pub Knows : Windows → List ℕ → Type 0
+Knows windows words = ((b seen : ℕ) → word_of windows.left b ≡ Some seen → seen ≡ slice_index words b) × ((b seen : ℕ) → word_of windows.right b ≡ Some seen → seen ≡ slice_index words b)

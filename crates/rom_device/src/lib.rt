@@ -8,29 +8,36 @@
 //!
 //! `Ram` never fails. `Memory` fails exactly where it is told to or its room is used up, and a crash
 //! of it gives each image that a stop may leave, and no other. `Fuse` fails from some call on.
-//! `FileDevice` has the words of a file, and of these no contract speaks: that the file keeps what
-//! it was given, and that its sync makes it certain, is taken on trust.
+//! `CachedDevice` reads ahead and gathers the words of a `Medium`, and tells what its medium tells:
+//! over a `Memory` all, over a file nothing. `FileDevice` is the one over a file. What is trusted of a
+//! file stands where it is made a medium, in `medium.rt`.
 #![tactic(auto)]
 
 mod cached;
+mod cached_device;
 mod call;
 mod certain;
 mod device;
 mod file;
 mod followed;
 mod fuse;
+mod keeping;
+mod medium;
 mod memory;
+mod memory_medium;
 mod page;
 mod ram;
 mod run;
 mod trip;
 mod windows;
 
+pub use cached_device::CachedDevice;
 pub use call::{CallKind, LoggedCall};
 pub use certain::write_certain;
 pub use device::{Device, Failed};
 pub use file::FileDevice;
 pub use fuse::Fuse;
+pub use medium::Medium;
 pub use memory::Memory;
 pub use ram::Ram;
 pub use trip::Trip;

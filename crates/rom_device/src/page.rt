@@ -1,10 +1,12 @@
-//! A page of a file.
-ghost use Rattle.std.specs.Prelude.{◌≡◌, ◌≢◌, ◌+◌, ◌*◌, ◌<◌, ◌≤◌, ◌^◌, ℕ, drop, length, slice_index};
-ghost use Rattle.byteorder.specs.Endian.{little_number};
+//! A page of a medium.
+ghost use Rattle.std.specs.Prelude.{◌≡◌, ◌≢◌, ◌+◌, ◌*◌, ◌<◌, ◌≤◌, ◌^◌, ℕ, IsTrue, length, slice_index};
+ghost use Rattle.std.specs.Bool.{OnTrue};
+ghost use Rattle.rom_device.specs.Device.{OnlyReads};
+ghost use Rattle.rom_device.specs.Laid.{word_among};
+ghost use Rattle.rom_device.specs.Medium.{HasPlaces};
 
+use crate::medium::Medium;
 use byteorder::{ByteOrder, LittleEndian};
-use std::fs::File;
-use std::os::unix::fs::FileExt;
 
 /// How many words a page has.
 pub const PAGE_WORDS: usize = 512;
@@ -12,8 +14,8 @@ pub const PAGE_WORDS: usize = 512;
 /// How many bytes these are.
 const PAGE_BYTES: usize = 4096;
 
-/// The bytes of 512 words as a file has them, the lowest byte of a word first. So a page goes from
-/// the file and to it as it is.
+/// The bytes of 512 words as a medium has them, the lowest byte of a word first. So a page goes from
+/// the medium and to it as it is.
 #[derive(Drop)]
 pub struct Page {
     bytes: [u8; PAGE_BYTES],
@@ -62,24 +64,29 @@ impl Page {
     }
 
     /// The bytes of its first words, so many.
-    #[tactic(auto, unfolding(crate::specs::Page::word_at))]
+    #[tactic(auto, unfolding(crate::specs::Page::word_at, crate::specs::Laid::word_among))]
     pub fn head(&self, count: usize) -> &[u8]
         requires { count ≤ 512 }
         ensures len { length result.now ≡ 8 * count }
-        ensures words { (k : ℕ) → k < count → little_number 8 (drop (8 * k) result.now) ≡ word_at self.now k }
+        ensures words { (k : ℕ) → k < count → word_among result.now k ≡ word_at self.now k }
     {
         &self.bytes[..8 * count]
     }
 
-    /// Reads so many words of a file, from that place on, in place of its first, which may then be any:
-    /// of what the file has no contract speaks. `false` says that the file failed.
+    /// Reads so many words of a medium, from that place on, in place of its first. `false` says that the
+    /// medium failed, and then these may be any.
     #[tactic(auto, unfolding(crate::specs::Page::word_at))]
-    pub fn read(&mut self, file: &File, at: u64, count: usize) -> bool
+    pub fn read<M: Medium>(&mut self, medium: &mut M, at: u64, count: usize) -> bool
         requires place { at * 8 < 2 ^ 64 }
         requires room { count ≤ 512 }
+        requires inside { HasPlaces M.shown at count medium.old }
+        ensures words { IsTrue M.shown.tells_words → OnTrue result ((k : ℕ) → k < count
+            → word_at self.new k ≡ slice_index (M.shown.words medium.old) (at + k)) }
         ensures behind { (k : ℕ) → count ≤ k → word_at self.new k ≡ word_at self.old k }
+        ensures only { OnlyReads M.shown medium.old medium.new }
+        ensures stays { M.missing medium.new ≡ M.missing medium.old }
+        ensures sure { M.doubtful medium.new ≡ M.doubtful medium.old }
     {
-        file.read_exact_at(&mut self.bytes[..8 * count], at * 8)
-            .is_ok()
+        medium.read_at(at, &mut self.bytes[..8 * count])
     }
 }

@@ -1,13 +1,14 @@
-//! Some adjacent words of a file.
+//! Some adjacent words of a medium.
 ghost use Rattle.std.specs.Prelude.{◌≡◌, ◌+◌, ◌-◌, ◌*◌, ◌<◌, ◌≤◌, ◌^◌, IsTrue, ◌↔◌, IsSome, Some, None, ℕ, ◌≢◌, length, slice_index};
 ghost use Rattle.std.specs.Bool.{OnTrue, OnFalse};
+ghost use Rattle.rom_device.specs.Device.{OnlyReads};
+ghost use Rattle.rom_device.specs.Medium.{HandsOver, HasPlaces};
 
+use crate::medium::Medium;
 use crate::page::{PAGE_WORDS, Page};
-use std::fs::File;
-use std::os::unix::fs::FileExt;
 
-/// At most 512 adjacent words of a file, from the place `first` on: as many as a page of the file
-/// has. They are the first words of `page`.
+/// At most 512 adjacent words of a medium, from the place `first` on: as many as a page has. They are
+/// the first words of `page`.
 #[derive(Drop)]
 pub struct Run {
     first: u64,
@@ -18,7 +19,7 @@ pub struct Run {
 }
 
 impl Run {
-    ghost use Rattle.rom_device.specs.Run.{index_in, word_of, Follows};
+    ghost use Rattle.rom_device.specs.Run.{index_in, nth_of, word_of, Follows};
 
     /// No words.
     pub fn empty() -> Run
@@ -166,19 +167,25 @@ impl Run {
         self.count = 0;
     }
 
-    /// Reads so many words of a file, from that place on, in place of those that it had. `false` says
-    /// that the file failed, and then it has none.
-    pub fn read(&mut self, file: &File, first: u64, count: usize) -> bool
+    /// Reads so many words of a medium, from that place on, in place of those that it had. `false` says
+    /// that the medium failed, and then it has none.
+    pub fn read<M: Medium>(&mut self, medium: &mut M, first: u64, count: usize) -> bool
         requires place { first * 8 < 2 ^ 64 }
         requires room { count ≤ 512 }
         requires low { first + count ≤ 2 ^ 64 }
+        requires inside { HasPlaces M.shown first count medium.old }
         ensures there { OnTrue result ((self.new.first ≡ first) × (self.new.count ≡ count)) }
         ensures none { OnFalse result (self.new.count ≡ 0) }
         ensures before { (b : ℕ) → b < first → word_of self.new b ≡ None }
         ensures behind { (b : ℕ) → first + 512 ≤ b → word_of self.new b ≡ None }
+        ensures told { IsTrue M.shown.tells_words → (b seen : ℕ) → word_of self.new b ≡ Some seen
+            → seen ≡ slice_index (M.shown.words medium.old) b }
+        ensures only { OnlyReads M.shown medium.old medium.new }
+        ensures stays { M.missing medium.new ≡ M.missing medium.old }
+        ensures sure { M.doubtful medium.new ≡ M.doubtful medium.old }
     {
         self.clear();
-        if !self.page.read(file, first, count) {
+        if !self.page.read(medium, first, count) {
             return false;
         }
         self.first = first;
@@ -186,13 +193,16 @@ impl Run {
         true
     }
 
-    /// Hands the words over to a file in one call: the bytes that `Page::head` promises, at their place.
-    /// `false` says that the file failed. Of what the file then has no contract speaks.
-    pub fn write(&self, file: &File) -> bool
-        requires { self.now.first * 8 < 2 ^ 64 }
+    /// Hands the words over to a medium in one call. `false` says that the medium failed.
+    pub fn write<M: Medium>(&self, medium: &mut M) -> bool
+        requires place { self.now.first * 8 < 2 ^ 64 }
+        requires inside { HasPlaces M.shown self.now.first self.now.count medium.old }
+        ensures hands { HandsOver M.shown self.now.first (nth_of self.now) self.now.count medium.old
+            medium.new result }
+        ensures stays { M.missing medium.new ≡ M.missing medium.old }
+        ensures sure { M.doubtful medium.new ≡ M.doubtful medium.old }
     {
-        file.write_all_at(self.page.head(self.count), self.first * 8)
-            .is_ok()
+        medium.write_at(self.first, self.page.head(self.count))
     }
 
     /// The place of the first word, or 0 where there is none.

@@ -1,11 +1,13 @@
-//! Words read ahead of a file.
-ghost use Rattle.std.specs.Prelude.{◌≡◌, ◌≢◌, ◌+◌, ◌*◌, ◌<◌, ◌≤◌, ◌^◌, ℕ, length, slice_index, IfSome, IfNone, None};
+//! Words read ahead of a medium.
+ghost use Rattle.std.specs.Prelude.{◌≡◌, ◌≢◌, ◌+◌, ◌*◌, ◌<◌, ◌≤◌, ◌^◌, ℕ, length, slice_index, IfSome, IfNone, IsTrue, None};
 ghost use Rattle.std.specs.Bool.{OnFalse};
+ghost use Rattle.rom_device.specs.Device.{OnlyReads};
+ghost use Rattle.rom_device.specs.Medium.{HasPlaces};
 
+use crate::medium::Medium;
 use crate::run::Run;
-use std::fs::File;
 
-/// Two runs of words as a file has them, so that two parts of it may be walked side by side. Of the
+/// Two runs of words of a medium, so that two parts of it may be walked side by side. Of the
 /// two the one that was read ahead last stays, whichever was looked in since: each part then
 /// replaces its own, and a look in a window stores nothing.
 #[derive(Drop)]
@@ -16,7 +18,7 @@ pub struct Windows {
 }
 
 impl Windows {
-    ghost use Rattle.rom_device.specs.Windows.{word_in, IsMissed, IsRead, Puts, Reads};
+    ghost use Rattle.rom_device.specs.Windows.{word_in, IsMissed, IsRead, Puts, Reads, ReadsOf};
 
     /// No words.
     pub fn empty() -> Windows
@@ -74,19 +76,27 @@ impl Windows {
         self.right.set(at, value);
     }
 
-    /// Reads so many words of a file ahead, from that place on, in place of those that were read
-    /// ahead before the others. Where the file fails, these are gone all the same.
-    pub fn read(&mut self, file: &File, first: u64, count: usize)
+    /// Reads so many words of a medium ahead, from that place on, in place of those that were read
+    /// ahead before the others. Where the medium fails, these are gone all the same.
+    pub fn read<M: Medium>(&mut self, medium: &mut M, first: u64, count: usize)
         requires place { first * 8 < 2 ^ 64 }
         requires room { count ≤ 512 }
         requires low { first + count ≤ 2 ^ 64 }
+        requires inside { HasPlaces M.shown first count medium.old }
         ensures left { Reads first self.old.left self.new.left }
         ensures right { Reads first self.old.right self.new.right }
+        ensures left_told { IsTrue M.shown.tells_words
+            → ReadsOf (M.shown.words medium.old) self.old.left self.new.left }
+        ensures right_told { IsTrue M.shown.tells_words
+            → ReadsOf (M.shown.words medium.old) self.old.right self.new.right }
+        ensures only { OnlyReads M.shown medium.old medium.new }
+        ensures stays { M.missing medium.new ≡ M.missing medium.old }
+        ensures sure { M.doubtful medium.new ≡ M.doubtful medium.old }
     {
         let read = if self.left_is_newer {
-            self.right.read(file, first, count)
+            self.right.read(medium, first, count)
         } else {
-            self.left.read(file, first, count)
+            self.left.read(medium, first, count)
         };
         // A window without words is never the newer one.
         self.left_is_newer = self.left_is_newer != read;

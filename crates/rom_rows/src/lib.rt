@@ -11,6 +11,8 @@
 
 #[cfg(test)]
 mod asked;
+#[cfg(test)]
+mod cached;
 mod callers;
 #[cfg(test)]
 mod cores;

@@ -1,0 +1,7 @@
+use Rattle.std.proofs.Common.{refl}
+use Rattle.rom_device.specs.Device.{Writes}
+use Rattle.rom_device.proofs.OnMedium.{device_does}
+use Rattle.rom_device.proofs.cached_device.CachedDeviceDevice.write.Goals as goal
+
+pub returns-clause-does : goal.returns-clause-does
+returns-clause-does g c = device_does g.M.Medium.shown (Writes c.args.at c.args.value) c.args.self.now _ c.keep.new.self refl c.keep.ensures.does

@@ -1,0 +1,37 @@
+-- What calls of a medium do to its words, and what a stop may leave of them.
+use Rattle.std.specs.Prelude.{◌≡◌, ℕ, ◌+◌, ◌≤◌, Bool, false, IsTrue, List, [], length}
+use Rattle.std.specs.Bool.{OnTrue}
+use Rattle.rom_device.specs.Device.{ShownDevice, After, Does, WritesMany}
+use Rattle.rom_device.specs.Laid.{firsts, laid}
+
+-- it has so many words from that place on, as far as it tells
+abbrev pub HasPlaces : {M : Type 0} → ShownDevice M → ℕ → ℕ → M → Type 0
+HasPlaces shown at count medium = IsTrue shown.tells_words → at + count ≤ length (shown.words medium)
+
+-- So many values are handed over, from that place on.
+pub record HandsOver {M : Type 0} (shown : ShownDevice M) (at : ℕ) (value : ℕ → ℕ) (count : ℕ) (old new : M) (done : Bool) : Type 0 where
+  -- each word there, and each in what a stop may leave, is as it was or the one of these; nothing else changes
+  pub does : Does shown (WritesMany at (firsts value count)) old new
+  -- where all were handed over the words read so
+  pub written : IsTrue shown.tells_words → OnTrue done (shown.words new ≡ laid at value count (shown.words old))
+  -- none is made certain: what a stop might leave, it may leave still
+  pub keeps : IsTrue shown.tells_images → (i : List ℕ) → shown.leaves old i → shown.leaves new i
+  -- and where all were handed over, that with any of them in their places
+  pub each : IsTrue shown.tells_images → OnTrue done ((i : List ℕ) → After (WritesMany at (firsts value count)) (shown.leaves old) i → shown.leaves new i)
+
+-- what a medium shows that tells nothing
+abbrev pub tells_nothing : {M : Type 0} → ShownDevice M
+tells_nothing = record {
+  size = λ _. 0;
+  tells_words = false;
+  words = λ _. [];
+  tells_images = false;
+  leaves = λ _ _. Unit {0};
+  clock = λ _. 0;
+  left_since = λ _ _ _. Unit {0};
+  reads = λ _. 0;
+  writes = λ _. 0;
+  syncs = λ _. 0;
+  faults = λ _. 0;
+  failing = λ _. false;
+}

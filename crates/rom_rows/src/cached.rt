@@ -1,0 +1,279 @@
+//! Heaps of order 4 on a cached device over words in memory: made, updated and opened, each stopped
+//! after any number of calls or with one call that fails.
+//!
+//! Each word that is read ahead or handed over is a call of the words in memory. What a stop leaves of
+//! these is opened without a cache.
+
+use crate::callers::post_call;
+use crate::cores::{post_three, seated_on, take_three, take_told};
+use crate::heaps::{choice, device, left};
+use rom_combine::{NoGate, Outcome};
+use rom_device::{CachedDevice, CallKind, Memory, Trip};
+use rom_heap::Trio;
+use rom_model::{Answer, Call};
+use rom_store::{Opened, Refused, format_device, open_device};
+use std::alloc::{AllocError, Global};
+use std::process::Abort;
+use std::sync::Wait;
+use std::test::Fail;
+
+/// Room for all calls of a test.
+const AMPLE: u64 = 10_000;
+
+/// How many words a heap has. The first read takes all of them.
+const WORDS: u64 = 232;
+
+/// Of a heap at rest: the words and a sync.
+const OPENING: u64 = WORDS + 1;
+
+/// A pass of three calls until COPYING is certain: MUTATING, 18 words of main and COPYING, with a sync
+/// after each.
+const COMMIT: u64 = 1 + 18 + 1 + 3;
+
+/// The rest of it: the same words of back, and a sync. IDLE waits.
+const FINISH: u64 = 18 + 1;
+
+/// A pass of one call until COPYING is certain: IDLE before it, and 7 words of main.
+const NEXT_COMMIT: u64 = 1 + 1 + 7 + 1 + 3;
+
+/// What is done on a device. An update is two passes, of three calls and of one.
+#[derive(Clone, Copy, Debug)]
+enum Work {
+    Make,
+    Update,
+    Open,
+}
+
+/// How it ended.
+#[derive(Clone, Copy, Debug, PartialEq, Eq)]
+enum Told {
+    Made(bool),
+    Updated(Outcome, Outcome),
+    Opened(bool),
+}
+
+/// The sizes of a heap and its count, where there is a heap.
+type Held = Option<(Answer, u64)>;
+
+/// Some work on these words. It is stopped after each number of calls from `from` on, and has come to its
+/// end once `needs` of them were made.
+#[derive(Drop)]
+struct Row {
+    work: Work,
+    words: Vec<u64>,
+    from: u64,
+    needs: u64,
+}
+
+/// The heap after so many passes of three calls, and so many of one.
+fn heap(three: u64, one: u64) -> Held {
+    let sizes = Answer::Sizes {
+        queue: three + one,
+        set: three,
+        map: three,
+    };
+    Some((sizes, 3 * three + one))
+}
+
+fn is_done(told: Told) -> bool {
+    match told {
+        Told::Made(done) | Told::Opened(done) => done,
+        Told::Updated(three, one) => three == Outcome::Published && one == Outcome::Published,
+    }
+}
+
+/// Whether this may be found after work that ended so, where `before` was there.
+fn may_hold(told: Told, before: Held, found: Held) -> bool {
+    match told {
+        Told::Made(done) => found == heap(0, 0) || !done && found == before,
+        Told::Opened(_) => found == before,
+        Told::Updated(Outcome::Published, Outcome::Published) => found == heap(1, 1),
+        Told::Updated(Outcome::Published, Outcome::Doubt) => {
+            found == heap(1, 0) || found == heap(1, 1)
+        }
+        Told::Updated(Outcome::Published, _) => found == heap(1, 0),
+        Told::Updated(_, Outcome::Published) => found == heap(0, 1),
+        Told::Updated(_, Outcome::Doubt) => found == heap(0, 0) || found == heap(0, 1),
+        Told::Updated(Outcome::Doubt, _) => found == heap(0, 0) || found == heap(1, 0),
+        Told::Updated(_, _) => found == heap(0, 0),
+    }
+}
+
+/// These words behind a cache. Calls of theirs fail past the room and by these trips.
+fn cached(
+    alloc: Global,
+    words: Vec<u64>,
+    room: u64,
+    trips: &[Trip],
+) -> Result<CachedDevice<Memory>, Fail> {
+    let len = words.len() as u64;
+    if len != WORDS {
+        return Err("another number of words".into());
+    }
+    let memory = Memory::new(alloc, words, room, trips.to_vec(alloc)?)?;
+    Ok(CachedDevice::over(memory, len))
+}
+
+fn make(alloc: Global, mut device: CachedDevice<Memory>) -> (Told, Memory) {
+    let made = format_device::<_, Trio>(alloc, &mut device, 4).is_ok();
+    (Told::Made(made), device.into_medium())
+}
+
+fn open(alloc: Global, device: CachedDevice<Memory>) -> (Told, Memory) {
+    match open_device::<_, Trio>(alloc, device) {
+        Ok(
+            Opened {
+                device,
+                geometry: _,
+                image: _,
+            },
+        ) => (Told::Opened(true), device.into_medium()),
+        Err(Refused { device, why: _ }) => (Told::Opened(false), device.into_medium()),
+    }
+}
+
+fn update<R: Wait + AllocGlobal>(
+    rt: &R,
+    device: CachedDevice<Memory>,
+) -> Result<(Told, Memory), Fail> {
+    let (mut core, shared, (mut first, mut second, mut third)) = seated_on(rt.alloc(), device)?;
+    post_three(&shared, &mut first, &mut second, &mut third);
+    let three = core.pass(rt, &shared, &NoGate).outcome;
+    take_three(&shared, &mut first, &mut second, &mut third)?;
+    post_call(&shared, &mut first, Call::Enq(7));
+    let one = core.pass(rt, &shared, &NoGate).outcome;
+    take_told(&shared, &mut first)?;
+    let (twin, _writer) = core.into_parts();
+    Ok((Told::Updated(three, one), twin.into_device().into_medium()))
+}
+
+/// Does the work and stops it. Each word that may be one of several is that of the choice.
+fn stop<R: Wait + AllocGlobal>(
+    rt: &R,
+    work: Work,
+    words: &[u64],
+    room: u64,
+    trips: &[Trip],
+    kind: u64,
+) -> Result<(Told, Vec<u64>), Fail> {
+    let alloc = rt.alloc();
+    let device = cached(alloc, words.to_vec(alloc)?, room, trips)?;
+    let (told, memory) = match work {
+        Work::Make => make(alloc, device),
+        Work::Update => update(rt, device)?,
+        Work::Open => open(alloc, device),
+    };
+    let choice = choice(alloc, kind)?;
+    Ok((told, memory.crash(choice.as_slice())))
+}
+
+/// What these words hold, opened without a cache.
+fn held(alloc: Global, words: &[u64]) -> Result<Held, Fail> {
+    let words = words.to_vec(alloc)?;
+    let memory = Memory::new(alloc, words, AMPLE, Vec::new(alloc))?;
+    Ok(left(alloc, memory, 0).ok())
+}
+
+/// Does the work, stops it in three ways, and asserts that what is left fits what was told; and whether
+/// it came to its end.
+fn tries<R: Wait + Abort + AllocGlobal>(
+    rt: &R,
+    row: &Row,
+    room: u64,
+    trips: &[Trip],
+) -> Result<bool, Fail> {
+    let alloc = rt.alloc();
+    let before = held(alloc, row.words.as_slice())?;
+    let mut done = true;
+    for kind in 0..3 {
+        let (told, words) = stop(rt, row.work, row.words.as_slice(), room, trips, kind)?;
+        let found = held(alloc, words.as_slice())?;
+        assert!(rt;
+            may_hold(told, before, found),
+            "{told:?} after {room} calls, {kind}"
+        );
+        done = is_done(told);
+    }
+    Ok(done)
+}
+
+/// The call of that kind and number fails.
+fn trip(call: CallKind, nth: u64, keeps_new: bool) -> Trip {
+    Trip {
+        call,
+        from: 0,
+        to: WORDS,
+        nth,
+        keeps_new,
+    }
+}
+
+#[test]
+fn a_heap_behind_a_cache_is_as_it_was_told(rt: HostRuntime) -> Result<(), Fail> {
+    let alloc = rt.alloc();
+    let none = vec![in alloc; 0u64; WORDS as usize]?;
+    let rest = device(alloc, 0, &[])?.crash(&[]);
+    // Stopped with half of main handed over, and with half of back.
+    let (_, main) = stop(&rt, Work::Update, rest.as_slice(), OPENING + 2 + 9, &[], 1)?;
+    let (_, back) = stop(
+        &rt,
+        Work::Update,
+        rest.as_slice(),
+        OPENING + COMMIT + 9,
+        &[],
+        1,
+    )?;
+    // Each word is read and written once, and the magic last; of recovery, each word of a region is
+    // written, and IDLE.
+    let make = WORDS + WORDS + 3;
+    let recover = WORDS + 112 + 1 + 3;
+    let rows = [
+        Row {
+            work: Work::Make,
+            words: none,
+            from: 0,
+            needs: make,
+        },
+        Row {
+            work: Work::Open,
+            words: main,
+            from: 0,
+            needs: recover,
+        },
+        Row {
+            work: Work::Open,
+            words: back,
+            from: 0,
+            needs: recover,
+        },
+        Row {
+            work: Work::Update,
+            words: rest,
+            from: OPENING,
+            needs: OPENING + COMMIT + FINISH + NEXT_COMMIT,
+        },
+    ];
+    for row in &rows {
+        for calls in row.from..row.needs + 10 {
+            let done = tries(&rt, row, calls, &[])?;
+            assert_eq!(rt;
+                done,
+                calls >= row.needs,
+                "{:?} after {calls} calls",
+                row.work
+            );
+        }
+    }
+    // One call of the two passes fails, and those after it do not.
+    for nth in 1..60 {
+        tries(&rt, &rows[3], AMPLE, &[trip(CallKind::Write, nth, false)])?;
+        tries(&rt, &rows[3], AMPLE, &[trip(CallKind::Write, nth, true)])?;
+        tries(
+            &rt,
+            &rows[3],
+            AMPLE,
+            &[trip(CallKind::Sync, nth + 1, false)],
+        )?;
+    }
+    Ok(())
+}
