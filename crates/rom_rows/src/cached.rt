@@ -6,13 +6,13 @@
 
 use crate::callers::post_call;
 use crate::cores::{post_three, seated_on, take_three, take_told};
-use crate::heaps::{choice, device, left};
+use crate::heaps::{choice, counted, device};
 use rom_combine::{NoGate, Outcome};
 use rom_device::{CachedDevice, CallKind, Memory, Trip};
 use rom_heap::Trio;
 use rom_model::{Answer, Call};
 use rom_store::{Opened, Refused, format_device, open_device};
-use std::alloc::{AllocError, Global};
+use std::alloc::Global;
 use std::process::Abort;
 use std::sync::Wait;
 use std::test::Fail;
@@ -33,8 +33,9 @@ const COMMIT: u64 = 1 + 18 + 1 + 3;
 /// The rest of it: the same words of back, and a sync. IDLE waits.
 const FINISH: u64 = 18 + 1;
 
-/// A pass of one call until COPYING is certain: IDLE before it, and 7 words of main.
-const NEXT_COMMIT: u64 = 1 + 1 + 7 + 1 + 3;
+/// A pass until COPYING is certain that puts another value under a key: IDLE before it, and two words of
+/// main, the value and the count.
+const NEXT_COMMIT: u64 = 1 + 1 + 2 + 1 + 3;
 
 /// What is done on a device. An update is two passes, of three calls and of one.
 #[derive(Clone, Copy, Debug)]
@@ -55,24 +56,22 @@ enum Told {
 /// The sizes of a heap and its count, where there is a heap.
 type Held = Option<(Answer, u64)>;
 
-/// Some work on these words. It is stopped after each number of calls from `from` on, and has come to its
-/// end once `needs` of them were made.
+/// Some work on these words, which hold that. It comes to its end with `needs` calls. It is stopped after
+/// `from` calls and more, fewer than `to`: up to `each` after some alone.
 #[derive(Drop)]
 struct Row {
     work: Work,
     words: Vec<u64>,
+    before: Held,
     from: u64,
+    each: u64,
     needs: u64,
+    to: u64,
 }
 
-/// The heap after so many passes of three calls, and so many of one.
-fn heap(three: u64, one: u64) -> Held {
-    let sizes = Answer::Sizes {
-        queue: three + one,
-        set: three,
-        map: three,
-    };
-    Some((sizes, 3 * three + one))
+/// So many elements in the queue, the set and the map, and the count.
+fn heap(queue: u64, set: u64, map: u64, count: u64) -> Held {
+    Some((Answer::Sizes { queue, set, map }, count))
 }
 
 fn is_done(told: Told) -> bool {
@@ -82,20 +81,24 @@ fn is_done(told: Told) -> bool {
     }
 }
 
-/// Whether this may be found after work that ended so, where `before` was there.
+/// Whether this may be found after work that ended so, where `before` was there. After an update the
+/// heap is empty, or has what the first pass put in, or the second, or both.
 fn may_hold(told: Told, before: Held, found: Held) -> bool {
+    let empty = heap(0, 0, 0, 0);
+    let first = heap(1, 1, 1, 3);
+    let second = heap(0, 0, 1, 1);
+    let both = heap(1, 1, 1, 4);
     match told {
-        Told::Made(done) => found == heap(0, 0) || !done && found == before,
+        Told::Made(true) => found == empty,
+        Told::Made(false) => found == empty || found == before,
         Told::Opened(_) => found == before,
-        Told::Updated(Outcome::Published, Outcome::Published) => found == heap(1, 1),
-        Told::Updated(Outcome::Published, Outcome::Doubt) => {
-            found == heap(1, 0) || found == heap(1, 1)
-        }
-        Told::Updated(Outcome::Published, _) => found == heap(1, 0),
-        Told::Updated(_, Outcome::Published) => found == heap(0, 1),
-        Told::Updated(_, Outcome::Doubt) => found == heap(0, 0) || found == heap(0, 1),
-        Told::Updated(Outcome::Doubt, _) => found == heap(0, 0) || found == heap(1, 0),
-        Told::Updated(_, _) => found == heap(0, 0),
+        Told::Updated(Outcome::Published, Outcome::Published) => found == both,
+        Told::Updated(Outcome::Published, Outcome::Doubt) => found == first || found == both,
+        Told::Updated(Outcome::Published, _) => found == first,
+        Told::Updated(_, Outcome::Published) => found == second,
+        Told::Updated(_, Outcome::Doubt) => found == empty || found == second,
+        Told::Updated(Outcome::Doubt, _) => found == empty || found == first,
+        Told::Updated(_, _) => found == empty,
     }
 }
 
@@ -106,11 +109,11 @@ fn cached(
     room: u64,
     trips: &[Trip],
 ) -> Result<CachedDevice<Memory>, Fail> {
-    let len = words.len() as u64;
+    let memory = Memory::new(alloc, words, room, trips.to_vec(alloc)?)?;
+    let len = memory.words().len() as u64;
     if len != WORDS {
         return Err("another number of words".into());
     }
-    let memory = Memory::new(alloc, words, room, trips.to_vec(alloc)?)?;
     Ok(CachedDevice::over(memory, len))
 }
 
@@ -140,7 +143,7 @@ fn update<R: Wait + AllocGlobal>(
     post_three(&shared, &mut first, &mut second, &mut third);
     let three = core.pass(rt, &shared, &NoGate).outcome;
     take_three(&shared, &mut first, &mut second, &mut third)?;
-    post_call(&shared, &mut first, Call::Enq(7));
+    post_call(&shared, &mut first, Call::Put(3, 5));
     let one = core.pass(rt, &shared, &NoGate).outcome;
     take_told(&shared, &mut first)?;
     let (twin, _writer) = core.into_parts();
@@ -163,38 +166,36 @@ fn stop<R: Wait + AllocGlobal>(
         Work::Update => update(rt, device)?,
         Work::Open => open(alloc, device),
     };
-    let choice = choice(alloc, kind)?;
-    Ok((told, memory.crash(choice.as_slice())))
+    Ok((told, memory.crash(choice(alloc, kind)?.as_slice())))
 }
 
 /// What these words hold, opened without a cache.
 fn held(alloc: Global, words: &[u64]) -> Result<Held, Fail> {
     let words = words.to_vec(alloc)?;
     let memory = Memory::new(alloc, words, AMPLE, Vec::new(alloc))?;
-    Ok(left(alloc, memory, 0).ok())
+    match open_device::<_, Trio>(alloc, memory) {
+        Ok(opened) => Ok(Some(counted(opened)?)),
+        Err(_) => Ok(None),
+    }
 }
 
-/// Does the work, stops it in three ways, and asserts that what is left fits what was told; and whether
-/// it came to its end.
+/// Does the work, stops it, and asserts that what is left fits what was told. It says whether the work
+/// came to its end.
 fn tries<R: Wait + Abort + AllocGlobal>(
     rt: &R,
     row: &Row,
     room: u64,
     trips: &[Trip],
+    kind: u64,
 ) -> Result<bool, Fail> {
-    let alloc = rt.alloc();
-    let before = held(alloc, row.words.as_slice())?;
-    let mut done = true;
-    for kind in 0..3 {
-        let (told, words) = stop(rt, row.work, row.words.as_slice(), room, trips, kind)?;
-        let found = held(alloc, words.as_slice())?;
-        assert!(rt;
-            may_hold(told, before, found),
-            "{told:?} after {room} calls, {kind}"
-        );
-        done = is_done(told);
-    }
-    Ok(done)
+    let (told, words) = stop(rt, row.work, row.words.as_slice(), room, trips, kind)?;
+    let found = held(rt.alloc(), words.as_slice())?;
+    let fits = may_hold(told, row.before, found);
+    assert!(rt;
+        fits,
+        "{told:?}, but {found:?} with room for {room} calls, {kind}"
+    );
+    Ok(is_done(told))
 }
 
 /// The call of that kind and number fails.
@@ -223,57 +224,69 @@ fn a_heap_behind_a_cache_is_as_it_was_told(rt: HostRuntime) -> Result<(), Fail> 
         &[],
         1,
     )?;
-    // Each word is read and written once, and the magic last; of recovery, each word of a region is
-    // written, and IDLE.
+    // A new heap: each word is read and written once. Recovery: so is each word of a region, and IDLE.
     let make = WORDS + WORDS + 3;
     let recover = WORDS + 112 + 1 + 3;
+    let update = OPENING + COMMIT + FINISH + NEXT_COMMIT;
     let rows = [
         Row {
             work: Work::Make,
             words: none,
+            before: None,
             from: 0,
+            each: make - 4,
             needs: make,
+            to: make + 2,
         },
         Row {
             work: Work::Open,
             words: main,
+            before: heap(0, 0, 0, 0),
             from: 0,
+            each: recover - 4,
             needs: recover,
+            to: recover + 2,
         },
         Row {
             work: Work::Open,
             words: back,
+            before: heap(1, 1, 1, 3),
             from: 0,
+            each: recover - 4,
             needs: recover,
+            to: recover + 2,
         },
         Row {
             work: Work::Update,
             words: rest,
+            before: heap(0, 0, 0, 0),
             from: OPENING,
-            needs: OPENING + COMMIT + FINISH + NEXT_COMMIT,
+            each: OPENING,
+            needs: update,
+            to: update + 5,
         },
     ];
     for row in &rows {
-        for calls in row.from..row.needs + 10 {
-            let done = tries(&rt, row, calls, &[])?;
-            assert_eq!(rt;
-                done,
-                calls >= row.needs,
-                "{:?} after {calls} calls",
-                row.work
-            );
+        for calls in row.from..row.to {
+            if calls % 29 == 0 || calls >= row.each {
+                let done = tries(&rt, row, calls, &[], calls % 3)?;
+                assert_eq!(rt;
+                    done,
+                    calls >= row.needs,
+                    "{:?} after {calls} calls",
+                    row.work
+                );
+            }
         }
     }
     // One call of the two passes fails, and those after it do not.
-    for nth in 1..60 {
-        tries(&rt, &rows[3], AMPLE, &[trip(CallKind::Write, nth, false)])?;
-        tries(&rt, &rows[3], AMPLE, &[trip(CallKind::Write, nth, true)])?;
-        tries(
-            &rt,
-            &rows[3],
-            AMPLE,
-            &[trip(CallKind::Sync, nth + 1, false)],
-        )?;
+    for nth in 1..48 {
+        let fault = trip(CallKind::Write, nth, nth % 2 == 0);
+        tries(&rt, &rows[3], AMPLE, &[fault], nth % 3)?;
+    }
+    for nth in 2..10 {
+        let fault = trip(CallKind::Sync, nth, false);
+        tries(&rt, &rows[3], AMPLE, &[fault], nth % 3)?;
     }
     Ok(())
 }

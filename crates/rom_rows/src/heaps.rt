@@ -47,7 +47,7 @@ pub(crate) fn device(alloc: Global, count: u64, trips: &[Trip]) -> Result<Memory
 }
 
 /// How many elements an opened heap has, and its count.
-fn counted(opened: Opened<Memory>) -> Result<(Answer, u64), Fail>
+pub(crate) fn counted(opened: Opened<Memory>) -> Result<(Answer, u64), Fail>
     requires fit { (s : State) × (k : ℕ) × Contents opened.geometry opened.image.items s k }
 {
     let count = *opened.image.get(COUNTED).ok_or("no count")?;
