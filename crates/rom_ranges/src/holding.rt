@@ -9,7 +9,7 @@ ghost use Rattle.rom_ranges.specs.declared.range.Range.{Range};
 use crate::range::Range;
 
 /// The first range that ends at the offset or past it, by its index; where there is none, how many
-/// ranges there are.
+/// ranges there are. Where the last range begins at the offset or before it, no other is looked at.
 fn first_near(ranges: &[Range], at: u64) -> usize
     requires { AreApart ranges.now }
     ensures within { result ≤ length ranges.now }
@@ -17,7 +17,14 @@ fn first_near(ranges: &[Range], at: u64) -> usize
     ensures near { (d : Range) → result < length ranges.now →
         at ≤ (slice_index_or ranges.now result d).end }
 {
-    ranges.partition_point(|range| range.end < at)
+    let count = ranges.len();
+    if count == 0 || at < ranges[count - 1].start {
+        return ranges.partition_point(|range| range.end < at);
+    }
+    if ranges[count - 1].end < at {
+        return count;
+    }
+    count - 1
 }
 
 /// Holds the offset from now on. There is room for one range more.

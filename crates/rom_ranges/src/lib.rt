@@ -12,6 +12,3 @@ mod range;
 
 pub use log::RangeLog;
 pub use range::Range;
-
-#[cfg(test)]
-mod tests;

@@ -36,6 +36,8 @@ mod passes;
 #[cfg(test)]
 mod played;
 #[cfg(test)]
+mod ranges;
+#[cfg(test)]
 mod readers;
 #[cfg(test)]
 mod scripts;

@@ -1,7 +1,7 @@
 //! Offsets that are added, and the ranges that hold them.
 ghost use Rattle.std.specs.Prelude.{◌≡◌};
 
-use crate::{Range, RangeLog};
+use rom_ranges::{Range, RangeLog};
 use std::test::Fail;
 
 /// Adds offsets in turn to a log with room for four ranges, until it holds so many.
