@@ -28,10 +28,10 @@ ghost use Rattle.rom_rule.specs.Views.{Each, plan_of};
 
 use crate::answering::{Answer, DOUBT, FAILED, refuse};
 use crate::applying::apply_all;
-use crate::looking::{begin_on, commit_on};
 use crate::passed::Outcome;
 use crate::scanning::Posted;
 use crate::sides::put_back;
+use crate::steps::{begin_on, commit_on};
 use arrayvec::ArrayVec;
 use rom_device::Device;
 use rom_lr::{Shared, Side, WriterSeat};

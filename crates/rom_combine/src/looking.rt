@@ -1,32 +1,18 @@
-//! Shared main as words that are only loaded: queries of it, and the device through a batch with
-//! these words.
-ghost use Rattle.std.specs.Prelude.{◌≡◌, ◌⊎◌, ◌+◌, ◌≤◌, ℕ, List, OnOk, OnErr, IsTrue};
-ghost use Rattle.rom_model.specs.Blocks.{region_len};
-ghost use Rattle.rom_model.specs.Faults.{FailedLast};
-ghost use Rattle.rom_device.specs.Device.{Becomes, Does, Makes, Runs};
-ghost use Rattle.rom_twin.specs.Seen.{InPhase, NeedsRepair, Rests, committed, main_now};
-ghost use Rattle.rom_combine.specs.Causes.{FailsAtCommit, FailsBeforeCommit};
-ghost use Rattle.rom_combine.specs.Costs.{IsUnfailed, OnlyWrites, Spends, SpendsAtMost, WithinHeap, mending_syncs, mending_writes};
-ghost use Rattle.rom_combine.specs.Images.{BeforeCommit, Committable, Counting};
+//! Shared main as words that are only loaded, and queries of it.
+ghost use Rattle.std.specs.Prelude.{◌≡◌, ℕ};
 ghost use Rattle.rom_combine.specs.Looking.{unstepped};
 ghost use Rattle.rom_lr.specs.Seats.{IsWriterOf};
 ghost use Rattle.rom_lr.specs.Writing.{Writes};
-ghost use Rattle.rom_ranges.specs.Changes.{SameBut};
-ghost use Rattle.rom_ranges.specs.Ranges.{AreWithin, held_count};
 ghost use Rattle.rom_rule.specs.Views.{plan_of};
 
-use crate::steps::{begin_batch, commit_batch, finish_batch};
-use rom_device::{Device, Failed};
 use rom_lr::{Shared, WriterSeat};
 use rom_model::{Look, Object};
-use rom_ranges::Range;
-use rom_twin::{Phase, Twin};
 
 /// Shared main as words that are only loaded, whichever side is named. Each load is one of the
 /// writer's steps.
 pub struct MainLook<'a, O: Object> {
-    shared: &'a Shared<O>,
-    seat: &'a mut WriterSeat,
+    pub(crate) shared: &'a Shared<O>,
+    pub(crate) seat: &'a mut WriterSeat,
     ghost of: { IsWriterOf shared.now.table.shared.table_id shared.now.table.shared.key seat.now },
 }
 
@@ -70,138 +56,4 @@ pub fn ask_main<O: Object>(shared: &Shared<O>, seat: &mut WriterSeat, query: &O:
     let answer = O::answer(&mut look, order, query);
     let MainLook { shared: _, seat: _ } = look;
     answer
-}
-
-/// Repairs the device where it needs it, and begins. Shared main is the committed image.
-pub(crate) fn begin_on<D: Device, O: Object>(
-    twin: &mut Twin<D>,
-    shared: &Shared<O>,
-    seat: &mut WriterSeat,
-) -> Result<(), Failed>
-    requires of { IsWriterOf shared.now.table.shared.table_id shared.now.table.shared.key seat.old }
-    requires rests { Rests twin.old.phase }
-    requires order { twin.old.order ≡ seat.old.token.me.0.base.order }
-    requires committed { IsTrue D.shown.tells_images →
-        committed D.shown twin.old ≡ (plan_of seat.old.token.me.0).main }
-    ensures same { Writes seat.old seat.new (plan_of seat.old.token.me.0) }
-    ensures ok { OnOk result (twin.new.phase ≡ Phase.Begun) }
-    ensures failed { OnErr result ((twin.new.phase ≡ Phase.Undo)
-        ⊎ ((twin.new.phase ≡ twin.old.phase) × NeedsRepair twin.old.phase)) }
-    ensures order { twin.new.order ≡ twin.old.order }
-    ensures committed { IsTrue D.shown.tells_images →
-        committed D.shown twin.new ≡ committed D.shown twin.old }
-    ensures main { IsTrue D.shown.tells_images →
-        OnOk result (main_now D.shown twin.new ≡ committed D.shown twin.old) }
-    ensures images { IsTrue D.shown.tells_images → InPhase D.shown twin.new }
-    ensures since { IsTrue D.shown.tells_images →
-        Runs D.shown (Becomes (Counting twin.old.order (committed D.shown twin.old)))
-        twin.old.device twin.new.device }
-    ensures before { IsTrue D.shown.tells_images →
-        Runs D.shown (Becomes (BeforeCommit twin.old.phase twin.old.order
-        (committed D.shown twin.old)))
-        twin.old.device twin.new.device }
-    ensures spends { OnOk result (Spends D.shown (mending_writes twin.old.phase twin.old.order + 1)
-        (mending_syncs twin.old.phase + 1) twin.old.device twin.new.device) }
-    ensures most { SpendsAtMost D.shown (mending_writes twin.old.phase twin.old.order + 1)
-        (mending_syncs twin.old.phase + 1) twin.old.device twin.new.device }
-    ensures only { OnlyWrites D.shown twin.old.device twin.new.device }
-    ensures does { Does D.shown (WithinHeap twin.old.order) twin.old.device twin.new.device }
-    ensures later { D.shown.faults twin.old.device ≤ D.shown.faults twin.new.device }
-    ensures cause { OnErr result (FailsBeforeCommit D.shown twin.old.phase twin.old.order
-        (committed D.shown twin.old)
-        twin.old.device twin.new.device) }
-{
-    let mut look = MainLook { shared, seat };
-    let result = begin_batch(twin, &mut look);
-    let MainLook { shared: _, seat: _ } = look;
-    result
-}
-
-/// Writes shared main to main on the device, and commits. The ranges hold where they differ.
-pub(crate) fn commit_on<D: Device, O: Object>(
-    twin: &mut Twin<D>,
-    shared: &Shared<O>,
-    seat: &mut WriterSeat,
-    ranges: &[Range],
-) -> Result<(), Failed>
-    requires of { IsWriterOf shared.now.table.shared.table_id shared.now.table.shared.key seat.old }
-    requires phase { twin.old.phase ≡ Phase.Begun }
-    requires order { twin.old.order ≡ seat.old.token.me.0.base.order }
-    requires within { AreWithin (region_len twin.old.order) ranges.now }
-    requires but { IsTrue D.shown.tells_images →
-        SameBut ranges.now (main_now D.shown twin.old) (plan_of seat.old.token.me.0).main }
-    ensures same { Writes seat.old seat.new (plan_of seat.old.token.me.0) }
-    ensures ok { OnOk result (twin.new.phase ≡ Phase.Committed) }
-    ensures failed { OnErr result ((twin.new.phase ≡ Phase.Undo)
-        ⊎ (twin.new.phase ≡ Phase.Doubt)) }
-    ensures order { twin.new.order ≡ twin.old.order }
-    ensures committed { IsTrue D.shown.tells_images →
-        committed D.shown twin.new ≡ committed D.shown twin.old }
-    ensures main { IsTrue D.shown.tells_images →
-        OnOk result (main_now D.shown twin.new ≡ (plan_of seat.old.token.me.0).main) }
-    ensures images { IsTrue D.shown.tells_images → InPhase D.shown twin.new }
-    ensures now { IsTrue D.shown.tells_images → (i : List ℕ) → D.shown.leaves twin.new.device i →
-        Committable twin.new.phase twin.old.order (committed D.shown twin.old)
-        (plan_of seat.old.token.me.0).main i }
-    ensures since { IsTrue D.shown.tells_images →
-        Runs D.shown (Becomes (Committable twin.new.phase twin.old.order
-        (committed D.shown twin.old) (plan_of seat.old.token.me.0).main))
-        twin.old.device twin.new.device }
-    ensures only { OnlyWrites D.shown twin.old.device twin.new.device }
-    ensures does { Does D.shown (WithinHeap twin.old.order) twin.old.device twin.new.device }
-    ensures later { D.shown.faults twin.old.device ≤ D.shown.faults twin.new.device }
-    ensures makes { Makes D.shown 0 (held_count ranges.now + 1) 2
-        twin.old.device twin.new.device result }
-    ensures undo { twin.new.phase ≡ Phase.Undo →
-        SpendsAtMost D.shown (held_count ranges.now) 1 twin.old.device twin.new.device
-        × FailsBeforeCommit D.shown Phase.Clean twin.old.order (committed D.shown twin.old)
-        twin.old.device twin.new.device }
-    ensures doubt { twin.new.phase ≡ Phase.Doubt →
-        FailsAtCommit D.shown Phase.Clean twin.old.order (committed D.shown twin.old)
-        twin.old.device twin.new.device }
-{
-    let mut look = MainLook { shared, seat };
-    let result = commit_batch(twin, ranges, &mut look);
-    let MainLook { shared: _, seat: _ } = look;
-    result
-}
-
-/// Writes shared main to back on the device, and ends the batch. The ranges hold where they differ. A
-/// fault here changes no answer.
-pub(crate) fn finish_on<D: Device, O: Object>(
-    twin: &mut Twin<D>,
-    shared: &Shared<O>,
-    seat: &mut WriterSeat,
-    ranges: &[Range],
-)
-    requires of { IsWriterOf shared.now.table.shared.table_id shared.now.table.shared.key seat.old }
-    requires phase { twin.old.phase ≡ Phase.Committed }
-    requires order { twin.old.order ≡ seat.old.token.me.0.base.order }
-    requires within { AreWithin (region_len twin.old.order) ranges.now }
-    requires main { IsTrue D.shown.tells_images →
-        main_now D.shown twin.old ≡ (plan_of seat.old.token.me.0).main }
-    requires but { IsTrue D.shown.tells_images →
-        SameBut ranges.now (committed D.shown twin.old) (plan_of seat.old.token.me.0).main }
-    ensures same { Writes seat.old seat.new (plan_of seat.old.token.me.0) }
-    ensures phase { (twin.new.phase ≡ Phase.Clean) ⊎ (twin.new.phase ≡ Phase.Redo) }
-    ensures order { twin.new.order ≡ twin.old.order }
-    ensures committed { IsTrue D.shown.tells_images →
-        committed D.shown twin.new ≡ (plan_of seat.old.token.me.0).main }
-    ensures images { IsTrue D.shown.tells_images → InPhase D.shown twin.new }
-    ensures since { IsTrue D.shown.tells_images →
-        Runs D.shown (Becomes (Counting twin.old.order (plan_of seat.old.token.me.0).main))
-        twin.old.device twin.new.device }
-    ensures spends { IsUnfailed D.shown twin.old.device twin.new.device →
-        Spends D.shown (held_count ranges.now + 1) 1 twin.old.device twin.new.device }
-    ensures most { SpendsAtMost D.shown (held_count ranges.now + 1) 1
-        twin.old.device twin.new.device }
-    ensures only { OnlyWrites D.shown twin.old.device twin.new.device }
-    ensures does { Does D.shown (WithinHeap twin.old.order) twin.old.device twin.new.device }
-    ensures later { D.shown.faults twin.old.device ≤ D.shown.faults twin.new.device }
-    ensures cause { twin.new.phase ≡ Phase.Redo → FailedLast (D.shown.faults twin.old.device)
-        (D.shown.faults twin.new.device) (D.shown.failing twin.new.device) }
-{
-    let mut look = MainLook { shared, seat };
-    finish_batch(twin, ranges, &mut look);
-    let MainLook { shared: _, seat: _ } = look;
 }

@@ -15,8 +15,8 @@ ghost use Rattle.rom_rule.specs.Kinds.{MayRaise};
 ghost use Rattle.rom_rule.specs.Readers.{Held, Settled};
 ghost use Rattle.rom_rule.specs.Views.{plan_of};
 
-use crate::looking::finish_on;
 use crate::sides::copy_back;
+use crate::steps::finish_on;
 use rom_device::Device;
 use rom_lr::{Shared, Side, WriterSeat};
 use rom_model::Object;

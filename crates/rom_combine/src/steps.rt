@@ -1,18 +1,23 @@
-//! The device through a batch, whatever the images are kept in.
+//! The device through a batch, whose images are the two sides of the shared words.
 ghost use Rattle.std.specs.Prelude.{◌≡◌, ◌⊎◌, ◌+◌, ◌≤◌, ℕ, List, OnOk, OnErr, IsTrue, length};
 ghost use Rattle.rom_model.specs.Blocks.{region_len};
 ghost use Rattle.rom_model.specs.Faults.{FailedLast, Rose};
 ghost use Rattle.rom_model.specs.Space.{Looks};
 ghost use Rattle.rom_device.specs.Device.{Becomes, Does, Makes, Runs};
+ghost use Rattle.rom_lr.specs.Seats.{IsWriterOf};
+ghost use Rattle.rom_lr.specs.Writing.{Writes};
 ghost use Rattle.rom_ranges.specs.Changes.{SameBut};
 ghost use Rattle.rom_ranges.specs.Ranges.{AreWithin, held_count};
+ghost use Rattle.rom_rule.specs.Views.{plan_of};
 ghost use Rattle.rom_twin.specs.Seen.{InPhase, NeedsRepair, Rests, committed, main_now};
 ghost use Rattle.rom_combine.specs.Causes.{FailsAtCommit, FailsBeforeCommit};
 ghost use Rattle.rom_combine.specs.Costs.{IsUnfailed, OnlyWrites, Spends, SpendsAtMost, WithinHeap, mending_syncs, mending_writes};
 ghost use Rattle.rom_combine.specs.Images.{BeforeCommit, Counting, Committable};
 
+use crate::looking::MainLook;
 use rom_device::{Device, Failed};
-use rom_model::Look;
+use rom_lr::{Shared, WriterSeat};
+use rom_model::{Look, Object};
 use rom_ranges::Range;
 use rom_twin::{Phase, Twin};
 
@@ -51,12 +56,18 @@ fn make_clean<D: Device, M: Look>(twin: &mut Twin<D>, image: &mut M) -> Result<(
     twin.repair(image)
 }
 
-/// Repairs the device where it needs it, and begins. The image is the committed one.
-pub fn begin_batch<D: Device, M: Look>(twin: &mut Twin<D>, image: &mut M) -> Result<(), Failed>
+/// Repairs the device where it needs it, and begins. Shared main is the committed image.
+pub(crate) fn begin_on<D: Device, O: Object>(
+    twin: &mut Twin<D>,
+    shared: &Shared<O>,
+    seat: &mut WriterSeat,
+) -> Result<(), Failed>
+    requires of { IsWriterOf shared.now.table.shared.table_id shared.now.table.shared.key seat.old }
     requires rests { Rests twin.old.phase }
-    requires image { length (M.shown.image image.old) ≡ region_len twin.old.order }
+    requires order { twin.old.order ≡ seat.old.token.me.0.base.order }
     requires committed { IsTrue D.shown.tells_images →
-        committed D.shown twin.old ≡ M.shown.image image.old }
+        committed D.shown twin.old ≡ (plan_of seat.old.token.me.0).main }
+    ensures same { Writes seat.old seat.new (plan_of seat.old.token.me.0) }
     ensures ok { OnOk result (twin.new.phase ≡ Phase.Begun) }
     ensures failed { OnErr result ((twin.new.phase ≡ Phase.Undo)
         ⊎ ((twin.new.phase ≡ twin.old.phase) × NeedsRepair twin.old.phase)) }
@@ -73,7 +84,6 @@ pub fn begin_batch<D: Device, M: Look>(twin: &mut Twin<D>, image: &mut M) -> Res
         Runs D.shown (Becomes (BeforeCommit twin.old.phase twin.old.order
         (committed D.shown twin.old)))
         twin.old.device twin.new.device }
-    ensures looks { Looks M.shown (region_len twin.old.order) image.old image.new }
     ensures spends { OnOk result (Spends D.shown (mending_writes twin.old.phase twin.old.order + 1)
         (mending_syncs twin.old.phase + 1) twin.old.device twin.new.device) }
     ensures most { SpendsAtMost D.shown (mending_writes twin.old.phase twin.old.order + 1)
@@ -85,42 +95,48 @@ pub fn begin_batch<D: Device, M: Look>(twin: &mut Twin<D>, image: &mut M) -> Res
         (committed D.shown twin.old)
         twin.old.device twin.new.device) }
 {
-    make_clean(twin, image)?;
+    let mut look = MainLook { shared, seat };
+    let mended = make_clean(twin, &mut look);
+    let MainLook { shared: _, seat: _ } = look;
+    mended?;
     twin.begin()
 }
 
-/// Writes the changes of main, and commits. The image is the new one, which differs from main on
-/// the device in the ranges alone.
-pub fn commit_batch<D: Device, M: Look>(
+/// Writes shared main to main on the device, and commits. The ranges hold where they differ.
+pub(crate) fn commit_on<D: Device, O: Object>(
     twin: &mut Twin<D>,
+    shared: &Shared<O>,
+    seat: &mut WriterSeat,
     ranges: &[Range],
-    image: &mut M,
 ) -> Result<(), Failed>
+    requires of { IsWriterOf shared.now.table.shared.table_id shared.now.table.shared.key seat.old }
     requires phase { twin.old.phase ≡ Phase.Begun }
-    requires image { length (M.shown.image image.old) ≡ region_len twin.old.order }
+    requires order { twin.old.order ≡ seat.old.token.me.0.base.order }
     requires within { AreWithin (region_len twin.old.order) ranges.now }
     requires but { IsTrue D.shown.tells_images →
-        SameBut ranges.now (main_now D.shown twin.old) (M.shown.image image.old) }
+        SameBut ranges.now (main_now D.shown twin.old) (plan_of seat.old.token.me.0).main }
+    ensures same { Writes seat.old seat.new (plan_of seat.old.token.me.0) }
     ensures ok { OnOk result (twin.new.phase ≡ Phase.Committed) }
-    ensures failed { OnErr result ((twin.new.phase ≡ Phase.Undo) ⊎ (twin.new.phase ≡ Phase.Doubt)) }
+    ensures failed { OnErr result ((twin.new.phase ≡ Phase.Undo)
+        ⊎ (twin.new.phase ≡ Phase.Doubt)) }
     ensures order { twin.new.order ≡ twin.old.order }
     ensures committed { IsTrue D.shown.tells_images →
         committed D.shown twin.new ≡ committed D.shown twin.old }
     ensures main { IsTrue D.shown.tells_images →
-        OnOk result (main_now D.shown twin.new ≡ M.shown.image image.old) }
+        OnOk result (main_now D.shown twin.new ≡ (plan_of seat.old.token.me.0).main) }
     ensures images { IsTrue D.shown.tells_images → InPhase D.shown twin.new }
     ensures now { IsTrue D.shown.tells_images → (i : List ℕ) → D.shown.leaves twin.new.device i →
         Committable twin.new.phase twin.old.order (committed D.shown twin.old)
-        (M.shown.image image.old) i }
+        (plan_of seat.old.token.me.0).main i }
     ensures since { IsTrue D.shown.tells_images →
         Runs D.shown (Becomes (Committable twin.new.phase twin.old.order
-        (committed D.shown twin.old) (M.shown.image image.old)))
+        (committed D.shown twin.old) (plan_of seat.old.token.me.0).main))
         twin.old.device twin.new.device }
-    ensures looks { Looks M.shown (held_count ranges.now) image.old image.new }
     ensures only { OnlyWrites D.shown twin.old.device twin.new.device }
     ensures does { Does D.shown (WithinHeap twin.old.order) twin.old.device twin.new.device }
-    ensures makes { Makes D.shown 0 (held_count ranges.now + 1) 2 twin.old.device twin.new.device
-        result }
+    ensures later { D.shown.faults twin.old.device ≤ D.shown.faults twin.new.device }
+    ensures makes { Makes D.shown 0 (held_count ranges.now + 1) 2
+        twin.old.device twin.new.device result }
     ensures undo { twin.new.phase ≡ Phase.Undo →
         SpendsAtMost D.shown (held_count ranges.now) 1 twin.old.device twin.new.device
         × FailsBeforeCommit D.shown Phase.Clean twin.old.order (committed D.shown twin.old)
@@ -129,29 +145,38 @@ pub fn commit_batch<D: Device, M: Look>(
         FailsAtCommit D.shown Phase.Clean twin.old.order (committed D.shown twin.old)
         twin.old.device twin.new.device }
 {
-    twin.persist(ranges, image)?;
+    let mut look = MainLook { shared, seat };
+    let written = twin.persist(ranges, &mut look);
+    let MainLook { shared: _, seat: _ } = look;
+    written?;
     twin.commit()
 }
 
-/// Writes the changes to back, and ends the batch. The image is the new one, which is committed. A
+/// Writes shared main to back on the device, and ends the batch. The ranges hold where they differ. A
 /// fault here changes no answer.
-pub fn finish_batch<D: Device, M: Look>(twin: &mut Twin<D>, ranges: &[Range], image: &mut M)
+pub(crate) fn finish_on<D: Device, O: Object>(
+    twin: &mut Twin<D>,
+    shared: &Shared<O>,
+    seat: &mut WriterSeat,
+    ranges: &[Range],
+)
+    requires of { IsWriterOf shared.now.table.shared.table_id shared.now.table.shared.key seat.old }
     requires phase { twin.old.phase ≡ Phase.Committed }
-    requires image { length (M.shown.image image.old) ≡ region_len twin.old.order }
+    requires order { twin.old.order ≡ seat.old.token.me.0.base.order }
     requires within { AreWithin (region_len twin.old.order) ranges.now }
     requires main { IsTrue D.shown.tells_images →
-        main_now D.shown twin.old ≡ M.shown.image image.old }
+        main_now D.shown twin.old ≡ (plan_of seat.old.token.me.0).main }
     requires but { IsTrue D.shown.tells_images →
-        SameBut ranges.now (committed D.shown twin.old) (M.shown.image image.old) }
+        SameBut ranges.now (committed D.shown twin.old) (plan_of seat.old.token.me.0).main }
+    ensures same { Writes seat.old seat.new (plan_of seat.old.token.me.0) }
     ensures phase { (twin.new.phase ≡ Phase.Clean) ⊎ (twin.new.phase ≡ Phase.Redo) }
     ensures order { twin.new.order ≡ twin.old.order }
     ensures committed { IsTrue D.shown.tells_images →
-        committed D.shown twin.new ≡ M.shown.image image.old }
+        committed D.shown twin.new ≡ (plan_of seat.old.token.me.0).main }
     ensures images { IsTrue D.shown.tells_images → InPhase D.shown twin.new }
     ensures since { IsTrue D.shown.tells_images →
-        Runs D.shown (Becomes (Counting twin.old.order (M.shown.image image.old)))
+        Runs D.shown (Becomes (Counting twin.old.order (plan_of seat.old.token.me.0).main))
         twin.old.device twin.new.device }
-    ensures looks { Looks M.shown (held_count ranges.now) image.old image.new }
     ensures spends { IsUnfailed D.shown twin.old.device twin.new.device →
         Spends D.shown (held_count ranges.now + 1) 1 twin.old.device twin.new.device }
     ensures most { SpendsAtMost D.shown (held_count ranges.now + 1) 1
@@ -162,7 +187,10 @@ pub fn finish_batch<D: Device, M: Look>(twin: &mut Twin<D>, ranges: &[Range], im
     ensures cause { twin.new.phase ≡ Phase.Redo → FailedLast (D.shown.faults twin.old.device)
         (D.shown.faults twin.new.device) (D.shown.failing twin.new.device) }
 {
-    if twin.copy(ranges, image).is_err() {
+    let mut look = MainLook { shared, seat };
+    let copied = twin.copy(ranges, &mut look);
+    let MainLook { shared: _, seat: _ } = look;
+    if copied.is_err() {
         return;
     }
     let _ = twin.finish();

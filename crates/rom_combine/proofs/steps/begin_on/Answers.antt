@@ -7,20 +7,20 @@ use Rattle.rom_combine.proofs.Outside.{within_state, within_then}
 use Rattle.rom_combine.proofs.Before.{back_before, before_counts, runs_both, twins_mutating}
 use Rattle.rom_combine.proofs.Outcomes.{err_by}
 use Rattle.rom_combine.proofs.Since.{becomes_by, becomes_then}
-use Rattle.rom_combine.proofs.steps.begin_batch.Goals as goal
+use Rattle.rom_combine.proofs.steps.begin_on.Goals as goal
 
 pub returns-clause-before : goal.returns-clause-before
 returns-clause-before g c told =
     let shown = g.D.Device.shown in
     let a = c.args.twin.now in
-    let b = c.make_clean.new.twin in
+    let b = c.make_clean-mended.new.twin in
     let d = c.begin.new.self in
     let old : List ℕ = committed shown a in
     let begun : Runs shown (Becomes (HasBack b.order (committed shown b))) b.device d.device
     = runs_both shown 3 1 (Twins b.order (committed shown b)) (HasBack b.order (committed shown b)) b.device d.device (twins_mutating b.order (committed shown b)) (c.begin.ensures.since told) (c.begin.ensures.does.images told) in
     let second : Runs shown (Becomes (HasBack a.order old)) b.device d.device
-    = subst (λ (z : ℕ × List ℕ). Runs shown (Becomes (HasBack z.0 z.1)) b.device d.device) (λ i. (c.make_clean.ensures.order i, c.make_clean.ensures.committed told i)) begun in
-    becomes_then shown (BeforeCommit a.phase a.order old) a.device b.device d.device (c.make_clean.ensures.before told)
+    = subst (λ (z : ℕ × List ℕ). Runs shown (Becomes (HasBack z.0 z.1)) b.device d.device) (λ i. (c.make_clean-mended.ensures.order i, c.make_clean-mended.ensures.committed told i)) begun in
+    becomes_then shown (BeforeCommit a.phase a.order old) a.device b.device d.device (c.make_clean-mended.ensures.before told)
     (becomes_by shown (HasBack a.order old) (BeforeCommit a.phase a.order old) b.device d.device (λ i. back_before a.order old i a.phase) second)
 
 pub returns-clause-since : goal.returns-clause-since
@@ -29,16 +29,16 @@ returns-clause-since g c told =
     let old : List ℕ = committed g.D.Device.shown a in
     becomes_by g.D.Device.shown (BeforeCommit a.phase a.order old) (Counting a.order old) a.device c.begin.new.self.device (λ i. before_counts a.order old i a.phase c.requires.rests) (returns-clause-before g c told)
 
-pub returns-in_err-make_clean-clause-since : goal.returns-in_err-make_clean-clause-since
-returns-in_err-make_clean-clause-since g c told =
+pub returns-in_err-mended-clause-since : goal.returns-in_err-mended-clause-since
+returns-in_err-mended-clause-since g c told =
     let a = c.args.twin.now in
     let old : List ℕ = committed g.D.Device.shown a in
-    becomes_by g.D.Device.shown (BeforeCommit a.phase a.order old) (Counting a.order old) a.device c.make_clean.new.twin.device (λ i. before_counts a.order old i a.phase c.requires.rests) (c.make_clean.ensures.before told)
+    becomes_by g.D.Device.shown (BeforeCommit a.phase a.order old) (Counting a.order old) a.device c.make_clean-mended.new.twin.device (λ i. before_counts a.order old i a.phase c.requires.rests) (c.make_clean-mended.ensures.before told)
 
 pub returns-clause-cause : goal.returns-clause-cause
 returns-clause-cause g c =
     err_by c.begin.result (λ failed. record {
-      rose = omega (arith, failed.once, c.make_clean.ensures.later);
+      rose = omega (arith, failed.once, c.make_clean-mended.ensures.later);
       last = failed.last;
       images = returns-clause-before g c;
     }) c.begin.ensures.makes.cause.failed
@@ -47,6 +47,6 @@ pub returns-clause-does : goal.returns-clause-does
 returns-clause-does g c =
     let shown = g.D.Device.shown in
     let a = c.args.twin.now in
-    let b = c.make_clean.new.twin in
+    let b = c.make_clean-mended.new.twin in
     let d = c.begin.new.self in
-    within_then shown a.order a.device b.device d.device c.make_clean.ensures.does (within_state shown a.order _ b.device d.device c.begin.ensures.does)
+    within_then shown a.order a.device b.device d.device c.make_clean-mended.ensures.does (within_state shown a.order _ b.device d.device c.begin.ensures.does)
