@@ -9,3 +9,10 @@ word_from order callers side at = by_side (eqb side 0)
     by_side : (t : Bool) → cond t (main_at order callers 0) (back_at order callers 0) + at ≡ cond t (main_at order callers at) (back_at order callers at)
     by_side true = omega arith
     by_side false = omega arith
+
+-- a word of main, and of back, counted from where it begins
+pub main_from : (order callers first at : ℕ) → first ≡ main_at order callers 0 → first + at ≡ main_at order callers at
+main_from order callers first at is = omega (arith, is)
+
+pub back_from : (order callers first at : ℕ) → first ≡ back_at order callers 0 → first + at ≡ back_at order callers at
+back_from order callers first at is = omega (arith, is)

@@ -13,7 +13,7 @@ use std::alloc::Global;
 pub struct Shared<O: Object> {
     pub table: Table<u8, View, Key, Law<O>, Global>,
     pub layout: Layout,
-    // Where the words of main and those of back begin, so that who enters need not count it out.
+    // Where the words of main and those of back begin, so that no load or store counts it out anew.
     pub(crate) main: u64,
     pub(crate) back: u64,
     ghost sized: { table.shared.table_id.words ≡ table_len layout.order layout.callers },

@@ -21,7 +21,7 @@ impl<O: Object> Shared<O> {
         ensures step { seat.new.token.me.0.steps ≡ seat.old.token.me.0.steps + 1 }
         ensures word { result ≡ slice_index (plan_of seat.old.token.me.0).main at }
     {
-        let word = self.layout.main(at) as usize;
+        let word = (self.main + at) as usize;
         self.table.shared.load::<LoadsRegion>(&mut seat.token, word)
     }
 
@@ -34,7 +34,7 @@ impl<O: Object> Shared<O> {
         ensures step { seat.new.token.me.0.steps ≡ seat.old.token.me.0.steps + 1 }
         ensures word { result ≡ slice_index (plan_of seat.old.token.me.0).back at }
     {
-        let word = self.layout.back(at) as usize;
+        let word = (self.back + at) as usize;
         self.table.shared.load::<LoadsRegion>(&mut seat.token, word)
     }
 
@@ -47,7 +47,7 @@ impl<O: Object> Shared<O> {
         ensures stored { let p = plan_of seat.old.token.me.0 in Writes seat.old seat.new (record p { main = slice_set p.main at value }) }
         ensures step { seat.new.token.me.0.steps ≡ seat.old.token.me.0.steps + 1 }
     {
-        let word = self.layout.main(at) as usize;
+        let word = (self.main + at) as usize;
         self.table
             .shared
             .store::<StoresMain>(&mut seat.token, word, value);
@@ -62,7 +62,7 @@ impl<O: Object> Shared<O> {
         ensures stored { let p = plan_of seat.old.token.me.0 in Writes seat.old seat.new (record p { back = slice_set p.back at value }) }
         ensures step { seat.new.token.me.0.steps ≡ seat.old.token.me.0.steps + 1 }
     {
-        let word = self.layout.back(at) as usize;
+        let word = (self.back + at) as usize;
         self.table
             .shared
             .store::<StoresBack>(&mut seat.token, word, value);
