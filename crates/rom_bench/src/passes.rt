@@ -147,14 +147,15 @@ fn new_poster(shared: &Shared<Trio>, seat: Seat) -> Poster
     Poster::of(seat)
 }
 
-/// The core of a table that was opened on this twin's image, of an empty heap.
+/// The core of a table that was opened on this twin's image, of an empty heap. The log has room for 32
+/// stores of each caller, which is `Trio::STORES`.
 fn core_of(
     shared: &Shared<Trio>,
     twin: Twin<Ram>,
     log: RangeLog,
     seat: WriterSeat,
 ) -> Core<Ram, Trio>
-    requires ready { IsReady Trio.STORES seat.token.me.0.base.callers log }
+    requires ready { IsReady 32 seat.token.me.0.base.callers log }
     requires phase { twin.phase ≡ Phase.Clean }
     requires order { twin.order ≡ 4 }
     requires of { IsWriterOf shared.now.table.shared.table_id shared.now.table.shared.key seat }
