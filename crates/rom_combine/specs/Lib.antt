@@ -4,6 +4,7 @@ pub mod Images
 pub mod Causes
 pub mod Costs
 pub mod Session
+pub mod PerCaller
 pub mod Scanning
 pub mod Applying
 pub mod Answering

@@ -8,8 +8,8 @@ ghost use Rattle.rom_lr.specs.Seats.{IsWriterOf};
 ghost use Rattle.rom_lr.specs.Writing.{Writes};
 ghost use Rattle.rom_rule.specs.Views.{Each, is_made, plan_of};
 
+use crate::per_caller::PerCaller;
 use crate::scanning::Posted;
-use arrayvec::ArrayVec;
 use rom_announce::answer;
 use rom_lr::{Shared, WriterSeat};
 use rom_model::{Back, Object};
@@ -42,7 +42,7 @@ impl Default for Answer {
 }
 
 /// Answers that tell each found call the same code, with no reply.
-pub(crate) fn refuse(found: &[Posted], code: u64, answers: &mut ArrayVec<Answer, 16>)
+pub(crate) fn refuse(found: &[Posted], code: u64, answers: &mut PerCaller<Answer>)
     requires { length found.now ≤ 16 }
     ensures { answers.new.items ≡ map (refused code) found.now }
 {

@@ -13,8 +13,8 @@ ghost use Rattle.rom_rule.specs.Records.{IsCall};
 ghost use Rattle.rom_rule.specs.Views.{Each, plan_of};
 
 use crate::answering::{Answer, SPENT};
+use crate::per_caller::PerCaller;
 use crate::scanning::Posted;
-use arrayvec::ArrayVec;
 use rom_lr::{Shared, WriterSeat, apply_main};
 use rom_model::{Back, Object};
 use rom_ranges::RangeLog;
@@ -31,7 +31,7 @@ pub(crate) fn apply_all<O: Object>(
     log: &mut RangeLog,
     place: u64,
     found: &[Posted],
-    answers: &mut ArrayVec<Answer, 16>,
+    answers: &mut PerCaller<Answer>,
 )
     requires of { IsWriterOf shared.now.table.shared.table_id shared.now.table.shared.key seat.old }
     requires unread { NobodyReads seat.old.token.me.0 Main }

@@ -29,10 +29,10 @@ ghost use Rattle.rom_rule.specs.Views.{Each, plan_of};
 use crate::answering::{Answer, DOUBT, FAILED, refuse};
 use crate::applying::apply_all;
 use crate::passed::Outcome;
+use crate::per_caller::PerCaller;
 use crate::scanning::Posted;
 use crate::sides::put_back;
 use crate::steps::{begin_on, commit_on};
-use arrayvec::ArrayVec;
 use rom_device::Device;
 use rom_lr::{Shared, Side, WriterSeat};
 use rom_model::Object;
@@ -52,7 +52,7 @@ pub(crate) fn publish<D: Device, O: Object>(
     before: u64,
     place: u64,
     found: &[Posted],
-    answers: &mut ArrayVec<Answer, 16>,
+    answers: &mut PerCaller<Answer>,
 ) -> Outcome
     // The table and the device at rest.
     requires of { IsWriterOf shared.now.table.shared.table_id shared.now.table.shared.key seat.old }

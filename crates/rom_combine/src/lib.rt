@@ -15,6 +15,7 @@ mod gate;
 mod locked;
 mod looking;
 mod passed;
+mod per_caller;
 mod resting;
 mod scanning;
 mod sides;

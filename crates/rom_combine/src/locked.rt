@@ -18,9 +18,9 @@ use crate::applying::LAST_COUNT;
 use crate::committing::publish;
 use crate::gate::Gate;
 use crate::passed::{Outcome, Passed};
+use crate::per_caller::PerCaller;
 use crate::resting::settle;
 use crate::scanning::{Posted, scan};
-use arrayvec::ArrayVec;
 use rom_device::Device;
 use rom_lr::{Shared, WriterSeat};
 use rom_model::{COUNT, Object};
@@ -41,8 +41,8 @@ pub struct Core<D: Device, O: Object> {
     // Where shared main differs from shared back, while a pass is under way.
     log: RangeLog,
     // What a pass finds and answers. They stand here, so that no pass fills them anew.
-    found: ArrayVec<Posted, 16>,
-    answers: ArrayVec<Answer, 16>,
+    found: PerCaller<Posted>,
+    answers: PerCaller<Answer>,
     of: PhantomData<O>,
 }
 
@@ -88,8 +88,8 @@ impl<D: Device, O: Object> Core<D, O> {
             twin,
             seat,
             log,
-            found: ArrayVec::new(),
-            answers: ArrayVec::new(),
+            found: PerCaller::new(Posted::default()),
+            answers: PerCaller::new(Answer::default()),
             of: PhantomData,
         }
     }

@@ -8,7 +8,7 @@ ghost use Rattle.rom_lr.specs.Writing.{Writes};
 ghost use Rattle.rom_rule.specs.Records.{IsCall};
 ghost use Rattle.rom_rule.specs.Views.{Each, plan_of};
 
-use arrayvec::ArrayVec;
+use crate::per_caller::PerCaller;
 use rom_announce::{arguments, posted};
 use rom_lr::{Shared, WriterSeat};
 use rom_model::{Args, Object};
@@ -34,7 +34,7 @@ impl Default for Posted {
 pub(crate) fn scan<O: Object>(
     shared: &Shared<O>,
     seat: &mut WriterSeat,
-    found: &mut ArrayVec<Posted, 16>,
+    found: &mut PerCaller<Posted>,
 )
     requires of { IsWriterOf shared.now.table.shared.table_id shared.now.table.shared.key seat.old }
     requires answered { Each (λ _ f. f.answered ≡ true) (plan_of seat.old.token.me.0).requests }
@@ -55,7 +55,7 @@ fn visit<O: Object>(
     shared: &Shared<O>,
     seat: &mut WriterSeat,
     caller: u32,
-    found: &mut ArrayVec<Posted, 16>,
+    found: &mut PerCaller<Posted>,
 )
     requires of { IsWriterOf shared.now.table.shared.table_id shared.now.table.shared.key seat.old }
     requires within { (1 ≤ caller) × (caller ≤ shared.now.layout.callers) }

@@ -1,0 +1,83 @@
+//! Short lists that stand in the core, and whose room is used again in each pass.
+ghost use Rattle.std.specs.Prelude.{◌≡◌, ◌+◌, ◌<◌, ◌≤◌, ◌==◌, [], ◌∷◌, ◌++◌, length};
+
+use std::marker::Model;
+
+/// How many callers there may be.
+const MANY: usize = 16;
+
+/// At most one value for each caller, in order. What stands behind them is left as it is, so that
+/// neither clearing nor filling costs more than the values that are there.
+#[derive(Drop)]
+pub(crate) struct PerCaller<T: Copy> {
+    cells: [T; 16],
+    count: usize,
+}
+
+impl<T: Copy> Model for PerCaller<T> {
+    ghost use Rattle.std.specs.Prelude.{◌≡◌, ◌≤◌, length, take};
+    ghost use Rattle.rom_combine.specs.PerCaller.{PerCaller as Items};
+
+    ghost Value = { Items T };
+
+    ghost view = { λ l. record { items = take l.count l.cells } };
+
+    ghost invariant = { λ l. (l.count ≤ 16) × (length l.cells ≡ 16) };
+}
+
+impl<T: Copy> PerCaller<T> {
+    /// No values. The blank fills the room, and is told to nobody.
+    pub fn new(blank: T) -> Self
+        ensures { result.items ≡ [] }
+    {
+        PerCaller {
+            cells: [blank; MANY],
+            count: 0,
+        }
+    }
+
+    /// How many values there are.
+    #[inline]
+    pub fn len(&self) -> usize
+        ensures value { result ≡ length self.now.items }
+        ensures fits { result ≤ 16 }
+    {
+        self.count
+    }
+
+    /// Whether there is none.
+    #[inline]
+    pub fn is_empty(&self) -> bool
+        ensures { result ≡ (length self.now.items == 0) }
+    {
+        self.count == 0
+    }
+
+    /// The values.
+    #[inline]
+    pub fn as_slice(&self) -> &[T]
+        ensures value { result.now ≡ self.now.items }
+        ensures fits { length result.now ≤ 16 }
+    {
+        &self.cells[..self.count]
+    }
+
+    /// Adds a value at the end.
+    #[inline]
+    pub fn push(&mut self, value: T)
+        requires { length self.old.items < 16 }
+        ensures items { self.new.items ≡ self.old.items ++ value ∷ [] }
+        ensures len { length self.new.items ≡ length self.old.items + 1 }
+    {
+        self.cells[self.count] = value;
+        self.count += 1;
+    }
+
+    /// Forgets all values.
+    #[inline]
+    pub fn clear(&mut self)
+        ensures { self.new.items ≡ [] }
+    {
+        self.count = 0;
+    }
+}
