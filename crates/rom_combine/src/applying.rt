@@ -61,8 +61,7 @@ pub(crate) fn apply_all<O: Object>(
     ensures room { log.new.room ≡ log.old.room }
 {
     for i in 0..found.len() {
-        let one = apply_one(shared, seat, log, place + i as u64, &found[i]);
-        answers.push(one);
+        answers.push(apply_one(shared, seat, log, place + i as u64, &found[i]));
     }
 }
 

@@ -69,7 +69,9 @@ fn visit<O: Object>(
     ensures same { Writes seat.old seat.new (plan_of seat.new.token.me.0) }
 {
     if posted(shared, seat, caller) {
-        let args = arguments(shared, seat, caller);
-        found.push(Posted { caller, args });
+        found.push(Posted {
+            caller,
+            args: arguments(shared, seat, caller),
+        });
     }
 }
