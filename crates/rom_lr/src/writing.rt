@@ -92,6 +92,7 @@ impl<O: Object> Shared<O> {
     }
 
     // Loads a caller's indicator of the version that isn't named until it is 0.
+    #[inline(always)]
     fn wait_for<R: Wait>(&self, rt: &R, seat: &mut WriterSeat, caller: u32, version: u64)
         requires of { IsWriterOf self.now.table.shared.table_id self.now.table.shared.key seat.old }
         requires caller { (1 ≤ caller) × (caller ≤ self.now.layout.callers) }
@@ -99,19 +100,44 @@ impl<O: Object> Shared<O> {
         requires other { (plan_of seat.old.token.me.0).version ≢ version }
         ensures waited { Writes seat.old seat.new (observed (indicator_of caller version) 0 (plan_of seat.old.token.me.0)) }
     {
+        if self.check(seat, caller, version) != 0 {
+            self.wait_beside(rt, seat, caller, version);
+        }
+    }
+
+    // The same, where the caller reads.
+    #[cold]
+    #[inline(never)]
+    fn wait_beside<R: Wait>(&self, rt: &R, seat: &mut WriterSeat, caller: u32, version: u64)
+        requires of { IsWriterOf self.now.table.shared.table_id self.now.table.shared.key seat.old }
+        requires caller { (1 ≤ caller) × (caller ≤ self.now.layout.callers) }
+        requires low { version < 2 }
+        requires other { (plan_of seat.old.token.me.0).version ≢ version }
+        ensures waited { Writes seat.old seat.new (observed (indicator_of caller version) 0 (plan_of seat.old.token.me.0)) }
+    {
         let backoff = Backoff::new();
-        let word = self.layout.indicator(caller, version) as usize;
         for _ in rt.forever() {
-            let found = self
-                .table
-                .shared
-                .load::<ChecksIndicator>(&mut seat.token, word);
-            if found == 0 {
+            backoff.snooze();
+            if self.check(seat, caller, version) == 0 {
                 return;
             }
-            backoff.snooze();
         }
         unreachable!()
+    }
+
+    // One load of a caller's indicator of the version that isn't named.
+    #[inline(always)]
+    fn check(&self, seat: &mut WriterSeat, caller: u32, version: u64) -> u64
+        requires of { IsWriterOf self.now.table.shared.table_id self.now.table.shared.key seat.old }
+        requires caller { (1 ≤ caller) × (caller ≤ self.now.layout.callers) }
+        requires low { version < 2 }
+        requires other { (plan_of seat.old.token.me.0).version ≢ version }
+        ensures checked { Writes seat.old seat.new (observed (indicator_of caller version) result (plan_of seat.old.token.me.0)) }
+    {
+        let word = self.layout.indicator(caller, version) as usize;
+        self.table
+            .shared
+            .load::<ChecksIndicator>(&mut seat.token, word)
     }
 
     fn name_version(&self, seat: &mut WriterSeat, version: u64)

@@ -1,6 +1,6 @@
 use Rattle.rom_lr.specs.Writing.{Writes}
 use Rattle.rom_rule.specs.Views.{plan_of}
-use Rattle.rom_lr.proofs.shared.Shared.wait_for.Given as goal
+use Rattle.rom_lr.proofs.shared.Shared.wait_beside.Given as goal
 
 abbrev pub invariant-loop : goal.invariant-loop
 invariant-loop g l =
