@@ -49,7 +49,7 @@ module _ {S : Type 0} (Contents : ℕ → List ℕ → S → ℕ → Type 0) (go
   unfoldable pub caller_step : (s : St) (r : R s) (id : ℕ) (v w : View) (ws : List ℕ) → get_elem? s.views id ≡ some v → w.base ≡ v.base → w.plan ≡ v.plan → w.number ≡ v.number → length ws ≡ length s.words
       → ShowsArrivals b.callers (shown b ws).indicators (map position_in (set s.views id w)) → KeepsImage Contents go b r.plan.main r.plan.back w.position w.seen → IsWritten Contents go b r.start r.count (shown b ws) r.plan
       → ReadsNamedSide b.callers r.plan w.position → Remembers r.count (book_in r.plan) (remembered_in w) → AnnouncedIn s r (shown b ws).slots (map calls_in (set s.views id w)) → IsNumbered w → (StandsAtOwn v → StandsAtOwn w) → (HoldsNothing v → HoldsNothing w) → R (after_step s ws id w)
-  caller_step s r id v w ws at base plan_same number wide counts image written behind memory announced holder own bare = record {
+  caller_step s r id v w ws at base plan_same number wide arrivals image written behind memory announced holder own bare = record {
     plan = r.plan;
     writer = r.writer;
     start = r.start;
@@ -59,7 +59,7 @@ module _ {S : Type 0} (Contents : ℕ → List ℕ → S → ℕ → Type 0) (go
     limits = r.limits;
     bases = frame base_in (Each (λ _ c. c ≡ b)) s.views id v w at base r.bases;
     plans = frame plan_in (Each (IsOnlyPlan r.plan r.writer)) s.views id v w at plan_same r.plans;
-    arrivals = counts;
+    arrivals = arrivals;
     images = each_set (λ _ c. KeepsImage Contents go b r.plan.main r.plan.back c.0 c.1) (λ _ c. KeepsImage Contents go b r.plan.main r.plan.back c.0 c.1) reading_in s.views id w (λ _ _ _ h. h) image r.images;
     written = written;
     named = each_set (λ _. ReadsNamedSide b.callers r.plan) (λ _. ReadsNamedSide b.callers r.plan) position_in s.views id w (λ _ _ _ h. h) behind r.named;

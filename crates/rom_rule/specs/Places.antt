@@ -28,7 +28,7 @@ caller_of_indicator k = k / 2 + 1
 abbrev pub version_of_indicator : ℕ → ℕ
 version_of_indicator k = k % 2
 
--- Where it stands among the words of the indicators. A caller has eight of them, as many as a line of a processor's cache holds, so that no two callers store to one line; the first two are its indicators, and the others are not used.
+-- Where it stands among the words of the indicators. A caller has eight of them, as many as a line of a processor's cache holds, so that no two callers' indicators share a line; the first two are its indicators, and the others are not used.
 abbrev pub offset_of_indicator : ℕ → ℕ
 offset_of_indicator k = 8 * (k / 2) + k % 2
 

@@ -1,4 +1,6 @@
-//! The kinds of step, by what each tells its seat. `specs/Kinds.antt` is their table.
+//! The kinds of step, by what each tells its seat. `specs/Kinds.antt` and `specs/CallKinds.antt` are
+//! their table. No other file has a kind (`.ci/steps` sees to it): of a step the table asks only that
+//! it keeps the rule, and what it tells is said here.
 ghost use Rattle.std.specs.Prelude.{ℕ};
 ghost use Rattle.rom_rule.specs.CallKinds.{answered, begun, begun_answer, loaded_answer, loaded_argument, loaded_turn, posted, scanned, stored_argument, stored_place, stored_reply};
 ghost use Rattle.rom_rule.specs.Kinds.{arrived, caught_up, checked_indicator, dealing, departed, informed, loaded_image, loaded_region, loaded_side, loaded_version, newcomer, note_of, noting, reviewed, spent_as, stored_back, stored_main, stored_version, switched_to_back, switched_to_main};
@@ -41,7 +43,7 @@ impl Play<u8, View> for LoadsImage {
     ghost then = { loaded_image };
 }
 
-/// A caller departs: it stores 0 in its indicator at which it stands.
+/// A caller departs: it stores 0 in the indicator at which it stands.
 pub struct Departs;
 
 impl Play<u8, View> for Departs {

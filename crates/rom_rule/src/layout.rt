@@ -5,11 +5,13 @@ ghost use Rattle.rom_rule.specs.Places.{AreCallers, side_at, version_at, indicat
 
 use rom_model::region_len;
 
-/// The first caller's read indicator of version 0.
+/// The first caller's read indicator of version 0. A large table begins 16 bytes into a line of a
+/// processor's cache, so this word begins a line, and shares none with `side` and `version`, which
+/// every caller loads.
 const FIRST: u64 = 14;
 
-/// The number of words from a caller's read indicators to the next caller's, those of a line of a
-/// processor's cache: so no two callers store to one line.
+/// The number of words from a caller's read indicators to the next caller's, as many as a line holds:
+/// so no two callers' indicators share a line, and an arrival takes none from another caller.
 const LINE: u64 = 8;
 
 /// The number of words of a caller's slot.

@@ -1,10 +1,10 @@
 //! The one rule over the words that callers and the writer share: what stands in the table, what
 //! each seat knows of it, and the kinds of step that a seat makes.
 //!
-//! The words are one `atomic_table` table. A caller's seat arrives at a read indicator, loads which
-//! side it is to read, and departs; it posts its calls in a slot of its own. The writer's seat names
-//! the side that readers are sent to, waits at the indicators, changes the other side, and answers
-//! the posted calls. Each seat has a view, plain data that only its own steps change.
+//! The words are one `atomic_table` table. A caller's seat arrives at a read indicator of its own,
+//! loads which side it is to read, and departs; it posts its calls in a slot of its own. The writer's
+//! seat names the side that readers are sent to, waits at the indicators, changes the other side, and
+//! answers the posted calls. Each seat has a view, plain data that only its own steps change.
 //!
 //! `specs/Places.antt` has the words by what they are for, `specs/Views.antt` the parts of a view,
 //! `specs/Readers.antt`, `specs/Records.antt` and `specs/Calls.antt` the invariants, each by its
