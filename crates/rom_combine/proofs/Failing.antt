@@ -95,6 +95,10 @@ module _ {S : Type 0} (Contents : ℕ → List ℕ → S → ℕ → Type 0) (st
   made_by b q u before now items f x at same unmade by = let h = by x at in let g = h.1.1 (ap is_made unmade) in
       (g.0, g.1, g.2, h.3 ∙ ap but_requests (g.4 ∙ ap (λ (z : Fate). making z before now g.0 g.1 q) same))
 
+  -- the answers that made it left which indicators count as loaded
+  pub clear_by : (b : Base) (q u : Plan) (before now : ℕ) (items : List Answer) → 0 < length items → q.mine ≡ [] → IsRecordedBy Contents step b q u before now items → u.clear ≡ q.clear
+  clear_by b q u before now items some_given unmade by = let x = at_some items 0 some_given in let h = by x.0 x.1 in let g = h.1.1 (ap is_made unmade) in ap (λ (z : Plan). z.clear) h.3 ∙ ap (λ (z : Plan). z.clear) g.4
+
   -- a pass that published nothing
   pub pass_refused : (b : Base) (p q u : Plan) (callers before now k many : ℕ) (items : List Posted) (more : List Entry) (o : Outcome) → IsScan (IsCall step b) p q callers items → IsBatch Contents step b q k more
       → but_requests u ≡ but_requests (making (outcomes.fate_of o) before now k more q) → published (outcomes.fate_of o) more ≡ [] → 0 < length items → many ≡ length items → Each (λ _ f. f.answered ≡ true) u.requests → o ≢ outcome.Nothing → SameCalls q u

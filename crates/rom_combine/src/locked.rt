@@ -141,6 +141,10 @@ impl<D: Device, O: Object> Core<D, O> {
             self.new.twin ≡ self.old.twin }
         ensures untouched { result.outcome ≡ Outcome.Nothing → self.new.twin ≡ self.old.twin }
 
+        // A pass that did no call waits for no reader: a wait adds the indicators that it found to be 0.
+        ensures unwaited { result.done ≡ 0 →
+            (plan_of self.new.view).clear ≡ (plan_of self.old.view).clear }
+
         // What a stop leaves now.
         ensures now { IsTrue D.shown.tells_images → let b = self.old.view.base in
             (s : O.State) (n : ℕ) → O.Contents b.order b.image s n →

@@ -41,14 +41,14 @@ use Rattle.rom_rule.specs.Readers as rule
 use Rattle.rom_combine.specs.declared.answering.Answer.{Answer}
 use Rattle.rom_combine.specs.Scanning.{IsFresh, IsScan, posted_of, but_requests}
 use Rattle.rom_combine.specs.declared.scanning.Posted.{Posted}
-use Rattle.rom_combine.specs.Answering.{IsLeft, IsRecordedBy, SameCalls}
+use Rattle.rom_combine.specs.Answering.{IsLeft, IsRecordedBy, SameCalls, caller_of}
 use Rattle.rom_combine.specs.Answering.{refused}
 use Rattle.rom_combine.specs.Histories.{PassMakes, ImageAt}
 use Rattle.rom_combine.specs.AtRest.{IsAtRest, Locked}
 use Rattle.rom_combine.proofs.Bridge.{batch_now, same_held, list_settled}
 use Rattle.rom_combine.specs.Passing.{IsPass}
 use Rattle.rom_combine.proofs.Keeping.{ready_by, scan_stays, rest_same, now_of, pass_nothing, none_answered}
-use Rattle.rom_combine.proofs.Failing.{clean_needs_none, failing_refused, first_left, made_by, pass_refused, passed_refused, none_refused, core_refused, core_spent, batch_done, passed_published}
+use Rattle.rom_combine.proofs.Failing.{clean_needs_none, failing_refused, first_left, made_by, pass_refused, passed_refused, none_refused, core_refused, core_spent, batch_done, passed_published, clear_by}
 use Rattle.rom_combine.proofs.Refusing.{is_refused, may_spend}
 use Rattle.rom_combine.proofs.Writing.{keeps_by, keeps_then}
 use Rattle.rom_combine.proofs.locked.Core.pass.Goals as goal
@@ -504,3 +504,45 @@ returns-then-ne-clause-kept g c = let v : View = c.self.inside.seat.token.me.0 i
 pub returns-clause-kept : goal.returns-clause-kept
 returns-clause-kept g c = let v : View = c.self.inside.seat.token.me.0 in let w : View = c.scan.new.seat.token.me.0 in let x : View = c.load_main-place.new.seat.token.me.0 in let y : View = c.publish-outcome.new.seat.token.me.0 in let l : View = c.load_main.new.seat.token.me.0 in let u : View = c.answer_all-2.new.seat.token.me.0 in let z : View = c.settle.new.seat.token.me.0 in
     subst (λ r. z ≡ record r.view { plan = Some (plan_of z); steps = z.steps }) c.self.view_is (keeps_then v w z c.scan.ensures.same.2 (keeps_then w x z (keeps_by w x (plan_of w) c.load_main-place.ensures.still.2) (keeps_then x y z c.publish-outcome.ensures.same.2 (keeps_then y l z (keeps_by y l (plan_of y) c.load_main.ensures.still.2) (keeps_then l u z c.answer_all-2.ensures.same.2 (keeps_by u z _ c.settle.ensures.rested.writes.2))))))
+
+pub returns-then-is_empty-clause-unwaited : goal.returns-then-is_empty-clause-unwaited
+returns-then-is_empty-clause-unwaited g c none = let v : View = c.self.inside.seat.token.me.0 in let w : View = c.scan.new.seat.token.me.0 in
+    (scan_stays (plan_of v) (plan_of w) c.scan.ensures.scanned.rest).clear ∙ ap (λ r. (plan_of r.view).clear) c.self.view_is
+
+pub returns-then-place-eq-LAST_COUNT-clause-unwaited : goal.returns-then-place-eq-LAST_COUNT-clause-unwaited
+returns-then-place-eq-LAST_COUNT-clause-unwaited g c none = let v : View = c.self.inside.seat.token.me.0 in let w : View = c.scan.new.seat.token.me.0 in let x : View = c.load_main-place.new.seat.token.me.0 in let u : View = c.answer_all.new.seat.token.me.0 in
+    let scan : but_requests (plan_of x) ≡ but_requests (beginning (plan_of v)) = ap (λ (z : View). but_requests (plan_of z)) c.load_main-place.ensures.still.2 ∙ c.scan.ensures.scanned.rest in
+    let items : List Posted = c.scan.new.found.items in let some_found : 0 < length items = search rules in let before : ℕ = c.fault_count-before.result in
+    let given : List Answer = c.as_slice-then-place-eq-LAST_COUNT.result.now in let given_is : given ≡ map (refused (2 ^ 62)) items = c.as_slice-then-place-eq-LAST_COUNT.ensures.value ∙ (c.refuse.ensures ∙ ap (map (refused (2 ^ 62))) c.as_slice.ensures.value) in
+    let some_given : 0 < length given = omega (arith, some_found, ap length given_is, length_map (refused (2 ^ 62)) items) in
+    clear_by g.O.Object.Contents (on_words g.O.Object.machine) x.base (plan_of x) (plan_of u) before before given some_given (ap (λ (z : Plan). z.mine) scan) c.answer_all.ensures.recorded ∙ (ap (λ (z : Plan). z.clear) scan ∙ ap (λ r. (plan_of r.view).clear) c.self.view_is)
+
+pub returns-then-ne-clause-unwaited : goal.returns-then-ne-clause-unwaited
+returns-then-ne-clause-unwaited g c none = let v : View = c.self.inside.seat.token.me.0 in let w : View = c.scan.new.seat.token.me.0 in let x : View = c.load_main-place.new.seat.token.me.0 in let y : View = c.publish-outcome.new.seat.token.me.0 in let u : View = c.answer_all-then-ne.new.seat.token.me.0 in
+    let not_published : c.publish-outcome.result ≢ outcome.Published = search rules in let stays : plan_of y ≡ plan_of x = c.publish-outcome.ensures.stays not_published in let sc = c.scan.ensures.scanned in
+    let plan_x : plan_of x ≡ plan_of w = ap plan_of c.load_main-place.ensures.still.2 in let scan : but_requests (plan_of y) ≡ but_requests (beginning (plan_of v)) = ap but_requests (stays ∙ plan_x) ∙ sc.rest in
+    let some_found : 0 < length c.scan.new.found.items = search rules in let before : ℕ = c.fault_count-before.result in let now : ℕ = c.fault_count-now.result in let left = c.publish-outcome.ensures.left in
+    let found : 0 < length (plan_of y).requests = omega (arith, some_found, ap length sc.items_are, length_map posted_of (plan_of w).requests, ap (λ (z : Plan). length z.requests) (stays ∙ plan_x)) in
+    let given : List Answer = c.as_slice-then-ne.result.now in let items : List Answer = c.publish-outcome.new.answers.items in
+    let some_given : 0 < length given = omega (arith, found, ap length left.same, length_map caller_in (plan_of y).requests, length_map caller_of items, ap length c.as_slice-then-ne.ensures.value) in
+    clear_by g.O.Object.Contents (on_words g.O.Object.machine) y.base (plan_of y) (plan_of u) before now given some_given (ap (λ (z : Plan). z.mine) scan) c.answer_all-then-ne.ensures.recorded ∙ (ap (λ (z : Plan). z.clear) scan ∙ ap (λ r. (plan_of r.view).clear) c.self.view_is)
+
+pub returns-clause-unwaited : goal.returns-clause-unwaited
+returns-clause-unwaited g c none = let v : View = c.self.inside.seat.token.me.0 in let w : View = c.scan.new.seat.token.me.0 in let inv = c.self.invariant.0 in let sc = c.scan.ensures.scanned in
+    let x : View = c.load_main-place.new.seat.token.me.0 in let q : Plan = plan_of x in let plan_x : q ≡ plan_of w = ap plan_of c.load_main-place.ensures.still.2 in let y : View = c.publish-outcome.new.seat.token.me.0 in
+    let base_x : x.base ≡ v.base = ap (λ (z : View). z.base) c.load_main-place.ensures.still.2 ∙ ap (λ (z : View). z.base) c.scan.ensures.same.2 in
+    let is_pub : c.publish-outcome.result ≡ outcome.Published = search rules in let pb = c.publish-outcome.ensures.published is_pub in let ph = c.publish-outcome.ensures.held is_pub in
+    let op : g.O.Object.Contents x.base.order x.base.image inv.start inv.count = subst (λ (z : Base). g.O.Object.Contents z.order z.image inv.start inv.count) (sym base_x) inv.opening in
+    let held : rule.Held g.O.Object.Contents (on_words g.O.Object.machine) x.base inv.start inv.count q.main q.history = subst (λ (z : Base × List ℕ × List Entry). rule.Held g.O.Object.Contents (on_words g.O.Object.machine) z.0 inv.start inv.count z.1 z.2) (λ j. (sym base_x j, sym (ap (λ (z : Plan). z.main) (ap but_requests plan_x ∙ sc.rest)) j, sym (ap (λ (z : Plan). z.history) (ap but_requests plan_x ∙ sc.rest)) j)) inv.held in
+    let word : slice_index q.main 2 ≡ inv.count + length q.history = (g.met.O.Object.contents_within x.base.order q.main _ _ held).1 in
+    let word₂ : slice_index (plan_of y).main 2 ≡ ph.1 + length (plan_of y).history = (g.met.O.Object.contents_within x.base.order (plan_of y).main _ _ ph.3).1 in
+    let same = g.met.O.Object.one_contents x.base.order x.base.image ph.0 inv.start ph.1 inv.count ph.2 op in let counts = same.1 in
+    let history : length (plan_of y).history ≡ length q.history + length pb.more = ap length pb.history ∙ length-append q.history pb.more in
+    let some_found : 0 < length c.scan.new.found.items = search rules in
+    let found : 0 < length q.requests = omega (arith, some_found, ap length sc.items_are, length_map posted_of (plan_of w).requests, ap (λ (z : Plan). length z.requests) plan_x) in
+    let fresh : Each (λ _ f. IsFresh (IsCall (on_words g.O.Object.machine) x.base) f) q.requests = subst (λ (z : Base × Plan). Each (λ _ f. IsFresh (IsCall (on_words g.O.Object.machine) z.0) f) z.1.requests) (λ j. (sym base_x j, sym plan_x j)) (λ j f e. (sc.fresh j f e).1) in
+    let within = (g.met.O.Object.contents_within x.base.order q.main _ _ held).2 in
+    let low : inv.count + length q.history < LAST_COUNT = omega (arith, within, word, ap (λ (z : Plan). slice_index z.main 2) plan_x, c.load_main-place.ensures.word, c.if-place-eq-LAST_COUNT.false) in
+    let some_done : 0 < length pb.more = batch_done g.O.Object.Contents (on_words g.O.Object.machine) x.base q inv.start inv.count pb.front pb.more op pb.batch fresh found low in
+    let done : c.load_main.result - c.load_main-place.result ≡ length pb.more = omega (arith, word, word₂, counts, history, ap (λ (z : Plan). slice_index z.main 2) plan_x, c.load_main-place.ensures.word, c.load_main.ensures.word) in
+    absurd (omega (arith, none, done, some_done))
