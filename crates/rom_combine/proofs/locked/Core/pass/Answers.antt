@@ -51,6 +51,7 @@ use Rattle.rom_combine.proofs.Keeping.{ready_by, scan_stays, rest_same, now_of, 
 use Rattle.rom_combine.proofs.Failing.{clean_needs_none, failing_refused, first_left, made_by, pass_refused, passed_refused, none_refused, core_refused, core_spent, batch_done, passed_published, clear_by}
 use Rattle.rom_combine.proofs.Refusing.{is_refused, may_spend}
 use Rattle.rom_combine.proofs.Writing.{keeps_by, keeps_then}
+use Rattle.rom_combine.proofs.locked.Core.pass.Given.{Over}
 use Rattle.rom_combine.proofs.locked.Core.pass.Goals as goal
 
 pub invariant_of-self : goal.invariant_of-self
@@ -462,8 +463,9 @@ returns-clause-most g c = let v : View = c.self.inside.seat.token.me.0 in let w 
       most_syncs = record { later = omega (arith, first.most_syncs.later, c.settle.ensures.most.most_syncs.later); most = omega (arith, first.most_syncs.most, c.settle.ensures.most.most_syncs.most) };
     })
 
-pub returns-clause-spent : goal.returns-clause-spent
-returns-clause-spent g c published none = let v : View = c.self.inside.seat.token.me.0 in let w : View = c.scan.new.seat.token.me.0 in let inv = c.self.invariant.0 in let sc = c.scan.ensures.scanned in
+-- a pass that published has done a call
+some_done : (g : Over) (c : goal.After-settle g) → 0 < c.load_main.result - c.load_main-place.result
+some_done g c = let v : View = c.self.inside.seat.token.me.0 in let w : View = c.scan.new.seat.token.me.0 in let inv = c.self.invariant.0 in let sc = c.scan.ensures.scanned in
     let x : View = c.load_main-place.new.seat.token.me.0 in let q : Plan = plan_of x in let plan_x : q ≡ plan_of w = ap plan_of c.load_main-place.ensures.still.2 in let y : View = c.publish-outcome.new.seat.token.me.0 in
     let base_x : x.base ≡ v.base = ap (λ (z : View). z.base) c.load_main-place.ensures.still.2 ∙ ap (λ (z : View). z.base) c.scan.ensures.same.2 in
     let is_pub : c.publish-outcome.result ≡ outcome.Published = search rules in let pb = c.publish-outcome.ensures.published is_pub in let ph = c.publish-outcome.ensures.held is_pub in
@@ -478,9 +480,15 @@ returns-clause-spent g c published none = let v : View = c.self.inside.seat.toke
     let fresh : Each (λ _ f. IsFresh (IsCall (on_words g.O.Object.machine) x.base) f) q.requests = subst (λ (z : Base × Plan). Each (λ _ f. IsFresh (IsCall (on_words g.O.Object.machine) z.0) f) z.1.requests) (λ j. (sym base_x j, sym plan_x j)) (λ j f e. (sc.fresh j f e).1) in
     let within = (g.met.O.Object.contents_within x.base.order q.main _ _ held).2 in
     let low : inv.count + length q.history < LAST_COUNT = omega (arith, within, word, ap (λ (z : Plan). slice_index z.main 2) plan_x, c.load_main-place.ensures.word, c.if-place-eq-LAST_COUNT.false) in
-    let some_done : 0 < length pb.more = batch_done g.O.Object.Contents (on_words g.O.Object.machine) x.base q inv.start inv.count pb.front pb.more op pb.batch fresh found low in
+    let some_more : 0 < length pb.more = batch_done g.O.Object.Contents (on_words g.O.Object.machine) x.base q inv.start inv.count pb.front pb.more op pb.batch fresh found low in
     let done : c.load_main.result - c.load_main-place.result ≡ length pb.more = omega (arith, word, word₂, counts, history, ap (λ (z : Plan). slice_index z.main 2) plan_x, c.load_main-place.ensures.word, c.load_main.ensures.word) in
-    absurd (omega (arith, none, done, some_done))
+    omega (arith, done, some_more)
+
+pub returns-clause-spent : goal.returns-clause-spent
+returns-clause-spent g c published none = absurd (omega (arith, none, some_done g c))
+
+pub returns-clause-unwaited : goal.returns-clause-unwaited
+returns-clause-unwaited g c none = absurd (omega (arith, none, some_done g c))
 
 pub returns-clause-does : goal.returns-clause-does
 returns-clause-does g c =
@@ -526,23 +534,3 @@ returns-then-ne-clause-unwaited g c none = let v : View = c.self.inside.seat.tok
     let given : List Answer = c.as_slice-then-ne.result.now in let items : List Answer = c.publish-outcome.new.answers.items in
     let some_given : 0 < length given = omega (arith, found, ap length left.same, length_map caller_in (plan_of y).requests, length_map caller_of items, ap length c.as_slice-then-ne.ensures.value) in
     clear_by g.O.Object.Contents (on_words g.O.Object.machine) y.base (plan_of y) (plan_of u) before now given some_given (ap (λ (z : Plan). z.mine) scan) c.answer_all-then-ne.ensures.recorded ∙ (ap (λ (z : Plan). z.clear) scan ∙ ap (λ r. (plan_of r.view).clear) c.self.view_is)
-
-pub returns-clause-unwaited : goal.returns-clause-unwaited
-returns-clause-unwaited g c none = let v : View = c.self.inside.seat.token.me.0 in let w : View = c.scan.new.seat.token.me.0 in let inv = c.self.invariant.0 in let sc = c.scan.ensures.scanned in
-    let x : View = c.load_main-place.new.seat.token.me.0 in let q : Plan = plan_of x in let plan_x : q ≡ plan_of w = ap plan_of c.load_main-place.ensures.still.2 in let y : View = c.publish-outcome.new.seat.token.me.0 in
-    let base_x : x.base ≡ v.base = ap (λ (z : View). z.base) c.load_main-place.ensures.still.2 ∙ ap (λ (z : View). z.base) c.scan.ensures.same.2 in
-    let is_pub : c.publish-outcome.result ≡ outcome.Published = search rules in let pb = c.publish-outcome.ensures.published is_pub in let ph = c.publish-outcome.ensures.held is_pub in
-    let op : g.O.Object.Contents x.base.order x.base.image inv.start inv.count = subst (λ (z : Base). g.O.Object.Contents z.order z.image inv.start inv.count) (sym base_x) inv.opening in
-    let held : rule.Held g.O.Object.Contents (on_words g.O.Object.machine) x.base inv.start inv.count q.main q.history = subst (λ (z : Base × List ℕ × List Entry). rule.Held g.O.Object.Contents (on_words g.O.Object.machine) z.0 inv.start inv.count z.1 z.2) (λ j. (sym base_x j, sym (ap (λ (z : Plan). z.main) (ap but_requests plan_x ∙ sc.rest)) j, sym (ap (λ (z : Plan). z.history) (ap but_requests plan_x ∙ sc.rest)) j)) inv.held in
-    let word : slice_index q.main 2 ≡ inv.count + length q.history = (g.met.O.Object.contents_within x.base.order q.main _ _ held).1 in
-    let word₂ : slice_index (plan_of y).main 2 ≡ ph.1 + length (plan_of y).history = (g.met.O.Object.contents_within x.base.order (plan_of y).main _ _ ph.3).1 in
-    let same = g.met.O.Object.one_contents x.base.order x.base.image ph.0 inv.start ph.1 inv.count ph.2 op in let counts = same.1 in
-    let history : length (plan_of y).history ≡ length q.history + length pb.more = ap length pb.history ∙ length-append q.history pb.more in
-    let some_found : 0 < length c.scan.new.found.items = search rules in
-    let found : 0 < length q.requests = omega (arith, some_found, ap length sc.items_are, length_map posted_of (plan_of w).requests, ap (λ (z : Plan). length z.requests) plan_x) in
-    let fresh : Each (λ _ f. IsFresh (IsCall (on_words g.O.Object.machine) x.base) f) q.requests = subst (λ (z : Base × Plan). Each (λ _ f. IsFresh (IsCall (on_words g.O.Object.machine) z.0) f) z.1.requests) (λ j. (sym base_x j, sym plan_x j)) (λ j f e. (sc.fresh j f e).1) in
-    let within = (g.met.O.Object.contents_within x.base.order q.main _ _ held).2 in
-    let low : inv.count + length q.history < LAST_COUNT = omega (arith, within, word, ap (λ (z : Plan). slice_index z.main 2) plan_x, c.load_main-place.ensures.word, c.if-place-eq-LAST_COUNT.false) in
-    let some_done : 0 < length pb.more = batch_done g.O.Object.Contents (on_words g.O.Object.machine) x.base q inv.start inv.count pb.front pb.more op pb.batch fresh found low in
-    let done : c.load_main.result - c.load_main-place.result ≡ length pb.more = omega (arith, word, word₂, counts, history, ap (λ (z : Plan). slice_index z.main 2) plan_x, c.load_main-place.ensures.word, c.load_main.ensures.word) in
-    absurd (omega (arith, none, done, some_done))
