@@ -18,10 +18,10 @@ use rom_rule::{Answers, BeginsAnswer, PassEnd, StoresPlace, StoresReply};
 use std::marker::Brand;
 
 /// Answers a found call: it stores the number of the reply's words and the words, then the place or a
-/// code, and last the turn, even, from which on the caller may take them, and wakes the caller where
-/// it sleeps. Where the pass has no record
-/// yet, this call makes it: the code gives its outcome, and `before` and `after` are the device's
-/// counts of faults at the pass's start and now.
+/// code, and last the turn, even, from which on the caller may take them; and it wakes the caller
+/// where that one sleeps. It does not wait. Where the pass has no record yet, this call makes it: the
+/// code gives its outcome, and `before` and `after` are the device's counts of faults at the pass's
+/// start and now.
 pub fn answer<O: Object>(
     shared: &Shared<O>,
     seat: &mut WriterSeat,

@@ -3,8 +3,9 @@
 //!
 //! [`post`], [`answered`] and [`take`] are a caller's, [`posted`], [`arguments`] and [`answer`] the
 //! writer's. None waits, takes memory or can be refused, and each makes a number of steps that its
-//! contract tells, each of one word. A caller whose call is not answered yet may [`nap`]: the answer
-//! wakes it, and so does [`wake_next`].
+//! contract tells, each of one word. A caller whose call is not answered yet may [`linger`] or [`nap`]:
+//! the answer wakes it, and so does [`wake_next`]. Before a pass calls may [`gather`]. These four make
+//! no step and tell nothing, and `nap` alone waits.
 //!
 //! Each contract says what its seat's view becomes as a whole, so nothing else of the view changes.
 //! `specs/Scanning.antt` and `specs/Answering.antt` have what the writer's calls ask for and leave.
@@ -23,4 +24,4 @@ pub use answering::answer;
 pub use posting::post;
 pub use scanning::{arguments, posted};
 pub use taking::{answered, take};
-pub use waiting::{nap, wake_next};
+pub use waiting::{gather, linger, nap, wake_next};

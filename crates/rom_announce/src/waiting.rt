@@ -1,18 +1,39 @@
-//! How a caller sleeps while its call is not answered, and how it is woken.
+//! How a caller waits while its call is not answered, how it is woken, and how calls gather before a
+//! pass.
 ghost use Rattle.std.specs.Prelude.{◌≡◌, ◌+◌, ◌≤◌, length};
 ghost use Rattle.rom_lr.specs.Seats.{IsSeatOf};
 
 use rom_lr::{Seat, Shared};
 use rom_model::Object;
 use std::sync::Wait;
+use std::thread::yield_now;
 use std::time::Duration;
 
-/// How long a caller sleeps before it looks again, in milliseconds. It is needed where a caller is
-/// woken just before it falls asleep.
+/// The most that a caller sleeps before it looks again, in milliseconds. Who was woken just before it
+/// fell asleep is woken by nobody else.
 const NAP: u64 = 1;
 
-/// Sleeps for a while where the posted call is not answered, until the caller is woken. It may return
-/// at once. It neither makes a step nor tells anything, so the caller looks with
+/// How often a caller lets others run before it sleeps, where passes are short.
+const LINGERS: u32 = 5;
+
+/// How often others are let run before a pass that would find few calls.
+const GATHERS: u32 = 30;
+
+/// Lets other threads run a few times, until the posted call is answered. Where a pass is shorter than
+/// it takes to fall asleep and be woken, this serves before [`nap`].
+pub fn linger<O: Object>(shared: &Shared<O>, seat: &Seat)
+    requires of { IsSeatOf shared.now.table.shared.table_id shared.now.table.shared.key seat.now }
+{
+    for _ in 0..LINGERS {
+        if !is_posted(shared, seat.number) {
+            break;
+        }
+        yield_now();
+    }
+}
+
+/// Sleeps while the posted call is not answered, until the caller is woken, and for a millisecond at
+/// most. It may return at once. It makes no step and tells nothing, so the caller looks with
 /// [`answered`](crate::answered) afterwards.
 pub fn nap<O: Object, R: Wait>(rt: &R, shared: &Shared<O>, seat: &Seat)
     requires of { IsSeatOf shared.now.table.shared.table_id shared.now.table.shared.key seat.now }
@@ -58,4 +79,30 @@ fn is_posted<O: Object>(shared: &Shared<O>, caller: u32) -> bool
 {
     let at = shared.layout.slot(caller, 0) as usize;
     shared.table.shared.peek(at) % 2 == 1
+}
+
+/// Lets other threads run a few times, as long as fewer callers than that have a call posted. Who is
+/// about to run a pass calls this, so that those whom the last passes answered can post again before
+/// it. It does not sleep, and with one caller it does nothing.
+pub fn gather<O: Object>(shared: &Shared<O>, wanted: u32) {
+    let callers = shared.layout.callers();
+    if callers > 1 {
+        for _ in 0..GATHERS {
+            if count_posted(shared) >= wanted.min(callers) {
+                break;
+            }
+            yield_now();
+        }
+    }
+}
+
+// How many callers have a call posted.
+fn count_posted<O: Object>(shared: &Shared<O>) -> u32 {
+    let mut many: u32 = 0;
+    for i in 0..shared.layout.callers() {
+        if is_posted(shared, 1 + i) {
+            many = many.saturating_add(1);
+        }
+    }
+    many
 }

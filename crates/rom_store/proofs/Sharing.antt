@@ -18,6 +18,7 @@ use Rattle.rom_store.specs.declared.label.Label
 use Rattle.rom_lr.specs.contracts.shared.Shared
 use Rattle.rom_store.specs.contracts.begun.Begun
 use Rattle.rom_store.specs.contracts.held.Held
+use Rattle.rom_store.specs.contracts.pace.Pace
 use Rattle.rom_store.specs.contracts.store.Store
 use Rattle.rom_store.specs.contracts.work.Room
 use Rattle.rom_store.proofs.held.Held.TheSendSync as held
@@ -42,10 +43,13 @@ module _ (D O N C Q R A : RattleType) (g : Device.Ghosts D.Denot) (g' : Label.Gh
   begun_sync : IsSync Begun.the_field.row
   begun_sync = search (sendable, crosses) depth 20
 
+  pace_sync : IsSync Pace.the_field.row
+  pace_sync = search (sendable, crosses) depth 20
+
   pub store_sync : IsSync (Store.the_row D O N C Q R A g g' g'' c a a' e)
   store_sync =
       let t = Store.the_type D O N C Q R A g g' g'' c a a' e in
-      recorded_sync (Struct (shape t)) t.D t.to t.to_one (struct_sync (shape t) (words_sync, (lock_sync, (begun_sync, tt))))
+      recorded_sync (Struct (shape t)) t.D t.to t.to_one (struct_sync (shape t) (words_sync, (lock_sync, (begun_sync, (pace_sync, tt)))))
 
   pub room_sync : (ℓ : NamedLft) (G : RattleType) → IsSync G → IsSync (Room.the_row ℓ D O N G C Q R A g g' g'' c a a' e)
   room_sync ℓ G s = search (sendable, crosses, store_sync, line.the_sync) depth 20

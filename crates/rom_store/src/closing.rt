@@ -79,6 +79,7 @@ impl<D: Device, O: Object, N: Label> Store<D, O, N> {
             shared,
             held,
             begun,
+            pace: _,
         } = self;
         let (twin, mut seat) = held.into_inner().into_core().into_parts();
         take_in_all(&shared, &mut seat, passes);

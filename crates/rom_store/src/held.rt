@@ -5,6 +5,8 @@ ghost use Rattle.rom_rule.specs.Views.{base_of};
 ghost use Rattle.rom_store.specs.Held.{IsHeld, start_of};
 
 use crate::label::Label;
+use crate::pace::Pace;
+use rom_announce::gather;
 use rom_combine::{Core, Gate};
 use rom_device::Device;
 use rom_lr::Shared;
@@ -17,6 +19,8 @@ use std::sync::Wait;
 #[derive(Drop)]
 pub(crate) struct Held<D: Device, O: Object, N: Label> {
     core: Core<D, O>,
+    // How many calls each of the last two passes found, the last one first.
+    found: [u32; 2],
     of: PhantomData<N>,
 }
 
@@ -40,16 +44,24 @@ impl<D: Device, O: Object, N: Label> Held<D, O, N> {
     {
         Held {
             core,
+            found: [0, 0],
             of: PhantomData,
         }
     }
 
-    /// Runs a pass.
-    pub fn pass<R: Wait, G: Gate>(&mut self, rt: &R, shared: &Shared<O>, gate: &G)
+    /// Runs a pass. Where passes are slow, as many callers as the last two found have a short while
+    /// before it to post their calls.
+    pub fn pass<R: Wait, G: Gate>(&mut self, rt: &R, shared: &Shared<O>, gate: &G, pace: Pace)
         requires table { shared.now.table.shared.table_id ≡ N.table }
         requires base { base_of shared.now.table.shared.key ≡ N.base }
     {
-        self.core.pass(rt, shared, gate);
+        let [last, before] = self.found;
+        match pace {
+            Pace::Slow => gather(shared, last.saturating_add(before)),
+            Pace::Quick => {}
+        }
+        let passed = self.core.pass(rt, shared, gate);
+        self.found = [passed.found, last];
     }
 
     pub fn into_core(self) -> Core<D, O>
@@ -57,7 +69,11 @@ impl<D: Device, O: Object, N: Label> Held<D, O, N> {
         ensures held { IsHeld D.shown O.Contents (on_words O.machine) N.table N.base
             (start_of N.size N.words N.clock) N.since result }
     {
-        let Held { core, of: _ } = self;
+        let Held {
+            core,
+            found: _,
+            of: _,
+        } = self;
         core
     }
 }

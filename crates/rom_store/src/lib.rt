@@ -23,6 +23,7 @@ mod label;
 mod new_heap;
 mod notes;
 mod opening;
+mod pace;
 mod pass;
 mod playing;
 mod playing_new;

@@ -22,6 +22,7 @@ use crate::begun::Begun;
 use crate::from_device::{Opened, Refused, open_device};
 use crate::held::Held;
 use crate::label::Label;
+use crate::pace::Pace;
 use crate::pass::Pass;
 use crate::reasons::Why;
 use crate::seated::Seated;
@@ -44,6 +45,7 @@ pub struct Opening<D: Device, O: Object> {
     shared: Shared<O>,
     passes: Vec<Pass>,
     begun: Begun,
+    pace: Pace,
 }
 
 impl<D: Device, O: Object> Model for Opening<D, O> {
@@ -63,7 +65,7 @@ impl<D: Device, O: Object> Model for Opening<D, O> {
 
 impl<D: Device, O: Object> Opening<D, O> {
     /// The heap of a device at rest, both of whose regions are the words of this table.
-    pub(crate) fn of(device: D, geometry: Geometry, seated: Seated<O>) -> Self
+    pub(crate) fn of(device: D, geometry: Geometry, seated: Seated<O>, pace: Pace) -> Self
         requires order { IsOrder geometry }
         requires fits { words_needed geometry ≤ D.shown.size device }
         requires heap { IsTrue D.shown.tells_words → IsHeap geometry (D.shown.words device) }
@@ -103,6 +105,7 @@ impl<D: Device, O: Object> Opening<D, O> {
             shared,
             passes,
             begun,
+            pace,
         }
     }
 
@@ -123,6 +126,7 @@ impl<D: Device, O: Object> Opening<D, O> {
             shared,
             passes,
             begun,
+            pace,
         } = self;
         let held = Mutex::new(Held::new(core));
         (
@@ -130,6 +134,7 @@ impl<D: Device, O: Object> Opening<D, O> {
                 shared,
                 held,
                 begun,
+                pace,
             },
             passes,
         )
@@ -204,7 +209,7 @@ pub fn open_store<D: Device + Send, O: Object>(
     let image = VecSpace::of(image);
     let faults = device.fault_count();
     match Seated::new(alloc, geometry.order(), callers, &image, faults) {
-        Ok(seated) => Ok(Opening::of(device, geometry, seated)),
+        Ok(seated) => Ok(Opening::of(device, geometry, seated, Pace::Slow)),
         Err(_) => Err(Refused {
             device,
             why: Why::OutOfMemory,

@@ -27,6 +27,7 @@ ghost use Rattle.rom_store.specs.declared.new_heap.NotFormatted.TheVariants as u
 use crate::from_device::Refused;
 use crate::new_heap::{NotFormatted, write_heap};
 use crate::opening::Opening;
+use crate::pace::Pace;
 use crate::rooms::Rooms;
 use crate::running::{Played, play_on};
 use crate::seated::Seated;
@@ -194,6 +195,6 @@ where
             why: NotFormatted::Refused(refused),
         });
     }
-    let opening = Opening::of(device, Geometry::of_order(order), seated);
+    let opening = Opening::of(device, Geometry::of_order(order), seated, Pace::Quick);
     Ok(play_on(rt, opening, rooms, scripts, gate))
 }

@@ -6,6 +6,7 @@ ghost use Rattle.rom_rule.specs.Views.{base_of};
 use crate::begun::Begun;
 use crate::held::Held;
 use crate::label::Label;
+use crate::pace::Pace;
 use rom_device::Device;
 use rom_lr::Shared;
 use rom_model::Object;
@@ -17,6 +18,7 @@ pub struct Store<D: Device, O: Object, N: Label> {
     pub(crate) shared: Shared<O>,
     pub(crate) held: Mutex<Held<D, O, N>>,
     pub(crate) begun: Begun,
+    pub(crate) pace: Pace,
     ghost named: { shared.table.shared.table_id ≡ N.table },
     ghost based: { base_of shared.table.shared.key ≡ N.base },
     ghost ordered: { begun.order ≡ N.base.order },

@@ -15,9 +15,10 @@ ghost use Rattle.rom_store.specs.Updating.{HasBeenTold, IsDoneIn, IsWithinPlaces
 
 use crate::held::Held;
 use crate::label::Label;
+use crate::pace::Pace;
 use crate::pass::Pass;
 use crate::store::Store;
-use rom_announce::{answered, nap, post, take, wake_next};
+use rom_announce::{answered, linger, nap, post, take, wake_next};
 use rom_combine::Gate;
 use rom_device::Device;
 use rom_lr::Seat;
@@ -163,14 +164,27 @@ impl<D: Device, O: Object, N: Label> Store<D, O, N> {
         match self.held.try_lock() {
             Some(held) => self.look_or_pass(rt, seat, gate, held),
             None => {
-                nap(rt, &self.shared, seat);
+                self.rest(rt, seat);
                 answered(&self.shared, seat)
             }
         }
     }
 
-    // Under the lock: whether the posted call is answered, after a pass where it was not. Then the
-    // lock is given back, and another caller is woken that may take it.
+    // While another caller runs a pass: where that is quick, the answer may come before a sleep.
+    fn rest<R: Wait>(&self, rt: &R, seat: &Seat)
+        requires of { IsSeatOf N.table self.now.shared.table.shared.key seat.now }
+        requires posted { length seat.now.token.me.0.calls
+            ≡ length seat.now.token.me.0.outcomes + 1 }
+    {
+        match self.pace {
+            Pace::Slow => {}
+            Pace::Quick => linger(&self.shared, seat),
+        }
+        nap(rt, &self.shared, seat);
+    }
+
+    // Under the lock: whether the posted call is answered, after a pass where it was not. A caller that
+    // posted its call during that pass is woken once the lock is given back.
     fn look_or_pass<R: Wait, G: Gate>(
         &self,
         rt: &R,
@@ -188,12 +202,12 @@ impl<D: Device, O: Object, N: Label> Store<D, O, N> {
         ensures told { OnTrue result (HasBeenTold O.Contents (on_words O.machine)
             seat.old.token.me.0 seat.new.token.me.0) }
     {
-        let told = answered(&self.shared, seat);
-        if !told {
-            held.pass(rt, &self.shared, gate);
+        if answered(&self.shared, seat) {
+            return true;
         }
+        held.pass(rt, &self.shared, gate, self.pace);
         drop(held);
         wake_next(&self.shared);
-        told || answered(&self.shared, seat)
+        answered(&self.shared, seat)
     }
 }
