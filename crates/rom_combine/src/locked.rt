@@ -115,8 +115,8 @@ impl<D: Device, O: Object> Core<D, O> {
 
     /// Finds the posted calls, does them as one batch, and answers each. The device is repaired first
     /// where it needs it. Where it fails up to the commit, no call is done; later faults are told to
-    /// none, and the twin's phase says what they left to do, if anything. It waits for readers alone, and takes no
-    /// memory.
+    /// none, and the twin's phase says what they left to do, if anything. It takes no memory. It waits
+    /// for readers alone, once each call is answered; up to then only the gate may hold it up.
     pub fn pass<R: Wait, G: Gate>(&mut self, rt: &R, shared: &Shared<O>, gate: &G) -> Passed
         requires of { IsIn shared.now.table.shared.table_id shared.now.table.shared.key self.old }
         ensures same { (self.new.table_id ≡ self.old.table_id) × (self.new.id ≡ self.old.id)
@@ -234,6 +234,8 @@ impl<D: Device, O: Object> Core<D, O> {
             };
         }
         let done = (shared.load_main(&mut self.seat, COUNT) - place) as u32;
+        // Nothing else up to the last answer takes `rt`: what is told is certain, since `publish` has
+        // returned.
         gate.published(rt, done);
         answer_all(shared, &mut self.seat, self.answers.as_slice(), before, now);
         settle(
