@@ -70,9 +70,17 @@ fn sources_of(rt: &HostRuntime, names: &Names) -> Result<Vec<Adapted<File>>, All
     Ok(sources)
 }
 
+/// Locks a heap's file for this program alone, or says that it cannot be opened: another program has
+/// locked it, or it takes no lock. Two programs that write one heap would each undo what the other
+/// did. The lock goes with the file, so with the process at the latest, however that ends.
+fn locked(file: File) -> io::Result<File> {
+    file.try_lock()?;
+    Ok(file)
+}
+
 /// The words of a file that is there.
 fn open_old(rt: &HostRuntime, name: &str) -> io::Result<FileDevice> {
-    let file = OpenOptions::new().read(true).write(true).open(rt, name)?;
+    let file = locked(OpenOptions::new().read(true).write(true).open(rt, name)?)?;
     let bytes = file.metadata()?.len();
     Ok(FileDevice::new(file, bytes))
 }
@@ -80,11 +88,14 @@ fn open_old(rt: &HostRuntime, name: &str) -> io::Result<FileDevice> {
 /// The words of a file that is made if need be, and lengthened with zeros to so many. It is never
 /// shortened.
 fn open_made(rt: &HostRuntime, name: &str, words: u64) -> io::Result<FileDevice> {
-    let file = OpenOptions::new()
-        .read(true)
-        .write(true)
-        .create(true)
-        .open(rt, name)?;
+    let file = locked(
+        OpenOptions::new()
+            .read(true)
+            .write(true)
+            .create(true)
+            .open(rt, name)?,
+    )?;
+    // Asked for once it is locked: until then another program may have lengthened it.
     let bytes = file.metadata()?.len();
     let wanted = words.saturating_mul(8);
     if bytes < wanted {
