@@ -1,11 +1,11 @@
 //! Announced calls: a caller posts a call in its slot, the writer finds and answers it there, and the
 //! caller takes the answer.
 //!
-//! [`post`], [`answered`] and [`take`] are a caller's, [`posted`], [`arguments`] and [`answer`] the
-//! writer's. None waits, takes memory or can be refused, and each makes a number of steps that its
-//! contract tells, each of one word. A caller whose call is not answered yet may [`linger`] or [`nap`]:
-//! the answer wakes it, and so does [`wake_next`]. Before a pass calls may [`gather`]. These four make
-//! no step and tell nothing, and `nap` alone waits.
+//! [`post`], [`answered`] and [`take`] are a caller's, [`posted`], [`arguments`], [`arguments_into`]
+//! and [`answer`] the writer's. None waits, takes memory or can be refused, and each makes a number of
+//! steps that its contract tells, each of one word. A caller whose call is not answered yet may
+//! [`linger`] or [`nap`]: the answer wakes it, and so does [`wake_next`]. Before a pass calls may
+//! [`gather`]. These four make no step and tell nothing, and `nap` alone waits.
 //!
 //! Each contract says what its seat's view becomes as a whole, so nothing else of the view changes.
 //! `specs/Scanning.antt` and `specs/Answering.antt` have what the writer's calls ask for and leave.
@@ -22,6 +22,6 @@ mod waiting;
 
 pub use answering::answer;
 pub use posting::post;
-pub use scanning::{arguments, posted};
+pub use scanning::{arguments, arguments_into, posted};
 pub use taking::{answered, take};
 pub use waiting::{gather, linger, nap, wake_next};

@@ -44,8 +44,28 @@ pub fn arguments<O: Object>(shared: &Shared<O>, seat: &mut WriterSeat, caller: u
     ensures loaded { Writes seat.old seat.new (altered caller (with_words (packed result)) (plan_of seat.old.token.me.0)) }
     ensures steps { seat.new.token.me.0.steps ≡ seat.old.token.me.0.steps + length result + 1 }
 {
+    let mut args = Args::new();
+    arguments_into(shared, seat, caller, &mut args);
+    args
+}
+
+/// The same as [`arguments`], put into a list in the place of the words that it had.
+pub fn arguments_into<O: Object>(
+    shared: &Shared<O>,
+    seat: &mut WriterSeat,
+    caller: u32,
+    args: &mut Args,
+)
+    requires of { IsWriterOf shared.now.table.shared.table_id shared.now.table.shared.key seat.old }
+    requires within { (1 ≤ caller) × (caller ≤ shared.now.layout.callers) }
+    requires found { (f : Request) × IsPending (plan_of seat.old.token.me.0) caller f }
+    ensures call { IsCall (on_words O.machine) seat.old.token.me.0.base args.new }
+    ensures loaded { Writes seat.old seat.new (altered caller (with_words (packed args.new)) (plan_of seat.old.token.me.0)) }
+    ensures steps { seat.new.token.me.0.steps ≡ seat.old.token.me.0.steps + length args.new + 1 }
+{
+    args.clear();
     let count = load_argument(shared, seat, caller, 0);
-    load_arguments(shared, seat, caller, count)
+    load_arguments(shared, seat, caller, count, args);
 }
 
 // Word j of a found call, where word 0 is the number of the others.
@@ -70,20 +90,20 @@ fn load_arguments<O: Object>(
     seat: &mut WriterSeat,
     caller: u32,
     count: u64,
-) -> Args
+    args: &mut Args,
+)
     requires of { IsWriterOf shared.now.table.shared.table_id shared.now.table.shared.key seat.old }
     requires within { (1 ≤ caller) × (caller ≤ shared.now.layout.callers) × (count ≤ 40) }
     requires found { (p : Plan) × (f : Request) × IsPending p caller f × (plan_of seat.old.token.me.0 ≡ altered caller (with_words (count ∷ [])) p) }
+    requires empty { args.old ≡ [] }
     requires none { count ≡ 0 → IsCall (on_words O.machine) seat.old.token.me.0.base [] }
-    ensures many { length result ≡ count }
-    ensures call { IsCall (on_words O.machine) seat.old.token.me.0.base result }
-    ensures loaded { Writes seat.old seat.new (altered caller (with_words (packed result)) (plan_of seat.old.token.me.0)) }
-    ensures steps { seat.new.token.me.0.steps ≡ seat.old.token.me.0.steps + length result }
+    ensures many { length args.new ≡ count }
+    ensures call { IsCall (on_words O.machine) seat.old.token.me.0.base args.new }
+    ensures loaded { Writes seat.old seat.new (altered caller (with_words (packed args.new)) (plan_of seat.old.token.me.0)) }
+    ensures steps { seat.new.token.me.0.steps ≡ seat.old.token.me.0.steps + length args.new }
 {
-    let mut args = Args::new();
     for i in 0..count {
         let word = load_argument(shared, seat, caller, 1 + i);
         args.push(word);
     }
-    args
 }

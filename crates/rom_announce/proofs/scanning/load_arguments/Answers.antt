@@ -13,8 +13,8 @@ use Rattle.rom_announce.proofs.Altered.{altered_twice, pending_on, writes_chain}
 use Rattle.rom_announce.proofs.scanning.load_arguments.Goals as goal
 
 pub loop-i-init : goal.loop-i-init
-loop-i-init g c = let v : View = c.args.seat.now.token.me.0 in let r = c.requires.found in let n : ℕ = c.args.count in let none : c.new-args.result ≡ [] = c.new-args.ensures in
-    let same : plan_of v ≡ altered c.args.caller (with_words (n ∷ c.new-args.result)) (plan_of v)
+loop-i-init g c = let v : View = c.args.seat.now.token.me.0 in let r = c.requires.found in let n : ℕ = c.args.count in let none : c.args.args.now ≡ [] = c.requires.empty in
+    let same : plan_of v ≡ altered c.args.caller (with_words (n ∷ c.args.args.now)) (plan_of v)
     = r.3 ∙ (sym (altered_twice c.args.caller (with_words (n ∷ [])) (with_words (n ∷ [])) r.0 (λ _. refl)) ∙ (ap (altered c.args.caller (with_words (n ∷ []))) (sym r.3) ∙ ap (λ (l : List ℕ). altered c.args.caller (with_words (n ∷ l)) (plan_of v)) (sym none))) in (
       ap length none,
       (λ e. subst (IsCall (on_words g.O.Object.machine) v.base) (sym none) (c.requires.none (sym e))),
