@@ -10,8 +10,8 @@ const MANY: usize = 16;
 /// neither clearing nor filling costs more than the values that are there.
 #[derive(Drop)]
 pub(crate) struct PerCaller<T: Copy> {
-    cells: [T; 16],
-    count: usize,
+    pub(crate) cells: [T; 16],
+    pub(crate) count: usize,
 }
 
 impl<T: Copy> Model for PerCaller<T> {

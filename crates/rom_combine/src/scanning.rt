@@ -1,15 +1,18 @@
 //! How a pass finds the posted calls.
-ghost use Rattle.std.specs.Prelude.{◌≡◌, ℕ, ◌+◌, ◌<◌, ◌≤◌, List, [], ◌∷◌, length, true};
+ghost use Rattle.std.specs.Prelude.{◌≡◌, ℕ, ◌+◌, ◌<◌, ◌≤◌, List, [], ◌∷◌, ◌++◌, length, true};
 ghost use Rattle.rom_model.specs.Machine.{on_words};
-ghost use Rattle.rom_announce.specs.Scanning.{MayScan, scanned_from};
+ghost use Rattle.rom_announce.specs.Scanning.{MayScan, scanned_from, with_words};
 ghost use Rattle.rom_combine.specs.Scanning.{IsScan, IsVisit};
 ghost use Rattle.rom_lr.specs.Seats.{IsWriterOf};
 ghost use Rattle.rom_lr.specs.Writing.{Writes};
+ghost use Rattle.rom_rule.specs.CallKinds.{IsPending, altered};
+ghost use Rattle.rom_rule.specs.Calls.{packed};
 ghost use Rattle.rom_rule.specs.Records.{IsCall};
 ghost use Rattle.rom_rule.specs.Views.{Each, plan_of};
+ghost use Rattle.rom_rule.specs.declared.views.Request.{Request};
 
 use crate::per_caller::PerCaller;
-use rom_announce::{arguments, posted};
+use rom_announce::{arguments_into, posted};
 use rom_lr::{Shared, WriterSeat};
 use rom_model::{Args, Object};
 
@@ -69,9 +72,28 @@ fn visit<O: Object>(
     ensures same { Writes seat.old seat.new (plan_of seat.new.token.me.0) }
 {
     if posted(shared, seat, caller) {
-        found.push(Posted {
-            caller,
-            args: arguments(shared, seat, caller),
-        });
+        find(shared, seat, caller, found);
     }
+}
+
+// The words of a posted call, loaded where they stay.
+fn find<O: Object>(
+    shared: &Shared<O>,
+    seat: &mut WriterSeat,
+    caller: u32,
+    found: &mut PerCaller<Posted>,
+)
+    requires of { IsWriterOf shared.now.table.shared.table_id shared.now.table.shared.key seat.old }
+    requires within { (1 ≤ caller) × (caller ≤ shared.now.layout.callers) }
+    requires posted { (f : Request) × IsPending (plan_of seat.old.token.me.0) caller f }
+    requires room { length found.old.items < 16 }
+    ensures found { (args : List ℕ) × IsCall (on_words O.machine) seat.old.token.me.0.base args
+        × Writes seat.old seat.new
+        (altered caller (with_words (packed args)) (plan_of seat.old.token.me.0))
+        × (found.new.items ≡ found.old.items ++ record { caller = caller; args = args } ∷ []) }
+{
+    let next = &mut found.cells[found.count];
+    next.caller = caller;
+    arguments_into(shared, seat, caller, &mut next.args);
+    found.count += 1;
 }
