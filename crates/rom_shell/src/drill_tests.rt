@@ -15,8 +15,12 @@ use std::thread::Threads;
 /// How many calls it takes to make the heap of a drill: a read, a write of each word, and three syncs.
 const MAKING: u64 = 1 + 49_192 + 3;
 
-/// How many calls a batch makes: twice 24,592 words and three of the state, and four syncs.
-const BATCH: u64 = 2 * 24_592 + 3 + 4;
+/// How many calls the first update of a drill makes, which stores to 14 words: these of main and of back,
+/// three of the state, and four syncs.
+const FIRST: u64 = 2 * 14 + 3 + 4;
+
+/// How many the first five make. The others store to 7, 8, 8 and 9 words.
+const FIVE: u64 = FIRST + 2 * (7 + 8 + 8 + 9) + 4 * (3 + 4);
 
 /// How a drill on this device ended, and what it printed to a sink of this room.
 fn told_on<R: Threads + Wait + Sync + AllocGlobal, D: Device + Send + Drop>(
@@ -92,28 +96,31 @@ fn a_drill_without_room_is_cut_short(rt: HostRuntime) -> Result<(), Fail> {
     Ok(())
 }
 
-/// The device fails in the making, or once so many updates were done. The first are four puts and an
-/// `enq`.
+/// The device fails in the making, or once so many updates were done, which made so many calls. The
+/// first are four puts and an `enq`.
 #[test]
 fn a_drill_on_a_device_that_fails_tells_what_was_done(rt: HostRuntime) -> Result<(), Fail> {
     let rows = [
         (
             0,
+            0,
             b"enqueued 0 dequeued 0\nqueue 0 set 0 map 0\ntotal 0\ncount 0\n".as_slice(),
         ),
         (
             1,
+            FIRST,
             b"enqueued 0 dequeued 0\nqueue 0 set 0 map 1\ntotal 1000\ncount 1\n".as_slice(),
         ),
         (
             5,
+            FIVE,
             b"enqueued 227 dequeued 0\nqueue 1 set 0 map 4\ntotal 4000\ncount 5\n".as_slice(),
         ),
     ];
-    for (done, lines) in rows {
+    for (done, calls, lines) in rows {
         let device = Fuse::new(
             Ram::zeroed(rt.alloc(), 49192)?,
-            MAKING.saturating_add(BATCH.saturating_mul(done)),
+            MAKING.saturating_add(calls),
         );
         let (status, text) = told_on(&rt, device, 1, 1, 3, 1024)?;
         assert_eq!(rt; status, Status::DeviceFailed, "at {done}");
