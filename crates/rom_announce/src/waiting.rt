@@ -14,7 +14,7 @@ use std::time::Duration;
 const NAP: u64 = 1;
 
 /// How often a caller lets others run before it sleeps, where passes are short.
-const LINGERS: u32 = 5;
+const LINGERS: u32 = 20;
 
 /// How often others are let run before a pass that would find few calls.
 const GATHERS: u32 = 30;
