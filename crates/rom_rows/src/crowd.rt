@@ -10,7 +10,7 @@ use crate::callers::{post_call, take_answer, told};
 use crate::cores::seated_on;
 use crate::work::Work;
 use crossbeam_utils::Backoff;
-use rom_combine::{Core, NoGate};
+use rom_combine::{Core, Gate, NoGate};
 use rom_device::{Device, Ram};
 use rom_heap::Trio;
 use rom_lr::{Seat, Shared};
@@ -128,10 +128,11 @@ fn read_all(shared: &Shared<Trio>, seat: &mut Seat) -> bool
 }
 
 /// Runs passes until so many calls are done.
-pub(crate) fn pass_until<R: Wait>(
+pub(crate) fn pass_until<R: Wait, D: Device, G: Gate>(
     rt: &R,
     shared: &Shared<Trio>,
-    core: &mut Core<Ram, Trio>,
+    core: &mut Core<D, Trio>,
+    gate: &G,
     many: u32,
 ) -> bool
     requires of { IsIn shared.now.table.shared.table_id shared.now.table.shared.key core.old }
@@ -142,7 +143,7 @@ pub(crate) fn pass_until<R: Wait>(
         if done >= many {
             return done == many;
         }
-        let passed = core.pass(rt, shared, &NoGate);
+        let passed = core.pass(rt, shared, gate);
         done = done.saturating_add(passed.done);
         if passed.found == 0 {
             backoff.snooze();
@@ -157,7 +158,7 @@ fn work<R: Wait>(rt: &R, shared: &Shared<Trio>, job: &mut Work)
     match job {
         Work::Posts(seat, right) => *right = post_all(shared, seat),
         Work::Reads(seat, right) => *right = read_all(shared, seat),
-        Work::Passes(core, right) => *right = pass_until(rt, shared, core, 2 * CALLS),
+        Work::Passes(core, right) => *right = pass_until(rt, shared, core, &NoGate, 2 * CALLS),
     }
 }
 

@@ -53,4 +53,5 @@ mod tried;
 mod turns;
 #[cfg(test)]
 mod waiting;
+mod watched;
 mod work;
