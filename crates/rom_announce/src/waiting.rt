@@ -9,8 +9,9 @@ use std::sync::Wait;
 use std::thread::yield_now;
 use std::time::Duration;
 
-/// The most that a caller sleeps before it looks again, in milliseconds. Who was woken just before it
-/// fell asleep is woken by nobody else.
+/// The most that a caller sleeps before its second look, in milliseconds, and by how much longer it
+/// sleeps at each look. Who was woken just before it fell asleep is woken by nobody else, so the first
+/// sleeps are short; 64 of them take two seconds, which outlast the passes of a slow disk.
 const NAP: u64 = 1;
 
 /// How often a caller lets others run before it sleeps, where passes are short.
@@ -33,9 +34,9 @@ pub fn linger<O: Object>(shared: &Shared<O>, seat: &Seat)
 }
 
 /// Sleeps while the posted call is not answered, until the caller is woken, and for a millisecond at
-/// most. It may return at once. It makes no step and tells nothing, so the caller looks with
-/// [`answered`](crate::answered) afterwards.
-pub fn nap<O: Object, R: Wait>(rt: &R, shared: &Shared<O>, seat: &Seat)
+/// most, and one more for each look that the caller has `looked` before. It may return at once. It makes
+/// no step and tells nothing, so the caller looks with [`answered`](crate::answered) afterwards.
+pub fn nap<O: Object, R: Wait>(rt: &R, shared: &Shared<O>, seat: &Seat, looked: u64)
     requires of { IsSeatOf shared.now.table.shared.table_id shared.now.table.shared.key seat.now }
     requires posted { length seat.now.token.me.0.calls ≡ length seat.now.token.me.0.outcomes + 1 }
 {
@@ -43,10 +44,12 @@ pub fn nap<O: Object, R: Wait>(rt: &R, shared: &Shared<O>, seat: &Seat)
     // The low 32 bits of the odd turn, which is twice the number of calls posted before, and one.
     let before = (seat.posted - 1) % (1 << 31);
     let odd = (2 * before + 1) as u32;
-    shared
-        .table
-        .shared
-        .park_timeout(rt, at, odd, Duration::from_millis(NAP));
+    shared.table.shared.park_timeout(
+        rt,
+        at,
+        odd,
+        Duration::from_millis(NAP.saturating_mul(looked.saturating_add(1))),
+    );
 }
 
 /// Wakes a caller where it sleeps. With one caller there is nobody to wake, since that one runs here.

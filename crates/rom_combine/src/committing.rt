@@ -42,8 +42,8 @@ use rom_twin::{Phase, Twin};
 /// Makes the device ready, does the found calls on shared main, commits them, and sends readers to
 /// main. Only words that the calls stored to are written, and the log holds these then. Where the
 /// device fails, shared main is put back from shared back, and each found call is to be told the code
-/// of that. `before` is the device's count of faults at the pass's start, `place` the
-/// count of updates. It answers nobody, and takes no memory.
+/// of that. `before` is the device's count of faults at the pass's start, `place` the count of updates.
+/// It answers nobody, and takes no memory.
 pub(crate) fn publish<D: Device, O: Object>(
     twin: &mut Twin<D>,
     shared: &Shared<O>,
@@ -67,7 +67,6 @@ pub(crate) fn publish<D: Device, O: Object>(
         (s : O.State) × (n : ℕ) × O.Contents b.order b.image s n
         × Held O.Contents (on_words O.machine) b s n p.main p.history
         × (place ≡ n + length p.history) }
-
     requires clear { IsClear log.old }
 
     // What the scan found.

@@ -1,8 +1,8 @@
 //! Combining: posted calls become one batch, and the device keeps it whole or absent.
 //!
 //! [`Core`] runs the passes. A pass finds the posted calls (`scanning`), does them on shared main
-//! (`applying`), commits them on the device and sends readers there (`committing`), brings both sides
-//! and both regions to rest (`resting`), and answers each call (`answering`). `specs/Passing.antt` says
+//! (`applying`), commits them on the device and sends readers there (`committing`), answers each call
+//! (`answering`), and brings both sides and both regions to rest (`resting`). `specs/Passing.antt` says
 //! what a pass does to the published history, the records and the callers; `specs/Histories.antt` what
 //! a stop leaves, in terms of that history; `specs/AtRest.antt` what holds between passes. A [`Gate`]
 //! is told of passes while they run, and can change no reply.

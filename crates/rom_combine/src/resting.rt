@@ -26,8 +26,8 @@ use std::sync::Wait;
 
 /// Waits until nobody reads back, makes back what main is, in memory and on the device, sends readers
 /// to back, and waits until nobody reads main. Only the words that the log holds are copied, and it is
-/// cleared. A fault of the device here changes no answer. No word
-/// of a posted call is stored, so its answer may be given before this or after it.
+/// cleared. A fault of the device here changes no answer. No word of a posted call is stored, so its
+/// answer may be given before this or after it.
 pub(crate) fn settle<D: Device, O: Object, R: Wait>(
     rt: &R,
     twin: &mut Twin<D>,

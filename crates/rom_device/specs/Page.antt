@@ -1,4 +1,4 @@
--- What a contract sees of a page of a file.
+-- What a contract sees of a page of a medium.
 use Rattle.std.specs.Prelude.{◌≡◌, ℕ, ◌+◌, ◌*◌, ◌<◌, List, drop, length, slice_index}
 use Rattle.byteorder.specs.Endian.{little_number}
 use Rattle.rom_device.specs.declared.page.Page.{Page}

@@ -62,7 +62,8 @@ impl<M: Medium> Cached<M> {
 
     /// The medium, without the words that wait: as a stop would leave it.
     pub fn into_medium(self) -> M
-        ensures { result ≡ self.medium }
+        ensures medium { result ≡ self.medium }
+        ensures sure { IsFalse (has_failed_sync self) → IsFalse (M.doubtful result) }
     {
         let Cached {
             medium,

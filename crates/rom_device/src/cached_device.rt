@@ -50,9 +50,11 @@ impl<M: Medium> CachedDevice<M> {
         }
     }
 
-    /// The medium, without the words that wait: as a stop would leave it. These are lost.
+    /// The medium, without the words that wait: as a stop would leave it. These are lost. Where no sync
+    /// of it has failed, a device over it can be made anew.
     pub fn into_medium(self) -> M
-        ensures { result ≡ medium_of self }
+        ensures medium { result ≡ medium_of self }
+        ensures sure { IsFalse (has_failed_sync self) → IsFalse (M.doubtful result) }
     {
         let CachedDevice {
             words,

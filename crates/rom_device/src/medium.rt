@@ -95,6 +95,8 @@ impl Medium for Option<File> {
 
     ghost missing = { λ file. is_none file };
 
+    // A file keeps no note of a sync that failed, and it tells nothing of which this could speak. Who
+    // reads the clauses as if it told takes it as true from the first sync of its device that fails.
     ghost doubtful = { λ _. false };
 
     #[inline]

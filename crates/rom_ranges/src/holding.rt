@@ -63,6 +63,7 @@ fn hold_alone(ranges: &mut Vec<Range>, i: usize, at: u64)
     ensures items { ranges.new.items ≡ insert ranges.old.items i record { start = at; end = at + 1 } }
     ensures capacity { vec_capacity ranges.old ≤ vec_capacity ranges.new }
 {
+    // There is room, so it takes no memory and cannot fail.
     let _ = ranges.insert(
         i,
         Range {

@@ -14,6 +14,10 @@ use rom_model::Object;
 use std::marker::{Model, PhantomData};
 use std::sync::Wait;
 
+/// After so many passes in turn that found fewer calls than were waited for, none is waited for: others
+/// have ended, or only read.
+const VAIN: u32 = 8;
+
 /// The heap and the writer's seat, behind the one lock. Whenever the lock is free, each image that a
 /// stop at some moment since the start might have left could be left by then, or is one of the session.
 #[derive(Drop)]
@@ -21,6 +25,8 @@ pub(crate) struct Held<D: Device, O: Object, N: Label> {
     core: Core<D, O>,
     // How many calls each of the last two passes found, the last one first.
     found: [u32; 2],
+    // How many passes in turn have found fewer than those two together.
+    vain: u32,
     of: PhantomData<N>,
 }
 
@@ -45,23 +51,30 @@ impl<D: Device, O: Object, N: Label> Held<D, O, N> {
         Held {
             core,
             found: [0, 0],
+            vain: 0,
             of: PhantomData,
         }
     }
 
     /// Runs a pass. Where passes are slow, as many callers as the last two found have a short while
-    /// before it to post their calls.
+    /// before it to post their calls, unless they did not for some passes.
     pub fn pass<R: Wait, G: Gate>(&mut self, rt: &R, shared: &Shared<O>, gate: &G, pace: Pace)
         requires table { shared.now.table.shared.table_id ≡ N.table }
         requires base { base_of shared.now.table.shared.key ≡ N.base }
     {
         let [last, before] = self.found;
+        let wanted = last.saturating_add(before).min(shared.layout.callers());
         match pace {
-            Pace::Slow => gather(shared, last.saturating_add(before)),
-            Pace::Quick => {}
+            Pace::Slow if self.vain < VAIN => gather(shared, wanted),
+            _ => {}
         }
         let passed = self.core.pass(rt, shared, gate);
         self.found = [passed.found, last];
+        self.vain = if passed.found < wanted {
+            self.vain.saturating_add(1)
+        } else {
+            0
+        };
     }
 
     pub fn into_core(self) -> Core<D, O>
@@ -72,6 +85,7 @@ impl<D: Device, O: Object, N: Label> Held<D, O, N> {
         let Held {
             core,
             found: _,
+            vain: _,
             of: _,
         } = self;
         core

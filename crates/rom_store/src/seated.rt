@@ -20,8 +20,7 @@ use std::alloc::{AllocError, Global};
 use std::snapshot::Snapshot;
 
 /// The table of a heap's words, with the writer's seat, a log with room for the stores of a call of
-/// each caller, and a pass for each. The device is still
-/// to come; nothing takes memory from here on.
+/// each caller, and a pass for each. The device is still to come; nothing takes memory from here on.
 #[derive(Drop)]
 pub(crate) struct Seated<O: Object> {
     pub shared: Shared<O>,
@@ -43,7 +42,8 @@ fn passes_of(alloc: Global, seats: Vec<Seat>) -> Result<Vec<Pass>, AllocError>
     Ok(passes)
 }
 
-// A log with room for the stores of a call of each caller.
+// A log with room for the stores of a call of each caller. An object's number of stores may be any; where
+// so many words cannot be counted, there is no memory for them either.
 fn log_for<O: Object>(alloc: Global, callers: u32) -> Result<RangeLog, AllocError>
     ensures { IfOk result (λ log. IsReady O.STORES callers log) }
 {

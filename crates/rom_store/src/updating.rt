@@ -142,15 +142,15 @@ impl<D: Device, O: Object, N: Label> Store<D, O, N> {
         ensures told { OnTrue result (HasBeenTold O.Contents (on_words O.machine)
             seat.old.token.me.0 seat.new.token.me.0) }
     {
-        for _ in 0..LOOKS {
-            if self.look_once(rt, seat, gate) {
+        for looked in 0..LOOKS {
+            if self.look_once(rt, seat, gate, looked) {
                 return true;
             }
         }
         false
     }
 
-    fn look_once<R: Wait, G: Gate>(&self, rt: &R, seat: &mut Seat, gate: &G) -> bool
+    fn look_once<R: Wait, G: Gate>(&self, rt: &R, seat: &mut Seat, gate: &G, looked: u64) -> bool
         requires of { IsSeatOf N.table self.now.shared.table.shared.key seat.old }
         requires posted { length seat.old.token.me.0.calls
             ≡ length seat.old.token.me.0.outcomes + 1 }
@@ -164,14 +164,15 @@ impl<D: Device, O: Object, N: Label> Store<D, O, N> {
         match self.held.try_lock() {
             Some(held) => self.look_or_pass(rt, seat, gate, held),
             None => {
-                self.rest(rt, seat);
+                self.rest(rt, seat, looked);
                 answered(&self.shared, seat)
             }
         }
     }
 
-    // While another caller runs a pass: where that is quick, the answer may come before a sleep.
-    fn rest<R: Wait>(&self, rt: &R, seat: &Seat)
+    // While another caller runs a pass: where that is quick, the answer may come before a sleep, which
+    // is longer the more often the caller has looked.
+    fn rest<R: Wait>(&self, rt: &R, seat: &Seat, looked: u64)
         requires of { IsSeatOf N.table self.now.shared.table.shared.key seat.now }
         requires posted { length seat.now.token.me.0.calls
             ≡ length seat.now.token.me.0.outcomes + 1 }
@@ -180,7 +181,7 @@ impl<D: Device, O: Object, N: Label> Store<D, O, N> {
             Pace::Slow => {}
             Pace::Quick => linger(&self.shared, seat),
         }
-        nap(rt, &self.shared, seat);
+        nap(rt, &self.shared, seat, looked);
     }
 
     // Under the lock: whether the posted call is answered, after a pass where it was not. A caller that
