@@ -9,6 +9,7 @@ pub mod Writing
 pub mod Scans
 pub mod Limits
 pub mod Stores
+pub mod Spending
 pub mod Applies
 pub mod Gives
 pub mod Publishes

@@ -1,6 +1,6 @@
 //! A batch from the found calls to the store of `side` that publishes it.
 ghost use Rattle.std.specs.Prelude.{◌≡◌, ◌≢◌, ◌⊎◌, ℕ, ◌+◌, ◌-◌, ◌*◌, ◌<◌, ◌≤◌, List, [], map, length, IsTrue};
-ghost use Rattle.rom_model.specs.Blocks.{IsOrder};
+ghost use Rattle.rom_model.specs.Blocks.{IsOrder, region_len};
 ghost use Rattle.rom_model.specs.History.{LAST_COUNT, after, batch};
 ghost use Rattle.rom_model.specs.Machine.{on_words};
 ghost use Rattle.rom_model.specs.Passes.{faults_after};
@@ -108,6 +108,8 @@ pub(crate) fn publish<D: Device, O: Object>(
         let q = plan_of seat.new.token.me.0 in IsLogOf q.back q.main log.new }
     ensures few { result ≡ Outcome.Published → held_count log.new.ranges
         ≤ O.STORES * (count_in (plan_of seat.new.token.me.0).main - place) }
+    ensures within { result ≡ Outcome.Published →
+        held_count log.new.ranges ≤ region_len twin.old.order }
     ensures room { log.new.room ≡ log.old.room }
 
     // Or all is as it was.
@@ -160,6 +162,15 @@ pub(crate) fn publish<D: Device, O: Object>(
     ensures failed_most { result ≡ Outcome.Failed →
         SpendsAtMost D.shown (writes_before_commit twin.old.phase twin.old.order
         (O.STORES * length found.now))
+        (syncs_before_commit twin.old.phase) twin.old.device twin.new.device }
+
+    // Nor ever more than a batch that stores to each word of the region.
+    ensures whole { SpendsAtMost D.shown (writes_before_commit twin.old.phase twin.old.order
+        (region_len twin.old.order) + 1)
+        (syncs_before_commit twin.old.phase + 1) twin.old.device twin.new.device }
+    ensures failed_whole { result ≡ Outcome.Failed →
+        SpendsAtMost D.shown (writes_before_commit twin.old.phase twin.old.order
+        (region_len twin.old.order))
         (syncs_before_commit twin.old.phase) twin.old.device twin.new.device }
 {
     if begin_on(twin, shared, seat).is_err() {

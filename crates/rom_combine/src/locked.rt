@@ -1,6 +1,6 @@
 //! What the lock holds: the device with its heap, and the writer's seat.
 ghost use Rattle.std.specs.Prelude.{Some, ◌≡◌, ◌≢◌, ◌⊎◌, ℕ, ◌*◌, ◌<◌, ◌≤◌, List, length, IsTrue};
-ghost use Rattle.rom_model.specs.Blocks.{IsOrder};
+ghost use Rattle.rom_model.specs.Blocks.{IsOrder, region_len};
 ghost use Rattle.rom_model.specs.Machine.{on_words};
 ghost use Rattle.rom_model.specs.Passes.{HasFault};
 ghost use Rattle.rom_device.specs.Device.{Becomes, Does, Runs};
@@ -183,6 +183,16 @@ impl<D: Device, O: Object> Core<D, O> {
         ensures failed_most { result.outcome ≡ Outcome.Failed →
             SpendsAtMost D.shown (writes_before_commit self.old.twin.phase self.old.twin.order
             (O.STORES * result.found))
+            (syncs_before_commit self.old.twin.phase)
+            self.old.twin.device self.new.twin.device }
+
+        // Nor ever more than a batch that stores to each word of the region.
+        ensures whole { SpendsAtMost D.shown (batch_writes self.old.twin.phase self.old.twin.order
+            (region_len self.old.twin.order))
+            (batch_syncs self.old.twin.phase) self.old.twin.device self.new.twin.device }
+        ensures failed_whole { result.outcome ≡ Outcome.Failed →
+            SpendsAtMost D.shown (writes_before_commit self.old.twin.phase self.old.twin.order
+            (region_len self.old.twin.order))
             (syncs_before_commit self.old.twin.phase)
             self.old.twin.device self.new.twin.device }
     {

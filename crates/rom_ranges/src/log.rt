@@ -63,6 +63,7 @@ impl RangeLog {
     pub fn list(&self) -> &[Range]
         ensures ranges { result.now ≡ self.now.ranges }
         ensures apart { AreApart self.now.ranges }
+        ensures few { (len : ℕ) → AreWithin len self.now.ranges → held_count self.now.ranges ≤ len }
     {
         self.ranges.as_slice()
     }

@@ -15,6 +15,7 @@ use Rattle.rom_ranges.specs.Ranges.{held_count}
 use Rattle.rom_combine.specs.Images.{MayPublish}
 use Rattle.rom_combine.specs.Told.{fate_of}
 use Rattle.rom_combine.proofs.Outside.{within_then}
+use Rattle.rom_combine.proofs.Spending.{most_then}
 use Rattle.rom_combine.specs.declared.passed.Outcome.TheVariants as outcome
 use Rattle.atomic_table.proofs.Lists.{at_map}
 use Rattle.rom_rule.proofs.Told.{length_map, at_some}
@@ -25,7 +26,7 @@ use Rattle.rom_combine.proofs.Rested.{may_raise, faults_rested}
 use Rattle.rom_model.specs.declared.entry.Entry.{Entry}
 use Rattle.rom_model.specs.declared.record.Fate.TheVariants as fate
 use Rattle.rom_model.specs.declared.record.PassRecord.{PassRecord}
-use Rattle.rom_model.specs.Blocks.{IsOrder}
+use Rattle.rom_model.specs.Blocks.{IsOrder, region_len}
 use Rattle.rom_model.specs.History.{LAST_COUNT, after, batch}
 use Rattle.rom_model.specs.Passes.{faults_after}
 use Rattle.rom_rule.specs.declared.views.Base.{Base}
@@ -462,6 +463,14 @@ returns-clause-most g c = let v : View = c.self.inside.seat.token.me.0 in let w 
       most_writes = record { later = omega (arith, first.most_writes.later, c.settle.ensures.most.most_writes.later); most = omega (arith, logged, first.most_writes.most, c.settle.ensures.most.most_writes.most) };
       most_syncs = record { later = omega (arith, first.most_syncs.later, c.settle.ensures.most.most_syncs.later); most = omega (arith, first.most_syncs.most, c.settle.ensures.most.most_syncs.most) };
     })
+
+pub returns-clause-whole : goal.returns-clause-whole
+returns-clause-whole g c =
+    let shown = g.D.Device.shown in let a = c.self.inside.twin in let m = c.publish-outcome.new.twin.device in let d = c.settle.new.twin.device in let words : ℕ = region_len a.order in
+    let is_pub : c.publish-outcome.result ≡ outcome.Published = search rules in let held : held_count c.publish-outcome.new.log.ranges ≤ words = c.publish-outcome.ensures.within is_pub in
+    subst (λ (r : Locked g.row.D.Denot). SpendsAtMost shown (batch_writes r.twin.phase r.twin.order (region_len r.twin.order)) (batch_syncs r.twin.phase) r.twin.device d) c.self.view_is
+    (most_then shown (writes_before_commit a.phase a.order words + 1) (syncs_before_commit a.phase + 1) (held_count c.publish-outcome.new.log.ranges + 1) 1 (batch_writes a.phase a.order words) (batch_syncs a.phase) a.device m d
+    c.publish-outcome.ensures.whole c.settle.ensures.most (omega (arith, held)) (omega arith))
 
 -- a pass that published has done a call
 some_done : (g : Over) (c : goal.After-settle g) → 0 < c.load_main.result - c.load_main-place.result
