@@ -6,15 +6,14 @@ use Rattle.rom_twin.specs.declared.phase.Phase.{Phase}
 use Rattle.rom_twin.specs.declared.phase.Phase.TheVariants as phase
 use Rattle.rom_twin.specs.Images.{HasBack}
 use Rattle.rom_combine.specs.Costs.{WithinHeap}
-use Rattle.rom_model.specs.Blocks.{region_len}
 use Rattle.rom_ranges.specs.Changes.{IsLogOf}
 use Rattle.rom_ranges.specs.Log.{Logged}
 use Rattle.rom_ranges.specs.Ranges.{AreWithin, held_count}
-use Rattle.rom_combine.proofs.Spending.{held_in_region, most_then}
-use Rattle.rom_combine.proofs.committing.publish.Given.{Over}
 use Rattle.rom_combine.specs.Images.{BeforeCommit, Counting, Committable}
 use Rattle.rom_combine.proofs.Before.{before_on}
 use Rattle.rom_combine.proofs.Outside.{within_then}
+use Rattle.rom_combine.proofs.Spending.{held_in_region, most_then}
+use Rattle.rom_model.specs.Blocks.{region_len}
 use Rattle.rom_model.specs.History.{after}
 use Rattle.rom_model.specs.Passes.{HasFault}
 use Rattle.rom_model.specs.declared.record.Fate.TheVariants as fate
@@ -33,6 +32,7 @@ use Rattle.rom_combine.proofs.Limits.{batch_fits}
 use Rattle.rom_combine.proofs.Publishes.{can_publish, is_left}
 use Rattle.rom_combine.proofs.Bridge.{batch_now, all_held, same_held, list_before, list_committed}
 use Rattle.rom_combine.proofs.Refusing.{is_refused, may_know}
+use Rattle.rom_combine.proofs.committing.publish.Given.{Over}
 use Rattle.rom_combine.proofs.committing.publish.Goals as goal
 
 pub returns-then-is_err-clause-left : goal.returns-then-is_err-clause-left
@@ -266,50 +266,39 @@ returns-clause-does g c =
     within_then shown a.order a.device b.device d.device c.begin_on.ensures.does (subst (λ (n : ℕ). Does shown (WithinHeap n) b.device d.device) c.begin_on.ensures.order c.commit_on.ensures.does)
 
 -- the log holds no more offsets than a region has words
-held_whole : (g : Over) (b b' : Base) (order : ℕ) (back main : List ℕ) (log : Logged) → b' ≡ b → order ≡ b.order → (s : g.O.Object.State) (k : ℕ) → g.O.Object.Contents b'.order main s k
-    → IsLogOf back main log → ((len : ℕ) → AreWithin len log.ranges → held_count log.ranges ≤ len) → held_count log.ranges ≤ region_len order
-held_whole g b b' order back main log base same s k contents logged few =
-    held_in_region back main log (region_len order) ((g.met.O.Object.contents_within b'.order main s k contents).0 ∙ ap region_len (ap (λ (z : Base). z.order) base ∙ sym same)) logged few
+held_whole : (g : Over) (u v w : View) (order : ℕ) (log : Logged) → v.base ≡ u.base → order ≡ u.base.order → (s : g.O.Object.State) (k : ℕ) → g.O.Object.Contents v.base.order (plan_of w).main s k
+    → IsLogOf (plan_of v).back (plan_of w).main log → ((len : ℕ) → AreWithin len log.ranges → held_count log.ranges ≤ len) → held_count log.ranges ≤ region_len order
+held_whole g u v w order log base same s k contents logged few =
+    let long : length (plan_of w).main ≡ region_len order = (g.met.O.Object.contents_within v.base.order (plan_of w).main s k contents).0 ∙ ap region_len (ap (λ (z : Base). z.order) base ∙ sym same) in
+    held_in_region (plan_of v).back (plan_of w).main log (region_len order) long logged few
 
 pub returns-then-is_ok-clause-within : goal.returns-then-is_ok-clause-within
-returns-then-is_ok-clause-within g c is =
-    let v₁ : View = c.begin_on.new.seat.token.me.0 in let m₂ : List ℕ = (plan_of c.apply_all.new.seat.token.me.0).main in let a = c.apply_all.ensures.applied in
-    let base₁ : v₁.base ≡ c.args.seat.now.token.me.0.base = ap (λ (z : View). z.base) c.begin_on.ensures.same.2 in
-    let held : held_count c.apply_all.new.log.ranges ≤ region_len c.args.twin.now.order = held_whole g c.args.seat.now.token.me.0.base v₁.base c.args.twin.now.order (plan_of v₁).back m₂ c.apply_all.new.log base₁ c.requires.order _ _ a.3.held c.apply_all.ensures.logged c.list.ensures.few in
-    held
+returns-then-is_ok-clause-within g c is = held_whole g c.args.seat.now.token.me.0 c.begin_on.new.seat.token.me.0 c.apply_all.new.seat.token.me.0 c.args.twin.now.order c.apply_all.new.log (ap (λ (z : View). z.base) c.begin_on.ensures.same.2) c.requires.order _ _ c.apply_all.ensures.applied.3.held c.apply_all.ensures.logged c.list.ensures.few
 
 pub returns-then-is_ok-clause-whole : goal.returns-then-is_ok-clause-whole
 returns-then-is_ok-clause-whole g c =
-    let v₁ : View = c.begin_on.new.seat.token.me.0 in let m₂ : List ℕ = (plan_of c.apply_all.new.seat.token.me.0).main in let a = c.apply_all.ensures.applied in
-    let base₁ : v₁.base ≡ c.args.seat.now.token.me.0.base = ap (λ (z : View). z.base) c.begin_on.ensures.same.2 in
-    let held : held_count c.apply_all.new.log.ranges ≤ region_len c.args.twin.now.order = held_whole g c.args.seat.now.token.me.0.base v₁.base c.args.twin.now.order (plan_of v₁).back m₂ c.apply_all.new.log base₁ c.requires.order _ _ a.3.held c.apply_all.ensures.logged c.list.ensures.few in
+    let held : held_count c.apply_all.new.log.ranges ≤ region_len c.args.twin.now.order = held_whole g c.args.seat.now.token.me.0 c.begin_on.new.seat.token.me.0 c.apply_all.new.seat.token.me.0 c.args.twin.now.order c.apply_all.new.log (ap (λ (z : View). z.base) c.begin_on.ensures.same.2) c.requires.order _ _ c.apply_all.ensures.applied.3.held c.apply_all.ensures.logged c.list.ensures.few in
     most_then g.D.Device.shown _ _ (held_count c.list.result.now + 1) 2 _ _ c.args.twin.now.device c.begin_on.new.twin.device c.commit_on.new.twin.device c.begin_on.ensures.most
     (record { most_writes = c.commit_on.ensures.makes.most_writes; most_syncs = c.commit_on.ensures.makes.most_syncs })
     (omega (arith, held, ap held_count c.list.ensures.ranges)) (omega arith)
 
 pub returns-then-eq-clause-whole : goal.returns-then-eq-clause-whole
 returns-then-eq-clause-whole g c =
-    let v₁ : View = c.begin_on.new.seat.token.me.0 in let m₂ : List ℕ = (plan_of c.apply_all.new.seat.token.me.0).main in let a = c.apply_all.ensures.applied in
-    let base₁ : v₁.base ≡ c.args.seat.now.token.me.0.base = ap (λ (z : View). z.base) c.begin_on.ensures.same.2 in
-    let held : held_count c.apply_all.new.log.ranges ≤ region_len c.args.twin.now.order = held_whole g c.args.seat.now.token.me.0.base v₁.base c.args.twin.now.order (plan_of v₁).back m₂ c.apply_all.new.log base₁ c.requires.order _ _ a.3.held c.apply_all.ensures.logged c.list.ensures.few in
+    let held : held_count c.apply_all.new.log.ranges ≤ region_len c.args.twin.now.order = held_whole g c.args.seat.now.token.me.0 c.begin_on.new.seat.token.me.0 c.apply_all.new.seat.token.me.0 c.args.twin.now.order c.apply_all.new.log (ap (λ (z : View). z.base) c.begin_on.ensures.same.2) c.requires.order _ _ c.apply_all.ensures.applied.3.held c.apply_all.ensures.logged c.list.ensures.few in
     most_then g.D.Device.shown _ _ (held_count c.list.result.now + 1) 2 _ _ c.args.twin.now.device c.begin_on.new.twin.device c.commit_on.new.twin.device c.begin_on.ensures.most
     (record { most_writes = c.commit_on.ensures.makes.most_writes; most_syncs = c.commit_on.ensures.makes.most_syncs })
     (omega (arith, held, ap held_count c.list.ensures.ranges)) (omega arith)
 
 pub returns-clause-whole : goal.returns-clause-whole
 returns-clause-whole g c =
-    let v₁ : View = c.begin_on.new.seat.token.me.0 in let m₂ : List ℕ = (plan_of c.apply_all.new.seat.token.me.0).main in let a = c.apply_all.ensures.applied in
-    let base₁ : v₁.base ≡ c.args.seat.now.token.me.0.base = ap (λ (z : View). z.base) c.begin_on.ensures.same.2 in
-    let held : held_count c.apply_all.new.log.ranges ≤ region_len c.args.twin.now.order = held_whole g c.args.seat.now.token.me.0.base v₁.base c.args.twin.now.order (plan_of v₁).back m₂ c.apply_all.new.log base₁ c.requires.order _ _ a.3.held c.apply_all.ensures.logged c.list.ensures.few in
+    let held : held_count c.apply_all.new.log.ranges ≤ region_len c.args.twin.now.order = held_whole g c.args.seat.now.token.me.0 c.begin_on.new.seat.token.me.0 c.apply_all.new.seat.token.me.0 c.args.twin.now.order c.apply_all.new.log (ap (λ (z : View). z.base) c.begin_on.ensures.same.2) c.requires.order _ _ c.apply_all.ensures.applied.3.held c.apply_all.ensures.logged c.list.ensures.few in
     most_then g.D.Device.shown _ _ (held_count c.list.result.now + 1) 2 _ _ c.args.twin.now.device c.begin_on.new.twin.device c.commit_on.new.twin.device c.begin_on.ensures.most
     (record { most_writes = c.commit_on.ensures.makes.most_writes; most_syncs = c.commit_on.ensures.makes.most_syncs })
     (omega (arith, held, ap held_count c.list.ensures.ranges)) (omega arith)
 
 pub returns-clause-failed_whole : goal.returns-clause-failed_whole
 returns-clause-failed_whole g c is =
-    let v₁ : View = c.begin_on.new.seat.token.me.0 in let m₂ : List ℕ = (plan_of c.apply_all.new.seat.token.me.0).main in let a = c.apply_all.ensures.applied in
-    let base₁ : v₁.base ≡ c.args.seat.now.token.me.0.base = ap (λ (z : View). z.base) c.begin_on.ensures.same.2 in
-    let held : held_count c.apply_all.new.log.ranges ≤ region_len c.args.twin.now.order = held_whole g c.args.seat.now.token.me.0.base v₁.base c.args.twin.now.order (plan_of v₁).back m₂ c.apply_all.new.log base₁ c.requires.order _ _ a.3.held c.apply_all.ensures.logged c.list.ensures.few in
+    let held : held_count c.apply_all.new.log.ranges ≤ region_len c.args.twin.now.order = held_whole g c.args.seat.now.token.me.0 c.begin_on.new.seat.token.me.0 c.apply_all.new.seat.token.me.0 c.args.twin.now.order c.apply_all.new.log (ap (λ (z : View). z.base) c.begin_on.ensures.same.2) c.requires.order _ _ c.apply_all.ensures.applied.3.held c.apply_all.ensures.logged c.list.ensures.few in
     let undo : c.commit_on.new.twin.phase ≡ phase.Undo = search rules in
     most_then g.D.Device.shown _ _ (held_count c.list.result.now) 1 _ _ c.args.twin.now.device c.begin_on.new.twin.device c.commit_on.new.twin.device c.begin_on.ensures.most
     (c.commit_on.ensures.undo undo).0 (omega (arith, held, ap held_count c.list.ensures.ranges)) (omega arith)
