@@ -1,7 +1,7 @@
 use Rattle.rom_model.specs.Machine.{on_words}
 use Rattle.std.proofs.Common.{rules, arith, ◌≡◌, ℕ, ◌+◌, List, [], ◌∷◌, ◌++◌, take, length, sym, refl, ap, ◌∙◌, subst, length-append, Some}
 use Rattle.rom_announce.specs.Scanning.{with_words}
-use Rattle.rom_rule.specs.CallKinds.{IsPending, altered, loading, longer}
+use Rattle.rom_rule.specs.CallKinds.{IsPending, altered, loading}
 use Rattle.rom_rule.specs.Records.{IsCall}
 use Rattle.rom_rule.specs.Views.{plan_of}
 use Rattle.rom_rule.specs.declared.views.Base.{Base}
