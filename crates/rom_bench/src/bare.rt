@@ -4,8 +4,8 @@ use std::sync::atomic::{AtomicU64, Ordering};
 use std::thread;
 use std::thread::Threads;
 
-/// A count of those who read, and the word that they read. They lie in cache lines of their own, as
-/// an indicator and a region's words do.
+/// A count of those who read, and the word that they read. They lie in cache lines of their own. All
+/// threads add to the one count, where callers at seats have words of their own.
 #[derive(Drop)]
 pub struct Words {
     readers: CachePadded<AtomicU64>,
