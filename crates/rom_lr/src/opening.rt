@@ -125,6 +125,7 @@ impl<O: Object> Shared<O> {
         Seat {
             token,
             number,
+            home: self.layout.indicator(number, 0),
             version: 0,
             side: Side::Back,
             first: 0,

@@ -28,7 +28,7 @@ impl<O: Object> Shared<O> {
     {
         let table = &self.table.shared;
         let version = table.load::<LoadsVersion>(&mut seat.token, self.layout.version() as usize);
-        let indicator = self.layout.indicator(seat.number, version) as usize;
+        let indicator = (seat.home + version) as usize;
         table.store::<Arrives>(&mut seat.token, indicator, 1);
         let side = table.load::<LoadsSide<O>>(&mut seat.token, self.layout.side() as usize);
         seat.version = version;
@@ -60,7 +60,7 @@ impl<O: Object> Shared<O> {
         ensures same { IsSameSeat seat.old seat.new }
         ensures out { seat.new.token.me.0 ≡ moved seat.old.token.me.0 Out }
     {
-        let indicator = self.layout.indicator(seat.number, seat.version) as usize;
+        let indicator = (seat.home + seat.version) as usize;
         self.table
             .shared
             .store::<Departs>(&mut seat.token, indicator, 0);

@@ -2,7 +2,7 @@
 ghost use Rattle.std.specs.Prelude.{◌≡◌, ◌^◌, ◌<◌, ◌≤◌, [], IsTrue, None, length};
 ghost use Rattle.rom_model.specs.Blocks.{region_len};
 ghost use Rattle.rom_lr.specs.Side.{side_number};
-ghost use Rattle.rom_rule.specs.Places.{indicator_of, word_at};
+ghost use Rattle.rom_rule.specs.Places.{indicator_at, indicator_of, word_at};
 ghost use Rattle.rom_rule.specs.Views.{IsWriter, indicator_in, is_reading, plan_of, side_read};
 ghost use Rattle.rom_rule.specs.declared.views.Position.TheVariants.{Out};
 
@@ -15,6 +15,9 @@ pub struct Seat {
     pub token: Token,
     /// The caller's number; callers are numbered from 1.
     pub number: u32,
+    // Where the first of its indicators stands, so that no arrival or departure counts it out anew. The
+    // indicator of a version follows it by that version.
+    pub(crate) home: u64,
     /// While it reads, the version at whose indicator it arrived, the side that it reads, and where
     /// that side's words begin in the table.
     pub version: u64,
@@ -30,6 +33,7 @@ pub struct Seat {
     ghost within: { token.me.0.number ≤ token.me.0.base.callers },
     ghost known: { IsTrue (is_reading token.me.0.position) → (indicator_of number version ≡ indicator_in token.me.0.position) × (version < 2) × (side_number side ≡ side_read token.me.0.position) × (first ≡ word_at token.me.0.base.order token.me.0.base.callers (side_read token.me.0.position) 0) },
     ghost near: { first < 2 ^ 32 },
+    ghost placed: { (home ≡ indicator_at (indicator_of number 0)) × (home < 2 ^ 32) },
 }
 
 /// The writer's seat. There is one.
