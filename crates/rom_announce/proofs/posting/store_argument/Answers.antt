@@ -29,6 +29,7 @@ invariant_of-seat g c = let s = c.args.seat.now in let v : View = s.token.me.0 i
       within = subst (λ (z : View). z.number ≤ z.base.callers) (sym now) s.within;
       known = subst (λ (z : View). IsTrue (is_reading z.position) → (indicator_of s.number s.version ≡ indicator_in z.position) × (s.version < 2) × (side_number s.side ≡ side_read z.position) × (s.first ≡ word_at z.base.order z.base.callers (side_read z.position) 0)) (sym now) s.known;
       near = s.near;
+      placed = s.placed;
     }
 
 pub returns : goal.returns
