@@ -19,6 +19,8 @@ pub struct Reader {
     pub seat: Seat,
     pub reads: u64,
     pub alike: u64,
+    // No two readers, which threads change all the time, share a line of a processor's cache.
+    apart: [u64; 8],
 }
 
 /// The table of a new heap, with so many readers.
@@ -38,6 +40,7 @@ pub fn open(
             seat,
             reads,
             alike: 0,
+            apart: [0; 8],
         })?;
     }
     Ok((shared, readers))

@@ -78,7 +78,11 @@ where
     for _ in 0..scripts.len() {
         let pass = passes.take_last();
         let results = rooms.take_last();
-        jobs.push_reserved(Job { pass, results });
+        jobs.push_reserved(Job {
+            pass,
+            results,
+            apart: [0; 8],
+        });
     }
 }
 
@@ -108,6 +112,7 @@ where
         let Job {
             pass,
             results: told,
+            apart: _,
         } = jobs.take_last();
         passes.push_reserved(pass);
         results.push_reserved(told);

@@ -34,6 +34,8 @@ pub(crate) struct Room<'a, D: Device, O: Object, N: Label, G: Gate> {
 pub(crate) struct Job<R: Drop, A: Drop> {
     pub pass: Pass,
     pub results: Vec<LineResult<R, A>>,
+    // No two jobs, which threads change all the time, share a line of a processor's cache.
+    pub apart: [u64; 8],
 }
 
 // One line. It takes no memory.
