@@ -1,5 +1,6 @@
 -- What the writer's answer asks for and leaves.
-use Rattle.std.specs.Prelude.{◌≡◌, ℕ, ◌+◌, ◌^◌, List, [], ◌∷◌, true, false, Option, ◌==◌, if◌then◌else◌}
+use Rattle.std.specs.Prelude.{◌≡◌, ℕ, ◌+◌, List, [], ◌∷◌, true, false, Option, ◌==◌, if◌then◌else◌}
+use Rattle.rom_model.specs.Undone.{FAILED, DOUBT}
 use Rattle.rom_model.specs.declared.call.Updated.{Updated}
 use Rattle.rom_model.specs.declared.call.Updated.TheVariants as told
 use Rattle.rom_model.specs.declared.entry.Entry.{Entry}
@@ -15,7 +16,7 @@ use Rattle.rom_rule.specs.declared.views.Request.{Request}
 
 -- how a pass ended whose first answer has this place or code
 abbrev pub fate_of : ℕ → Fate
-fate_of place = if place == 2 ^ 62 + 1 then Failed else if place == 2 ^ 62 + 2 then Doubt else Published
+fate_of place = if place == FAILED then Failed else if place == DOUBT then Doubt else Published
 
 -- what such a pass tells each call that it didn't do
 abbrev pub undone : Fate → Updated (List ℕ)

@@ -14,7 +14,7 @@ ghost use Rattle.rom_rule.specs.declared.views.Request.{Request};
 use crate::waiting::wake;
 use rom_lr::{Shared, WriterSeat};
 use rom_model::{Back, Object};
-use rom_rule::{Answers, BeginsAnswer, PassEnd, StoresPlace, StoresReply};
+use rom_rule::{Answers, BeginsAnswer, PLACE, PassEnd, REPLY, StoresPlace, StoresReply, TURN};
 use std::marker::Brand;
 
 /// Answers a found call: it stores the number of the reply's words and the words, then the place or a
@@ -62,7 +62,7 @@ fn begin<O: Object, N: PassEnd>(
     ensures begun { let v = seat.old.token.me.0 in (q : Plan) × HasRecord O.Contents (on_words O.machine) v.base (plan_of v) q (fate_of place) before after × Writes seat.old seat.new (altered caller (laying 0 count) q) }
     ensures step { seat.new.token.me.0.steps ≡ seat.old.token.me.0.steps + 1 }
 {
-    let at = shared.layout.slot(caller, 43) as usize;
+    let at = shared.layout.slot(caller, REPLY) as usize;
     shared
         .table
         .shared
@@ -89,7 +89,7 @@ fn store_word<O: Object>(shared: &Shared<O>, seat: &mut WriterSeat, caller: u32,
     ensures stored { Writes seat.old seat.new (altered caller (laying j word) (plan_of seat.old.token.me.0)) }
     ensures step { seat.new.token.me.0.steps ≡ seat.old.token.me.0.steps + 1 }
 {
-    let at = shared.layout.slot(caller, 43 + j) as usize;
+    let at = shared.layout.slot(caller, REPLY + j) as usize;
     shared
         .table
         .shared
@@ -103,7 +103,7 @@ fn store_place<O: Object>(shared: &Shared<O>, seat: &mut WriterSeat, caller: u32
     ensures stored { Writes seat.old seat.new (altered caller (placing place) (plan_of seat.old.token.me.0)) }
     ensures step { seat.new.token.me.0.steps ≡ seat.old.token.me.0.steps + 1 }
 {
-    let at = shared.layout.slot(caller, 42) as usize;
+    let at = shared.layout.slot(caller, PLACE) as usize;
     shared
         .table
         .shared
@@ -118,7 +118,7 @@ fn finish<O: Object>(shared: &Shared<O>, seat: &mut WriterSeat, caller: u32)
     ensures answered { Writes seat.old seat.new (altered caller answering (plan_of seat.old.token.me.0)) }
     ensures step { seat.new.token.me.0.steps ≡ seat.old.token.me.0.steps + 1 }
 {
-    let at = shared.layout.slot(caller, 0) as usize;
+    let at = shared.layout.slot(caller, TURN) as usize;
     shared
         .table
         .shared

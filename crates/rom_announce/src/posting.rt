@@ -1,5 +1,6 @@
 //! How a caller posts a call.
-ghost use Rattle.std.specs.Prelude.{◌≡◌, ℕ, ◌+◌, ◌^◌, ◌<◌, ◌≤◌, List, [], ◌∷◌, ◌++◌, take, length};
+ghost use Rattle.std.specs.Prelude.{◌≡◌, ℕ, ◌+◌, ◌<◌, ◌≤◌, List, [], ◌∷◌, ◌++◌, take, length};
+ghost use Rattle.rom_model.specs.History.{LAST_COUNT};
 ghost use Rattle.rom_model.specs.Machine.{on_words};
 ghost use Rattle.rom_lr.specs.Seats.{IsSameSeat, IsSeatOf};
 ghost use Rattle.rom_rule.specs.CallKinds.{posting};
@@ -8,14 +9,14 @@ ghost use Rattle.rom_rule.specs.Records.{IsCall};
 
 use rom_lr::{Seat, Shared};
 use rom_model::{Args, Object};
-use rom_rule::{Posts, StoresArgument};
+use rom_rule::{CALL, Posts, StoresArgument, TURN};
 
 /// Posts a call, so that the writer's next scan finds it. A caller has at most one call posted, and
-/// posts at most 2^62.
+/// posts at most `LAST_COUNT`.
 pub fn post<O: Object>(shared: &Shared<O>, seat: &mut Seat, args: &Args)
     requires of { IsSeatOf shared.now.table.shared.table_id shared.now.table.shared.key seat.old }
     requires none_posted { length seat.old.token.me.0.calls ≡ length seat.old.token.me.0.outcomes }
-    requires few { length seat.old.token.me.0.calls < 2 ^ 62 }
+    requires few { length seat.old.token.me.0.calls < LAST_COUNT }
     requires call { IsCall (on_words O.machine) seat.old.token.me.0.base args.now }
     ensures same { IsSameSeat seat.old seat.new }
     ensures posted { let v = seat.old.token.me.0 in seat.new.token.me.0 ≡ record v { calls = v.calls ++ args.now ∷ []; laid = packed args.now; since = length v.seen; steps = v.steps + length args.now + 2 } }
@@ -33,7 +34,7 @@ fn store_argument<O: Object>(shared: &Shared<O>, seat: &mut Seat, j: u64, word: 
     ensures same { IsSameSeat seat.old seat.new }
     ensures stored { let v = seat.old.token.me.0 in seat.new.token.me.0 ≡ record v { laid = take j v.laid ++ word ∷ []; steps = v.steps + 1 } }
 {
-    let at = shared.layout.slot(seat.number, 1 + j) as usize;
+    let at = shared.layout.slot(seat.number, CALL + j) as usize;
     shared
         .table
         .shared
@@ -57,12 +58,12 @@ fn store_arguments<O: Object>(shared: &Shared<O>, seat: &mut Seat, args: &Args)
 fn store_turn<O: Object>(shared: &Shared<O>, seat: &mut Seat)
     requires of { IsSeatOf shared.now.table.shared.table_id shared.now.table.shared.key seat.old }
     requires none_posted { length seat.old.token.me.0.calls ≡ length seat.old.token.me.0.outcomes }
-    requires few { length seat.old.token.me.0.calls < 2 ^ 62 }
+    requires few { length seat.old.token.me.0.calls < LAST_COUNT }
     requires call { (args : List ℕ) × (seat.old.token.me.0.laid ≡ packed args) × (length args ≤ 40) × IsCall (on_words O.machine) seat.old.token.me.0.base args }
     ensures same { IsSameSeat seat.old seat.new }
     ensures posted { seat.new.token.me.0 ≡ posting seat.old.token.me.0 }
 {
-    let at = shared.layout.slot(seat.number, 0) as usize;
+    let at = shared.layout.slot(seat.number, TURN) as usize;
     shared
         .table
         .shared

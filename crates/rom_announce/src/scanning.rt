@@ -13,7 +13,7 @@ ghost use Rattle.rom_rule.specs.declared.views.Request.{Request};
 
 use rom_lr::{Shared, WriterSeat};
 use rom_model::{Args, Object};
-use rom_rule::{BeginsPass, LoadsArgument, Scans};
+use rom_rule::{BeginsPass, CALL, LoadsArgument, Scans, TURN};
 
 /// Whether a caller has a call posted, by one load of its turn: true where it is odd, and then the call
 /// is found. With caller 1 a new pass begins; the others follow in the order of their numbers, until
@@ -26,7 +26,7 @@ pub fn posted<O: Object>(shared: &Shared<O>, seat: &mut WriterSeat, caller: u32)
     ensures step { seat.new.token.me.0.steps ≡ seat.old.token.me.0.steps + 1 }
 {
     let table = &shared.table.shared;
-    let at = shared.layout.slot(caller, 0) as usize;
+    let at = shared.layout.slot(caller, TURN) as usize;
     let turn = if caller == 1 {
         table.load::<BeginsPass>(&mut seat.token, at)
     } else {
@@ -78,7 +78,7 @@ fn load_argument<O: Object>(shared: &Shared<O>, seat: &mut WriterSeat, caller: u
     ensures loaded { Writes seat.old seat.new (altered caller (loading j result) (plan_of seat.old.token.me.0)) }
     ensures step { seat.new.token.me.0.steps ≡ seat.old.token.me.0.steps + 1 }
 {
-    let at = shared.layout.slot(caller, 1 + j) as usize;
+    let at = shared.layout.slot(caller, CALL + j) as usize;
     shared
         .table
         .shared

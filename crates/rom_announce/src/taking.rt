@@ -9,7 +9,7 @@ ghost use Rattle.rom_rule.specs.Views.{Told};
 
 use rom_lr::{Seat, Shared};
 use rom_model::{Back, Object};
-use rom_rule::{LoadsAnswer, LoadsTurn};
+use rom_rule::{LoadsAnswer, LoadsTurn, PLACE, TURN};
 
 /// Whether the posted call was answered, by one load of the caller's turn: true where it is even. Then
 /// the caller knows what it was told, and its words can be taken.
@@ -20,7 +20,7 @@ pub fn answered<O: Object>(shared: &Shared<O>, seat: &mut Seat) -> bool
     ensures not_yet { let v = seat.old.token.me.0 in OnFalse result (seat.new.token.me.0 ≡ record v { steps = v.steps + 1 }) }
     ensures told { OnTrue result (Learnt O.Contents (on_words O.machine) seat.old.token.me seat.new.token.me) }
 {
-    let at = shared.layout.slot(seat.number, 0) as usize;
+    let at = shared.layout.slot(seat.number, TURN) as usize;
     let turn = shared
         .table
         .shared
@@ -53,7 +53,7 @@ fn load_word<O: Object>(shared: &Shared<O>, seat: &mut Seat, j: u64) -> u64
     ensures word { (x : Told) → IsLast seat.old.token.me.0 x → (length (answer_words x.1) ≤ 22) × (j < length (answer_words x.1) → result ≡ slice_index (answer_words x.1) j) }
     ensures still { let v = seat.old.token.me.0 in seat.new.token.me.0 ≡ record v { steps = v.steps + 1 } }
 {
-    let at = shared.layout.slot(seat.number, 42 + j) as usize;
+    let at = shared.layout.slot(seat.number, PLACE + j) as usize;
     shared.table.shared.load::<LoadsAnswer>(&mut seat.token, at)
 }
 

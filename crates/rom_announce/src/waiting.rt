@@ -5,6 +5,7 @@ ghost use Rattle.rom_lr.specs.Seats.{IsSeatOf};
 
 use rom_lr::{Seat, Shared};
 use rom_model::Object;
+use rom_rule::TURN;
 use std::sync::Wait;
 use std::thread::yield_now;
 use std::time::Duration;
@@ -40,7 +41,7 @@ pub fn nap<O: Object, R: Wait>(rt: &R, shared: &Shared<O>, seat: &Seat, looked: 
     requires of { IsSeatOf shared.now.table.shared.table_id shared.now.table.shared.key seat.now }
     requires posted { length seat.now.token.me.0.calls ≡ length seat.now.token.me.0.outcomes + 1 }
 {
-    let at = shared.layout.slot(seat.number, 0) as usize;
+    let at = shared.layout.slot(seat.number, TURN) as usize;
     // The low 32 bits of the odd turn, which is twice the number of calls posted before, and one.
     let before = (seat.posted - 1) % (1 << 31);
     let odd = (2 * before + 1) as u32;
@@ -57,7 +58,7 @@ pub(crate) fn wake<O: Object>(shared: &Shared<O>, caller: u32)
     requires within { (1 ≤ caller) × (caller ≤ shared.now.layout.callers) }
 {
     if shared.layout.callers() > 1 {
-        let at = shared.layout.slot(caller, 0) as usize;
+        let at = shared.layout.slot(caller, TURN) as usize;
         shared.table.shared.wake_one(at);
     }
 }
@@ -80,7 +81,7 @@ pub fn wake_next<O: Object>(shared: &Shared<O>) {
 fn is_posted<O: Object>(shared: &Shared<O>, caller: u32) -> bool
     requires within { (1 ≤ caller) × (caller ≤ shared.now.layout.callers) }
 {
-    let at = shared.layout.slot(caller, 0) as usize;
+    let at = shared.layout.slot(caller, TURN) as usize;
     shared.table.shared.peek(at) % 2 == 1
 }
 

@@ -15,7 +15,7 @@ use rom_combine::{Core, NoGate};
 use rom_device::Ram;
 use rom_heap::Trio;
 use rom_lr::{Seat, Shared, WriterSeat};
-use rom_model::{Object, new_region};
+use rom_model::{LAST_COUNT, Object, new_region};
 use rom_ranges::RangeLog;
 use rom_twin::{Phase, Twin};
 use std::alloc::{AllocError, Global};
@@ -45,9 +45,6 @@ impl Passes {
         })
     }
 }
-
-/// The count's limit. The places of calls that were done are below it, and codes are not.
-const LAST_COUNT: u64 = 1 << 62;
 
 /// Posts a caller's next call, unless one waits.
 fn post_next(shared: &Shared<Trio>, poster: &mut Poster, number: u64)

@@ -1,5 +1,6 @@
 //! A caller that posts calls and takes their answers.
-ghost use Rattle.std.specs.Prelude.{◌≡◌, ◌+◌, ◌<◌, ◌^◌, IfNone, IfSome, length, true, false};
+ghost use Rattle.std.specs.Prelude.{◌≡◌, ◌+◌, ◌<◌, IfNone, IfSome, length, true, false};
+ghost use Rattle.rom_model.specs.History.{LAST_COUNT};
 ghost use Rattle.rom_lr.specs.Seats.{IsSeatOf};
 
 use rom_announce::{answered, post, take};
@@ -30,7 +31,7 @@ impl Poster {
 pub fn post_call(shared: &Shared<Trio>, seat: &mut Seat, number: u64)
     requires of { IsSeatOf shared.now.table.shared.table_id shared.now.table.shared.key seat.old }
     requires none_posted { length seat.old.token.me.0.calls ≡ length seat.old.token.me.0.outcomes }
-    requires few { length seat.old.token.me.0.calls < 2 ^ 62 }
+    requires few { length seat.old.token.me.0.calls < LAST_COUNT }
     ensures of { IsSeatOf shared.now.table.shared.table_id shared.now.table.shared.key seat.new }
     ensures calls { length seat.new.token.me.0.calls ≡ length seat.old.token.me.0.calls + 1 }
     ensures outcomes { length seat.new.token.me.0.outcomes ≡ length seat.old.token.me.0.outcomes }

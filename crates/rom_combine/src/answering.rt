@@ -14,15 +14,6 @@ use rom_announce::answer;
 use rom_lr::{Shared, WriterSeat};
 use rom_model::{Back, Object};
 
-/// In the place of an answer: the call found the count at its limit, and was not done.
-pub(crate) const SPENT: u64 = 1 << 62;
-
-/// In the place of an answer: the pass failed, and no call was done.
-pub(crate) const FAILED: u64 = (1 << 62) + 1;
-
-/// In the place of an answer: the pass failed at the commit, and a stop may leave the call done.
-pub(crate) const DOUBT: u64 = (1 << 62) + 2;
-
 /// What a found call is to be told: its caller, its place in the history or a code, and its reply.
 #[derive(Clone, Copy)]
 pub struct Answer {

@@ -12,15 +12,12 @@ ghost use Rattle.rom_rule.specs.Readers.{Held};
 ghost use Rattle.rom_rule.specs.Records.{IsCall};
 ghost use Rattle.rom_rule.specs.Views.{Each, plan_of};
 
-use crate::answering::{Answer, SPENT};
+use crate::answering::Answer;
 use crate::per_caller::PerCaller;
 use crate::scanning::Posted;
 use rom_lr::{Shared, WriterSeat, apply_main};
-use rom_model::{Back, Object};
+use rom_model::{Back, LAST_COUNT, Object, SPENT};
 use rom_ranges::RangeLog;
-
-/// The limit of the count: an update that finds it here is not done.
-pub(crate) const LAST_COUNT: u64 = 1 << 62;
 
 /// Does each found call on shared main in turn, and says what each is to be told; `place` is the
 /// count before. Past the count's limit a call is not done. Nobody reads main meanwhile. The log

@@ -26,7 +26,7 @@ ghost use Rattle.rom_rule.specs.Readers.{Held};
 ghost use Rattle.rom_rule.specs.Records.{IsCall};
 ghost use Rattle.rom_rule.specs.Views.{Each, plan_of};
 
-use crate::answering::{Answer, DOUBT, FAILED, refuse};
+use crate::answering::{Answer, refuse};
 use crate::applying::apply_all;
 use crate::passed::Outcome;
 use crate::per_caller::PerCaller;
@@ -35,7 +35,7 @@ use crate::sides::put_back;
 use crate::steps::{begin_on, commit_on};
 use rom_device::Device;
 use rom_lr::{Shared, Side, WriterSeat};
-use rom_model::Object;
+use rom_model::{DOUBT, FAILED, Object};
 use rom_ranges::RangeLog;
 use rom_twin::{Phase, Twin};
 

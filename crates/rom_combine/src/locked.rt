@@ -13,8 +13,7 @@ ghost use Rattle.rom_combine.specs.Passing.{IsPass};
 ghost use Rattle.rom_combine.specs.Told.{fate_of};
 ghost use Rattle.rom_rule.specs.Views.{opening_plan, plan_of};
 
-use crate::answering::{Answer, SPENT, answer_all, refuse};
-use crate::applying::LAST_COUNT;
+use crate::answering::{Answer, answer_all, refuse};
 use crate::committing::publish;
 use crate::gate::Gate;
 use crate::passed::{Outcome, Passed};
@@ -23,7 +22,7 @@ use crate::resting::settle;
 use crate::scanning::{Posted, scan};
 use rom_device::Device;
 use rom_lr::{Shared, WriterSeat};
-use rom_model::{COUNT, Object};
+use rom_model::{COUNT, LAST_COUNT, Object, SPENT};
 use rom_ranges::RangeLog;
 use rom_twin::{Phase, Twin};
 use std::marker::{Model, PhantomData};

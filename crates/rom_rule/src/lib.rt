@@ -28,5 +28,5 @@ pub use kinds::{
     StoresPlace, StoresReply, StoresVersion, SwitchesToBack, SwitchesToMain, TakesNote,
 };
 pub use law::{Key, Law, SharedWords, Token};
-pub use layout::Layout;
+pub use layout::{CALL, Layout, PLACE, REPLY, TURN};
 pub use views::{Base, Plan, Position, Request, View};

@@ -22,21 +22,11 @@ use rom_announce::{answered, linger, nap, post, take, wake_next};
 use rom_combine::Gate;
 use rom_device::Device;
 use rom_lr::Seat;
-use rom_model::{Back, Object, Updated};
+use rom_model::{Back, DOUBT, FAILED, LAST_COUNT, Object, SPENT, Updated};
 use std::sync::{MutexGuard, Wait};
-
-/// The greatest count, and the most calls of one caller.
-const LAST: u64 = 1 << 62;
 
 /// How often a caller looks at its turn before it waits for the lock.
 const LOOKS: u64 = 64;
-
-/// What stands for a place where a call was not done.
-const SPENT: u64 = 1 << 62;
-
-const FAILED: u64 = (1 << 62) + 1;
-
-const DOUBT: u64 = (1 << 62) + 2;
 
 /// What a caller was told, by its words.
 fn told_by<O: Object>(place: u64, words: &Back) -> Updated<O::Reply>
@@ -101,7 +91,7 @@ impl<D: Device, O: Object, N: Label> Store<D, O, N> {
             (next_call (kept_of pass.old.view) (O.machine.call_words call.now))
             (O.machine.reply_words reply) place pass.old.view.seen pass.new.view.seen }
     {
-        if pass.seat.posted >= LAST {
+        if pass.seat.posted >= LAST_COUNT {
             return Updated::Spent;
         }
         post(&self.shared, &mut pass.seat, &O::call_words(call));
