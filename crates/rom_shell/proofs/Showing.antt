@@ -17,10 +17,10 @@ use Rattle.rom_script.specs.Streams.{ShownSink, ShownSource, Prints, StopsWritin
 use Rattle.rom_script.specs.Text.{line_text}
 use Rattle.rom_store.specs.Calls.{HasFaults}
 use Rattle.rom_store.specs.Making.{HasFaultsUnmade, IfMade}
-use Rattle.rom_store.specs.declared.new_heap.NotFormatted.{NotFormatted}
-use Rattle.rom_store.specs.declared.new_heap.NotFormatted.TheVariants as unmade
-use Rattle.rom_store.specs.declared.reasons.Why.{Why}
-use Rattle.rom_store.specs.declared.reasons.Why.TheVariants.{Device}
+use Rattle.rom_open.specs.declared.new_heap.NotFormatted.{NotFormatted}
+use Rattle.rom_open.specs.declared.new_heap.NotFormatted.TheVariants as unmade
+use Rattle.rom_open.specs.declared.reasons.Why.{Why}
+use Rattle.rom_open.specs.declared.reasons.Why.TheVariants.{Device}
 use Rattle.rom_shell.specs.Devices.{HasDeviceFailed, IsOpenedFrom, IsPut, IsUnmade}
 use Rattle.rom_shell.specs.Refusing.{refusal_line, refusal_status, unmade_line, unmade_status}
 use Rattle.rom_shell.specs.Run.{AreAnswered, HasReplies}

@@ -21,8 +21,8 @@ use Rattle.rom_header.specs.Held.{Holds}
 use Rattle.rom_store.specs.Making.{IsMadeThen, NoneOrHolds}
 use Rattle.rom_store.specs.Refusals.{IsRefusal, NamesTooFew, named_order}
 use Rattle.rom_store.specs.Traced.{WentThrough}
-use Rattle.rom_store.specs.declared.new_heap.NotFormatted.TheVariants.{Refused}
-use Rattle.rom_store.specs.declared.reasons.Why.{Why}
+use Rattle.rom_open.specs.declared.new_heap.NotFormatted.TheVariants.{Refused}
+use Rattle.rom_open.specs.declared.reasons.Why.{Why}
 use Rattle.rom_shell.specs.Refusing.{refusal_line, refusal_status, unmade_line, unmade_status}
 use Rattle.rom_shell.specs.declared.status.Status.TheVariants.{HeapRefused}
 use Rattle.rom_combine.specs.Costs.{WithinHeap}

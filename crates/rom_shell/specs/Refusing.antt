@@ -3,10 +3,10 @@ use Rattle.std.specs.Prelude.{ℕ, List, ◌++◌, codes, decimal}
 use Rattle.rom_model.specs.declared.unfit.Rule.{Rule}
 use Rattle.rom_model.specs.declared.unfit.Rule.TheVariants.{Root, Link, Pad, Ends, Count, Order, Bucket, Repeat, Tree}
 use Rattle.rom_header.specs.declared.fresh.FormatRefused.TheVariants as format
-use Rattle.rom_store.specs.declared.reasons.Why.{Why}
-use Rattle.rom_store.specs.declared.reasons.Why.TheVariants.{NotAHeap, BadVersion, BadOrder, BadState, TooSmall, Twins, Malformed, Device, OutOfMemory}
-use Rattle.rom_store.specs.declared.new_heap.NotFormatted.{NotFormatted}
-use Rattle.rom_store.specs.declared.new_heap.NotFormatted.TheVariants as unmade
+use Rattle.rom_open.specs.declared.reasons.Why.{Why}
+use Rattle.rom_open.specs.declared.reasons.Why.TheVariants.{NotAHeap, BadVersion, BadOrder, BadState, TooSmall, Twins, Malformed, Device, OutOfMemory}
+use Rattle.rom_open.specs.declared.new_heap.NotFormatted.{NotFormatted}
+use Rattle.rom_open.specs.declared.new_heap.NotFormatted.TheVariants as unmade
 use Rattle.rom_shell.specs.declared.status.Status.{Status}
 use Rattle.rom_shell.specs.declared.status.Status.TheVariants.{HeapRefused, NoMemory, DeviceFailed}
 

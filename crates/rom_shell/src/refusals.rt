@@ -3,8 +3,8 @@ ghost use Rattle.std.specs.Prelude.{◌≡◌, ◌++◌, codes, decimal};
 ghost use Rattle.rom_script.specs.Runs.{IsTold};
 ghost use Rattle.rom_shell.specs.Refusing.{refusal_line, refusal_status, too_small_line, unmade_line, unmade_status};
 ghost use Rattle.rom_shell.specs.Refusing as refusing;
-ghost use Rattle.rom_store.specs.declared.new_heap.NotFormatted.TheVariants.{Refused};
-ghost use Rattle.rom_store.specs.declared.reasons.Why.TheVariants.{Malformed, Twins};
+ghost use Rattle.rom_open.specs.declared.new_heap.NotFormatted.TheVariants.{Refused};
+ghost use Rattle.rom_open.specs.declared.reasons.Why.TheVariants.{Malformed, Twins};
 
 use crate::status::Status;
 use crate::tell::tell;

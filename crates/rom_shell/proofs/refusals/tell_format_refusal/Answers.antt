@@ -1,6 +1,6 @@
 use Rattle.std.proofs.Common.{sym, subst}
 use Rattle.rom_script.specs.Runs.{IsTold}
-use Rattle.rom_store.specs.declared.new_heap.NotFormatted.TheVariants.{Refused}
+use Rattle.rom_open.specs.declared.new_heap.NotFormatted.TheVariants.{Refused}
 use Rattle.rom_shell.specs.Refusing.{unmade_line}
 use Rattle.rom_shell.proofs.refusals.tell_format_refusal.Goals as goal
 

@@ -5,7 +5,7 @@ use Rattle.rom_header.specs.Held.{Holds}
 use Rattle.rom_model.specs.Machine.{on_words}
 use Rattle.rom_rule.specs.Views.{base_of}
 use Rattle.rom_rule.specs.declared.views.Base.{Base}
-use Rattle.rom_store.specs.Refusals.{named_order}
+use Rattle.rom_open.specs.Refusals.{named_order}
 use Rattle.rom_store.proofs.Spans.{held_opening, leaves_both}
 use Rattle.rom_store.proofs.playing.play.Goals as goal
 

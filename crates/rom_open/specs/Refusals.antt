@@ -10,8 +10,8 @@ use Rattle.rom_header.specs.declared.header.HeaderRefused.TheVariants as header
 use Rattle.rom_recover.specs.Recovered.{DifferAt}
 use Rattle.rom_recover.specs.declared.recovery.RecoverRefused.{RecoverRefused}
 use Rattle.rom_recover.specs.declared.recovery.RecoverRefused.TheVariants as recovery
-use Rattle.rom_store.specs.declared.reasons.Why.{Why}
-use Rattle.rom_store.specs.declared.reasons.Why.TheVariants.{NotAHeap, BadVersion, BadOrder, BadState, TooSmall, Twins, Malformed, Device, OutOfMemory}
+use Rattle.rom_open.specs.declared.reasons.Why.{Why}
+use Rattle.rom_open.specs.declared.reasons.Why.TheVariants.{NotAHeap, BadVersion, BadOrder, BadState, TooSmall, Twins, Malformed, Device, OutOfMemory}
 
 -- the refusal of a header, of a recovery and of an inspection
 abbrev pub of_header : HeaderRefused → Why

@@ -7,12 +7,12 @@ ghost use Rattle.rom_header.specs.Layout.{words_needed};
 ghost use Rattle.rom_header.specs.Regions.{IsCurrentRegion};
 ghost use Rattle.rom_header.specs.Writing.{Alters};
 ghost use Rattle.rom_recover.specs.Recovered.{IsDone, Mended};
-ghost use Rattle.rom_store.specs.Calls.{Calls, HasFaults, is_recovered};
+ghost use Rattle.rom_open.specs.Calls.{Calls, HasFaults, is_recovered};
 ghost use Rattle.rom_header.specs.Held.{Holds, HoldsOne};
-ghost use Rattle.rom_store.specs.AtRest.{IsAtRest};
-ghost use Rattle.rom_store.specs.Opening.{IsOpeningAnswer, MendsNamed, device_of, refusal_of};
-ghost use Rattle.rom_store.specs.Refusals.{IsRefusal, NamesTooFew, named_order};
-ghost use Rattle.rom_store.specs.declared.reasons.Why.TheVariants.{TooSmall};
+ghost use Rattle.rom_open.specs.AtRest.{IsAtRest};
+ghost use Rattle.rom_open.specs.Opening.{IsOpeningAnswer, MendsNamed, device_of, refusal_of};
+ghost use Rattle.rom_open.specs.Refusals.{IsRefusal, NamesTooFew, named_order};
+ghost use Rattle.rom_open.specs.declared.reasons.Why.TheVariants.{TooSmall};
 
 use crate::image::{inspect_image, read_image};
 use crate::ready::make_ready;

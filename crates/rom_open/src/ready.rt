@@ -6,10 +6,10 @@ ghost use Rattle.rom_header.specs.Layout.{words_needed};
 ghost use Rattle.rom_header.specs.Regions.{IsHeap};
 ghost use Rattle.rom_header.specs.Writing.{Alters};
 ghost use Rattle.rom_recover.specs.Recovered.{IsDone, Mended};
-ghost use Rattle.rom_store.specs.Calls.{HasFaults, ReadyCalls};
-ghost use Rattle.rom_store.specs.Opening.{MendsNamed};
-ghost use Rattle.rom_store.specs.Refusals.{IsUnready, NamesTooFew, named_order};
-ghost use Rattle.rom_store.specs.declared.reasons.Why.TheVariants.{TooSmall};
+ghost use Rattle.rom_open.specs.Calls.{HasFaults, ReadyCalls};
+ghost use Rattle.rom_open.specs.Opening.{MendsNamed};
+ghost use Rattle.rom_open.specs.Refusals.{IsUnready, NamesTooFew, named_order};
+ghost use Rattle.rom_open.specs.declared.reasons.Why.TheVariants.{TooSmall};
 
 use crate::reasons::Why;
 use rom_device::Device;

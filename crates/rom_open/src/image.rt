@@ -4,8 +4,8 @@ ghost use Rattle.rom_model.specs.Blocks.{region_len};
 ghost use Rattle.rom_model.specs.Faults.{Adds, AtMost};
 ghost use Rattle.rom_device.specs.Device.{OnlyReads};
 ghost use Rattle.rom_header.specs.Layout.{main_of, words_needed};
-ghost use Rattle.rom_store.specs.Calls.{HasFaults};
-ghost use Rattle.rom_store.specs.Refusals.{IsUnfit, IsUnread};
+ghost use Rattle.rom_open.specs.Calls.{HasFaults};
+ghost use Rattle.rom_open.specs.Refusals.{IsUnfit, IsUnread};
 
 use crate::reasons::Why;
 use rom_device::Device;

@@ -3,7 +3,7 @@ use Rattle.std.proofs.Common.{◌≡◌, ℕ, List, refl}
 use Rattle.rom_model.specs.declared.unfit.Break.{Break}
 use Rattle.rom_model.specs.declared.unfit.Unfit.{Unfit}
 use Rattle.rom_model.specs.declared.unfit.Unfit.TheVariants.{Malformed, OutOfMemory}
-use Rattle.rom_store.specs.Refusals.{of_inspection, IsUnfit, IsMalformed}
+use Rattle.rom_open.specs.Refusals.{of_inspection, IsUnfit, IsMalformed}
 
 module _ {S : Type 0} (Contents : ℕ → List ℕ → S → ℕ → Type 0) (FirstBreak : ℕ → List ℕ → Break → Type 0) (order : ℕ) (region : List ℕ)
     (none : (e : Break) → FirstBreak order region e → (s : S) (k : ℕ) → Contents order region s k → ⊥) (one : (e d : Break) → FirstBreak order region e → FirstBreak order region d → e ≡ d) where

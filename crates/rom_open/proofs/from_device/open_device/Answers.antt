@@ -1,9 +1,9 @@
 use Rattle.rom_recover.specs.Recovered.{Mended}
 use Rattle.rom_header.specs.Held.{Holds}
-use Rattle.rom_store.specs.Refusals.{named_order}
+use Rattle.rom_open.specs.Refusals.{named_order}
 use Rattle.rom_device.proofs.Going.{leaves_by}
-use Rattle.rom_store.proofs.Holding.{holds_one, same_current}
-use Rattle.rom_store.proofs.from_device.open_device.Goals as goal
+use Rattle.rom_open.proofs.Holding.{holds_one, same_current}
+use Rattle.rom_open.proofs.from_device.open_device.Goals as goal
 
 pub returns-in-Ok-clause-one : goal.returns-in-Ok-clause-one
 returns-in-Ok-clause-one g c = holds_one g.O.Object.Contents g.met.O.Object.one_contents

@@ -3,10 +3,10 @@ use Rattle.std.specs.Prelude.{ℕ, List, Result, Ok, Err}
 use Rattle.rom_model.specs.declared.unfit.Break.{Break}
 use Rattle.rom_header.specs.Regions.{IsCurrentRegion}
 use Rattle.rom_recover.specs.Recovered.{Mends}
-use Rattle.rom_store.specs.Refusals.{named_order, IsRefusal}
-use Rattle.rom_store.specs.declared.reasons.Why.{Why}
-use Rattle.rom_store.specs.declared.from_device.Opened.{Opened}
-use Rattle.rom_store.specs.declared.from_device.Refused.{Refused}
+use Rattle.rom_open.specs.Refusals.{named_order, IsRefusal}
+use Rattle.rom_open.specs.declared.reasons.Why.{Why}
+use Rattle.rom_open.specs.declared.from_device.Opened.{Opened}
+use Rattle.rom_open.specs.declared.from_device.Refused.{Refused}
 
 -- the device, which comes back whatever is answered
 abbrev pub device_of : {D : Type 0} → Result (Opened D) (Refused D) → D

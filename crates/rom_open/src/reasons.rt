@@ -33,7 +33,7 @@ pub enum Why {
 
 impl From<HeaderRefused> for Why {
     ghost use Rattle.std.specs.Prelude.{◌≡◌};
-    ghost use Rattle.rom_store.specs.Refusals.{of_header};
+    ghost use Rattle.rom_open.specs.Refusals.{of_header};
 
     ghost from_gives = { λ refused why. why ≡ of_header refused };
 
@@ -51,7 +51,7 @@ impl From<HeaderRefused> for Why {
 
 impl From<RecoverRefused> for Why {
     ghost use Rattle.std.specs.Prelude.{◌≡◌};
-    ghost use Rattle.rom_store.specs.Refusals.{of_recovery};
+    ghost use Rattle.rom_open.specs.Refusals.{of_recovery};
 
     ghost from_gives = { λ refused why. why ≡ of_recovery refused };
 
@@ -65,7 +65,7 @@ impl From<RecoverRefused> for Why {
 
 impl From<Unfit> for Why {
     ghost use Rattle.std.specs.Prelude.{◌≡◌};
-    ghost use Rattle.rom_store.specs.Refusals.{of_inspection};
+    ghost use Rattle.rom_open.specs.Refusals.{of_inspection};
 
     ghost from_gives = { λ unfit why. why ≡ of_inspection unfit };
 
@@ -79,7 +79,7 @@ impl From<Unfit> for Why {
 
 impl From<AllocError> for Why {
     ghost use Rattle.std.specs.Prelude.{◌≡◌};
-    ghost use Rattle.rom_store.specs.declared.reasons.Why.TheVariants.{OutOfMemory};
+    ghost use Rattle.rom_open.specs.declared.reasons.Why.TheVariants.{OutOfMemory};
 
     ghost from_gives = { λ _ why. why ≡ OutOfMemory };
 

@@ -1,7 +1,7 @@
 use Rattle.std.proofs.Common.{OnOk, rules, sym, subst}
 use Rattle.rom_header.specs.Held.{Holds}
-use Rattle.rom_store.proofs.Holding.{both_ok}
-use Rattle.rom_store.proofs.new_heap.write_heap.Goals as goal
+use Rattle.rom_open.proofs.Holding.{both_ok}
+use Rattle.rom_open.proofs.new_heap.write_heap.Goals as goal
 
 pub returns-clause-held_images : goal.returns-clause-held_images
 returns-clause-held_images g c = λ images.

@@ -1,8 +1,8 @@
 use Rattle.std.proofs.Common.{◌≡◌, ℕ, Result, Err, IfErr, rules, sym, ◌∙◌, ap, subst}
-use Rattle.rom_store.specs.Refusals.{of_inspection, IsUnfit}
-use Rattle.rom_store.specs.declared.reasons.Why.{Why}
-use Rattle.rom_store.proofs.Inspected.{inspected}
-use Rattle.rom_store.proofs.image.inspect_image.Goals as goal
+use Rattle.rom_open.specs.Refusals.{of_inspection, IsUnfit}
+use Rattle.rom_open.specs.declared.reasons.Why.{Why}
+use Rattle.rom_open.proofs.Inspected.{inspected}
+use Rattle.rom_open.proofs.image.inspect_image.Goals as goal
 
 pub returns-in_err-inspect-clause-refused : goal.returns-in_err-inspect-clause-refused
 returns-in_err-inspect-clause-refused g c =

@@ -7,8 +7,8 @@ use Rattle.rom_header.specs.Layout.{MAGIC}
 use Rattle.rom_header.specs.declared.fresh.FormatRefused.{FormatRefused}
 use Rattle.rom_header.specs.declared.fresh.FormatRefused.TheVariants as format
 use Rattle.rom_header.specs.Held.{Holds}
-use Rattle.rom_store.specs.declared.new_heap.NotFormatted.{NotFormatted}
-use Rattle.rom_store.specs.declared.new_heap.NotFormatted.TheVariants.{Refused, OutOfMemory}
+use Rattle.rom_open.specs.declared.new_heap.NotFormatted.{NotFormatted}
+use Rattle.rom_open.specs.declared.new_heap.NotFormatted.TheVariants.{Refused, OutOfMemory}
 
 -- where there was memory, the answer of what was done on the device has P
 abbrev pub IfMade : Result (Unit {0}) NotFormatted → (Result (Unit {0}) FormatRefused → Type 0) → Type 0

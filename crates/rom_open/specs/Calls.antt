@@ -4,9 +4,9 @@ use Rattle.rom_model.specs.Blocks.{region_len}
 use Rattle.rom_model.specs.Faults.{Adds, AtMost, FailedLast, StopsAtFault}
 use Rattle.rom_device.specs.Device.{ShownDevice}
 use Rattle.rom_header.specs.Layout.{STATE}
-use Rattle.rom_store.specs.Refusals.{named_order}
-use Rattle.rom_store.specs.declared.reasons.Why.{Why}
-use Rattle.rom_store.specs.declared.reasons.Why.TheVariants.{NotAHeap, BadVersion, BadOrder, BadState, TooSmall, Twins, Malformed, Device, OutOfMemory}
+use Rattle.rom_open.specs.Refusals.{named_order}
+use Rattle.rom_open.specs.declared.reasons.Why.{Why}
+use Rattle.rom_open.specs.declared.reasons.Why.TheVariants.{NotAHeap, BadVersion, BadOrder, BadState, TooSmall, Twins, Malformed, Device, OutOfMemory}
 
 -- whether the device has been recovered where a refusal says so
 abbrev pub is_late : Why → Bool

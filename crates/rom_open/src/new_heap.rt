@@ -9,8 +9,8 @@ ghost use Rattle.rom_header.specs.Fresh.{HasTooFewFor, IsFormatAnswer, IsNew, Is
 ghost use Rattle.rom_header.specs.Layout.{words_needed};
 ghost use Rattle.rom_header.specs.Writing.{Alters};
 ghost use Rattle.rom_header.specs.Held.{Holds};
-ghost use Rattle.rom_store.specs.Making.{IfMade, IsNewWith, NamesTooFewFor, NoneOrHolds};
-ghost use Rattle.rom_store.specs.declared.new_heap.NotFormatted.TheVariants.{OutOfMemory};
+ghost use Rattle.rom_open.specs.Making.{IfMade, IsNewWith, NamesTooFewFor, NoneOrHolds};
+ghost use Rattle.rom_open.specs.declared.new_heap.NotFormatted.TheVariants.{OutOfMemory};
 
 use rom_device::Device;
 use rom_header::{FormatRefused, write_new};
@@ -28,7 +28,7 @@ pub enum NotFormatted {
 
 impl From<FormatRefused> for NotFormatted {
     ghost use Rattle.std.specs.Prelude.{◌≡◌};
-    ghost use Rattle.rom_store.specs.declared.new_heap.NotFormatted.TheVariants.{Refused};
+    ghost use Rattle.rom_open.specs.declared.new_heap.NotFormatted.TheVariants.{Refused};
 
     ghost from_gives = { λ refused why. why ≡ Refused refused };
 
@@ -39,7 +39,7 @@ impl From<FormatRefused> for NotFormatted {
 
 impl From<AllocError> for NotFormatted {
     ghost use Rattle.std.specs.Prelude.{◌≡◌};
-    ghost use Rattle.rom_store.specs.declared.new_heap.NotFormatted.TheVariants.{OutOfMemory};
+    ghost use Rattle.rom_open.specs.declared.new_heap.NotFormatted.TheVariants.{OutOfMemory};
 
     ghost from_gives = { λ _ why. why ≡ OutOfMemory };
 
