@@ -10,9 +10,15 @@ use Rattle.rom_open.specs.declared.reasons.Why.TheVariants.{NotAHeap, BadVersion
 
 -- whether the device has been recovered where a refusal says so
 abbrev pub is_late : Why → Bool
+is_late NotAHeap = false
+is_late (BadVersion version) = false
+is_late (BadOrder n) = false
+is_late (BadState word) = false
+is_late (TooSmall need have) = false
+is_late (Twins offset main back) = false
 is_late (Malformed offset rule) = true
+is_late Device = false
 is_late OutOfMemory = true
-is_late other = false
 
 -- whether the device has been recovered, by the answer
 abbrev pub is_recovered : {T : Type 0} → Result T Why → Bool
@@ -22,9 +28,15 @@ is_recovered (Err why) = is_late why
 -- No call follows one that failed: after `Device` the last one did, and a difference of the regions may be told where a later word could not be read. Else none failed.
 abbrev pub HasFaults : {T : Type 0} → Result T Why → ℕ → ℕ → Bool → Type 0
 HasFaults (Ok opened) before now failing = now ≡ before
-HasFaults (Err Device) before now failing = FailedLast before now failing
+HasFaults (Err NotAHeap) before now failing = now ≡ before
+HasFaults (Err (BadVersion version)) before now failing = now ≡ before
+HasFaults (Err (BadOrder n)) before now failing = now ≡ before
+HasFaults (Err (BadState word)) before now failing = now ≡ before
+HasFaults (Err (TooSmall need have)) before now failing = now ≡ before
 HasFaults (Err (Twins offset main back)) before now failing = StopsAtFault before now failing
-HasFaults (Err other) before now failing = now ≡ before
+HasFaults (Err (Malformed offset rule)) before now failing = now ≡ before
+HasFaults (Err Device) before now failing = FailedLast before now failing
+HasFaults (Err OutOfMemory) before now failing = now ≡ before
 
 -- how many words are read of a heap of this order up to its recovery, by the word of the state: the header, the state again and the region that counts, and under IDLE the other one too
 abbrev pub ready_reads : ℕ → ℕ → ℕ
@@ -61,7 +73,12 @@ AreWrites order state (Ok opened) before now = Adds (opening_writes order state)
 AreWrites order state (Err (Malformed offset rule)) before now = Adds (opening_writes order state) before now
 AreWrites order state (Err OutOfMemory) before now = Adds (opening_writes order state) before now
 AreWrites order state (Err Device) before now = AtMost (opening_writes order state) before now
-AreWrites order state (Err other) before now = now ≡ before
+AreWrites order state (Err (Twins offset main back)) before now = now ≡ before
+AreWrites order state (Err (TooSmall need have)) before now = now ≡ before
+AreWrites order state (Err NotAHeap) before now = now ≡ before
+AreWrites order state (Err (BadVersion version)) before now = now ≡ before
+AreWrites order state (Err (BadOrder n)) before now = now ≡ before
+AreWrites order state (Err (BadState word)) before now = now ≡ before
 
 -- the syncs, likewise, of which there is one where the regions differ, and none where the header is refused
 abbrev pub AreSyncs : {T : Type 0} → ℕ → Result T Why → ℕ → ℕ → Type 0
@@ -70,7 +87,11 @@ AreSyncs state (Err (Malformed offset rule)) before now = Adds (opening_syncs st
 AreSyncs state (Err OutOfMemory) before now = Adds (opening_syncs state) before now
 AreSyncs state (Err Device) before now = AtMost (opening_syncs state) before now
 AreSyncs state (Err (Twins offset main back)) before now = Adds 1 before now
-AreSyncs state (Err other) before now = now ≡ before
+AreSyncs state (Err (TooSmall need have)) before now = now ≡ before
+AreSyncs state (Err NotAHeap) before now = now ≡ before
+AreSyncs state (Err (BadVersion version)) before now = now ≡ before
+AreSyncs state (Err (BadOrder n)) before now = now ≡ before
+AreSyncs state (Err (BadState word)) before now = now ≡ before
 
 -- The calls that an opening of a device with these words made.
 pub record Calls {D T : Type 0} (shown : ShownDevice D) (words : List ℕ) (old new : D) (result : Result T Why) : Type 0 where

@@ -55,7 +55,14 @@ IsUnread other = ⊥
 -- A refusal for too few words names how many words are needed, and how many the device has, which are fewer.
 abbrev pub NamesTooFew : ℕ → Why → Type 0
 NamesTooFew size (TooSmall need have) = HasTooFew size (header.TooSmall need have)
-NamesTooFew size other = Unit {0}
+NamesTooFew size NotAHeap = Unit {0}
+NamesTooFew size (BadVersion version) = Unit {0}
+NamesTooFew size (BadOrder n) = Unit {0}
+NamesTooFew size (BadState word) = Unit {0}
+NamesTooFew size (Twins offset main back) = Unit {0}
+NamesTooFew size (Malformed offset rule) = Unit {0}
+NamesTooFew size Device = Unit {0}
+NamesTooFew size OutOfMemory = Unit {0}
 
 -- The words of a region are not well-formed, and this is the first break of them.
 pub record IsMalformed {S : Type 0} (Contents : ℕ → List ℕ → S → ℕ → Type 0) (FirstBreak : ℕ → List ℕ → Break → Type 0) (order : ℕ) (region : List ℕ) (broken : Break) : Type 0 where
