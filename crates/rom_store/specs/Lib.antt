@@ -15,3 +15,4 @@ pub mod Openings
 pub mod Sessions
 pub mod Closing
 pub mod Working
+pub mod Playing

@@ -1,5 +1,5 @@
 //! Scripts on a heap that is made for them.
-ghost use Rattle.std.specs.Prelude.{◌≡◌, Err, Ok, ℕ, ◌+◌, ◌<◌, ◌≤◌, [], List, length, map, All, vec_len, vec_capacity, IfErr, IfOk, IsTrue};
+ghost use Rattle.std.specs.Prelude.{◌≡◌, Err, Ok, ℕ, ◌+◌, ◌<◌, ◌≤◌, List, length, map, All, IfErr, IfOk, IsTrue};
 ghost use Rattle.rom_model.specs.Blocks.{IsOrder};
 ghost use Rattle.rom_model.specs.History.{LAST_COUNT};
 ghost use Rattle.rom_model.specs.Lawful.{IsLawful};
@@ -20,9 +20,9 @@ ghost use Rattle.rom_combine.specs.Session.{ImageNow, SessionImage};
 ghost use Rattle.rom_rule.specs.Views.{base_of};
 ghost use Rattle.rom_store.specs.Callers.{IsNewCaller};
 ghost use Rattle.rom_store.specs.Indexed.{Indexed};
+ghost use Rattle.rom_store.specs.Playing.{HasRooms};
 ghost use Rattle.rom_store.specs.Sessions.{EachStory, HasStory};
 ghost use Rattle.rom_store.specs.Traced.{WentThrough};
-ghost use Rattle.rom_store.specs.Working.{IsRoom};
 
 use crate::opening::Opening;
 use crate::pace::Pace;
@@ -65,12 +65,7 @@ where
     O::Answer: Drop,
     requires order { IsOrder order }
     requires callers { (0 < length scripts.now) × (length scripts.now ≤ 16) }
-    ensures rooms { IfOk result (λ made. Indexed (λ i room.
-        IsRoom (map (λ v. v.items) scripts.now) i room.items (vec_capacity room))
-        made.rooms.results.items) }
-    ensures rooms_many { IfOk result (λ made. vec_len made.rooms.results ≡ length scripts.now) }
-    ensures jobs { IfOk result (λ made. (made.rooms.jobs.items ≡ [])
-        × (length scripts.now ≤ vec_capacity made.rooms.jobs)) }
+    ensures rooms { IfOk result (λ made. HasRooms scripts.now made.rooms) }
     ensures region { IfOk result (λ made.
         O.Contents order (words_of made.region) O.machine.empty 0) }
     ensures of { IfOk result (λ made. IsWriterOf made.seated.shared.table.shared.table_id
