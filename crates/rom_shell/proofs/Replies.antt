@@ -6,7 +6,7 @@ use Rattle.rom_model.specs.Trio.{trio}
 use Rattle.rom_model.specs.declared.call.Call.{Call}
 use Rattle.rom_model.specs.declared.call.Query.{Query}
 use Rattle.rom_model.specs.declared.line.Step.{Step}
-use Rattle.rom_script.specs.declared.read.ReadRefused.TheVariants as refused
+use Rattle.rom_text.specs.declared.read.ReadRefused.TheVariants as refused
 use Rattle.rom_script.specs.Runs.{AreScripts, IsTold, SourceFailed, SourceTooLong}
 use Rattle.rom_script.specs.Streams.{ShownSink, ShownSource}
 use Rattle.rom_store.specs.Sessions.{EachStory, SessionSeen}

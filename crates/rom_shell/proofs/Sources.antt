@@ -12,8 +12,8 @@ use Rattle.rom_script.specs.Limits.{EndsReading, FitsScript}
 use Rattle.rom_script.specs.Lines.{AreStepsOf}
 use Rattle.rom_script.specs.Runs.{AreAskedOnce, AreAtEnd, AreScripts, AreWithin}
 use Rattle.rom_script.specs.Streams.{ShownSource, IsAskedOnce}
-use Rattle.rom_script.specs.declared.read.ReadRefused.{ReadRefused}
-use Rattle.rom_script.specs.declared.read.ReadRefused.TheVariants as refused
+use Rattle.rom_text.specs.declared.read.ReadRefused.{ReadRefused}
+use Rattle.rom_text.specs.declared.read.ReadRefused.TheVariants as refused
 use Rattle.rom_shell.specs.Reading.{IsCause, IsUnreadAt, unread_status}
 use Rattle.rom_shell.specs.declared.script.Unread.TheVariants.{Script}
 use Rattle.rom_shell.specs.declared.status.Status.TheVariants.{ScriptFailed}

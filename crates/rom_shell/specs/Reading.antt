@@ -1,7 +1,7 @@
 -- Scripts that can't be read, and what is told of them.
 use Rattle.std.specs.Prelude.{◌≡◌, ℕ, ◌+◌, List, ◌++◌, codes, decimal}
-use Rattle.rom_script.specs.declared.read.ReadRefused.{ReadRefused}
-use Rattle.rom_script.specs.declared.read.ReadRefused.TheVariants as refused
+use Rattle.rom_text.specs.declared.read.ReadRefused.{ReadRefused}
+use Rattle.rom_text.specs.declared.read.ReadRefused.TheVariants as refused
 use Rattle.rom_script.specs.Limits.{FailedEarly, IsTooLong}
 use Rattle.rom_script.specs.Runs.{IsFirstToFail, IsTold, SourceFailed, SourceTooLong}
 use Rattle.rom_script.specs.Streams.{ShownSink, ShownSource}
