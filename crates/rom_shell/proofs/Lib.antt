@@ -8,13 +8,3 @@ pub mod Drilling
 pub mod Summing
 pub mod Sources
 pub mod Replies
-pub mod Saying
-pub mod Walking
-pub mod Turns
-pub mod Rows
-pub mod One
-pub mod Many
-pub mod Taken
-pub mod Shapes
-pub mod Matching
-pub mod Values

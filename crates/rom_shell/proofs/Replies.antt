@@ -15,7 +15,7 @@ use Rattle.rom_shell.specs.Reading.{AreUnread, IsUnread, unread_line, unread_sta
 use Rattle.rom_script.specs.Drill.{drill_scripts}
 use Rattle.rom_shell.specs.Run.{HasReplies, HaveDrilled, HavePlayed, IsNewHeap}
 use Rattle.rom_shell.specs.Statuses.{number_of}
-use Rattle.rom_shell.specs.Words.{Try, Run, Drill}
+use Rattle.rom_words.specs.Words.{Try, Run, Drill}
 use Rattle.rom_shell.specs.declared.script.Unread.{Unread}
 use Rattle.rom_shell.specs.declared.script.Unread.TheVariants.{Script, OutOfMemory}
 use Rattle.rom_shell.specs.declared.status.Status.{Status}

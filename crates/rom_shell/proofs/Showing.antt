@@ -27,7 +27,7 @@ use Rattle.rom_shell.specs.Run.{AreAnswered, HasReplies}
 use Rattle.rom_store.specs.Sessions.{EachStory, SessionSeen}
 use Rattle.rom_shell.specs.Stat.{stat_text}
 use Rattle.rom_shell.specs.Statuses.{number_of}
-use Rattle.rom_shell.specs.Words.{Stat}
+use Rattle.rom_words.specs.Words.{Stat}
 
 -- five lines as pieces, of which each begins with a name
 named_lines : (a order b count sizes f free total lf : List ℕ) →

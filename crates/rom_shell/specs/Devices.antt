@@ -27,7 +27,7 @@ use Rattle.rom_shell.specs.Refusing.{refusal_line, refusal_status, unmade_line, 
 use Rattle.rom_shell.specs.declared.status.Status.TheVariants.{HeapRefused}
 use Rattle.rom_combine.specs.Costs.{WithinHeap}
 use Rattle.rom_combine.specs.Session.{ImageNow, SessionImage}
-use Rattle.rom_shell.specs.Words.{Command, Try, Run, Format, Stat, Drill}
+use Rattle.rom_words.specs.Words.{Command, Try, Run, Format, Stat, Drill}
 
 -- the words hold what the story begins with
 abbrev pub IsOpenedFrom : List ℕ → Story State → Type 0

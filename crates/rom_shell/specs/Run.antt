@@ -22,7 +22,7 @@ use Rattle.rom_shell.specs.Devices.{IsOpenedFrom, IsPut}
 use Rattle.rom_shell.specs.Drilled.{IsDrillText, drill_told}
 use Rattle.rom_shell.specs.Stat.{stat_text}
 use Rattle.rom_shell.specs.Statuses.{status_of}
-use Rattle.rom_shell.specs.Words.{Command, Try, Run, Format, Stat, Drill}
+use Rattle.rom_words.specs.Words.{Command, Try, Run, Format, Stat, Drill}
 
 -- the statuses with which a command may end
 abbrev pub IsStatus : Option Command → ℕ → Type 0

@@ -30,12 +30,10 @@ use rom_heap::Trio;
 use rom_model::{Answer, LineResult, Query, Reply};
 use rom_script::{Line, Sink, Summary, drill_scripts, print_drill, sum_dequeued, sum_enqueued};
 use rom_store::{NotFormatted, Played, Unmade, play_new};
+use rom_words::DRILL_ORDER;
 use std::alloc::Global;
 use std::sync::Wait;
 use std::thread::Threads;
-
-/// The order of the heap of a drill.
-pub(crate) const DRILL_ORDER: u32 = 12;
 
 /// The status of results that are all told of.
 fn status_of(results: &[Vec<LineResult<Reply, Answer>>]) -> Status

@@ -6,10 +6,9 @@
 //! holds the empty state whatever a stop leaves of it, one that is shown holds what it held, and
 //! what is refused is told by the very refusal of the device's words. Each script has a caller of its
 //! own, in a thread, and the callers share one heap. What the words are is decided by a test that takes
-//! no memory, and `clap` then gives their names and numbers; a drill makes its scripts by itself.
+//! no memory (`rom_words`); a drill makes its scripts by itself.
 #![tactic(auto)]
 
-mod command_line;
 mod drill;
 mod format;
 mod program;
@@ -20,13 +19,13 @@ mod scripted;
 mod stat;
 mod status;
 mod tell;
-mod words;
 mod worked;
 
 pub use program::{Ended, run};
-pub use rom_store::Session;
+pub use rom_store::{NoGate, Session};
+pub use rom_text::{DeviceWant, Wanted};
+pub use rom_words::files_of;
 pub use status::Status;
-pub use words::{DeviceWant, Wanted, files_of};
 
 #[cfg(test)]
 mod caller_tests;

@@ -36,12 +36,10 @@ use rom_heap::Trio;
 use rom_model::{Answer, Reply};
 use rom_script::{Line, Sink};
 use rom_store::{Played, Refused, Unmade, play, play_new};
+use rom_words::TRY_ORDER;
 use std::alloc::Global;
 use std::sync::Wait;
 use std::thread::Threads;
-
-/// The order of the heap of a `try`.
-pub(crate) const TRY_ORDER: u32 = 4;
 
 /// Prints what the scripts were told, and ends the session.
 fn end_of<D: Device, O: Sink>(played: Played<D, Trio, Reply, Answer>, out: &mut O) -> Worked<D>

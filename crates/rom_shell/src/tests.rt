@@ -2,11 +2,11 @@
 ghost use Rattle.std.specs.Prelude.{◌<◌};
 
 use crate::heap_tests::told_of;
-use crate::words::{Matched, read_command, read_matches};
 use crate::{DeviceWant, Ended, files_of, run};
 use rom_combine::NoGate;
 use rom_device::Ram;
 use rom_script::{Bytes, Collect, Names};
+use rom_words::{Matched, read_command, read_matches};
 use std::alloc::{AllocError, Global};
 use std::sync::Wait;
 use std::test::Fail;

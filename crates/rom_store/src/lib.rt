@@ -48,6 +48,7 @@ pub use playing::play;
 pub use playing_new::{Unmade, play_new};
 pub use reading::Reading;
 pub use reasons::Why;
+pub use rom_combine::{Gate, NoGate};
 pub use rom_lr::{Note, Steps};
 pub use running::Played;
 pub use session::Session;

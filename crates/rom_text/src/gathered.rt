@@ -153,7 +153,8 @@ impl<'a, O: Sink> Sink for Gathered<'a, O> {
 fn print_through<R: Report, O: Sink>(out: &mut Gathered<O>, report: &R) -> Result<(), IoFailed>
     requires none { drop out.old.handed out.old.block.items ≡ [] }
     requires opened { O.shown.taken out.old.opened.value ≡ O.shown.taken out.old.out.now }
-    ensures prints { Prints O.shown out.old.out.now out.new.out.now result (R.shown.text report.now) }
+    ensures prints { Prints O.shown out.old.out.now out.new.out.now result
+        (R.shown.text report.now) }
     ensures of_type { OnOk result (R.shown.Fits report.now) }
     ensures same_sink { out.new.out.ghost_name ≡ out.old.out.ghost_name }
 {

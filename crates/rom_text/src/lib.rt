@@ -22,6 +22,7 @@ mod script;
 mod streams;
 mod told;
 mod trio;
+mod wanted;
 
 pub use adapt::Adapted;
 pub use gathered::print_gathered;
@@ -35,3 +36,4 @@ pub use report::print_run;
 pub use script::read_script;
 pub use streams::{IoFailed, Sink, Source};
 pub use told::{Report, Told};
+pub use wanted::{DeviceWant, Wanted};

@@ -15,7 +15,8 @@ pub fn read_script<O: Object, L: Lines<O>, S: Source>(
     alloc: Global,
     source: &mut S,
 ) -> Result<Vec<Step<O::Call, O::Query>>, ReadRefused>
-    ensures lines { IfOk result (λ lines. AreStepsOf L.Reads (S.shown.left source.old) lines.items) }
+    ensures lines { IfOk result (λ lines.
+        AreStepsOf L.Reads (S.shown.left source.old) lines.items) }
     ensures few { IfOk result (λ lines. length lines.items ≤ MAX_BYTES) }
     ensures fits { OnOk result (IfSome (S.shown.left source.old) FitsScript) }
     ensures ends { EndsReading S.shown source.old source.new result }

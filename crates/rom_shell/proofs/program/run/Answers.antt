@@ -8,8 +8,8 @@ use Rattle.rom_store.specs.Sessions.{EachStory}
 use Rattle.rom_shell.specs.Devices.{CountsFaults, IsHeldNow, IsLeftBySession}
 use Rattle.rom_shell.specs.Run.{HasReplies, HavePlayed}
 use Rattle.rom_shell.specs.Statuses.{number_of}
-use Rattle.rom_shell.specs.Wanted.{given}
-use Rattle.rom_shell.specs.Words.{Try, Run, Stat, Drill, command, scripts_of}
+use Rattle.rom_words.specs.Wanted.{given}
+use Rattle.rom_words.specs.Words.{Try, Run, Stat, Drill, command, scripts_of}
 use Rattle.rom_shell.proofs.Replies.{drill_session, no_source, run_session, try_session, unread_no_memory}
 use Rattle.rom_shell.proofs.Showing.{and_each, shown_replies}
 use Rattle.rom_shell.proofs.Sources.{all_unasked}
