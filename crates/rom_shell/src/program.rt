@@ -24,7 +24,7 @@ use rom_combine::Gate;
 use rom_device::Device;
 use rom_script::{Names, Sink, Source};
 use rom_store::Session;
-use rom_words::{Matched, read_command, read_matches};
+use rom_words::{Asked, read_command};
 use std::alloc::Global;
 use std::sync::Wait;
 use std::thread::Threads;
@@ -161,26 +161,22 @@ pub fn run<R: Threads + Wait + Sync, D: Device + Send, S: Source, O: Sink, G: Ga
         tell(out, &["not a command"]);
         return Ended::of(Status::NotACommand, device, scripts, None);
     };
-    let Ok(matched) = read_matches(alloc, words, &asked) else {
-        tell(out, &["no memory"]);
-        return Ended::of(Status::NoMemory, device, scripts, None);
-    };
-    match matched {
-        Matched::Try(_) => match read_scripts(alloc, &mut scripts, out) {
+    match asked {
+        Asked::Try(_) => match read_scripts(alloc, &mut scripts, out) {
             Ok(lines) => Ended::after(try_heap(rt, alloc, device, &lines, out, gate), scripts),
             Err(status) => Ended::of(status, device, scripts, None),
         },
-        Matched::Run { .. } => match read_scripts(alloc, &mut scripts, out) {
+        Asked::Run { .. } => match read_scripts(alloc, &mut scripts, out) {
             Ok(lines) => Ended::after(run_heap(rt, alloc, device, &lines, out, gate), scripts),
             Err(status) => Ended::of(status, device, scripts, None),
         },
-        Matched::Format { file: _, order } => {
+        Asked::Format { file: _, order } => {
             let mut device = device;
             let status = make_heap(alloc, &mut device, order, out);
             Ended::of(status, device, scripts, None)
         }
-        Matched::Stat(_) => Ended::after(show_heap(alloc, device, out), scripts),
-        Matched::Drill {
+        Asked::Stat(_) => Ended::after(show_heap(alloc, device, out), scripts),
+        Asked::Drill {
             start,
             callers,
             calls,
