@@ -1,5 +1,5 @@
 use Rattle.std.proofs.Common.{◌≡◌, length}
-use Rattle.romulus.proofs.sources_of.Given as goal
+use Rattle.rom_host.proofs.streams.sources_of.Given as goal
 
 -- a source for each name so far
 abbrev pub invariant-loop-i : goal.invariant-loop-i
