@@ -5,7 +5,7 @@ use Rattle.rom_model.specs.declared.call.Updated.TheVariants as told
 use Rattle.rom_model.specs.declared.entry.Entry.{Entry}
 use Rattle.rom_model.specs.declared.record.Fate.{Fate}
 use Rattle.rom_model.specs.declared.record.Fate.TheVariants.{Published, Failed, Doubt}
-use Rattle.rom_rule.specs.CallKinds.{CanMakeRecord, IsAnswer, answered}
+use Rattle.rom_rule.specs.CallKinds.{CanMakeRecord, IsAnswer}
 use Rattle.rom_rule.specs.Calls.{answer_words, packed}
 use Rattle.rom_rule.specs.Kinds.{IsBatch, TellsEach, making}
 use Rattle.rom_rule.specs.Views.{is_made}

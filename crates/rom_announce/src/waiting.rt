@@ -1,7 +1,7 @@
 //! How a caller waits while its call is not answered, how it is woken, and how calls gather before a
 //! pass.
-ghost use Rattle.std.specs.Prelude.{◌≡◌, ◌+◌, ◌≤◌, length};
-ghost use Rattle.rom_lr.specs.Seats.{IsSeatOf};
+ghost use Rattle.std.specs.Prelude.{◌≤◌};
+ghost use Rattle.rom_lr.specs.Seats.{IsPosted, IsSeatOf};
 
 use rom_lr::{Seat, Shared};
 use rom_model::Object;
@@ -23,7 +23,7 @@ const GATHERS: u32 = 30;
 /// Lets other threads run a few times, until the posted call is answered. Where a pass is shorter than
 /// it takes to fall asleep and be woken, this serves before [`nap`].
 pub fn linger<O: Object>(shared: &Shared<O>, seat: &Seat)
-    requires of { IsSeatOf shared.now.table.shared.table_id shared.now.table.shared.key seat.now }
+    requires of { IsSeatOf shared.now seat.now }
 {
     for _ in 0..LINGERS {
         if !is_posted(shared, seat.number) {
@@ -37,8 +37,8 @@ pub fn linger<O: Object>(shared: &Shared<O>, seat: &Seat)
 /// most, and one more for each look that the caller has `looked` before. It may return at once. It makes
 /// no step and tells nothing, so the caller looks with [`answered`](crate::answered) afterwards.
 pub fn nap<O: Object, R: Wait>(rt: &R, shared: &Shared<O>, seat: &Seat, looked: u64)
-    requires of { IsSeatOf shared.now.table.shared.table_id shared.now.table.shared.key seat.now }
-    requires posted { length seat.now.token.me.0.calls ≡ length seat.now.token.me.0.outcomes + 1 }
+    requires of { IsSeatOf shared.now seat.now }
+    requires posted { IsPosted seat.now }
 {
     let at = shared.layout.slot(seat.number, 0) as usize;
     // The low 32 bits of the odd turn, which is twice the number of calls posted before, and one.

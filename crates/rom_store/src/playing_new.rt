@@ -12,10 +12,9 @@ ghost use Rattle.rom_header.specs.Fresh.{HasTooFewFor, IsFormatAnswer, IsRefused
 ghost use Rattle.rom_header.specs.Layout.{words_needed};
 ghost use Rattle.rom_header.specs.declared.fresh.FormatRefused.{FormatRefused};
 ghost use Rattle.rom_lr.specs.Opening.{dealt_view};
-ghost use Rattle.rom_lr.specs.Seats.{IsWriterOf};
+ghost use Rattle.rom_lr.specs.Seats.{IsWriterOf, opened_with, writer_view};
 ghost use Rattle.rom_combine.specs.AtRest.{IsReady};
 ghost use Rattle.rom_combine.specs.Session.{ImageNow, SessionImage};
-ghost use Rattle.rom_rule.specs.Views.{base_of};
 ghost use Rattle.rom_store.specs.Callers.{IsNewCaller};
 ghost use Rattle.rom_store.specs.Indexed.{Indexed};
 ghost use Rattle.rom_store.specs.Making.{HasFaultsUnmade, IsMadeThen, NoneOrHolds};
@@ -74,20 +73,19 @@ where
         × (length scripts.now ≤ vec_capacity made.rooms.jobs)) }
     ensures region { IfOk result (λ made.
         O.Contents order (words_of made.region) O.machine.empty 0) }
-    ensures of { IfOk result (λ made. IsWriterOf made.seated.shared.table.shared.table_id
-        made.seated.shared.table.shared.key made.seated.writer) }
-    ensures base { IfOk result (λ made. base_of made.seated.shared.table.shared.key ≡ record {
+    ensures of { IfOk result (λ made. IsWriterOf made.seated.shared made.seated.writer) }
+    ensures base { IfOk result (λ made. opened_with made.seated.shared ≡ record {
       order = order;
       callers = length scripts.now;
       image = words_of made.region;
       faults = faults;
     }) }
-    ensures writer { IfOk result (λ made. made.seated.writer.token.me.0
-        ≡ dealt_view (base_of made.seated.shared.table.shared.key) (length scripts.now)) }
+    ensures writer { IfOk result (λ made. writer_view made.seated.writer
+        ≡ dealt_view (opened_with made.seated.shared) (length scripts.now)) }
     ensures ready { IfOk result (λ made. IsReady O.STORES (length scripts.now) made.seated.log) }
     ensures many { IfOk result (λ made. length made.seated.passes.items ≡ length scripts.now) }
     ensures passes { IfOk result (λ made. Indexed (IsNewCaller O.Contents
-        made.seated.shared.table.shared.table_id (base_of made.seated.shared.table.shared.key))
+        made.seated.shared.table.shared.table_id (opened_with made.seated.shared))
         made.seated.passes.items) }
     ensures begun { IfOk result (λ made. (made.seated.begun.order ≡ order)
         × (words_of made.seated.begun.image.value ≡ words_of made.region)
