@@ -31,7 +31,7 @@ use std::sync::Wait;
 use std::thread::Threads;
 
 /// Prints that there is no memory, where the device was not called for it.
-pub fn end_unremembered<O: Object, D: Device, K: Sink>(device: D, out: &mut K) -> Worked<D>
+pub fn end_without_memory<O: Object, D: Device, K: Sink>(device: D, out: &mut K) -> Worked<D>
     ensures worked { result ≡ record {
       device = device;
       status = Status.NoMemory;
@@ -107,8 +107,8 @@ where
     ensures played { (scripts : List (List (Step O.Call O.Query))) →
         EachStory O.machine O.Contents played.closed.session (λ story.
         IsLawful O.machine story scripts (map (λ v. v.items) played.results.items)
-        → HavePlayed O.machine K.shown (texts_of O.Reply.shown O.Answer.shown) scripts out.old out.new
-        (number_of result.status) story) }
+        → HavePlayed O.machine K.shown (texts_of O.Reply.shown O.Answer.shown) scripts out.old
+        out.new (number_of result.status) story) }
     ensures sink_failed { result.status ≡ Status.SinkFailed → WriteFailed K.shown out.old out.new }
     ensures writing { StopsWriting K.shown out.old out.new }
     ensures rest { K.shown.rest out.new ≡ K.shown.rest out.old }
@@ -123,8 +123,8 @@ where
     }
 }
 
-/// Opens or makes the heap and runs the scripts on it, one caller each, or prints why there is none.
-/// Memory for them is taken before the device is called; where a heap is made, all memory is.
+/// Opens or makes the heap and runs the scripts on it, one caller each, or prints why there is
+/// none. Memory for them is taken before the device is called; where a heap is made, all memory is.
 pub fn play_heap<
     O: Object + Send + Sync,
     D: Device + Send,
@@ -176,8 +176,8 @@ where
     }
 }
 
-/// Opens or makes the heap, runs the scripts on it, one caller each, and prints what they were told, or
-/// why there is no heap.
+/// Opens or makes the heap, runs the scripts on it, one caller each, and prints what they were told,
+/// or why there is no heap.
 pub fn play_lines<
     O: Object + Send + Sync,
     D: Device + Send,
@@ -204,8 +204,10 @@ where
     ensures statuses { (number_of result.status ≡ 0) ⊎ (number_of result.status ≡ 1)
         ⊎ (number_of result.status ≡ 3) ⊎ (number_of result.status ≡ 5)
         ⊎ (number_of result.status ≡ 6) ⊎ (number_of result.status ≡ 7) }
-    ensures ran { HasRun (Some (Plays heap Read)) (number_of result.status) → IsSome result.session }
-    ensures not_run { (number_of result.status ≡ 3) ⊎ (number_of result.status ≡ 6) → IsNone result.session }
+    ensures ran { HasRun (Some (Plays heap Read)) (number_of result.status) →
+        IsSome result.session }
+    ensures not_run { (number_of result.status ≡ 3) ⊎ (number_of result.status ≡ 6) →
+        IsNone result.session }
     ensures session { IfSome result.session (HasSession O.machine O.Contents D.shown heap device
         result.device (HavePlayed O.machine K.shown (texts_of O.Reply.shown O.Answer.shown)
         (map (λ v. v.items) scripts.now) out.old out.new (number_of result.status))) }

@@ -115,7 +115,8 @@ where
     }
 }
 
-/// Does all that a program does with words that are this command or, where there is none, no command.
+/// Does all that a program does with words that are this command or, where there is none, no
+/// command.
 pub fn run_asked<
     O: Object + Send + Sync,
     L: Lines<O>,

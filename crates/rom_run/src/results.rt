@@ -67,7 +67,8 @@ pub fn tell_results<R: Told, A: Told, O: Sink>(
     results: &[Vec<LineResult<R, A>>],
     count: u64,
 ) -> Status
-    ensures printed { IsRunText O.shown (texts_of R.shown A.shown) (map (λ v. v.items) results.now) count out.old out.new (number_of result) }
+    ensures printed { IsRunText O.shown (texts_of R.shown A.shown)
+        (map (λ v. v.items) results.now) count out.old out.new (number_of result) }
     ensures statuses { (result ≡ Status.Done) ⊎ (result ≡ Status.Unread)
         ⊎ (result ≡ Status.SinkFailed) ⊎ (result ≡ Status.DeviceFailed) }
     ensures sink_failed { result ≡ Status.SinkFailed → WriteFailed O.shown out.old out.new }

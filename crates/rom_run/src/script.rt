@@ -29,7 +29,8 @@ fn read_script<O: Object, L: Lines<O>, S: Source>(
     alloc: Global,
     source: &mut S,
 ) -> Result<Vec<Step<O::Call, O::Query>>, ReadRefused>
-    ensures lines { IfOk result (λ lines. AreStepsOf L.Reads (S.shown.left source.old) lines.items) }
+    ensures lines { IfOk result (λ lines.
+        AreStepsOf L.Reads (S.shown.left source.old) lines.items) }
     ensures few { IfOk result (λ lines. length lines.items ≤ MAX_BYTES) }
     ensures fits { OnOk result (IfSome (S.shown.left source.old) FitsScript) }
     ensures ends { EndsReading S.shown source.old source.new result }
@@ -45,7 +46,8 @@ fn read_all<O: Object, L: Lines<O>, S: Source>(
     sources: &mut [S],
 ) -> Result<Vec<Vec<Step<O::Call, O::Query>>>, Unread>
     ensures many { length sources.new ≡ length sources.old }
-    ensures lines { IfOk result (λ read. AreScripts L.Reads S.shown sources.old (map (λ v. v.items) read.items)) }
+    ensures lines { IfOk result (λ read.
+        AreScripts L.Reads S.shown sources.old (map (λ v. v.items) read.items)) }
     ensures few { IfOk result (λ read. All (λ v. length v.items ≤ LAST_COUNT) read.items) }
     ensures each { IfOk result (λ read. length read.items ≡ length sources.old) }
     ensures fits { OnOk result (AreWithin S.shown sources.old) }
@@ -53,7 +55,8 @@ fn read_all<O: Object, L: Lines<O>, S: Source>(
     ensures unread { IfErr result (λ unread. AreUnread S.shown unread sources.old sources.new) }
     ensures unfailed { IfErr result (λ unread. unread_status unread ≢ Status.ScriptFailed →
         map S.shown.faults sources.new ≡ map S.shown.faults sources.old) }
-    ensures unfailed_read { OnOk result (map S.shown.faults sources.new ≡ map S.shown.faults sources.old) }
+    ensures unfailed_read { OnOk result
+        (map S.shown.faults sources.new ≡ map S.shown.faults sources.old) }
     ensures asked_once { AreAskedOnce S.shown sources.old sources.new }
 {
     let Ok(mut scripts) = Vec::with_capacity(alloc, sources.len()) else {
@@ -90,15 +93,16 @@ fn tell_unread<O: Sink>(out: &mut O, unread: Unread) -> Status
     }
 }
 
-/// Reads the scripts in order. An `Err` is the status where one can't be read; the line of the first
-/// such is printed then.
+/// Reads the scripts in order. An `Err` is the status where one can't be read; the line of the
+/// first such is printed then.
 pub fn read_scripts<O: Object, L: Lines<O>, S: Source, K: Sink>(
     alloc: Global,
     sources: &mut [S],
     out: &mut K,
 ) -> Result<Vec<Vec<Step<O::Call, O::Query>>>, Status>
     ensures many { length sources.new ≡ length sources.old }
-    ensures lines { IfOk result (λ read. AreScripts L.Reads S.shown sources.old (map (λ v. v.items) read.items)) }
+    ensures lines { IfOk result (λ read.
+        AreScripts L.Reads S.shown sources.old (map (λ v. v.items) read.items)) }
     ensures few { IfOk result (λ read. All (λ v. length v.items ≤ LAST_COUNT) read.items) }
     ensures each { IfOk result (λ read. length read.items ≡ length sources.old) }
     ensures unprinted { OnOk result (out.new ≡ out.old) }

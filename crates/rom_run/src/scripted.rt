@@ -21,8 +21,9 @@ use std::alloc::Global;
 use std::sync::Wait;
 use std::thread::Threads;
 
-/// Reads all scripts, then opens or makes the heap and runs them on it, one caller each, and prints what
-/// they were told; or prints why they are not run. The device is not called before all are read.
+/// Reads all scripts, then opens or makes the heap and runs them on it, one caller each, and prints
+/// what they were told; or prints why they are not run. The device is not called before all are
+/// read.
 pub fn play_sources<
     O: Object + Send + Sync,
     L: Lines<O>,

@@ -12,7 +12,7 @@ ghost use Rattle.rom_shell.specs.Words as spec;
 
 use crate::command_line::{found_in, matches_of, name_at, names_at, text_at, texts_of};
 use crate::drill::DRILL_ORDER;
-use crate::scripted::TRY_ORDER;
+use crate::program::TRY_ORDER;
 use arrayvec::ArrayVec;
 use clap::ArgMatches;
 use rom_header::Geometry;

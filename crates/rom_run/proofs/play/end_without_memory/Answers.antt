@@ -1,6 +1,6 @@
 use Rattle.std.proofs.Common.{arith}
 use Rattle.rom_run.proofs.Uncalled.{kept_uncalled, none_uncalled}
-use Rattle.rom_run.proofs.play.end_unremembered.Goals as goal
+use Rattle.rom_run.proofs.play.end_without_memory.Goals as goal
 
 pub returns-clause-none : goal.returns-clause-none
 returns-clause-none g c =
