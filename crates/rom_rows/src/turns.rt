@@ -1,5 +1,4 @@
-//! What the writer does at a table beside its readers, and what one reader tells another. It is no
-//! test itself, so that what it asks for is tried by edits too.
+//! What the writer does at a table beside its readers, and what one reader tells another.
 ghost use Rattle.std.specs.Prelude.{◌≡◌, ℕ, ◌<◌};
 ghost use Rattle.rom_model.specs.Blocks.{region_len};
 ghost use Rattle.rom_model.specs.Seen.{StartsWith};

@@ -27,14 +27,3 @@ pub use program::{Ended, run};
 pub use rom_store::Session;
 pub use status::Status;
 pub use words::{DeviceWant, Wanted, files_of};
-
-#[cfg(test)]
-mod caller_tests;
-#[cfg(test)]
-mod drill_tests;
-#[cfg(test)]
-mod heap_tests;
-#[cfg(test)]
-mod run_tests;
-#[cfg(test)]
-mod tests;

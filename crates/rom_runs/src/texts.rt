@@ -3,34 +3,33 @@
 use rom_model::{Answer, Call, Query, Reply, Step};
 use std::alloc::{AllocError, Global};
 
-fn call_text(alloc: Global, call: &Call) -> Result<String, AllocError> {
-    match call {
-        Call::Enq(number) => format!(in alloc; "enq {number}"),
-        Call::Deq => format!(in alloc; "deq"),
-        Call::Add(number) => format!(in alloc; "add {number}"),
-        Call::Rem(number) => format!(in alloc; "rem {number}"),
-        Call::Put(key, value) => format!(in alloc; "put {key} {value}"),
-        Call::Del(key) => format!(in alloc; "del {key}"),
-        Call::Move(from, to, amount) => format!(in alloc; "move {from} {to} {amount}"),
+/// The first three numbers of these words. One that is not there is 0.
+fn numbers_of(words: &str) -> [u64; 3] {
+    let mut numbers = [0; 3];
+    for (place, digits) in numbers.iter_mut().zip(words.split(' ')) {
+        *place = digits.parse::<u64>().unwrap_or(0);
     }
+    numbers
 }
 
-fn query_text(alloc: Global, query: &Query) -> Result<String, AllocError> {
-    match query {
-        Query::Has(number) => format!(in alloc; "has {number}"),
-        Query::Get(key) => format!(in alloc; "get {key}"),
-        Query::Peek => format!(in alloc; "peek"),
-        Query::Len => format!(in alloc; "len"),
-        Query::Total => format!(in alloc; "total"),
-    }
-}
-
-/// The line that asks for this.
-pub fn line_text(alloc: Global, step: &Step<Call, Query>) -> Result<String, AllocError> {
-    match step {
-        Step::Update(call) => call_text(alloc, call),
-        Step::Ask(query) => query_text(alloc, query),
-        Step::Unread => format!(in alloc; "?"),
+/// What a line that is well formed, or names no command, asks for.
+pub fn step_of(line: &str) -> Step<Call, Query> {
+    let (name, words) = line.split_once(" ").unwrap_or((line, ""));
+    let [first, second, third] = numbers_of(words);
+    match name {
+        "enq" => Step::Update(Call::Enq(first)),
+        "deq" => Step::Update(Call::Deq),
+        "add" => Step::Update(Call::Add(first)),
+        "rem" => Step::Update(Call::Rem(first)),
+        "put" => Step::Update(Call::Put(first, second)),
+        "del" => Step::Update(Call::Del(first)),
+        "move" => Step::Update(Call::Move(first, second, third)),
+        "has" => Step::Ask(Query::Has(first)),
+        "get" => Step::Ask(Query::Get(first)),
+        "peek" => Step::Ask(Query::Peek),
+        "len" => Step::Ask(Query::Len),
+        "total" => Step::Ask(Query::Total),
+        _ => Step::Unread,
     }
 }
 
