@@ -5,7 +5,7 @@ use crate::rows::{Holding, PLAIN, Row, Text, Words};
 use crate::runner::try_rows;
 use std::test::Fail;
 
-/// Three lines more than two updates, of which each caller has its own reply.
+/// Scripts of few lines and of several.
 const SHORT: &str = "enq 7\nget 7\n";
 
 const THREE: &str = "put 1 1\nadd 2\nrem 2\n";

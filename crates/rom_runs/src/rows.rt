@@ -26,7 +26,7 @@ pub struct Row {
     pub faults: u64,
     /// What `stat` prints of the device then, or nothing where that is not asked.
     pub shown: &'static str,
-    /// The device's words then, or the same as before where that is not asked and nothing was done.
+    /// The device's words then, where that is asked. Where nothing is done they stay in any case.
     pub left: Option<Words>,
 }
 

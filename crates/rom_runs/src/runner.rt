@@ -382,15 +382,16 @@ pub fn try_row<R: Threads + Wait + Sync + AllocGlobal + Abort>(
     scripts: &[String],
     before: &[u64],
 ) -> Result<Vec<u64>, Fail> {
-    let ample = ROOM.saturating_add(lines_in(row, scripts).saturating_mul(MOST_TOLD));
-    let (first, last) = match (row.sink, row.text) {
-        (Sink::Only(room), _) => (room, room),
-        (Sink::Each, Text::Is(text)) => (0, text.len() as u64),
-        (Sink::Ample, _) | (Sink::Each, Text::OneHistory(_)) => (ample, ample),
-    };
-    let mut left = Vec::new(rt.alloc());
-    for room in first..=last {
-        left = try_once(rt, row, scripts, before, room)?;
+    if let (Sink::Each, Text::Is(text)) = (row.sink, row.text) {
+        for room in 0..text.len() {
+            try_once(rt, row, scripts, before, room as u64)?;
+        }
     }
-    Ok(left)
+    let ample = ROOM.saturating_add(lines_in(row, scripts).saturating_mul(MOST_TOLD));
+    let room = match (row.sink, row.text) {
+        (Sink::Only(room), _) => room,
+        (Sink::Each, Text::Is(text)) => text.len() as u64,
+        _ => ample,
+    };
+    try_once(rt, row, scripts, before, room)
 }
