@@ -17,8 +17,6 @@
 mod kinds;
 mod law;
 mod layout;
-#[cfg(test)]
-mod tests;
 mod views;
 
 pub use kinds::{

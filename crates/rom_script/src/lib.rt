@@ -11,8 +11,6 @@
 
 mod adapt;
 mod drill;
-#[cfg(test)]
-mod drill_tests;
 mod gathered;
 mod line;
 mod memory;
@@ -24,8 +22,6 @@ mod report;
 mod script;
 mod streams;
 mod summary;
-#[cfg(test)]
-mod tests;
 mod told;
 mod trio;
 

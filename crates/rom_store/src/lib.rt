@@ -52,6 +52,3 @@ pub use rom_lr::{Note, Steps};
 pub use running::Played;
 pub use session::Session;
 pub use store::Store;
-
-#[cfg(test)]
-mod tests;
