@@ -1,11 +1,12 @@
 -- What the writer's answer asks for and leaves.
-use Rattle.std.specs.Prelude.{◌≡◌, ℕ, ◌+◌, ◌^◌, List, [], ◌∷◌, true, false, Option, ◌==◌, if◌then◌else◌}
+use Rattle.std.specs.Prelude.{◌≡◌, ℕ, ◌+◌, List, [], ◌∷◌, true, false, Option, ◌==◌, if◌then◌else◌}
+use Rattle.rom_model.specs.Undone.{FAILED, DOUBT}
 use Rattle.rom_model.specs.declared.call.Updated.{Updated}
 use Rattle.rom_model.specs.declared.call.Updated.TheVariants as told
 use Rattle.rom_model.specs.declared.entry.Entry.{Entry}
 use Rattle.rom_model.specs.declared.record.Fate.{Fate}
 use Rattle.rom_model.specs.declared.record.Fate.TheVariants.{Published, Failed, Doubt}
-use Rattle.rom_rule.specs.CallKinds.{CanMakeRecord, IsAnswer, answered}
+use Rattle.rom_rule.specs.CallKinds.{CanMakeRecord, IsAnswer}
 use Rattle.rom_rule.specs.Calls.{answer_words, packed}
 use Rattle.rom_rule.specs.Kinds.{IsBatch, TellsEach, making}
 use Rattle.rom_rule.specs.Views.{is_made}
@@ -15,7 +16,7 @@ use Rattle.rom_rule.specs.declared.views.Request.{Request}
 
 -- how a pass ended whose first answer has this place or code
 abbrev pub fate_of : ℕ → Fate
-fate_of place = if place == 2 ^ 62 + 1 then Failed else if place == 2 ^ 62 + 2 then Doubt else Published
+fate_of place = if place == FAILED then Failed else if place == DOUBT then Doubt else Published
 
 -- what such a pass tells each call that it didn't do
 abbrev pub undone : Fate → Updated (List ℕ)

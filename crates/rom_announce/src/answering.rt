@@ -3,7 +3,7 @@ ghost use Rattle.std.specs.Prelude.{◌≡◌, ℕ, ◌+◌, ◌<◌, ◌≤◌,
 ghost use Rattle.rom_model.specs.Machine.{on_words};
 ghost use Rattle.rom_model.specs.declared.call.Updated.{Updated};
 ghost use Rattle.rom_announce.specs.Answering.{CanAnswer, HasRecord, answered_with, fate_of, with_reply};
-ghost use Rattle.rom_lr.specs.Seats.{IsWriterOf};
+ghost use Rattle.rom_lr.specs.Seats.{IsWriterOf, plan, steps_of, writer_view};
 ghost use Rattle.rom_lr.specs.Writing.{Writes};
 ghost use Rattle.rom_rule.specs.CallKinds.{CanFinish, CanMakeRecord, IsPending, altered, answering, laying, placing};
 ghost use Rattle.rom_rule.specs.Calls.{packed};
@@ -14,7 +14,7 @@ ghost use Rattle.rom_rule.specs.declared.views.Request.{Request};
 use crate::waiting::wake;
 use rom_lr::{Shared, WriterSeat};
 use rom_model::{Back, Object};
-use rom_rule::{Answers, BeginsAnswer, PassEnd, StoresPlace, StoresReply};
+use rom_rule::{Answers, BeginsAnswer, PLACE, PassEnd, REPLY, StoresPlace, StoresReply, TURN};
 use std::marker::Brand;
 
 /// Answers a found call: it stores the number of the reply's words and the words, then the place or a
@@ -31,11 +31,17 @@ pub fn answer<O: Object>(
     before: u64,
     after: u64,
 )
-    requires of { IsWriterOf shared.now.table.shared.table_id shared.now.table.shared.key seat.old }
+    requires of { IsWriterOf shared.now seat.old }
     requires within { (1 ≤ caller) × (caller ≤ shared.now.layout.callers) }
-    requires found { let v = seat.old.token.me.0 in (f : Request) × IsPending (plan_of v) caller f × CanAnswer O.Contents (on_words O.machine) v.base (plan_of v) f place reply.now before after }
-    ensures answered { let v = seat.old.token.me.0 in (q : Plan) × HasRecord O.Contents (on_words O.machine) v.base (plan_of v) q (fate_of place) before after × Writes seat.old seat.new (altered caller (answered_with place (packed reply.now)) q) }
-    ensures steps { seat.new.token.me.0.steps ≡ seat.old.token.me.0.steps + length reply.now + 3 }
+    requires found { let v = writer_view seat.old in
+        (f : Request) × IsPending (plan_of v) caller f
+        × CanAnswer O.Contents (on_words O.machine) v.base (plan_of v) f
+        place reply.now before after }
+    ensures answered { let v = writer_view seat.old in
+        (q : Plan) × HasRecord O.Contents (on_words O.machine) v.base (plan_of v) q
+        (fate_of place) before after
+        × Writes seat.old seat.new (altered caller (answered_with place (packed reply.now)) q) }
+    ensures steps { steps_of seat.new ≡ steps_of seat.old + length reply.now + 3 }
 {
     begin::<O, Brand>(shared, seat, caller, reply.len(), place, before, after);
     store_reply(shared, seat, caller, reply);
@@ -55,14 +61,19 @@ fn begin<O: Object, N: PassEnd>(
     after: u64,
 )
     requires picked { (N.before ≡ before) × (N.after ≡ after) × (N.fate ≡ fate_of place) }
-    requires of { IsWriterOf shared.now.table.shared.table_id shared.now.table.shared.key seat.old }
+    requires of { IsWriterOf shared.now seat.old }
     requires within { (1 ≤ caller) × (caller ≤ shared.now.layout.callers) }
-    requires found { (f : Request) × IsPending (plan_of seat.old.token.me.0) caller f }
-    requires can { let v = seat.old.token.me.0 in is_made (plan_of v).mine ≡ false → CanMakeRecord O.Contents (on_words O.machine) v.base (plan_of v) (fate_of place) before after }
-    ensures begun { let v = seat.old.token.me.0 in (q : Plan) × HasRecord O.Contents (on_words O.machine) v.base (plan_of v) q (fate_of place) before after × Writes seat.old seat.new (altered caller (laying 0 count) q) }
-    ensures step { seat.new.token.me.0.steps ≡ seat.old.token.me.0.steps + 1 }
+    requires found { (f : Request) × IsPending (plan seat.old) caller f }
+    requires can { let v = writer_view seat.old in is_made (plan_of v).mine ≡ false →
+        CanMakeRecord O.Contents (on_words O.machine) v.base (plan_of v)
+        (fate_of place) before after }
+    ensures begun { let v = writer_view seat.old in
+        (q : Plan) × HasRecord O.Contents (on_words O.machine) v.base (plan_of v) q
+        (fate_of place) before after
+        × Writes seat.old seat.new (altered caller (laying 0 count) q) }
+    ensures step { steps_of seat.new ≡ steps_of seat.old + 1 }
 {
-    let at = shared.layout.slot(caller, 43) as usize;
+    let at = shared.layout.slot(caller, REPLY) as usize;
     shared
         .table
         .shared
@@ -70,11 +81,14 @@ fn begin<O: Object, N: PassEnd>(
 }
 
 fn store_reply<O: Object>(shared: &Shared<O>, seat: &mut WriterSeat, caller: u32, reply: &Back)
-    requires of { IsWriterOf shared.now.table.shared.table_id shared.now.table.shared.key seat.old }
-    requires within { (1 ≤ caller) × (caller ≤ shared.now.layout.callers) × (length reply.now ≤ 20) }
-    requires found { (p : Plan) × (f : Request) × IsPending p caller f × (plan_of seat.old.token.me.0 ≡ altered caller (with_reply (length reply.now ∷ [])) p) }
-    ensures stored { Writes seat.old seat.new (altered caller (with_reply (packed reply.now)) (plan_of seat.old.token.me.0)) }
-    ensures steps { seat.new.token.me.0.steps ≡ seat.old.token.me.0.steps + length reply.now }
+    requires of { IsWriterOf shared.now seat.old }
+    requires within { (1 ≤ caller) × (caller ≤ shared.now.layout.callers)
+        × (length reply.now ≤ 20) }
+    requires found { (p : Plan) × (f : Request) × IsPending p caller f
+        × (plan seat.old ≡ altered caller (with_reply (length reply.now ∷ [])) p) }
+    ensures stored { Writes seat.old seat.new (altered caller (with_reply (packed reply.now))
+        (plan seat.old)) }
+    ensures steps { steps_of seat.new ≡ steps_of seat.old + length reply.now }
 {
     for i in 0..reply.len() {
         store_word(shared, seat, caller, 1 + i, reply.at(i).unwrap());
@@ -83,13 +97,13 @@ fn store_reply<O: Object>(shared: &Shared<O>, seat: &mut WriterSeat, caller: u32
 
 // Word j of a reply, where word 0 is the number of the others.
 fn store_word<O: Object>(shared: &Shared<O>, seat: &mut WriterSeat, caller: u32, j: u64, word: u64)
-    requires of { IsWriterOf shared.now.table.shared.table_id shared.now.table.shared.key seat.old }
+    requires of { IsWriterOf shared.now seat.old }
     requires within { (1 ≤ caller) × (caller ≤ shared.now.layout.callers) × (j < 21) }
-    requires found { (f : Request) × IsPending (plan_of seat.old.token.me.0) caller f × (j ≤ length f.laid) }
-    ensures stored { Writes seat.old seat.new (altered caller (laying j word) (plan_of seat.old.token.me.0)) }
-    ensures step { seat.new.token.me.0.steps ≡ seat.old.token.me.0.steps + 1 }
+    requires found { (f : Request) × IsPending (plan seat.old) caller f × (j ≤ length f.laid) }
+    ensures stored { Writes seat.old seat.new (altered caller (laying j word) (plan seat.old)) }
+    ensures step { steps_of seat.new ≡ steps_of seat.old + 1 }
 {
-    let at = shared.layout.slot(caller, 43 + j) as usize;
+    let at = shared.layout.slot(caller, REPLY + j) as usize;
     shared
         .table
         .shared
@@ -97,13 +111,13 @@ fn store_word<O: Object>(shared: &Shared<O>, seat: &mut WriterSeat, caller: u32,
 }
 
 fn store_place<O: Object>(shared: &Shared<O>, seat: &mut WriterSeat, caller: u32, place: u64)
-    requires of { IsWriterOf shared.now.table.shared.table_id shared.now.table.shared.key seat.old }
+    requires of { IsWriterOf shared.now seat.old }
     requires within { (1 ≤ caller) × (caller ≤ shared.now.layout.callers) }
-    requires found { (f : Request) × IsPending (plan_of seat.old.token.me.0) caller f }
-    ensures stored { Writes seat.old seat.new (altered caller (placing place) (plan_of seat.old.token.me.0)) }
-    ensures step { seat.new.token.me.0.steps ≡ seat.old.token.me.0.steps + 1 }
+    requires found { (f : Request) × IsPending (plan seat.old) caller f }
+    ensures stored { Writes seat.old seat.new (altered caller (placing place) (plan seat.old)) }
+    ensures step { steps_of seat.new ≡ steps_of seat.old + 1 }
 {
-    let at = shared.layout.slot(caller, 42) as usize;
+    let at = shared.layout.slot(caller, PLACE) as usize;
     shared
         .table
         .shared
@@ -112,13 +126,14 @@ fn store_place<O: Object>(shared: &Shared<O>, seat: &mut WriterSeat, caller: u32
 
 // The turn, even: one more than the odd one, which nobody else changes now.
 fn finish<O: Object>(shared: &Shared<O>, seat: &mut WriterSeat, caller: u32)
-    requires of { IsWriterOf shared.now.table.shared.table_id shared.now.table.shared.key seat.old }
+    requires of { IsWriterOf shared.now seat.old }
     requires within { (1 ≤ caller) × (caller ≤ shared.now.layout.callers) }
-    requires found { (f : Request) × (u : Updated (List ℕ)) × (place : ℕ) × (f.caller ≡ caller) × CanFinish (plan_of seat.old.token.me.0) f u place }
-    ensures answered { Writes seat.old seat.new (altered caller answering (plan_of seat.old.token.me.0)) }
-    ensures step { seat.new.token.me.0.steps ≡ seat.old.token.me.0.steps + 1 }
+    requires found { (f : Request) × (u : Updated (List ℕ)) × (place : ℕ) × (f.caller ≡ caller)
+        × CanFinish (plan seat.old) f u place }
+    ensures answered { Writes seat.old seat.new (altered caller answering (plan seat.old)) }
+    ensures step { steps_of seat.new ≡ steps_of seat.old + 1 }
 {
-    let at = shared.layout.slot(caller, 0) as usize;
+    let at = shared.layout.slot(caller, TURN) as usize;
     shared
         .table
         .shared

@@ -2,31 +2,31 @@
 ghost use Rattle.std.specs.Prelude.{◌≡◌, ℕ, ◌+◌, ◌%◌, ◌<◌, ◌≤◌, ◌==◌, List, [], ◌∷◌, ◌++◌, take, length, slice_index};
 ghost use Rattle.rom_model.specs.Machine.{on_words};
 ghost use Rattle.rom_announce.specs.Scanning.{MayScan, scanned_from, with_words};
-ghost use Rattle.rom_lr.specs.Seats.{IsWriterOf};
+ghost use Rattle.rom_lr.specs.Seats.{IsWriterOf, plan, steps_of, writer_view};
 ghost use Rattle.rom_lr.specs.Writing.{Writes};
 ghost use Rattle.rom_rule.specs.CallKinds.{IsPending, altered, found_after, loading};
 ghost use Rattle.rom_rule.specs.Calls.{packed};
 ghost use Rattle.rom_rule.specs.Records.{IsCall};
-ghost use Rattle.rom_rule.specs.Views.{plan_of};
 ghost use Rattle.rom_rule.specs.declared.views.Plan.{Plan};
 ghost use Rattle.rom_rule.specs.declared.views.Request.{Request};
 
 use rom_lr::{Shared, WriterSeat};
 use rom_model::{Args, Object};
-use rom_rule::{BeginsPass, LoadsArgument, Scans};
+use rom_rule::{BeginsPass, CALL, LoadsArgument, Scans, TURN};
 
 /// Whether a caller has a call posted, by one load of its turn: true where it is odd, and then the call
 /// is found. With caller 1 a new pass begins; the others follow in the order of their numbers, until
 /// the pass has its record.
 pub fn posted<O: Object>(shared: &Shared<O>, seat: &mut WriterSeat, caller: u32) -> bool
-    requires of { IsWriterOf shared.now.table.shared.table_id shared.now.table.shared.key seat.old }
+    requires of { IsWriterOf shared.now seat.old }
     requires within { (1 ≤ caller) × (caller ≤ shared.now.layout.callers) }
-    requires next { MayScan (plan_of seat.old.token.me.0) caller }
-    ensures scanned { (turn : ℕ) × (result ≡ (turn % 2 == 1)) × Writes seat.old seat.new (found_after caller turn (scanned_from caller (plan_of seat.old.token.me.0))) }
-    ensures step { seat.new.token.me.0.steps ≡ seat.old.token.me.0.steps + 1 }
+    requires next { MayScan (plan seat.old) caller }
+    ensures scanned { (turn : ℕ) × (result ≡ (turn % 2 == 1))
+        × Writes seat.old seat.new (found_after caller turn (scanned_from caller (plan seat.old))) }
+    ensures step { steps_of seat.new ≡ steps_of seat.old + 1 }
 {
     let table = &shared.table.shared;
-    let at = shared.layout.slot(caller, 0) as usize;
+    let at = shared.layout.slot(caller, TURN) as usize;
     let turn = if caller == 1 {
         table.load::<BeginsPass>(&mut seat.token, at)
     } else {
@@ -37,12 +37,13 @@ pub fn posted<O: Object>(shared: &Shared<O>, seat: &mut WriterSeat, caller: u32)
 
 /// The words of a call that was found and is not yet answered. They are those of a call of the object.
 pub fn arguments<O: Object>(shared: &Shared<O>, seat: &mut WriterSeat, caller: u32) -> Args
-    requires of { IsWriterOf shared.now.table.shared.table_id shared.now.table.shared.key seat.old }
+    requires of { IsWriterOf shared.now seat.old }
     requires within { (1 ≤ caller) × (caller ≤ shared.now.layout.callers) }
-    requires found { (f : Request) × IsPending (plan_of seat.old.token.me.0) caller f }
-    ensures call { IsCall (on_words O.machine) seat.old.token.me.0.base result }
-    ensures loaded { Writes seat.old seat.new (altered caller (with_words (packed result)) (plan_of seat.old.token.me.0)) }
-    ensures steps { seat.new.token.me.0.steps ≡ seat.old.token.me.0.steps + length result + 1 }
+    requires found { (f : Request) × IsPending (plan seat.old) caller f }
+    ensures call { IsCall (on_words O.machine) (writer_view seat.old).base result }
+    ensures loaded { Writes seat.old seat.new (altered caller (with_words (packed result))
+        (plan seat.old)) }
+    ensures steps { steps_of seat.new ≡ steps_of seat.old + length result + 1 }
 {
     let mut args = Args::new();
     arguments_into(shared, seat, caller, &mut args);
@@ -56,12 +57,13 @@ pub fn arguments_into<O: Object>(
     caller: u32,
     args: &mut Args,
 )
-    requires of { IsWriterOf shared.now.table.shared.table_id shared.now.table.shared.key seat.old }
+    requires of { IsWriterOf shared.now seat.old }
     requires within { (1 ≤ caller) × (caller ≤ shared.now.layout.callers) }
-    requires found { (f : Request) × IsPending (plan_of seat.old.token.me.0) caller f }
-    ensures call { IsCall (on_words O.machine) seat.old.token.me.0.base args.new }
-    ensures loaded { Writes seat.old seat.new (altered caller (with_words (packed args.new)) (plan_of seat.old.token.me.0)) }
-    ensures steps { seat.new.token.me.0.steps ≡ seat.old.token.me.0.steps + length args.new + 1 }
+    requires found { (f : Request) × IsPending (plan seat.old) caller f }
+    ensures call { IsCall (on_words O.machine) (writer_view seat.old).base args.new }
+    ensures loaded { Writes seat.old seat.new (altered caller (with_words (packed args.new))
+        (plan seat.old)) }
+    ensures steps { steps_of seat.new ≡ steps_of seat.old + length args.new + 1 }
 {
     args.clear();
     let count = load_argument(shared, seat, caller, 0);
@@ -70,15 +72,18 @@ pub fn arguments_into<O: Object>(
 
 // Word j of a found call, where word 0 is the number of the others.
 fn load_argument<O: Object>(shared: &Shared<O>, seat: &mut WriterSeat, caller: u32, j: u64) -> u64
-    requires of { IsWriterOf shared.now.table.shared.table_id shared.now.table.shared.key seat.old }
+    requires of { IsWriterOf shared.now seat.old }
     requires within { (1 ≤ caller) × (caller ≤ shared.now.layout.callers) × (j < 41) }
-    requires found { (f : Request) × IsPending (plan_of seat.old.token.me.0) caller f × (j ≤ length f.words) × (0 < j → j ≤ slice_index f.words 0) }
+    requires found { (f : Request) × IsPending (plan seat.old) caller f × (j ≤ length f.words)
+        × (0 < j → j ≤ slice_index f.words 0) }
     ensures few { j ≡ 0 → result ≤ 40 }
-    ensures call { (f : Request) (args : List ℕ) → IsPending (plan_of seat.old.token.me.0) caller f → take j f.words ++ result ∷ [] ≡ packed args → IsCall (on_words O.machine) seat.old.token.me.0.base args }
-    ensures loaded { Writes seat.old seat.new (altered caller (loading j result) (plan_of seat.old.token.me.0)) }
-    ensures step { seat.new.token.me.0.steps ≡ seat.old.token.me.0.steps + 1 }
+    ensures call { (f : Request) (args : List ℕ) → IsPending (plan seat.old) caller f →
+        take j f.words ++ result ∷ [] ≡ packed args →
+        IsCall (on_words O.machine) (writer_view seat.old).base args }
+    ensures loaded { Writes seat.old seat.new (altered caller (loading j result) (plan seat.old)) }
+    ensures step { steps_of seat.new ≡ steps_of seat.old + 1 }
 {
-    let at = shared.layout.slot(caller, 1 + j) as usize;
+    let at = shared.layout.slot(caller, CALL + j) as usize;
     shared
         .table
         .shared
@@ -92,15 +97,17 @@ fn load_arguments<O: Object>(
     count: u64,
     args: &mut Args,
 )
-    requires of { IsWriterOf shared.now.table.shared.table_id shared.now.table.shared.key seat.old }
+    requires of { IsWriterOf shared.now seat.old }
     requires within { (1 ≤ caller) × (caller ≤ shared.now.layout.callers) × (count ≤ 40) }
-    requires found { (p : Plan) × (f : Request) × IsPending p caller f × (plan_of seat.old.token.me.0 ≡ altered caller (with_words (count ∷ [])) p) }
+    requires found { (p : Plan) × (f : Request) × IsPending p caller f
+        × (plan seat.old ≡ altered caller (with_words (count ∷ [])) p) }
     requires empty { args.old ≡ [] }
-    requires none { count ≡ 0 → IsCall (on_words O.machine) seat.old.token.me.0.base [] }
+    requires none { count ≡ 0 → IsCall (on_words O.machine) (writer_view seat.old).base [] }
     ensures many { length args.new ≡ count }
-    ensures call { IsCall (on_words O.machine) seat.old.token.me.0.base args.new }
-    ensures loaded { Writes seat.old seat.new (altered caller (with_words (packed args.new)) (plan_of seat.old.token.me.0)) }
-    ensures steps { seat.new.token.me.0.steps ≡ seat.old.token.me.0.steps + length args.new }
+    ensures call { IsCall (on_words O.machine) (writer_view seat.old).base args.new }
+    ensures loaded { Writes seat.old seat.new (altered caller (with_words (packed args.new))
+        (plan seat.old)) }
+    ensures steps { steps_of seat.new ≡ steps_of seat.old + length args.new }
 {
     for i in 0..count {
         let word = load_argument(shared, seat, caller, 1 + i);

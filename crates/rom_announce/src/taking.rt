@@ -2,25 +2,27 @@
 ghost use Rattle.std.specs.Prelude.{◌≡◌, ℕ, ◌+◌, ◌<◌, ◌≤◌, ◌∷◌, drop, length, slice_index};
 ghost use Rattle.std.specs.Bool.{OnTrue, OnFalse};
 ghost use Rattle.rom_model.specs.Machine.{on_words};
-ghost use Rattle.rom_lr.specs.Seats.{IsSameSeat, IsSeatOf};
+ghost use Rattle.rom_lr.specs.Seats.{IsAnswered, IsPosted, IsSameSeat, IsSeatOf, view};
 ghost use Rattle.rom_rule.specs.CallKinds.{IsLast, Learnt};
 ghost use Rattle.rom_rule.specs.Calls.{answer_words, packed};
 ghost use Rattle.rom_rule.specs.Views.{Told};
 
 use rom_lr::{Seat, Shared};
 use rom_model::{Back, Object};
-use rom_rule::{LoadsAnswer, LoadsTurn};
+use rom_rule::{LoadsAnswer, LoadsTurn, PLACE, TURN};
 
 /// Whether the posted call was answered, by one load of the caller's turn: true where it is even. Then
 /// the caller knows what it was told, and its words can be taken.
 pub fn answered<O: Object>(shared: &Shared<O>, seat: &mut Seat) -> bool
-    requires of { IsSeatOf shared.now.table.shared.table_id shared.now.table.shared.key seat.old }
-    requires posted { length seat.old.token.me.0.calls ≡ length seat.old.token.me.0.outcomes + 1 }
+    requires of { IsSeatOf shared.now seat.old }
+    requires posted { IsPosted seat.old }
     ensures same { IsSameSeat seat.old seat.new }
-    ensures not_yet { let v = seat.old.token.me.0 in OnFalse result (seat.new.token.me.0 ≡ record v { steps = v.steps + 1 }) }
-    ensures told { OnTrue result (Learnt O.Contents (on_words O.machine) seat.old.token.me seat.new.token.me) }
+    ensures not_yet { let v = view seat.old in
+        OnFalse result (view seat.new ≡ record v { steps = v.steps + 1 }) }
+    ensures told { OnTrue result (Learnt O.Contents (on_words O.machine)
+        seat.old.token.me seat.new.token.me) }
 {
-    let at = shared.layout.slot(seat.number, 0) as usize;
+    let at = shared.layout.slot(seat.number, TURN) as usize;
     let turn = shared
         .table
         .shared
@@ -31,12 +33,14 @@ pub fn answered<O: Object>(shared: &Shared<O>, seat: &mut Seat) -> bool
 /// The answer to the last call, which was answered: its place in the history or the code that tells
 /// that it was not done, and the words of its reply.
 pub fn take<O: Object>(shared: &Shared<O>, seat: &mut Seat) -> (u64, Back)
-    requires of { IsSeatOf shared.now.table.shared.table_id shared.now.table.shared.key seat.old }
-    requires answered { length seat.old.token.me.0.calls ≡ length seat.old.token.me.0.outcomes }
-    requires last { (x : Told) × IsLast seat.old.token.me.0 x }
+    requires of { IsSeatOf shared.now seat.old }
+    requires answered { IsAnswered seat.old }
+    requires last { (x : Told) × IsLast (view seat.old) x }
     ensures same { IsSameSeat seat.old seat.new }
-    ensures answer { (x : Told) → IsLast seat.old.token.me.0 x → answer_words x.1 ≡ result.0 ∷ packed result.1 }
-    ensures still { let v = seat.old.token.me.0 in seat.new.token.me.0 ≡ record v { steps = v.steps + length result.1 + 2 } }
+    ensures answer { (x : Told) → IsLast (view seat.old) x →
+        answer_words x.1 ≡ result.0 ∷ packed result.1 }
+    ensures still { let v = view seat.old in
+        view seat.new ≡ record v { steps = v.steps + length result.1 + 2 } }
 {
     let place = load_word(shared, seat, 0);
     let count = load_word(shared, seat, 1);
@@ -46,25 +50,28 @@ pub fn take<O: Object>(shared: &Shared<O>, seat: &mut Seat) -> (u64, Back)
 
 // Word j of the answer: the place or code, the number of the reply's words, then they.
 fn load_word<O: Object>(shared: &Shared<O>, seat: &mut Seat, j: u64) -> u64
-    requires of { IsSeatOf shared.now.table.shared.table_id shared.now.table.shared.key seat.old }
-    requires answered { length seat.old.token.me.0.calls ≡ length seat.old.token.me.0.outcomes }
+    requires of { IsSeatOf shared.now seat.old }
+    requires answered { IsAnswered seat.old }
     requires inside { j < 22 }
     ensures same { IsSameSeat seat.old seat.new }
-    ensures word { (x : Told) → IsLast seat.old.token.me.0 x → (length (answer_words x.1) ≤ 22) × (j < length (answer_words x.1) → result ≡ slice_index (answer_words x.1) j) }
-    ensures still { let v = seat.old.token.me.0 in seat.new.token.me.0 ≡ record v { steps = v.steps + 1 } }
+    ensures word { (x : Told) → IsLast (view seat.old) x →
+        (length (answer_words x.1) ≤ 22)
+        × (j < length (answer_words x.1) → result ≡ slice_index (answer_words x.1) j) }
+    ensures still { let v = view seat.old in view seat.new ≡ record v { steps = v.steps + 1 } }
 {
-    let at = shared.layout.slot(seat.number, 42 + j) as usize;
+    let at = shared.layout.slot(seat.number, PLACE + j) as usize;
     shared.table.shared.load::<LoadsAnswer>(&mut seat.token, at)
 }
 
 fn load_reply<O: Object>(shared: &Shared<O>, seat: &mut Seat, count: u64) -> Back
-    requires of { IsSeatOf shared.now.table.shared.table_id shared.now.table.shared.key seat.old }
-    requires answered { length seat.old.token.me.0.calls ≡ length seat.old.token.me.0.outcomes }
+    requires of { IsSeatOf shared.now seat.old }
+    requires answered { IsAnswered seat.old }
     requires few { count ≤ 20 }
     ensures same { IsSameSeat seat.old seat.new }
     ensures many { length result ≡ count }
-    ensures reply { (x : Told) → IsLast seat.old.token.me.0 x → length (answer_words x.1) ≡ count + 2 → result ≡ drop 2 (answer_words x.1) }
-    ensures still { let v = seat.old.token.me.0 in seat.new.token.me.0 ≡ record v { steps = v.steps + count } }
+    ensures reply { (x : Told) → IsLast (view seat.old) x → length (answer_words x.1) ≡ count + 2 →
+        result ≡ drop 2 (answer_words x.1) }
+    ensures still { let v = view seat.old in view seat.new ≡ record v { steps = v.steps + count } }
 {
     let mut reply = Back::new();
     for i in 0..count {

@@ -1,10 +1,11 @@
 //! How a caller waits while its call is not answered, how it is woken, and how calls gather before a
 //! pass.
-ghost use Rattle.std.specs.Prelude.{◌≡◌, ◌+◌, ◌≤◌, length};
-ghost use Rattle.rom_lr.specs.Seats.{IsSeatOf};
+ghost use Rattle.std.specs.Prelude.{◌≤◌};
+ghost use Rattle.rom_lr.specs.Seats.{IsPosted, IsSeatOf};
 
 use rom_lr::{Seat, Shared};
 use rom_model::Object;
+use rom_rule::TURN;
 use std::sync::Wait;
 use std::thread::yield_now;
 use std::time::Duration;
@@ -23,7 +24,7 @@ const GATHERS: u32 = 30;
 /// Lets other threads run a few times, until the posted call is answered. Where a pass is shorter than
 /// it takes to fall asleep and be woken, this serves before [`nap`].
 pub fn linger<O: Object>(shared: &Shared<O>, seat: &Seat)
-    requires of { IsSeatOf shared.now.table.shared.table_id shared.now.table.shared.key seat.now }
+    requires of { IsSeatOf shared.now seat.now }
 {
     for _ in 0..LINGERS {
         if !is_posted(shared, seat.number) {
@@ -37,10 +38,10 @@ pub fn linger<O: Object>(shared: &Shared<O>, seat: &Seat)
 /// most, and one more for each look that the caller has `looked` before. It may return at once. It makes
 /// no step and tells nothing, so the caller looks with [`answered`](crate::answered) afterwards.
 pub fn nap<O: Object, R: Wait>(rt: &R, shared: &Shared<O>, seat: &Seat, looked: u64)
-    requires of { IsSeatOf shared.now.table.shared.table_id shared.now.table.shared.key seat.now }
-    requires posted { length seat.now.token.me.0.calls ≡ length seat.now.token.me.0.outcomes + 1 }
+    requires of { IsSeatOf shared.now seat.now }
+    requires posted { IsPosted seat.now }
 {
-    let at = shared.layout.slot(seat.number, 0) as usize;
+    let at = shared.layout.slot(seat.number, TURN) as usize;
     // The low 32 bits of the odd turn, which is twice the number of calls posted before, and one.
     let before = (seat.posted - 1) % (1 << 31);
     let odd = (2 * before + 1) as u32;
@@ -57,7 +58,7 @@ pub(crate) fn wake<O: Object>(shared: &Shared<O>, caller: u32)
     requires within { (1 ≤ caller) × (caller ≤ shared.now.layout.callers) }
 {
     if shared.layout.callers() > 1 {
-        let at = shared.layout.slot(caller, 0) as usize;
+        let at = shared.layout.slot(caller, TURN) as usize;
         shared.table.shared.wake_one(at);
     }
 }
@@ -80,7 +81,7 @@ pub fn wake_next<O: Object>(shared: &Shared<O>) {
 fn is_posted<O: Object>(shared: &Shared<O>, caller: u32) -> bool
     requires within { (1 ≤ caller) × (caller ≤ shared.now.layout.callers) }
 {
-    let at = shared.layout.slot(caller, 0) as usize;
+    let at = shared.layout.slot(caller, TURN) as usize;
     shared.table.shared.peek(at) % 2 == 1
 }
 

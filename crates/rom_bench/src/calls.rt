@@ -1,5 +1,6 @@
 //! Calls on a heap of order 16 in memory, half of which is in use, for their instructions to be counted.
 ghost use Rattle.std.specs.Prelude.{ℕ, ◌≤◌, ◌<◌, ◌+◌, ◌^◌};
+ghost use Rattle.rom_model.specs.History.{LAST_COUNT};
 ghost use Rattle.rom_model.specs.VecSpace.{words_of};
 ghost use Rattle.rom_bench.specs.Holds.{Holds};
 
@@ -151,7 +152,7 @@ fn is_found(answer: Answer) -> bool {
 
 /// Makes one call, and tells whether it was done.
 fn call(space: &mut VecSpace, step: Step<Call, Query>) -> bool
-    requires region { (n : ℕ) × Holds (words_of space.old) n × (n < 2 ^ 62) }
+    requires region { (n : ℕ) × Holds (words_of space.old) n × (n < LAST_COUNT) }
     ensures region { (n : ℕ) → Holds (words_of space.old) n → Holds (words_of space.new) (n + 1) }
 {
     match step {
@@ -165,7 +166,7 @@ fn call(space: &mut VecSpace, step: Step<Call, Query>) -> bool
 fn call_all(space: &mut VecSpace, calls: Calls, from: u64, to: u64) -> u64
     requires region { Holds (words_of space.old) from }
     requires forward { from ≤ to }
-    requires most { to ≤ 2 ^ 62 }
+    requires most { to ≤ LAST_COUNT }
     ensures region { Holds (words_of space.new) to }
 {
     let mut done = 0u64;

@@ -26,8 +26,7 @@ mod words;
 use calls::Calls;
 use command::{Action, Command};
 use rom_header::State;
-use std::fs::File;
-use std::os::fd::{AsRawFd, IntoRawFd};
+use rom_host::hold_streams;
 use std::process::ExitCode;
 use std::{env, io};
 
@@ -41,21 +40,6 @@ rom_bench pass CALLERS POSTING ROUNDS
 rom_bench store reads WHAT READS | store bare WHAT READS | store updates UPDATES
 rom_bench store passes CALLERS UPDATES | store passes CALLERS UPDATES FILE
 a WHAT is get or peek";
-
-/// Sees to it that the descriptors 0 to 2 are taken. One that was closed when the program began
-/// would be given to the heap's file, and what is printed would go into that heap. So `/dev/null`
-/// gets it, to the program's end, and for reading alone: a write there still fails.
-fn hold_streams(rt: &HostRuntime) -> io::Result<()> {
-    for _ in 0..3 {
-        let null = File::open(rt, "/dev/null")?;
-        if null.as_raw_fd() > 2 {
-            // The lowest free number is given, so the three are taken.
-            return Ok(());
-        }
-        let _held = null.into_raw_fd();
-    }
-    Ok(())
-}
 
 /// What the words after the program's name ask for.
 fn wanted(rt: &HostRuntime) -> io::Result<Option<Command>> {

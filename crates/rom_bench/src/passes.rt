@@ -1,12 +1,11 @@
 //! Passes, before each of which some callers post a call each.
 ghost use Rattle.std.specs.Prelude.{◌≡◌, ℕ, All, IfOk};
-ghost use Rattle.rom_combine.specs.AtRest.{IsIn, IsReady};
+ghost use Rattle.rom_combine.specs.AtRest.{IsCoreOf, IsReady};
 ghost use Rattle.rom_lr.specs.Opening.{AreNew, IsNew, dealt_view};
-ghost use Rattle.rom_lr.specs.Seats.{IsWriterOf};
+ghost use Rattle.rom_lr.specs.Seats.{IsWriterOf, opened_with, writer_view};
 ghost use Rattle.rom_model.specs.Region.{Contents};
 ghost use Rattle.rom_model.specs.State.{empty};
 ghost use Rattle.rom_rule.specs.Places.{AreCallers};
-ghost use Rattle.rom_rule.specs.Views.{base_of};
 ghost use Rattle.rom_bench.specs.Posting.{IsPosterOf};
 
 use crate::memory::{ORDER, counted, twin_of};
@@ -15,7 +14,7 @@ use rom_combine::{Core, NoGate};
 use rom_device::Ram;
 use rom_heap::Trio;
 use rom_lr::{Seat, Shared, WriterSeat};
-use rom_model::{Object, new_region};
+use rom_model::{LAST_COUNT, Object, new_region};
 use rom_ranges::RangeLog;
 use rom_twin::{Phase, Twin};
 use std::alloc::{AllocError, Global};
@@ -46,13 +45,10 @@ impl Passes {
     }
 }
 
-/// The count's limit. The places of calls that were done are below it, and codes are not.
-const LAST_COUNT: u64 = 1 << 62;
-
 /// Posts a caller's next call, unless one waits.
 fn post_next(shared: &Shared<Trio>, poster: &mut Poster, number: u64)
-    requires of { IsPosterOf shared.now.table.shared.table_id shared.now.table.shared.key poster.old }
-    ensures of { IsPosterOf shared.now.table.shared.table_id shared.now.table.shared.key poster.new }
+    requires of { IsPosterOf shared.now poster.old }
+    ensures of { IsPosterOf shared.now poster.new }
 {
     if !poster.waits && poster.seat.posted < LAST_COUNT {
         post_call(shared, &mut poster.seat, number);
@@ -62,8 +58,8 @@ fn post_next(shared: &Shared<Trio>, poster: &mut Poster, number: u64)
 
 /// Takes a caller's answer, and tells whether its call was done.
 fn take_next(shared: &Shared<Trio>, poster: &mut Poster) -> bool
-    requires of { IsPosterOf shared.now.table.shared.table_id shared.now.table.shared.key poster.old }
-    ensures of { IsPosterOf shared.now.table.shared.table_id shared.now.table.shared.key poster.new }
+    requires of { IsPosterOf shared.now poster.old }
+    ensures of { IsPosterOf shared.now poster.new }
 {
     if !poster.waits {
         return false;
@@ -78,8 +74,8 @@ fn take_next(shared: &Shared<Trio>, poster: &mut Poster) -> bool
 }
 
 fn post_all(shared: &Shared<Trio>, posters: &mut [Poster], number: u64)
-    requires of { All (IsPosterOf shared.now.table.shared.table_id shared.now.table.shared.key) posters.old }
-    ensures of { All (IsPosterOf shared.now.table.shared.table_id shared.now.table.shared.key) posters.new }
+    requires of { All (IsPosterOf shared.now) posters.old }
+    ensures of { All (IsPosterOf shared.now) posters.new }
 {
     for poster in posters.iter_mut() {
         post_next(shared, poster, number);
@@ -88,8 +84,8 @@ fn post_all(shared: &Shared<Trio>, posters: &mut [Poster], number: u64)
 
 /// Takes all answers, and tells how many calls were done.
 fn take_all(shared: &Shared<Trio>, posters: &mut [Poster]) -> u64
-    requires of { All (IsPosterOf shared.now.table.shared.table_id shared.now.table.shared.key) posters.old }
-    ensures of { All (IsPosterOf shared.now.table.shared.table_id shared.now.table.shared.key) posters.new }
+    requires of { All (IsPosterOf shared.now) posters.old }
+    ensures of { All (IsPosterOf shared.now) posters.new }
 {
     let mut done = 0u64;
     for poster in posters.iter_mut() {
@@ -108,8 +104,8 @@ fn pass_all<R: Wait>(
     posters: &mut [Poster],
     rounds: u64,
 ) -> u64
-    requires core { IsIn shared.now.table.shared.table_id shared.now.table.shared.key core.old }
-    requires of { All (IsPosterOf shared.now.table.shared.table_id shared.now.table.shared.key) posters.old }
+    requires core { IsCoreOf shared.now core.old }
+    requires of { All (IsPosterOf shared.now) posters.old }
 {
     let mut done = 0u64;
     for round in 0..rounds {
@@ -127,8 +123,8 @@ fn posters_of(
     seats: Vec<Seat>,
     posting: u32,
 ) -> Result<Vec<Poster>, AllocError>
-    requires seats { AreNew shared.now.table.shared.table_id shared.now.table.shared.key seats.items }
-    ensures of { IfOk result (λ posters. All (IsPosterOf shared.now.table.shared.table_id shared.now.table.shared.key) posters.items) }
+    requires seats { AreNew shared.now seats.items }
+    ensures of { IfOk result (λ posters. All (IsPosterOf shared.now) posters.items) }
 {
     let mut posters = Vec::with_capacity(alloc, seats.len())?;
     for seat in seats {
@@ -141,8 +137,8 @@ fn posters_of(
 
 /// A caller at its new seat.
 fn new_poster(shared: &Shared<Trio>, seat: Seat) -> Poster
-    requires new { (number : ℕ) × IsNew shared.now.table.shared.table_id shared.now.table.shared.key number seat }
-    ensures of { IsPosterOf shared.now.table.shared.table_id shared.now.table.shared.key result }
+    requires new { (number : ℕ) × IsNew shared.now number seat }
+    ensures of { IsPosterOf shared.now result }
 {
     Poster::of(seat)
 }
@@ -155,15 +151,15 @@ fn core_of(
     log: RangeLog,
     seat: WriterSeat,
 ) -> Core<Ram, Trio>
-    requires ready { IsReady 32 seat.token.me.0.base.callers log }
+    requires ready { IsReady 32 (writer_view seat).base.callers log }
     requires phase { twin.phase ≡ Phase.Clean }
     requires order { twin.order ≡ 4 }
-    requires of { IsWriterOf shared.now.table.shared.table_id shared.now.table.shared.key seat }
-    requires writer { let b = base_of shared.now.table.shared.key in seat.token.me.0 ≡ dealt_view b b.callers }
-    requires order_is { (base_of shared.now.table.shared.key).order ≡ 4 }
-    requires faults { (base_of shared.now.table.shared.key).faults ≡ 0 }
-    requires made { Contents 4 (base_of shared.now.table.shared.key).image empty 0 }
-    ensures of { IsIn shared.now.table.shared.table_id shared.now.table.shared.key result }
+    requires of { IsWriterOf shared.now seat }
+    requires writer { let b = opened_with shared.now in writer_view seat ≡ dealt_view b b.callers }
+    requires order_is { (opened_with shared.now).order ≡ 4 }
+    requires faults { (opened_with shared.now).faults ≡ 0 }
+    requires made { Contents 4 (opened_with shared.now).image empty 0 }
+    ensures of { IsCoreOf shared.now result }
 {
     Core::new(twin, log, seat)
 }

@@ -30,7 +30,7 @@ pub fn open(
     reads: u64,
 ) -> Result<(Shared<Trio>, Vec<Reader>), AllocError>
     requires callers { AreCallers callers }
-    ensures ready { IfOk result (λ opened. All (λ r. IsReady opened.0.table.shared.table_id opened.0.table.shared.key r.seat) opened.1.items) }
+    ensures ready { IfOk result (λ opened. All (λ r. IsReady opened.0 r.seat) opened.1.items) }
 {
     let space = new_region::<Trio>(alloc, ORDER)?;
     let (shared, _writer, seats) = Shared::<Trio>::new(alloc, ORDER, callers, space.words(), 0)?;
@@ -49,8 +49,8 @@ pub fn open(
 /// One read: the caller enters, loads the heap's count twice, and leaves. It tells whether both loads
 /// found the same.
 fn read(shared: &Shared<Trio>, seat: &mut Seat) -> bool
-    requires ready { IsReady shared.now.table.shared.table_id shared.now.table.shared.key seat.old }
-    ensures ready { IsReady shared.now.table.shared.table_id shared.now.table.shared.key seat.new }
+    requires ready { IsReady shared.now seat.old }
+    ensures ready { IsReady shared.now seat.new }
 {
     shared.enter(seat);
     let first = shared.load(seat, COUNT);
@@ -61,8 +61,8 @@ fn read(shared: &Shared<Trio>, seat: &mut Seat) -> bool
 
 /// Makes the reads of one caller.
 fn read_in(shared: &Shared<Trio>, reader: &mut Reader)
-    requires ready { IsReady shared.now.table.shared.table_id shared.now.table.shared.key reader.old.seat }
-    ensures ready { IsReady shared.now.table.shared.table_id shared.now.table.shared.key reader.new.seat }
+    requires ready { IsReady shared.now reader.old.seat }
+    ensures ready { IsReady shared.now reader.new.seat }
 {
     for _ in 0..reader.reads {
         if read(shared, &mut reader.seat) {
@@ -73,7 +73,7 @@ fn read_in(shared: &Shared<Trio>, reader: &mut Reader)
 
 /// Makes the reads of all callers beside each other, each in a thread of its own.
 pub fn read_all<R: Threads + Sync>(rt: &R, shared: &Shared<Trio>, readers: &mut [Reader])
-    requires ready { All (λ r. IsReady shared.now.table.shared.table_id shared.now.table.shared.key r.seat) readers.old }
+    requires ready { All (λ r. IsReady shared.now r.seat) readers.old }
 {
     thread::for_each_mut(rt, readers, 16, &|_, reader| read_in(shared, reader));
 }

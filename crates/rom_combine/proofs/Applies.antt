@@ -21,9 +21,9 @@ use Rattle.rom_rule.specs.Readers.{Held}
 use Rattle.rom_rule.specs.Records.{IsCall}
 use Rattle.rom_rule.proofs.Told.{map_append, length_map, at_low, at_mapped}
 use Rattle.rom_rule.proofs.Books.{entry_of}
-use Rattle.rom_combine.specs.declared.answering.Answer.{Answer}
+use Rattle.rom_combine.specs.declared.answering.CallAnswer.{CallAnswer}
 use Rattle.rom_combine.specs.declared.scanning.Posted.{Posted}
-use Rattle.rom_combine.specs.Scanning.{posted_of, IsFresh}
+use Rattle.rom_combine.specs.Scanning.{posted_of, IsUnanswered}
 use Rattle.rom_combine.specs.Applying.{laid_of, laid_told, batch_first, IsApplied, IsDoneOne}
 use Rattle.rom_combine.proofs.Limits.{AreCalls, batch_short, batch_more, batch_full, told_done, told_spent}
 
@@ -57,7 +57,7 @@ module _ {S : Type 0} (Contents : ℕ → List ℕ → S → ℕ → Type 0) (st
   abbrev k : ℕ
   k = n + length p.history
 
-  some_calls : (i : ℕ) (fs : List Request) → Each (λ _ f. IsFresh (IsCall step b) f) fs → AreCalls step b.order (take i (map found_of fs))
+  some_calls : (i : ℕ) (fs : List Request) → Each (λ _ f. IsUnanswered (IsCall step b) f) fs → AreCalls step b.order (take i (map found_of fs))
   some_calls zero fs h = tt
   some_calls (suc i) [] h = tt
   some_calls (suc i) (f ∷ fs) h = ((h 0 f refl).2, some_calls i fs (λ j g e. h (suc j) g e))
@@ -66,14 +66,14 @@ module _ {S : Type 0} (Contents : ℕ → List ℕ → S → ℕ → Type 0) (st
   none_applied main held = record { held = subst (Held Contents step b s n main) (sym (append-nil p.history)) held; answers_are = refl }
 
   -- the state that the next call requests
-  pub next_state : (main : List ℕ) (i : ℕ) (given : List Answer) (f : Request) → IsApplied Contents step b s n p main i given → Each (λ _ g. IsFresh (IsCall step b) g) p.requests → get_elem? p.requests i ≡ some f → k + i < LAST_COUNT → Contents b.order main (after step b.order st k (batch_first Contents step b s n p i)) (k + i)
+  pub next_state : (main : List ℕ) (i : ℕ) (given : List CallAnswer) (f : Request) → IsApplied Contents step b s n p main i given → Each (λ _ g. IsUnanswered (IsCall step b) g) p.requests → get_elem? p.requests i ≡ some f → k + i < LAST_COUNT → Contents b.order main (after step b.order st k (batch_first Contents step b s n p i)) (k + i)
   next_state main i given f a fresh at low = let fs : List Found = take i founds in let more : List Entry = batch_first Contents step b s n p i in let lt = at_low p.requests i f at in
       let calls = some_calls i p.requests fresh in let long : length fs ≡ i = omega (arith, length-take i founds, length_map found_of p.requests) in
       let d = some_value (step b.order (after step b.order st k more) (k + length fs) (found_of f).args) ((fresh i f at).2 (after step b.order st k more) (k + length fs)) in
       let all : length more ≡ i = (batch_more step b.order st k fs (found_of f) d.0.0 d.0.1 calls (omega arith) d.1).1 ∙ long in
       subst (λ (z : S × ℕ). Contents b.order main z.0 z.1) (λ j. (after_append step b.order s n p.history more j, (let e : n + length (p.history ++ more) ≡ k + i = omega (arith, length-append p.history more) in e) j)) a.held
 
-  pub one_applied : (main main' : List ℕ) (i : ℕ) (given : List Answer) (f : Request) (x : Answer) → IsApplied Contents step b s n p main i given → Each (λ _ g. IsFresh (IsCall step b) g) p.requests → get_elem? p.requests i ≡ some f → IsDoneOne Contents step b (posted_of f) (k + i) main main' x
+  pub one_applied : (main main' : List ℕ) (i : ℕ) (given : List CallAnswer) (f : Request) (x : CallAnswer) → IsApplied Contents step b s n p main i given → Each (λ _ g. IsUnanswered (IsCall step b) g) p.requests → get_elem? p.requests i ≡ some f → IsDoneOne Contents step b (posted_of f) (k + i) main main' x
       → IsApplied Contents step b s n p main' (i + 1) (given ++ x ∷ [])
   one_applied main main' i given f x a fresh at did = let fs : List Found = take i founds in let more : List Entry = batch_first Contents step b s n p i in let lt = at_low p.requests i f at in let fd : Found = found_of f in
       let calls = some_calls i p.requests fresh in let long : length fs ≡ i = omega (arith, length-take i founds, length_map found_of p.requests) in

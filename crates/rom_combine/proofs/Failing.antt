@@ -33,11 +33,11 @@ use Rattle.rom_rule.specs.CallKinds.{beginning}
 use Rattle.rom_rule.specs.Kinds.{IsBatch, making, record_list}
 use Rattle.rom_rule.proofs.Told.{length_map, at_some}
 use Rattle.rom_announce.specs.Answering.{fate_of}
-use Rattle.rom_combine.specs.declared.answering.Answer.{Answer}
+use Rattle.rom_combine.specs.declared.answering.CallAnswer.{CallAnswer}
 use Rattle.rom_combine.specs.declared.scanning.Posted.{Posted}
-use Rattle.rom_combine.specs.Scanning.{but_requests, IsFresh, IsScan}
+use Rattle.rom_combine.specs.Scanning.{but_requests, IsUnanswered, IsScan}
 use Rattle.rom_combine.proofs.Limits.{AreCalls, batch_some}
-use Rattle.rom_combine.specs.Answering.{caller_of, IsLeft, IsRecordedBy, SameCalls}
+use Rattle.rom_combine.specs.Answering.{caller_of, HasGiven, IsRecordedBy, SameCalls}
 use Rattle.rom_combine.specs.Histories.{HoldsHistory, PassMakes, ImageAt}
 use Rattle.rom_combine.specs.AtRest.{IsAtRest}
 use Rattle.rom_combine.specs.Passing.{IsPass}
@@ -84,19 +84,19 @@ failing_refused shown d outcome.Doubt unpublished found_some failed doubt = doub
 
 module _ {S : Type 0} (Contents : ℕ → List ℕ → S → ℕ → Type 0) (step : ℕ → S → ℕ → List ℕ → Option (S × List ℕ)) where
   -- the first answer that is still to be given
-  pub first_left : (b : Base) (f : Fate) (before now : ℕ) (p : Plan) (items : List Answer) → IsLeft Contents step b f before now p 0 items → 0 < length p.requests → (x : Answer) × (get_elem? items 0 ≡ some x) × (fate_of x.place ≡ f)
+  pub first_left : (b : Base) (f : Fate) (before now : ℕ) (p : Plan) (items : List CallAnswer) → HasGiven Contents step b f before now p 0 items → 0 < length p.requests → (x : CallAnswer) × (get_elem? items 0 ≡ some x) × (fate_of x.place ≡ f)
   first_left b f before now p items l some_found = let found = at_some p.requests 0 some_found in
       let long : 0 < length items = omega (arith, some_found, ap length l.same, length_map caller_in p.requests, length_map caller_of items) in
       let x = at_some items 0 long in (x.0, x.1, (l.left 0 found.0 x.0 (omega arith) found.1 x.1).1)
 
   -- the record that the answers made, where the plan had none
-  pub made_by : (b : Base) (q u : Plan) (before now : ℕ) (items : List Answer) (f : Fate) (x : Answer) → get_elem? items 0 ≡ some x → fate_of x.place ≡ f → q.mine ≡ [] → IsRecordedBy Contents step b q u before now items
+  pub made_by : (b : Base) (q u : Plan) (before now : ℕ) (items : List CallAnswer) (f : Fate) (x : CallAnswer) → get_elem? items 0 ≡ some x → fate_of x.place ≡ f → q.mine ≡ [] → IsRecordedBy Contents step b q u before now items
       → (k : ℕ) × (more : List Entry) × IsBatch Contents step b q k more × (but_requests u ≡ but_requests (making f before now k more q))
   made_by b q u before now items f x at same unmade by = let h = by x at in let g = h.1.1 (ap is_made unmade) in
       (g.0, g.1, g.2, h.3 ∙ ap but_requests (g.4 ∙ ap (λ (z : Fate). making z before now g.0 g.1 q) same))
 
   -- the answers that made it left which indicators count as loaded
-  pub clear_by : (b : Base) (q u : Plan) (before now : ℕ) (items : List Answer) → 0 < length items → q.mine ≡ [] → IsRecordedBy Contents step b q u before now items → u.clear ≡ q.clear
+  pub clear_by : (b : Base) (q u : Plan) (before now : ℕ) (items : List CallAnswer) → 0 < length items → q.mine ≡ [] → IsRecordedBy Contents step b q u before now items → u.clear ≡ q.clear
   clear_by b q u before now items some_given unmade by = let x = at_some items 0 some_given in let h = by x.0 x.1 in let g = h.1.1 (ap is_made unmade) in ap (λ (z : Plan). z.clear) h.3 ∙ ap (λ (z : Plan). z.clear) g.4
 
   -- a pass that published nothing
@@ -240,11 +240,11 @@ module _ {S : Type 0} (Contents : ℕ → List ℕ → S → ℕ → Type 0) (st
       rest_stays Contents step shown t v w (r ∷ []) c base ((λ (e : fate.Published ≡ fate.Doubt). cc), tt) st answered
       (subst (λ (z : ℕ). z ≤ shown.faults t.device) (sym (ap (faults_after v.base.faults) st.records ∙ faults_last v.base.faults (records_of (plan_of v)) r)) last)
 
-  found_calls : (b : Base) (fs : List Request) → Each (λ _ f. IsFresh (IsCall step b) f) fs → AreCalls step b.order (map found_of fs)
+  found_calls : (b : Base) (fs : List Request) → Each (λ _ f. IsUnanswered (IsCall step b) f) fs → AreCalls step b.order (map found_of fs)
   found_calls b [] fresh = tt
   found_calls b (f ∷ fs) fresh = ((fresh 0 f refl).2, found_calls b fs (λ j g e. fresh (suc j) g e))
 
   -- a published batch below the limit isn't empty
-  pub batch_done : (b : Base) (q : Plan) (s : S) (n k : ℕ) (more : List Entry) → Contents b.order b.image s n → IsBatch Contents step b q k more → Each (λ _ f. IsFresh (IsCall step b) f) q.requests → 0 < length q.requests → n + length q.history < LAST_COUNT → 0 < length more
+  pub batch_done : (b : Base) (q : Plan) (s : S) (n k : ℕ) (more : List Entry) → Contents b.order b.image s n → IsBatch Contents step b q k more → Each (λ _ f. IsUnanswered (IsCall step b) f) q.requests → 0 < length q.requests → n + length q.history < LAST_COUNT → 0 < length more
   batch_done b q s n k more op batched fresh found low = let e = batched s n op in
       let long = batch_some step b.order (after step b.order s n q.history) k (map found_of q.requests) (found_calls b q.requests fresh) (omega (arith, found, length_map found_of q.requests)) (omega (arith, e.0)) in omega (arith, ap length e.1)

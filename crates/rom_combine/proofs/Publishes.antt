@@ -20,9 +20,9 @@ use Rattle.rom_rule.specs.Records.{IsCall}
 use Rattle.rom_rule.specs.Kinds.{CanSwitchToMain, IsBatch, TellsEach, making, switched}
 use Rattle.rom_rule.proofs.Told.{length_map, at_mapped, at_low, at_some}
 use Rattle.rom_announce.specs.Answering.{fate_of}
-use Rattle.rom_combine.specs.declared.answering.Answer.{Answer}
-use Rattle.rom_combine.specs.Answering.{IsLeft}
-use Rattle.rom_combine.specs.Scanning.{IsFresh}
+use Rattle.rom_combine.specs.declared.answering.CallAnswer.{CallAnswer}
+use Rattle.rom_combine.specs.Answering.{HasGiven}
+use Rattle.rom_combine.specs.Scanning.{IsUnanswered}
 use Rattle.rom_combine.specs.Applying.{laid_of, laid_told, batch_first, IsApplied}
 use Rattle.rom_combine.proofs.Gives.{made_some}
 
@@ -52,7 +52,7 @@ module _ {S : Type 0} (Contents : ℕ → List ℕ → S → ℕ → Type 0) (st
   all_first : (i : ℕ) → i ≡ length p.requests → take i (map found_of p.requests) ≡ map found_of p.requests
   all_first i e = take_all i (map found_of p.requests) (omega (arith, length_map found_of p.requests))
 
-  pub can_publish : (main : List ℕ) (i before now : ℕ) (given : List Answer) → i ≡ length p.requests → Contents b.order b.image s n → p.mine ≡ [] → Each (λ _ f. IsFresh (IsCall step b) f) p.requests → faults_after b.faults p.records ≤ before → before ≤ now
+  pub can_publish : (main : List ℕ) (i before now : ℕ) (given : List CallAnswer) → i ≡ length p.requests → Contents b.order b.image s n → p.mine ≡ [] → Each (λ _ f. IsUnanswered (IsCall step b) f) p.requests → faults_after b.faults p.records ≤ before → before ≤ now
       → IsApplied Contents step b s n p main i given → CanSwitchToMain Contents step b (record p { main = main }) before now
   can_publish main i before now given long opening unmade fresh from on a = record {
     unmade = unmade;
@@ -65,9 +65,9 @@ module _ {S : Type 0} (Contents : ℕ → List ℕ → S → ℕ → Type 0) (st
     stands = subst (λ (fs : List Found). Rattle.rom_rule.specs.Readers.Held Contents step b s n main (p.history ++ batch step b.order (after step b.order s n p.history) (n + length p.history) fs)) (all_first i long) a.held;
   }
 
-  pub is_left : (main : List ℕ) (i before now k : ℕ) (more : List Entry) (given : List Answer) → i ≡ length p.requests → Contents b.order b.image s n → AreScanned 0 b.callers (map caller_in p.requests) → Each (λ _ f. IsFresh (IsCall step b) f) p.requests
+  pub is_left : (main : List ℕ) (i before now k : ℕ) (more : List Entry) (given : List CallAnswer) → i ≡ length p.requests → Contents b.order b.image s n → AreScanned 0 b.callers (map caller_in p.requests) → Each (λ _ f. IsUnanswered (IsCall step b) f) p.requests
       → IsApplied Contents step b s n p main i given → n + length p.history + length (batch_first Contents step b s n p i) ≤ LAST_COUNT → IsBatch Contents step b (record p { main = main }) k more → TellsEach Published k more (record p { main = main })
-      → IsLeft Contents step b Published before now (switched 0 (making Published before now k more (record p { main = main }))) 0 given
+      → HasGiven Contents step b Published before now (switched 0 (making Published before now k more (record p { main = main }))) 0 given
   is_left main i before now k more given long opening rising fresh a fits batched tells = let all = all_first i long in let same = batched s n opening in let k₀ : ℕ = n + length p.history in
       let told_same : batch_told k (map found_of p.requests) more ≡ batch_told k₀ (take i (map found_of p.requests)) (batch_first Contents step b s n p i)
       = (λ j. batch_told (same.0 j) (sym all j) ((same.1 ∙ (λ h. batch step b.order (after step b.order s n p.history) (same.0 h) (sym all h))) j)) in

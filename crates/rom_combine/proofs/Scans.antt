@@ -8,7 +8,7 @@ use Rattle.rom_rule.specs.Calls.{AreScanned, caller_in}
 use Rattle.rom_rule.specs.CallKinds.{alter, beginning}
 use Rattle.rom_rule.proofs.Told.{map_append, length_map, scanned_up, scanned_more}
 use Rattle.rom_combine.specs.declared.scanning.Posted.{Posted}
-use Rattle.rom_combine.specs.Scanning.{posted_of, IsFresh, IsVisit, IsScan}
+use Rattle.rom_combine.specs.Scanning.{posted_of, IsUnanswered, IsVisit, IsScan}
 
 each_join : {A : Type 0} (Q : A → Type 0) (xs ys : List A) → Each (λ _. Q) xs → Each (λ _. Q) ys → Each (λ _. Q) (xs ++ ys)
 each_join Q [] ys h g j a e = g j a e
@@ -27,7 +27,7 @@ rise_on last c fs (f ∷ []) h lt few own = subst (AreScanned 0 c) (sym (map_app
 rise_on last c fs (f ∷ g ∷ more) h lt few own = absurd (omega arith)
 
 module _ (P : List ℕ → Type 0) where
-  pub visited_one : (p q : Plan) (c : ℕ) (f : Request) (old new : List Posted) → f.caller ≡ c → IsFresh P f → q ≡ record p { scanned = c; requests = p.requests ++ f ∷ [] } → new ≡ old ++ posted_of f ∷ [] → IsVisit P p q c old new
+  pub visited_one : (p q : Plan) (c : ℕ) (f : Request) (old new : List Posted) → f.caller ≡ c → IsUnanswered P f → q ≡ record p { scanned = c; requests = p.requests ++ f ∷ [] } → new ≡ old ++ posted_of f ∷ [] → IsVisit P p q c old new
   visited_one p q c f old new who fresh is items = subst (λ (z : Plan). IsVisit P p z c old new) (sym is) record {
     scanned = refl;
     rest = refl;
@@ -38,8 +38,8 @@ module _ (P : List ℕ → Type 0) where
     items = items;
   }
     where
-      own : Each (λ _ g. (g.caller ≡ c) × IsFresh P g) (f ∷ [])
-      own zero g e = subst (λ (h : Request). (h.caller ≡ c) × IsFresh P h) (some-injective f g e) (who, fresh)
+      own : Each (λ _ g. (g.caller ≡ c) × IsUnanswered P g) (f ∷ [])
+      own zero g e = subst (λ (h : Request). (h.caller ≡ c) × IsUnanswered P h) (some-injective f g e) (who, fresh)
       own (suc j) g e = absurd (some-ne-none g (sym e))
 
   pub visited_none : (p q : Plan) (c : ℕ) (old : List Posted) → q ≡ record p { scanned = c; requests = p.requests } → IsVisit P p q c old old
@@ -57,7 +57,7 @@ module _ (P : List ℕ → Type 0) where
   scan_first p q new v = let requests : q.requests ≡ v.more = v.requests in let few = v.few in record {
     scanned = v.scanned;
     rest = v.rest;
-    fresh = subst (λ (l : List Request). Each (λ _ f. (f.caller ≤ 1) × IsFresh P f) l) (sym requests) (λ j f e. let o = v.own j f e in let o₀ = o.0 in (omega arith, o.1));
+    fresh = subst (λ (l : List Request). Each (λ _ f. (f.caller ≤ 1) × IsUnanswered P f) l) (sym requests) (λ j f e. let o = v.own j f e in let o₀ = o.0 in (omega arith, o.1));
     rising = subst (λ (l : List Request). AreScanned 0 1 (map caller_in l)) (sym requests) (rise_on 0 1 [] v.more (omega arith) (omega arith) v.few (λ j f e. (v.own j f e).0));
     items_are = v.items ∙ ap (map posted_of) (sym requests);
     few = omega (arith, ap length v.items, length_map posted_of v.more);
@@ -67,7 +67,7 @@ module _ (P : List ℕ → Type 0) where
   scan_next p q q' c old new s v = let few = v.few in let few' = s.few in record {
     scanned = v.scanned;
     rest = v.rest ∙ s.rest;
-    fresh = subst (λ (l : List Request). Each (λ _ f. (f.caller ≤ c + 1) × IsFresh P f) l) (sym v.requests) (each_join (λ f. (f.caller ≤ c + 1) × IsFresh P f) q.requests v.more (λ j f e. let o = s.fresh j f e in let o₀ = o.0 in (omega arith, o.1)) (λ j f e. let o = v.own j f e in let o₀ = o.0 in (omega arith, o.1)));
+    fresh = subst (λ (l : List Request). Each (λ _ f. (f.caller ≤ c + 1) × IsUnanswered P f) l) (sym v.requests) (each_join (λ f. (f.caller ≤ c + 1) × IsUnanswered P f) q.requests v.more (λ j f e. let o = s.fresh j f e in let o₀ = o.0 in (omega arith, o.1)) (λ j f e. let o = v.own j f e in let o₀ = o.0 in (omega arith, o.1)));
     rising = subst (λ (l : List Request). AreScanned 0 (c + 1) (map caller_in l)) (sym v.requests) (rise_on c (c + 1) q.requests v.more s.rising (omega arith) v.few (λ j f e. (v.own j f e).0));
     items_are = v.items ∙ (ap (λ (l : List Posted). l ++ map posted_of v.more) s.items_are ∙ (sym (map_append posted_of q.requests v.more) ∙ ap (map posted_of) (sym v.requests)));
     few = omega (arith, ap length v.items, length-append old (map posted_of v.more), length_map posted_of v.more);

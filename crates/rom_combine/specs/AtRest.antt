@@ -6,10 +6,11 @@ use Rattle.rom_model.specs.Passes.{faults_after}
 use Rattle.rom_device.specs.Device.{ShownDevice}
 use Rattle.rom_twin.specs.Seen.{NeedsRepair, Rests, Seen, committed}
 use Rattle.rom_combine.specs.Histories.{ImageAt}
+use Rattle.rom_lr.specs.Seats.{opened_with}
+use Rattle.rom_lr.specs.declared.shared.Shared.{Shared}
 use Rattle.rom_ranges.specs.Log.{Logged}
 use Rattle.rom_rule.specs.Readers.{Held, Settled}
-use Rattle.rom_rule.specs.Views.{Each, base_of, plan_of, records_of}
-use Rattle.rom_rule.specs.declared.law.Key.{Key}
+use Rattle.rom_rule.specs.Views.{Each, plan_of, records_of}
 use Rattle.rom_rule.specs.declared.views.View.{View}
 
 -- the twin, the table and the number of the writer's seat, and what the writer knows
@@ -20,8 +21,8 @@ pub record Locked (D : Type 0) : Type 0 where
   pub view : View
 
 -- the core's seat is of this table
-abbrev pub IsIn : {D : Type 0} → TableId → Key → Locked D → Type 0
-IsIn table key c = (c.table_id ≡ table) × (c.view.base ≡ base_of key)
+abbrev pub IsCoreOf : {D Object Call Query Reply Answer : Type 0} → Shared Object Call Query Reply Answer → Locked D → Type 0
+IsCoreOf shared c = (c.table_id ≡ shared.table.shared.table_id) × (c.view.base ≡ opened_with shared)
 
 -- What holds of the twin and the writer's view.
 pub record IsAtRest {D S : Type 0} (shown : ShownDevice D) (Contents : ℕ → List ℕ → S → ℕ → Type 0) (step : ℕ → S → ℕ → List ℕ → Option (S × List ℕ)) (twin : Seen D) (view : View) : Type 0 where

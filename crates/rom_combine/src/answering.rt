@@ -2,9 +2,9 @@
 ghost use Rattle.std.specs.Prelude.{◌≡◌, ℕ, ◌+◌, ◌<◌, ◌≤◌, List, [], ◌∷◌, length, map, true};
 ghost use Rattle.rom_model.specs.Machine.{on_words};
 ghost use Rattle.rom_model.specs.declared.record.Fate.{Fate};
-ghost use Rattle.rom_combine.specs.Answering.{IsLeft, IsRecordedBy, SameCalls, refused};
+ghost use Rattle.rom_combine.specs.Answering.{HasGiven, IsRecordedBy, SameCalls, refused};
 ghost use Rattle.rom_combine.specs.Scanning.{but_requests};
-ghost use Rattle.rom_lr.specs.Seats.{IsWriterOf};
+ghost use Rattle.rom_lr.specs.Seats.{IsWriterOf, plan, writer_view};
 ghost use Rattle.rom_lr.specs.Writing.{Writes};
 ghost use Rattle.rom_rule.specs.Views.{Each, is_made, plan_of};
 
@@ -14,26 +14,17 @@ use rom_announce::answer;
 use rom_lr::{Shared, WriterSeat};
 use rom_model::{Back, Object};
 
-/// In the place of an answer: the call found the count at its limit, and was not done.
-pub(crate) const SPENT: u64 = 1 << 62;
-
-/// In the place of an answer: the pass failed, and no call was done.
-pub(crate) const FAILED: u64 = (1 << 62) + 1;
-
-/// In the place of an answer: the pass failed at the commit, and a stop may leave the call done.
-pub(crate) const DOUBT: u64 = (1 << 62) + 2;
-
 /// What a found call is to be told: its caller, its place in the history or a code, and its reply.
 #[derive(Clone, Copy)]
-pub struct Answer {
+pub struct CallAnswer {
     pub caller: u32,
     pub place: u64,
     pub reply: Back,
 }
 
-impl Default for Answer {
+impl Default for CallAnswer {
     fn default() -> Self {
-        Answer {
+        CallAnswer {
             caller: 0,
             place: 0,
             reply: Back::new(),
@@ -42,13 +33,13 @@ impl Default for Answer {
 }
 
 /// Answers that tell each found call the same code, with no reply.
-pub(crate) fn refuse(found: &[Posted], code: u64, answers: &mut PerCaller<Answer>)
+pub(crate) fn refuse(found: &[Posted], code: u64, answers: &mut PerCaller<CallAnswer>)
     requires { length found.now ≤ 16 }
     ensures { answers.new.items ≡ map (refused code) found.now }
 {
     answers.clear();
     for i in 0..found.len() {
-        answers.push(Answer {
+        answers.push(CallAnswer {
             caller: found[i].caller,
             place: code,
             reply: Back::new(),
@@ -63,21 +54,22 @@ pub(crate) fn refuse(found: &[Posted], code: u64, answers: &mut PerCaller<Answer
 pub(crate) fn answer_all<O: Object>(
     shared: &Shared<O>,
     seat: &mut WriterSeat,
-    answers: &[Answer],
+    answers: &[CallAnswer],
     before: u64,
     after: u64,
 )
-    requires of { IsWriterOf shared.now.table.shared.table_id shared.now.table.shared.key seat.old }
-    requires left { let v = seat.old.token.me.0 in (fate : Fate)
-        × IsLeft O.Contents (on_words O.machine) v.base fate before after (plan_of v) 0 answers.now }
-    ensures same { Writes seat.old seat.new (plan_of seat.new.token.me.0) }
-    ensures kept { let p = plan_of seat.old.token.me.0 in is_made p.mine ≡ true →
-        but_requests (plan_of seat.new.token.me.0) ≡ but_requests p }
-    ensures calls { SameCalls (plan_of seat.old.token.me.0) (plan_of seat.new.token.me.0) }
-    ensures recorded { let v = seat.old.token.me.0 in
+    requires of { IsWriterOf shared.now seat.old }
+    requires left { let v = writer_view seat.old in (fate : Fate)
+        × HasGiven O.Contents (on_words O.machine) v.base fate before after (plan_of v) 0
+        answers.now }
+    ensures same { Writes seat.old seat.new (plan seat.new) }
+    ensures kept { let p = plan seat.old in is_made p.mine ≡ true →
+        but_requests (plan seat.new) ≡ but_requests p }
+    ensures calls { SameCalls (plan seat.old) (plan seat.new) }
+    ensures recorded { let v = writer_view seat.old in
         IsRecordedBy O.Contents (on_words O.machine) v.base (plan_of v)
-        (plan_of seat.new.token.me.0) before after answers.now }
-    ensures answered { Each (λ _ f. f.answered ≡ true) (plan_of seat.new.token.me.0).requests }
+        (plan seat.new) before after answers.now }
+    ensures answered { Each (λ _ f. f.answered ≡ true) (plan seat.new).requests }
 {
     for i in 0..answers.len() {
         let one = &answers[i];

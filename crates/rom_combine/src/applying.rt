@@ -3,8 +3,8 @@ ghost use Rattle.std.specs.Prelude.{◌≡◌, ℕ, ◌+◌, ◌-◌, ◌*◌, �
 ghost use Rattle.rom_model.specs.History.{LAST_COUNT};
 ghost use Rattle.rom_model.specs.Machine.{on_words};
 ghost use Rattle.rom_combine.specs.Applying.{IsApplied, IsDoneOne, count_in};
-ghost use Rattle.rom_combine.specs.Scanning.{IsFresh, posted_of};
-ghost use Rattle.rom_lr.specs.Seats.{IsWriterOf};
+ghost use Rattle.rom_combine.specs.Scanning.{IsUnanswered, posted_of};
+ghost use Rattle.rom_lr.specs.Seats.{IsWriterOf, plan, writer_view};
 ghost use Rattle.rom_lr.specs.Writing.{NobodyReads, Writes};
 ghost use Rattle.rom_lr.specs.declared.side.Side.TheVariants.{Main};
 ghost use Rattle.rom_ranges.specs.Changes.{IsLogOf};
@@ -12,15 +12,12 @@ ghost use Rattle.rom_rule.specs.Readers.{Held};
 ghost use Rattle.rom_rule.specs.Records.{IsCall};
 ghost use Rattle.rom_rule.specs.Views.{Each, plan_of};
 
-use crate::answering::{Answer, SPENT};
+use crate::answering::CallAnswer;
 use crate::per_caller::PerCaller;
 use crate::scanning::Posted;
 use rom_lr::{Shared, WriterSeat, apply_main};
-use rom_model::{Back, Object};
+use rom_model::{Back, LAST_COUNT, Object, SPENT};
 use rom_ranges::RangeLog;
-
-/// The limit of the count: an update that finds it here is not done.
-pub(crate) const LAST_COUNT: u64 = 1 << 62;
 
 /// Does each found call on shared main in turn, and says what each is to be told; `place` is the
 /// count before. Past the count's limit a call is not done. Nobody reads main meanwhile. The log
@@ -31,35 +28,35 @@ pub(crate) fn apply_all<O: Object>(
     log: &mut RangeLog,
     place: u64,
     found: &[Posted],
-    answers: &mut PerCaller<Answer>,
+    answers: &mut PerCaller<CallAnswer>,
 )
-    requires of { IsWriterOf shared.now.table.shared.table_id shared.now.table.shared.key seat.old }
-    requires unread { NobodyReads seat.old.token.me.0 Main }
-    requires found { found.now ≡ map posted_of (plan_of seat.old.token.me.0).requests }
+    requires of { IsWriterOf shared.now seat.old }
+    requires unread { NobodyReads seat.old Main }
+    requires found { found.now ≡ map posted_of (plan seat.old).requests }
     requires few { length found.now ≤ 16 }
-    requires none { answers.old.items ≡ [] }
-    requires fresh { let v = seat.old.token.me.0 in
-        Each (λ _. IsFresh (IsCall (on_words O.machine) v.base)) (plan_of v).requests }
-    requires held { let b = seat.old.token.me.0.base in let p = plan_of seat.old.token.me.0 in
+    requires fresh { let v = writer_view seat.old in
+        Each (λ _. IsUnanswered (IsCall (on_words O.machine) v.base)) (plan_of v).requests }
+    requires held { let b = (writer_view seat.old).base in let p = plan seat.old in
         (s : O.State) × (n : ℕ) × O.Contents b.order b.image s n
         × Held O.Contents (on_words O.machine) b s n p.main p.history
         × (place ≡ n + length p.history) }
-    requires logged { let p = plan_of seat.old.token.me.0 in IsLogOf p.back p.main log.old }
+    requires logged { let p = plan seat.old in IsLogOf p.back p.main log.old }
     requires clear { log.old.added ≡ 0 }
     requires room { O.STORES * length found.now ≤ log.old.room }
-    ensures kept { let p = plan_of seat.old.token.me.0 in
-        Writes seat.old seat.new (record p { main = (plan_of seat.new.token.me.0).main }) }
-    ensures applied { let b = seat.old.token.me.0.base in let p = plan_of seat.old.token.me.0 in
+    ensures kept { let p = plan seat.old in
+        Writes seat.old seat.new (record p { main = (plan seat.new).main }) }
+    ensures applied { let b = (writer_view seat.old).base in let p = plan seat.old in
         (s : O.State) × (n : ℕ) × O.Contents b.order b.image s n
-        × IsApplied O.Contents (on_words O.machine) b s n p (plan_of seat.new.token.me.0).main
+        × IsApplied O.Contents (on_words O.machine) b s n p (plan seat.new).main
         (length found.now) answers.new.items }
-    ensures logged { IsLogOf (plan_of seat.old.token.me.0).back (plan_of seat.new.token.me.0).main
+    ensures logged { IsLogOf (plan seat.old).back (plan seat.new).main
         log.new }
     ensures few { log.new.added
-        ≤ O.STORES * (count_in (plan_of seat.new.token.me.0).main - place) }
+        ≤ O.STORES * (count_in (plan seat.new).main - place) }
     ensures most { log.new.added ≤ O.STORES * length found.now }
     ensures room { log.new.room ≡ log.old.room }
 {
+    answers.clear();
     for i in 0..found.len() {
         answers.push(apply_one(shared, seat, log, place + i as u64, &found[i]));
     }
@@ -71,20 +68,20 @@ fn apply_one<O: Object>(
     log: &mut RangeLog,
     place: u64,
     one: &Posted,
-) -> Answer
-    requires of { IsWriterOf shared.now.table.shared.table_id shared.now.table.shared.key seat.old }
-    requires unread { NobodyReads seat.old.token.me.0 Main }
-    requires call { IsCall (on_words O.machine) seat.old.token.me.0.base one.now.args }
-    requires held { let v = seat.old.token.me.0 in
+) -> CallAnswer
+    requires of { IsWriterOf shared.now seat.old }
+    requires unread { NobodyReads seat.old Main }
+    requires call { IsCall (on_words O.machine) (writer_view seat.old).base one.now.args }
+    requires held { let v = writer_view seat.old in
         (s : O.State) × (place < LAST_COUNT → O.Contents v.base.order (plan_of v).main s place) }
-    requires logged { let p = plan_of seat.old.token.me.0 in IsLogOf p.back p.main log.old }
+    requires logged { let p = plan seat.old in IsLogOf p.back p.main log.old }
     requires room { log.old.added + O.STORES ≤ log.old.room }
-    ensures kept { let p = plan_of seat.old.token.me.0 in
-        Writes seat.old seat.new (record p { main = (plan_of seat.new.token.me.0).main }) }
-    ensures done { let v = seat.old.token.me.0 in
+    ensures kept { let p = plan seat.old in
+        Writes seat.old seat.new (record p { main = (plan seat.new).main }) }
+    ensures done { let v = writer_view seat.old in
         IsDoneOne O.Contents (on_words O.machine) v.base one.now place (plan_of v).main
-        (plan_of seat.new.token.me.0).main result }
-    ensures logged { IsLogOf (plan_of seat.old.token.me.0).back (plan_of seat.new.token.me.0).main
+        (plan seat.new).main result }
+    ensures logged { IsLogOf (plan seat.old).back (plan seat.new).main
         log.new }
     ensures added { log.new.added ≤ log.old.added + O.STORES }
     ensures spent { LAST_COUNT ≤ place → log.new ≡ log.old }
@@ -93,13 +90,13 @@ fn apply_one<O: Object>(
     if place < LAST_COUNT {
         let call = O::words_call(&one.args).unwrap();
         let reply = apply_main(shared, seat, log, &call);
-        return Answer {
+        return CallAnswer {
             caller: one.caller,
             place,
             reply: O::reply_words(&reply),
         };
     }
-    Answer {
+    CallAnswer {
         caller: one.caller,
         place: SPENT,
         reply: Back::new(),

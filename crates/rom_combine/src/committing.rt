@@ -7,16 +7,16 @@ ghost use Rattle.rom_model.specs.Passes.{faults_after};
 ghost use Rattle.rom_model.specs.declared.record.Fate.TheVariants as fate;
 ghost use Rattle.rom_device.specs.Device.{Becomes, Does, Runs};
 ghost use Rattle.rom_twin.specs.Seen.{InPhase, NeedsRepair, Rests, committed, main_now};
-ghost use Rattle.rom_combine.specs.Answering.{IsLeft, SameCalls};
+ghost use Rattle.rom_combine.specs.Answering.{HasGiven, SameCalls};
 ghost use Rattle.rom_combine.specs.Applying.{count_in};
 ghost use Rattle.rom_combine.specs.AtRest.{IsClear};
 ghost use Rattle.rom_combine.specs.Causes.{FailsAtCommit, FailsBeforeCommit};
 ghost use Rattle.rom_combine.specs.Costs.{OnlyWrites, Spends, SpendsAtMost, WithinHeap, syncs_before_commit, writes_before_commit};
 ghost use Rattle.rom_combine.specs.Histories.{PassMakes};
 ghost use Rattle.rom_combine.specs.Published.{IsPublished};
-ghost use Rattle.rom_combine.specs.Scanning.{IsFresh, posted_of};
+ghost use Rattle.rom_combine.specs.Scanning.{IsUnanswered, posted_of};
 ghost use Rattle.rom_combine.specs.Told.{fate_of};
-ghost use Rattle.rom_lr.specs.Seats.{IsWriterOf};
+ghost use Rattle.rom_lr.specs.Seats.{IsWriterOf, plan, writer_view};
 ghost use Rattle.rom_lr.specs.Writing.{NobodyReads, Writes};
 ghost use Rattle.rom_lr.specs.declared.side.Side.TheVariants.{Main};
 ghost use Rattle.rom_ranges.specs.Changes.{IsLogOf};
@@ -26,7 +26,7 @@ ghost use Rattle.rom_rule.specs.Readers.{Held};
 ghost use Rattle.rom_rule.specs.Records.{IsCall};
 ghost use Rattle.rom_rule.specs.Views.{Each, plan_of};
 
-use crate::answering::{Answer, DOUBT, FAILED, refuse};
+use crate::answering::{CallAnswer, refuse};
 use crate::applying::apply_all;
 use crate::passed::Outcome;
 use crate::per_caller::PerCaller;
@@ -35,7 +35,7 @@ use crate::sides::put_back;
 use crate::steps::{begin_on, commit_on};
 use rom_device::Device;
 use rom_lr::{Shared, Side, WriterSeat};
-use rom_model::Object;
+use rom_model::{DOUBT, FAILED, Object};
 use rom_ranges::RangeLog;
 use rom_twin::{Phase, Twin};
 
@@ -52,62 +52,61 @@ pub(crate) fn publish<D: Device, O: Object>(
     before: u64,
     place: u64,
     found: &[Posted],
-    answers: &mut PerCaller<Answer>,
+    answers: &mut PerCaller<CallAnswer>,
 ) -> Outcome
     // The table and the device at rest.
-    requires of { IsWriterOf shared.now.table.shared.table_id shared.now.table.shared.key seat.old }
-    requires unread { NobodyReads seat.old.token.me.0 Main }
-    requires order { twin.old.order ≡ seat.old.token.me.0.base.order }
+    requires of { IsWriterOf shared.now seat.old }
+    requires unread { NobodyReads seat.old Main }
+    requires order { twin.old.order ≡ (writer_view seat.old).base.order }
     requires order_fits { IsOrder twin.old.order }
-    requires same { (plan_of seat.old.token.me.0).main ≡ (plan_of seat.old.token.me.0).back }
+    requires same { (plan seat.old).main ≡ (plan seat.old).back }
     requires rests { Rests twin.old.phase }
     requires committed { IsTrue D.shown.tells_images →
-        committed D.shown twin.old ≡ (plan_of seat.old.token.me.0).main }
-    requires held { let b = seat.old.token.me.0.base in let p = plan_of seat.old.token.me.0 in
+        committed D.shown twin.old ≡ (plan seat.old).main }
+    requires held { let b = (writer_view seat.old).base in let p = plan seat.old in
         (s : O.State) × (n : ℕ) × O.Contents b.order b.image s n
         × Held O.Contents (on_words O.machine) b s n p.main p.history
         × (place ≡ n + length p.history) }
     requires clear { IsClear log.old }
 
     // What the scan found.
-    requires found { found.now ≡ map posted_of (plan_of seat.old.token.me.0).requests }
+    requires found { found.now ≡ map posted_of (plan seat.old).requests }
     requires few { length found.now ≤ 16 }
     requires room { O.STORES * length found.now ≤ log.old.room }
     requires some { 0 < length found.now }
-    requires none { answers.old.items ≡ [] }
     requires below { place < LAST_COUNT }
-    requires rising { let v = seat.old.token.me.0 in
+    requires rising { let v = writer_view seat.old in
         AreScanned 0 v.base.callers (map caller_in (plan_of v).requests) }
-    requires fresh { let v = seat.old.token.me.0 in
-        Each (λ _. IsFresh (IsCall (on_words O.machine) v.base)) (plan_of v).requests }
-    requires unmade { (plan_of seat.old.token.me.0).mine ≡ [] }
+    requires fresh { let v = writer_view seat.old in
+        Each (λ _. IsUnanswered (IsCall (on_words O.machine) v.base)) (plan_of v).requests }
+    requires unmade { (plan seat.old).mine ≡ [] }
     requires before { before ≡ D.shown.faults twin.old.device }
-    requires counts { let v = seat.old.token.me.0 in
+    requires counts { let v = writer_view seat.old in
         faults_after v.base.faults (plan_of v).records ≤ before }
 
     // Published: the batch is committed on the device before readers are sent to main.
     ensures some { result ≢ Outcome.Nothing }
-    ensures same { Writes seat.old seat.new (plan_of seat.new.token.me.0) }
-    ensures calls { SameCalls (plan_of seat.old.token.me.0) (plan_of seat.new.token.me.0) }
+    ensures same { Writes seat.old seat.new (plan seat.new) }
+    ensures calls { SameCalls (plan seat.old) (plan seat.new) }
     ensures order { twin.new.order ≡ twin.old.order }
     ensures phase { result ≡ Outcome.Published → twin.new.phase ≡ Phase.Committed }
     ensures main { result ≡ Outcome.Published → IsTrue D.shown.tells_images →
-        main_now D.shown twin.new ≡ (plan_of seat.new.token.me.0).main }
-    ensures published { result ≡ Outcome.Published → let v = seat.old.token.me.0 in
+        main_now D.shown twin.new ≡ (plan seat.new).main }
+    ensures published { result ≡ Outcome.Published → let v = writer_view seat.old in
         IsPublished O.Contents (on_words O.machine) v.base (plan_of v)
-        (plan_of seat.new.token.me.0) before (D.shown.faults twin.new.device) }
+        (plan seat.new) before (D.shown.faults twin.new.device) }
     ensures held { result ≡ Outcome.Published →
-        let b = seat.old.token.me.0.base in let q = plan_of seat.new.token.me.0 in
+        let b = (writer_view seat.old).base in let q = plan seat.new in
         (s : O.State) × (n : ℕ) × O.Contents b.order b.image s n
         × Held O.Contents (on_words O.machine) b s n q.main q.history }
 
     // The log then holds what is to be made of back.
     ensures back { result ≡ Outcome.Published → IsTrue D.shown.tells_images →
-        committed D.shown twin.new ≡ (plan_of seat.new.token.me.0).back }
+        committed D.shown twin.new ≡ (plan seat.new).back }
     ensures logged { result ≡ Outcome.Published →
-        let q = plan_of seat.new.token.me.0 in IsLogOf q.back q.main log.new }
+        let q = plan seat.new in IsLogOf q.back q.main log.new }
     ensures few { result ≡ Outcome.Published → held_count log.new.ranges
-        ≤ O.STORES * (count_in (plan_of seat.new.token.me.0).main - place) }
+        ≤ O.STORES * (count_in (plan seat.new).main - place) }
     ensures within { result ≡ Outcome.Published →
         held_count log.new.ranges ≤ region_len twin.old.order }
     ensures room { log.new.room ≡ log.old.room }
@@ -115,30 +114,32 @@ pub(crate) fn publish<D: Device, O: Object>(
     // Or all is as it was.
     ensures cleared { result ≢ Outcome.Published → IsClear log.new }
     ensures stays { result ≢ Outcome.Published →
-        plan_of seat.new.token.me.0 ≡ plan_of seat.old.token.me.0 }
+        plan seat.new ≡ plan seat.old }
     ensures committed { result ≢ Outcome.Published → IsTrue D.shown.tells_images →
         committed D.shown twin.new ≡ committed D.shown twin.old }
     ensures failed { result ≡ Outcome.Failed → (twin.new.phase ≡ Phase.Undo)
         ⊎ ((twin.new.phase ≡ twin.old.phase) × NeedsRepair twin.old.phase) }
     ensures doubt { result ≡ Outcome.Doubt → twin.new.phase ≡ Phase.Doubt }
-    ensures left { let b = seat.old.token.me.0.base in
-        IsLeft O.Contents (on_words O.machine) b (fate_of result) before
-        (D.shown.faults twin.new.device) (plan_of seat.new.token.me.0) 0 answers.new.items }
+    ensures left { let b = (writer_view seat.old).base in
+        HasGiven O.Contents (on_words O.machine) b (fate_of result) before
+        (D.shown.faults twin.new.device) (plan seat.new) 0 answers.new.items }
 
     // What a stop leaves.
     ensures images { IsTrue D.shown.tells_images → InPhase D.shown twin.new }
-    ensures since { IsTrue D.shown.tells_images → let b = seat.old.token.me.0.base in
-        let p = plan_of seat.old.token.me.0 in
+    ensures since { IsTrue D.shown.tells_images → let b = (writer_view seat.old).base in
+        let p = plan seat.old in
         (s : O.State) (n : ℕ) → O.Contents b.order b.image s n →
         let k = n + length p.history in
-        let more = batch (on_words O.machine) b.order (after (on_words O.machine) b.order s n p.history) k (map found_of p.requests) in
+        let more = batch (on_words O.machine) b.order
+        (after (on_words O.machine) b.order s n p.history) k (map found_of p.requests) in
         Runs D.shown (Becomes (PassMakes O.Contents (on_words O.machine) b s n (fate_of result)
         p.history more)) twin.old.device twin.new.device }
     ensures doubted { IsTrue D.shown.tells_images → result ≡ Outcome.Doubt →
-        let b = seat.old.token.me.0.base in let p = plan_of seat.old.token.me.0 in
+        let b = (writer_view seat.old).base in let p = plan seat.old in
         (s : O.State) (n : ℕ) → O.Contents b.order b.image s n →
         let k = n + length p.history in
-        let more = batch (on_words O.machine) b.order (after (on_words O.machine) b.order s n p.history) k (map found_of p.requests) in
+        let more = batch (on_words O.machine) b.order
+        (after (on_words O.machine) b.order s n p.history) k (map found_of p.requests) in
         (i : List ℕ) → D.shown.leaves twin.new.device i →
         PassMakes O.Contents (on_words O.machine) b s n fate.Doubt p.history more i }
 
@@ -147,10 +148,10 @@ pub(crate) fn publish<D: Device, O: Object>(
     ensures does { Does D.shown (WithinHeap twin.old.order) twin.old.device twin.new.device }
     ensures later { D.shown.faults twin.old.device ≤ D.shown.faults twin.new.device }
     ensures failed_cause { result ≡ Outcome.Failed →
-        FailsBeforeCommit D.shown twin.old.phase twin.old.order (plan_of seat.old.token.me.0).main
+        FailsBeforeCommit D.shown twin.old.phase twin.old.order (plan seat.old).main
         twin.old.device twin.new.device }
     ensures doubt_cause { result ≡ Outcome.Doubt →
-        FailsAtCommit D.shown twin.old.phase twin.old.order (plan_of seat.old.token.me.0).main
+        FailsAtCommit D.shown twin.old.phase twin.old.order (plan seat.old).main
         twin.old.device twin.new.device }
     ensures spends { result ≡ Outcome.Published →
         Spends D.shown (writes_before_commit twin.old.phase twin.old.order

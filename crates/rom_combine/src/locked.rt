@@ -4,8 +4,9 @@ ghost use Rattle.rom_model.specs.Blocks.{IsOrder, region_len};
 ghost use Rattle.rom_model.specs.Machine.{on_words};
 ghost use Rattle.rom_model.specs.Passes.{HasFault};
 ghost use Rattle.rom_device.specs.Device.{Becomes, Does, Runs};
+ghost use Rattle.rom_lr.specs.Seats.{writer_view};
 ghost use Rattle.rom_twin.specs.Seen.{NeedsRepair, committed};
-ghost use Rattle.rom_combine.specs.AtRest.{IsAtRest, IsIn, IsReady};
+ghost use Rattle.rom_combine.specs.AtRest.{IsAtRest, IsCoreOf, IsReady};
 ghost use Rattle.rom_combine.specs.Causes.{FailsAtCommit, FailsBeforeCommit};
 ghost use Rattle.rom_combine.specs.Costs.{IsUnfailed, OnlyWrites, SpendsAtMost, SpendsWithin, WithinHeap, batch_syncs, batch_writes, syncs_before_commit, writes_before_commit};
 ghost use Rattle.rom_combine.specs.Histories.{ImageAt, PassMakes};
@@ -13,8 +14,7 @@ ghost use Rattle.rom_combine.specs.Passing.{IsPass};
 ghost use Rattle.rom_combine.specs.Told.{fate_of};
 ghost use Rattle.rom_rule.specs.Views.{opening_plan, plan_of};
 
-use crate::answering::{Answer, SPENT, answer_all, refuse};
-use crate::applying::LAST_COUNT;
+use crate::answering::{CallAnswer, answer_all, refuse};
 use crate::committing::publish;
 use crate::gate::Gate;
 use crate::passed::{Outcome, Passed};
@@ -23,7 +23,7 @@ use crate::resting::settle;
 use crate::scanning::{Posted, scan};
 use rom_device::Device;
 use rom_lr::{Shared, WriterSeat};
-use rom_model::{COUNT, Object};
+use rom_model::{COUNT, LAST_COUNT, Object, SPENT};
 use rom_ranges::RangeLog;
 use rom_twin::{Phase, Twin};
 use std::marker::{Model, PhantomData};
@@ -42,13 +42,14 @@ pub struct Core<D: Device, O: Object> {
     log: RangeLog,
     // What a pass finds and answers. They stand here, so that no pass fills them anew.
     found: PerCaller<Posted>,
-    answers: PerCaller<Answer>,
+    answers: PerCaller<CallAnswer>,
     of: PhantomData<O>,
 }
 
 impl<D: Device, O: Object> Model for Core<D, O> {
     ghost use Rattle.rom_model.specs.Machine.{on_words};
     ghost use Rattle.rom_combine.specs.AtRest.{IsAtRest, IsReady, Locked};
+    ghost use Rattle.rom_lr.specs.Seats.{writer_view};
 
     ghost Value = { Locked D };
 
@@ -56,11 +57,12 @@ impl<D: Device, O: Object> Model for Core<D, O> {
       twin = c.twin;
       table_id = c.seat.token.table_id;
       id = c.seat.token.id;
-      view = c.seat.token.me.0;
+      view = writer_view c.seat;
     } };
 
-    ghost invariant = { λ c. IsAtRest D.shown O.Contents (on_words O.machine) c.twin c.seat.token.me.0
-        × IsReady O.STORES c.seat.token.me.0.base.callers c.log };
+    ghost invariant = { λ c.
+        IsAtRest D.shown O.Contents (on_words O.machine) c.twin (writer_view c.seat)
+        × IsReady O.STORES (writer_view c.seat).base.callers c.log };
 }
 
 impl<D: Device, O: Object> Core<D, O> {
@@ -68,19 +70,19 @@ impl<D: Device, O: Object> Core<D, O> {
     /// empty and has room for the stores of a call of each caller, so that no pass takes memory.
     pub fn new(twin: Twin<D>, log: RangeLog, seat: WriterSeat) -> Core<D, O>
         requires phase { twin.phase ≡ Phase.Clean }
-        requires order { twin.order ≡ seat.token.me.0.base.order }
+        requires order { twin.order ≡ (writer_view seat).base.order }
         requires order_fits { IsOrder twin.order }
-        requires opening { let v = seat.token.me.0 in
+        requires opening { let v = writer_view seat in
             plan_of v ≡ record (opening_plan v.base) { dealt = (plan_of v).dealt } }
-        requires formed { let b = seat.token.me.0.base in
+        requires formed { let b = (writer_view seat).base in
             (s : O.State) × (k : ℕ) × O.Contents b.order b.image s k }
         requires committed { IsTrue D.shown.tells_images →
-            committed D.shown twin ≡ seat.token.me.0.base.image }
-        requires faults { seat.token.me.0.base.faults ≤ D.shown.faults twin.device }
-        requires ready { IsReady O.STORES seat.token.me.0.base.callers log }
+            committed D.shown twin ≡ (writer_view seat).base.image }
+        requires faults { (writer_view seat).base.faults ≤ D.shown.faults twin.device }
+        requires ready { IsReady O.STORES (writer_view seat).base.callers log }
         ensures twin { result.twin ≡ twin }
         ensures seat { (result.table_id ≡ seat.token.table_id) × (result.id ≡ seat.token.id)
-            × (result.view ≡ seat.token.me.0) }
+            × (result.view ≡ writer_view seat) }
     {
         // Its contract tells what images a stop may leave now.
         let _ = twin.phase();
@@ -89,7 +91,7 @@ impl<D: Device, O: Object> Core<D, O> {
             seat,
             log,
             found: PerCaller::new(Posted::default()),
-            answers: PerCaller::new(Answer::default()),
+            answers: PerCaller::new(CallAnswer::default()),
             of: PhantomData,
         }
     }
@@ -98,9 +100,9 @@ impl<D: Device, O: Object> Core<D, O> {
     pub fn into_parts(self) -> (Twin<D>, WriterSeat)
         ensures twin { result.0 ≡ self.twin }
         ensures seat { (result.1.token.table_id ≡ self.table_id) × (result.1.token.id ≡ self.id)
-            × (result.1.token.me.0 ≡ self.view) }
+            × (writer_view result.1 ≡ self.view) }
         ensures rest { IsAtRest D.shown O.Contents (on_words O.machine) result.0
-            result.1.token.me.0 }
+            (writer_view result.1) }
     {
         let Core {
             twin,
@@ -116,9 +118,10 @@ impl<D: Device, O: Object> Core<D, O> {
     /// Finds the posted calls, does them as one batch, and answers each. The device is repaired first
     /// where it needs it. Where it fails up to the commit, no call is done; later faults are told to
     /// none, and the twin's phase says what they left to do, if anything. It takes no memory. It waits
-    /// for readers alone, once each call is answered; up to then only the gate may hold it up.
+    /// for readers alone, once each call is answered; up to then only the gate may hold it up, which is
+    /// told once `publish` has returned, when what it is told is certain.
     pub fn pass<R: Wait, G: Gate>(&mut self, rt: &R, shared: &Shared<O>, gate: &G) -> Passed
-        requires of { IsIn shared.now.table.shared.table_id shared.now.table.shared.key self.old }
+        requires of { IsCoreOf shared.now self.old }
         ensures same { (self.new.table_id ≡ self.old.table_id) × (self.new.id ≡ self.old.id)
             × (self.new.view.base ≡ self.old.view.base)
             × (self.new.twin.order ≡ self.old.twin.order) }
@@ -196,33 +199,18 @@ impl<D: Device, O: Object> Core<D, O> {
             (syncs_before_commit self.old.twin.phase)
             self.old.twin.device self.new.twin.device }
     {
-        self.found.clear();
-        self.answers.clear();
         let before = self.twin.fault_count();
         scan(shared, &mut self.seat, &mut self.found);
         if self.found.is_empty() {
-            return Passed {
-                found: 0,
-                done: 0,
-                outcome: Outcome::Nothing,
-            };
+            return Passed::of(0, 0, Outcome::Nothing);
         }
         let many = self.found.len() as u32;
         let place = shared.load_main(&mut self.seat, COUNT);
         if place == LAST_COUNT {
             refuse(self.found.as_slice(), SPENT, &mut self.answers);
-            answer_all(
-                shared,
-                &mut self.seat,
-                self.answers.as_slice(),
-                before,
-                before,
-            );
-            return Passed {
-                found: many,
-                done: 0,
-                outcome: Outcome::Published,
-            };
+            let answers = self.answers.as_slice();
+            answer_all(shared, &mut self.seat, answers, before, before);
+            return Passed::of(many, 0, Outcome::Published);
         }
         let outcome = publish(
             &mut self.twin,
@@ -237,15 +225,9 @@ impl<D: Device, O: Object> Core<D, O> {
         let now = self.twin.fault_count();
         if outcome != Outcome::Published {
             answer_all(shared, &mut self.seat, self.answers.as_slice(), before, now);
-            return Passed {
-                found: many,
-                done: 0,
-                outcome,
-            };
+            return Passed::of(many, 0, outcome);
         }
         let done = (shared.load_main(&mut self.seat, COUNT) - place) as u32;
-        // Nothing else up to the last answer takes `rt`: what is told is certain, since `publish` has
-        // returned.
         gate.published(rt, done);
         answer_all(shared, &mut self.seat, self.answers.as_slice(), before, now);
         settle(
@@ -256,10 +238,6 @@ impl<D: Device, O: Object> Core<D, O> {
             &mut self.log,
             before,
         );
-        Passed {
-            found: many,
-            done,
-            outcome,
-        }
+        Passed::of(many, done, outcome)
     }
 }

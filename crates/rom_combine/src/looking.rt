@@ -1,7 +1,7 @@
 //! Shared main as words that are only loaded, and queries of it.
 ghost use Rattle.std.specs.Prelude.{◌≡◌, ℕ};
 ghost use Rattle.rom_combine.specs.Looking.{unstepped};
-ghost use Rattle.rom_lr.specs.Seats.{IsWriterOf};
+ghost use Rattle.rom_lr.specs.Seats.{IsWriterOf, plan, writer_view};
 ghost use Rattle.rom_lr.specs.Writing.{Writes};
 ghost use Rattle.rom_rule.specs.Views.{plan_of};
 
@@ -13,18 +13,18 @@ use rom_model::{Look, Object};
 pub struct MainLook<'a, O: Object> {
     pub(crate) shared: &'a Shared<O>,
     pub(crate) seat: &'a mut WriterSeat,
-    ghost of: { IsWriterOf shared.now.table.shared.table_id shared.now.table.shared.key seat.now },
+    ghost of: { IsWriterOf shared.now seat.now },
 }
 
 impl<'a, O: Object> Look for MainLook<'a, O> {
     ghost use Rattle.std.specs.Prelude.{ℕ, false};
     ghost use Rattle.atomic_table.specs.Seated.{TableId};
     ghost use Rattle.rom_combine.specs.Looking.{unstepped};
-    ghost use Rattle.rom_rule.specs.Views.{plan_of};
+    ghost use Rattle.rom_lr.specs.Seats.{plan, writer_view};
     ghost use Rattle.rom_rule.specs.declared.views.View.{View};
 
     ghost shown = { record {
-      image = λ s. (plan_of s.seat.now.token.me.0).main;
+      image = λ s. (plan s.seat.now).main;
       tells_loads = false;
       loads = λ _. 0;
       tells_stores = false;
@@ -32,7 +32,12 @@ impl<'a, O: Object> Look for MainLook<'a, O> {
       has_limit = false;
       limit = λ _. 0;
       Rest = ℕ × TableId × ℕ × View;
-      rest = λ s. (s.seat.ghost_name, s.seat.now.token.table_id, s.seat.now.token.id, unstepped s.seat.now.token.me.0);
+      rest = λ s. (
+        s.seat.ghost_name,
+        s.seat.now.token.table_id,
+        s.seat.now.token.id,
+        unstepped (writer_view s.seat.now),
+      );
     } };
 
     fn load(&mut self, at: u64) -> u64 {
@@ -44,11 +49,11 @@ impl<'a, O: Object> Look for MainLook<'a, O> {
 
 /// Answers a query from shared main, whichever side is named. It neither waits nor takes memory.
 pub fn ask_main<O: Object>(shared: &Shared<O>, seat: &mut WriterSeat, query: &O::Query) -> O::Answer
-    requires of { IsWriterOf shared.now.table.shared.table_id shared.now.table.shared.key seat.old }
-    requires region { let v = seat.old.token.me.0 in (s : O.State) × (k : ℕ) ×
-        O.Contents v.base.order (plan_of v).main s k }
-    ensures same { Writes seat.old seat.new (plan_of seat.old.token.me.0) }
-    ensures told { let v = seat.old.token.me.0 in (s : O.State) (k : ℕ) →
+    requires of { IsWriterOf shared.now seat.old }
+    requires region { let v = writer_view seat.old in
+        (s : O.State) × (k : ℕ) × O.Contents v.base.order (plan_of v).main s k }
+    ensures same { Writes seat.old seat.new (plan seat.old) }
+    ensures told { let v = writer_view seat.old in (s : O.State) (k : ℕ) →
         O.Contents v.base.order (plan_of v).main s k → result ≡ O.machine.tell s query.now }
 {
     let order = shared.layout.order();

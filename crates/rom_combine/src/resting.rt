@@ -8,12 +8,11 @@ ghost use Rattle.rom_combine.specs.AtRest.{IsClear};
 ghost use Rattle.rom_combine.specs.Costs.{IsUnfailed, OnlyWrites, Spends, SpendsAtMost, WithinHeap};
 ghost use Rattle.rom_combine.specs.Images.{Counting};
 ghost use Rattle.rom_combine.specs.Resting.{HasRested};
-ghost use Rattle.rom_lr.specs.Seats.{IsWriterOf};
+ghost use Rattle.rom_lr.specs.Seats.{IsWriterOf, plan, writer_view};
 ghost use Rattle.rom_ranges.specs.Changes.{IsLogOf};
 ghost use Rattle.rom_ranges.specs.Ranges.{held_count};
 ghost use Rattle.rom_rule.specs.Kinds.{MayRaise};
 ghost use Rattle.rom_rule.specs.Readers.{Held, Settled};
-ghost use Rattle.rom_rule.specs.Views.{plan_of};
 
 use crate::sides::copy_back;
 use crate::steps::finish_on;
@@ -36,31 +35,31 @@ pub(crate) fn settle<D: Device, O: Object, R: Wait>(
     log: &mut RangeLog,
     before: u64,
 )
-    requires of { IsWriterOf shared.now.table.shared.table_id shared.now.table.shared.key seat.old }
-    requires side { (plan_of seat.old.token.me.0).side ≡ 0 }
+    requires of { IsWriterOf shared.now seat.old }
+    requires side { (plan seat.old).side ≡ 0 }
     requires phase { twin.old.phase ≡ Phase.Committed }
-    requires order { twin.old.order ≡ seat.old.token.me.0.base.order }
+    requires order { twin.old.order ≡ (writer_view seat.old).base.order }
     requires main { IsTrue D.shown.tells_images →
-        main_now D.shown twin.old ≡ (plan_of seat.old.token.me.0).main }
+        main_now D.shown twin.old ≡ (plan seat.old).main }
     requires back { IsTrue D.shown.tells_images →
-        committed D.shown twin.old ≡ (plan_of seat.old.token.me.0).back }
-    requires logged { let p = plan_of seat.old.token.me.0 in IsLogOf p.back p.main log.old }
+        committed D.shown twin.old ≡ (plan seat.old).back }
+    requires logged { let p = plan seat.old in IsLogOf p.back p.main log.old }
     requires raises { MayRaise before (D.shown.faults twin.old.device)
-        (plan_of seat.old.token.me.0).mine }
-    requires held { let b = seat.old.token.me.0.base in let p = plan_of seat.old.token.me.0 in
+        (plan seat.old).mine }
+    requires held { let b = (writer_view seat.old).base in let p = plan seat.old in
         (s : O.State) × (n : ℕ) × O.Contents b.order b.image s n
         × Held O.Contents (on_words O.machine) b s n p.main p.history }
     ensures rested { HasRested (D.shown.faults twin.new.device) seat.old seat.new }
-    ensures settled { Settled seat.new.token.me.0.base (plan_of seat.new.token.me.0) }
+    ensures settled { Settled (writer_view seat.new).base (plan seat.new) }
     ensures cleared { IsClear log.new }
     ensures room { log.new.room ≡ log.old.room }
     ensures phase { (twin.new.phase ≡ Phase.Clean) ⊎ (twin.new.phase ≡ Phase.Redo) }
     ensures order { twin.new.order ≡ twin.old.order }
     ensures committed { IsTrue D.shown.tells_images →
-        committed D.shown twin.new ≡ (plan_of seat.old.token.me.0).main }
+        committed D.shown twin.new ≡ (plan seat.old).main }
     ensures images { IsTrue D.shown.tells_images → InPhase D.shown twin.new }
     ensures since { IsTrue D.shown.tells_images →
-        Runs D.shown (Becomes (Counting twin.old.order (plan_of seat.old.token.me.0).main))
+        Runs D.shown (Becomes (Counting twin.old.order (plan seat.old).main))
         twin.old.device twin.new.device }
     ensures spends { IsUnfailed D.shown twin.old.device twin.new.device →
         Spends D.shown (held_count log.old.ranges + 1) 1 twin.old.device twin.new.device }

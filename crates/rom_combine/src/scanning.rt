@@ -3,7 +3,7 @@ ghost use Rattle.std.specs.Prelude.{◌≡◌, ℕ, ◌+◌, ◌<◌, ◌≤◌,
 ghost use Rattle.rom_model.specs.Machine.{on_words};
 ghost use Rattle.rom_announce.specs.Scanning.{MayScan, scanned_from, with_words};
 ghost use Rattle.rom_combine.specs.Scanning.{IsScan, IsVisit};
-ghost use Rattle.rom_lr.specs.Seats.{IsWriterOf};
+ghost use Rattle.rom_lr.specs.Seats.{IsWriterOf, plan, writer_view};
 ghost use Rattle.rom_lr.specs.Writing.{Writes};
 ghost use Rattle.rom_rule.specs.CallKinds.{IsPending, altered};
 ghost use Rattle.rom_rule.specs.Calls.{packed};
@@ -39,14 +39,14 @@ pub(crate) fn scan<O: Object>(
     seat: &mut WriterSeat,
     found: &mut PerCaller<Posted>,
 )
-    requires of { IsWriterOf shared.now.table.shared.table_id shared.now.table.shared.key seat.old }
-    requires answered { Each (λ _ f. f.answered ≡ true) (plan_of seat.old.token.me.0).requests }
-    requires empty { found.old.items ≡ [] }
-    ensures scanned { let v = seat.old.token.me.0 in
-        IsScan (IsCall (on_words O.machine) v.base) (plan_of v) (plan_of seat.new.token.me.0)
+    requires of { IsWriterOf shared.now seat.old }
+    requires answered { Each (λ _ f. f.answered ≡ true) (plan seat.old).requests }
+    ensures scanned { let v = writer_view seat.old in
+        IsScan (IsCall (on_words O.machine) v.base) (plan_of v) (plan seat.new)
         shared.now.layout.callers found.new.items }
-    ensures same { Writes seat.old seat.new (plan_of seat.new.token.me.0) }
+    ensures same { Writes seat.old seat.new (plan seat.new) }
 {
+    found.clear();
     visit(shared, seat, 1, found);
     for caller in 2..shared.layout.callers() + 1 {
         visit(shared, seat, caller, found);
@@ -60,16 +60,16 @@ fn visit<O: Object>(
     caller: u32,
     found: &mut PerCaller<Posted>,
 )
-    requires of { IsWriterOf shared.now.table.shared.table_id shared.now.table.shared.key seat.old }
+    requires of { IsWriterOf shared.now seat.old }
     requires within { (1 ≤ caller) × (caller ≤ shared.now.layout.callers) }
-    requires next { MayScan (plan_of seat.old.token.me.0) caller }
+    requires next { MayScan (plan seat.old) caller }
     requires others { Each (λ _ f. f.caller < caller)
-        (scanned_from caller (plan_of seat.old.token.me.0)).requests }
+        (scanned_from caller (plan seat.old)).requests }
     requires room { length found.old.items < 16 }
-    ensures visited { let v = seat.old.token.me.0 in
+    ensures visited { let v = writer_view seat.old in
         IsVisit (IsCall (on_words O.machine) v.base) (scanned_from caller (plan_of v))
-        (plan_of seat.new.token.me.0) caller found.old.items found.new.items }
-    ensures same { Writes seat.old seat.new (plan_of seat.new.token.me.0) }
+        (plan seat.new) caller found.old.items found.new.items }
+    ensures same { Writes seat.old seat.new (plan seat.new) }
 {
     if posted(shared, seat, caller) {
         find(shared, seat, caller, found);
@@ -83,13 +83,13 @@ fn find<O: Object>(
     caller: u32,
     found: &mut PerCaller<Posted>,
 )
-    requires of { IsWriterOf shared.now.table.shared.table_id shared.now.table.shared.key seat.old }
+    requires of { IsWriterOf shared.now seat.old }
     requires within { (1 ≤ caller) × (caller ≤ shared.now.layout.callers) }
-    requires posted { (f : Request) × IsPending (plan_of seat.old.token.me.0) caller f }
+    requires posted { (f : Request) × IsPending (plan seat.old) caller f }
     requires room { length found.old.items < 16 }
-    ensures found { (args : List ℕ) × IsCall (on_words O.machine) seat.old.token.me.0.base args
+    ensures found { (args : List ℕ) × IsCall (on_words O.machine) (writer_view seat.old).base args
         × Writes seat.old seat.new
-        (altered caller (with_words (packed args)) (plan_of seat.old.token.me.0))
+        (altered caller (with_words (packed args)) (plan seat.old))
         × (found.new.items ≡ found.old.items ++ record { caller = caller; args = args } ∷ []) }
 {
     let next = &mut found.cells[found.count];

@@ -4,11 +4,10 @@ ghost use Rattle.rom_model.specs.Blocks.{region_len};
 ghost use Rattle.rom_model.specs.Faults.{FailedLast, Rose};
 ghost use Rattle.rom_model.specs.Space.{Looks};
 ghost use Rattle.rom_device.specs.Device.{Becomes, Does, Makes, Runs};
-ghost use Rattle.rom_lr.specs.Seats.{IsWriterOf};
+ghost use Rattle.rom_lr.specs.Seats.{IsWriterOf, plan, writer_view};
 ghost use Rattle.rom_lr.specs.Writing.{Writes};
 ghost use Rattle.rom_ranges.specs.Changes.{SameBut};
 ghost use Rattle.rom_ranges.specs.Ranges.{AreWithin, held_count};
-ghost use Rattle.rom_rule.specs.Views.{plan_of};
 ghost use Rattle.rom_twin.specs.Seen.{InPhase, NeedsRepair, Rests, committed, main_now};
 ghost use Rattle.rom_combine.specs.Causes.{FailsAtCommit, FailsBeforeCommit};
 ghost use Rattle.rom_combine.specs.Costs.{IsUnfailed, OnlyWrites, Spends, SpendsAtMost, WithinHeap, mending_syncs, mending_writes};
@@ -62,12 +61,12 @@ pub(crate) fn begin_on<D: Device, O: Object>(
     shared: &Shared<O>,
     seat: &mut WriterSeat,
 ) -> Result<(), Failed>
-    requires of { IsWriterOf shared.now.table.shared.table_id shared.now.table.shared.key seat.old }
+    requires of { IsWriterOf shared.now seat.old }
     requires rests { Rests twin.old.phase }
-    requires order { twin.old.order ≡ seat.old.token.me.0.base.order }
+    requires order { twin.old.order ≡ (writer_view seat.old).base.order }
     requires committed { IsTrue D.shown.tells_images →
-        committed D.shown twin.old ≡ (plan_of seat.old.token.me.0).main }
-    ensures same { Writes seat.old seat.new (plan_of seat.old.token.me.0) }
+        committed D.shown twin.old ≡ (plan seat.old).main }
+    ensures same { Writes seat.old seat.new (plan seat.old) }
     ensures ok { OnOk result (twin.new.phase ≡ Phase.Begun) }
     ensures failed { OnErr result ((twin.new.phase ≡ Phase.Undo)
         ⊎ ((twin.new.phase ≡ twin.old.phase) × NeedsRepair twin.old.phase)) }
@@ -109,13 +108,13 @@ pub(crate) fn commit_on<D: Device, O: Object>(
     seat: &mut WriterSeat,
     ranges: &[Range],
 ) -> Result<(), Failed>
-    requires of { IsWriterOf shared.now.table.shared.table_id shared.now.table.shared.key seat.old }
+    requires of { IsWriterOf shared.now seat.old }
     requires phase { twin.old.phase ≡ Phase.Begun }
-    requires order { twin.old.order ≡ seat.old.token.me.0.base.order }
+    requires order { twin.old.order ≡ (writer_view seat.old).base.order }
     requires within { AreWithin (region_len twin.old.order) ranges.now }
     requires but { IsTrue D.shown.tells_images →
-        SameBut ranges.now (main_now D.shown twin.old) (plan_of seat.old.token.me.0).main }
-    ensures same { Writes seat.old seat.new (plan_of seat.old.token.me.0) }
+        SameBut ranges.now (main_now D.shown twin.old) (plan seat.old).main }
+    ensures same { Writes seat.old seat.new (plan seat.old) }
     ensures ok { OnOk result (twin.new.phase ≡ Phase.Committed) }
     ensures failed { OnErr result ((twin.new.phase ≡ Phase.Undo)
         ⊎ (twin.new.phase ≡ Phase.Doubt)) }
@@ -123,14 +122,14 @@ pub(crate) fn commit_on<D: Device, O: Object>(
     ensures committed { IsTrue D.shown.tells_images →
         committed D.shown twin.new ≡ committed D.shown twin.old }
     ensures main { IsTrue D.shown.tells_images →
-        OnOk result (main_now D.shown twin.new ≡ (plan_of seat.old.token.me.0).main) }
+        OnOk result (main_now D.shown twin.new ≡ (plan seat.old).main) }
     ensures images { IsTrue D.shown.tells_images → InPhase D.shown twin.new }
     ensures now { IsTrue D.shown.tells_images → (i : List ℕ) → D.shown.leaves twin.new.device i →
         Committable twin.new.phase twin.old.order (committed D.shown twin.old)
-        (plan_of seat.old.token.me.0).main i }
+        (plan seat.old).main i }
     ensures since { IsTrue D.shown.tells_images →
         Runs D.shown (Becomes (Committable twin.new.phase twin.old.order
-        (committed D.shown twin.old) (plan_of seat.old.token.me.0).main))
+        (committed D.shown twin.old) (plan seat.old).main))
         twin.old.device twin.new.device }
     ensures only { OnlyWrites D.shown twin.old.device twin.new.device }
     ensures does { Does D.shown (WithinHeap twin.old.order) twin.old.device twin.new.device }
@@ -160,22 +159,22 @@ pub(crate) fn finish_on<D: Device, O: Object>(
     seat: &mut WriterSeat,
     ranges: &[Range],
 )
-    requires of { IsWriterOf shared.now.table.shared.table_id shared.now.table.shared.key seat.old }
+    requires of { IsWriterOf shared.now seat.old }
     requires phase { twin.old.phase ≡ Phase.Committed }
-    requires order { twin.old.order ≡ seat.old.token.me.0.base.order }
+    requires order { twin.old.order ≡ (writer_view seat.old).base.order }
     requires within { AreWithin (region_len twin.old.order) ranges.now }
     requires main { IsTrue D.shown.tells_images →
-        main_now D.shown twin.old ≡ (plan_of seat.old.token.me.0).main }
+        main_now D.shown twin.old ≡ (plan seat.old).main }
     requires but { IsTrue D.shown.tells_images →
-        SameBut ranges.now (committed D.shown twin.old) (plan_of seat.old.token.me.0).main }
-    ensures same { Writes seat.old seat.new (plan_of seat.old.token.me.0) }
+        SameBut ranges.now (committed D.shown twin.old) (plan seat.old).main }
+    ensures same { Writes seat.old seat.new (plan seat.old) }
     ensures phase { (twin.new.phase ≡ Phase.Clean) ⊎ (twin.new.phase ≡ Phase.Redo) }
     ensures order { twin.new.order ≡ twin.old.order }
     ensures committed { IsTrue D.shown.tells_images →
-        committed D.shown twin.new ≡ (plan_of seat.old.token.me.0).main }
+        committed D.shown twin.new ≡ (plan seat.old).main }
     ensures images { IsTrue D.shown.tells_images → InPhase D.shown twin.new }
     ensures since { IsTrue D.shown.tells_images →
-        Runs D.shown (Becomes (Counting twin.old.order (plan_of seat.old.token.me.0).main))
+        Runs D.shown (Becomes (Counting twin.old.order (plan seat.old).main))
         twin.old.device twin.new.device }
     ensures spends { IsUnfailed D.shown twin.old.device twin.new.device →
         Spends D.shown (held_count ranges.now + 1) 1 twin.old.device twin.new.device }

@@ -3,14 +3,12 @@
 //!
 //! A call that is generic over a space is proved for every space, also for one that counts and has
 //! a limit; words in memory alone do neither, and so would not show that its contract can be met
-//! there. Only modules of tests name this crate. Its contracts promise that the counts are those
+//! there. Only `rom_units` names this crate. Its contracts promise that the counts are those
 //! that a contract speaks of: each load and each store is counted once, and the limit is the one
 //! given.
 #![tactic(auto)]
 
 mod counted;
 mod tally;
-#[cfg(test)]
-mod tests;
 
 pub use counted::Counted;

@@ -41,8 +41,3 @@ pub use medium::Medium;
 pub use memory::Memory;
 pub use ram::Ram;
 pub use trip::Trip;
-
-#[cfg(test)]
-mod file_tests;
-#[cfg(test)]
-mod tests;

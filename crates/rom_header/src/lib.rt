@@ -14,6 +14,3 @@ mod header;
 pub use fresh::{FormatRefused, write_new};
 pub use geometry::Geometry;
 pub use header::{Header, HeaderRefused, MAGIC, STATE, State, VERSION, read_header};
-
-#[cfg(test)]
-mod tests;

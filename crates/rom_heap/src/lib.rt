@@ -28,6 +28,3 @@ mod walk;
 
 pub use free::free_elements;
 pub use trio::Trio;
-
-#[cfg(test)]
-mod tests;

@@ -11,12 +11,9 @@ ghost use Rattle.rom_heap.specs.Parts.{Queue, Set, Map, IsPart, AnswersWalks};
 use crate::walk::Walk;
 use rom_block::{check, check_word, check_zeros};
 use rom_model::{
-    Break, COUNT, KIND, MAP_LEN, QUEUE_LEN, QUEUE_TAIL, Rule, SET_LEN, TABLE, TREE, VERSION,
-    blocks_at, power_of_two,
+    Break, COUNT, KIND, LAST_COUNT, MAP_LEN, QUEUE_LEN, QUEUE_TAIL, Rule, SET_LEN, TABLE, TREE,
+    VERSION, blocks_at, power_of_two,
 };
-
-/// The most updates that a region counts.
-const LAST_COUNT: u64 = 1 << 62;
 
 /// Tests the words up to the tree that belong to none of the structures.
 pub fn inspect_root(region: &[u64], order: u32) -> Result<(), Break>

@@ -2,6 +2,7 @@
 use Rattle.std.specs.Prelude.{◌≡◌, ℕ, ◌+◌, List, length, Option}
 use Rattle.rom_model.specs.Seen.{StartsWith}
 use Rattle.rom_model.specs.declared.entry.Entry.{Entry}
+use Rattle.rom_lr.specs.Seats.{view}
 use Rattle.rom_lr.specs.declared.seats.Seat.{Seat}
 use Rattle.rom_rule.specs.Kinds.{entering}
 use Rattle.rom_rule.specs.Readers.{Stands}
@@ -11,7 +12,7 @@ use Rattle.rom_rule.specs.declared.views.View.{View}
 
 -- The seat makes so many steps, and its view stays but for their number.
 abbrev pub HasStepped : Seat → Seat → ℕ → Type 0
-HasStepped s t n = (t.token.me.0 ≡ record s.token.me.0 { steps = s.token.me.0.steps + n }) × (t.version ≡ s.version) × (t.side ≡ s.side) × (t.first ≡ s.first)
+HasStepped s t n = (view t ≡ record (view s) { steps = (view s).steps + n }) × (t.version ≡ s.version) × (t.side ≡ s.side) × (t.first ≡ s.first)
 
 -- a view but for the number of its steps
 abbrev pub but_steps : View → View
@@ -21,7 +22,7 @@ module _ {S : Type 0} (Contents : ℕ → List ℕ → S → ℕ → Type 0) (st
   -- In three steps the seat comes to read a side. What it has then seen begins with what it had seen; its front is the count after that history, and is kept among its fronts; the image stands for the state there. With no call posted, it knows which entries of that history are its own. Nothing else of its view changes.
   pub record HasEntered (s : Seat) (t : Seat) : Type 0 where
     pub seen : List Entry
-    pub begins : StartsWith seen s.token.me.0.seen
-    pub stands : Stands Contents step t.token.me.0.base (image_of t.token.me.0.position) seen (front_of t.token.me.0.position)
-    pub view : (let q = t.token.me.0.position in t.token.me.0 ≡ record (entering s.token.me.0 (indicator_in q) (side_read q) (front_of q) (image_of q) seen) { steps = s.token.me.0.steps + 3 })
-    pub own : (let v = s.token.me.0 in length v.calls ≡ length v.outcomes → (x : S) (n : ℕ) → Contents v.base.order v.base.image x n → KnowsEntries v.base.callers n t.token.me.0)
+    pub begins : StartsWith seen (view s).seen
+    pub stands : Stands Contents step (view t).base (image_of (view t).position) seen (front_of (view t).position)
+    pub own : (let v = view s in length v.calls ≡ length v.outcomes → (x : S) (n : ℕ) → Contents v.base.order v.base.image x n → KnowsEntries v.base.callers n (view t))
+    pub view : (let q = (view t).position in view t ≡ record (entering (view s) (indicator_in q) (side_read q) (front_of q) (image_of q) seen) { steps = (view s).steps + 3 })

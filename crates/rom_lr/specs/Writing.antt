@@ -1,5 +1,6 @@
 -- What the writer's calls ask for, and what they leave.
 use Rattle.std.specs.Prelude.{◌≡◌, ℕ, zero, suc, ◌-◌, List, [], ◌∷◌, ◌++◌, Some}
+use Rattle.rom_lr.specs.Seats.{plan, writer_view}
 use Rattle.rom_lr.specs.Side.{other_side, side_number}
 use Rattle.rom_lr.specs.declared.seats.WriterSeat.{WriterSeat}
 use Rattle.rom_lr.specs.declared.side.Side.{Side}
@@ -10,18 +11,18 @@ use Rattle.rom_rule.specs.declared.views.Plan.{Plan}
 use Rattle.rom_rule.specs.declared.views.View.{View}
 
 -- Nobody reads this side: `side` names the other one, and both waits are over since it was stored.
-abbrev pub NobodyReads : View → Side → Type 0
-NobodyReads v side = ((plan_of v).side ≡ side_number (other_side side)) × Settled v.base (plan_of v)
+abbrev pub NobodyReads : WriterSeat → Side → Type 0
+NobodyReads s side = ((plan s).side ≡ side_number (other_side side)) × Settled (writer_view s).base (plan s)
 
 -- After some steps the writer's plan is p, and nothing else of its view has changed but their number.
 abbrev pub Writes : WriterSeat → WriterSeat → Plan → Type 0
-Writes s t p = (t.token.table_id ≡ s.token.table_id) × (t.token.id ≡ s.token.id) × (t.token.me.0 ≡ record s.token.me.0 { plan = Some p; steps = t.token.me.0.steps })
+Writes s t p = (t.token.table_id ≡ s.token.table_id) × (t.token.id ≡ s.token.id) × (writer_view t ≡ record (writer_view s) { plan = Some p; steps = (writer_view t).steps })
 
 -- After both waits nothing of the writer's plan has changed but `version` and which indicators count as loaded, and nothing else of its view but the number of its steps.
 pub record HasWaited (s t : WriterSeat) : Type 0 where
   pub version : ℕ
   pub clear : List (ℕ × ℕ)
-  pub writes : Writes s t (record (plan_of s.token.me.0) { version = version; clear = clear })
+  pub writes : Writes s t (record (plan s) { version = version; clear = clear })
 
 -- the loads of one wait, of the callers up to this number, the last caller's first: each caller's indicator of the version, with what `version` was then
 abbrev pub checks : ℕ → ℕ → ℕ → List (ℕ × ℕ)

@@ -1,7 +1,7 @@
 //! The side that a caller reads as words, of which a query can be asked.
 ghost use Rattle.std.specs.Prelude.{◌≡◌, ℕ, ◌+◌, ◌≤◌, IsTrue, length};
 ghost use Rattle.rom_model.specs.Blocks.{region_len};
-ghost use Rattle.rom_lr.specs.Seats.{IsSameSeat, IsSeatOf};
+ghost use Rattle.rom_lr.specs.Seats.{IsSameSeat, IsSeatOf, view};
 ghost use Rattle.rom_rule.specs.Views.{image_of, is_reading};
 
 use crate::seats::Seat;
@@ -16,21 +16,23 @@ struct SideLook<'a, 'b, O: Object, L: Ledger> {
     shared: &'a Shared<O>,
     seat: &'a mut Seat,
     steps: &'b mut Steps<L>,
-    ghost of: { IsSeatOf shared.now.table.shared.table_id shared.now.table.shared.key seat.now },
-    ghost entered: { IsTrue (is_reading seat.now.token.me.0.position) },
-    ghost sized: { length (image_of seat.now.token.me.0.position) ≡ region_len shared.now.layout.order },
+    ghost of: { IsSeatOf shared.now seat.now },
+    ghost entered: { IsTrue (is_reading (view seat.now).position) },
+    ghost sized: { length (image_of (view seat.now).position)
+        ≡ region_len shared.now.layout.order },
 }
 
 impl<'a, 'b, O: Object, L: Ledger> Look for SideLook<'a, 'b, O, L> {
     ghost use Rattle.std.specs.Prelude.{ℕ, ◌-◌, true, false};
     ghost use Rattle.atomic_table.specs.Seated.{TableId};
     ghost use Rattle.rom_lr.specs.Reading.{but_steps};
+    ghost use Rattle.rom_lr.specs.Seats.{view};
     ghost use Rattle.rom_rule.specs.Views.{image_of};
     ghost use Rattle.rom_rule.specs.declared.views.View.{View};
 
     // The counter and the seat's steps rise together, so neither difference changes.
     ghost shown = { record {
-      image = λ s. image_of s.seat.now.token.me.0.position;
+      image = λ s. image_of (view s.seat.now).position;
       tells_loads = true;
       loads = λ s. s.steps.now;
       tells_stores = false;
@@ -38,8 +40,16 @@ impl<'a, 'b, O: Object, L: Ledger> Look for SideLook<'a, 'b, O, L> {
       has_limit = false;
       limit = λ _. 0;
       Rest = ((ℕ × ℕ) × TableId × ℕ × View) × ℕ × ℕ;
-      rest = λ s. let v = s.seat.now.token.me.0 in
-          (((s.seat.ghost_name, s.steps.ghost_name), s.seat.now.token.table_id, s.seat.now.number, but_steps v), s.steps.now - v.steps, v.steps - s.steps.now);
+      rest = λ s. let v = view s.seat.now in (
+        (
+          (s.seat.ghost_name, s.steps.ghost_name),
+          s.seat.now.token.table_id,
+          s.seat.now.number,
+          but_steps v,
+        ),
+        s.steps.now - v.steps,
+        v.steps - s.steps.now,
+      );
     } };
 
     fn load(&mut self, at: u64) -> u64 {
@@ -59,15 +69,20 @@ pub fn ask<O: Object, L: Ledger>(
     query: &O::Query,
     steps: &mut Steps<L>,
 ) -> O::Answer
-    requires of { IsSeatOf shared.now.table.shared.table_id shared.now.table.shared.key seat.old }
-    requires entered { IsTrue (is_reading seat.old.token.me.0.position) }
-    requires region { let v = seat.old.token.me.0 in (s : O.State) × (k : ℕ) × O.Contents v.base.order (image_of v.position) s k }
+    requires of { IsSeatOf shared.now seat.old }
+    requires entered { IsTrue (is_reading (view seat.old).position) }
+    requires region { let v = view seat.old in
+        (s : O.State) × (k : ℕ) × O.Contents v.base.order (image_of v.position) s k }
     ensures same { IsSameSeat seat.old seat.new }
-    ensures still { seat.new.token.me.0 ≡ record seat.old.token.me.0 { steps = seat.new.token.me.0.steps } }
-    ensures told { let v = seat.old.token.me.0 in (s : O.State) (k : ℕ) → O.Contents v.base.order (image_of v.position) s k → result ≡ O.machine.tell s query.now }
-    ensures counted { steps.new + seat.old.token.me.0.steps ≡ steps.old + seat.new.token.me.0.steps }
+    ensures still { view seat.new ≡ record (view seat.old) { steps = (view seat.new).steps } }
+    ensures told { let v = view seat.old in
+        (s : O.State) (k : ℕ) → O.Contents v.base.order (image_of v.position) s k →
+        result ≡ O.machine.tell s query.now }
+    ensures counted { steps.new + (view seat.old).steps ≡ steps.old + (view seat.new).steps }
     ensures least { steps.old ≤ steps.new }
-    ensures most { let v = seat.old.token.me.0 in (s : O.State) (k : ℕ) → O.Contents v.base.order (image_of v.position) s k → steps.new ≤ steps.old + O.machine.cost v.base.order s query.now }
+    ensures most { let v = view seat.old in
+        (s : O.State) (k : ℕ) → O.Contents v.base.order (image_of v.position) s k →
+        steps.new ≤ steps.old + O.machine.cost v.base.order s query.now }
 {
     let order = shared.layout.order();
     let mut side = SideLook {

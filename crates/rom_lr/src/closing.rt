@@ -2,7 +2,7 @@
 ghost use Rattle.std.specs.Prelude.{◌≡◌, ℕ, ◌<◌, ◌≤◌, length};
 ghost use Rattle.std.specs.List.{AllByRecursion};
 ghost use Rattle.rom_model.specs.Machine.{on_words};
-ghost use Rattle.rom_lr.specs.Seats.{IsSeatOf, IsWriterOf};
+ghost use Rattle.rom_lr.specs.Seats.{IsAnswered, IsSameWriter, IsSeatOf, IsWriterOf, view, writer_view};
 ghost use Rattle.rom_rule.specs.Calls.{told_to};
 ghost use Rattle.rom_rule.specs.Kinds.{informed, planned};
 ghost use Rattle.rom_rule.specs.Records.{IsKept, Recorded};
@@ -19,25 +19,25 @@ impl<O: Object> Shared<O> {
     /// The writer keeps what a caller knew, in one step. The caller is out and has no call posted,
     /// and its seat is spent. It takes no memory.
     pub fn take_in(&self, writer: &mut WriterSeat, seat: Seat)
-        requires of { IsWriterOf self.now.table.shared.table_id self.now.table.shared.key writer.old }
-        requires caller { IsSeatOf self.now.table.shared.table_id self.now.table.shared.key seat }
-        requires out { seat.token.me.0.position ≡ Out }
-        requires none_posted { length seat.token.me.0.calls ≡ length seat.token.me.0.outcomes }
-        ensures same { (writer.new.token.table_id ≡ writer.old.token.table_id) × (writer.new.token.id ≡ writer.old.token.id) }
-        ensures joined { writer.new.token.me.0 ≡ informed writer.old.token.me.0 seat.token.me.0 }
+        requires of { IsWriterOf self.now writer.old }
+        requires caller { IsSeatOf self.now seat }
+        requires out { (view seat).position ≡ Out }
+        requires none_posted { IsAnswered seat }
+        ensures same { IsSameWriter writer.old writer.new }
+        ensures joined { writer_view writer.new ≡ informed (writer_view writer.old) (view seat) }
     {
         self.take_in_as::<Brand>(writer, seat);
     }
 
     // The caller's view is spent, and then it is as the opening left every other one.
     fn take_in_as<N: Origin>(&self, writer: &mut WriterSeat, seat: Seat)
-        requires picked { N.base ≡ writer.old.token.me.0.base }
-        requires of { IsWriterOf self.now.table.shared.table_id self.now.table.shared.key writer.old }
-        requires caller { IsSeatOf self.now.table.shared.table_id self.now.table.shared.key seat }
-        requires out { seat.token.me.0.position ≡ Out }
-        requires none_posted { length seat.token.me.0.calls ≡ length seat.token.me.0.outcomes }
-        ensures same { (writer.new.token.table_id ≡ writer.old.token.table_id) × (writer.new.token.id ≡ writer.old.token.id) }
-        ensures joined { writer.new.token.me.0 ≡ informed writer.old.token.me.0 seat.token.me.0 }
+        requires picked { N.base ≡ (writer_view writer.old).base }
+        requires of { IsWriterOf self.now writer.old }
+        requires caller { IsSeatOf self.now seat }
+        requires out { (view seat).position ≡ Out }
+        requires none_posted { IsAnswered seat }
+        ensures same { IsSameWriter writer.old writer.new }
+        ensures joined { writer_view writer.new ≡ informed (writer_view writer.old) (view seat) }
     {
         self.table
             .shared
@@ -48,13 +48,20 @@ impl<O: Object> Shared<O> {
     /// callers: each was told what they told it, and what it had seen begins the published history,
     /// which is theirs. They have no calls but those of the table's callers.
     pub fn review(&self, writer: &mut WriterSeat)
-        requires of { IsWriterOf self.now.table.shared.table_id self.now.table.shared.key writer.old }
-        ensures same { (writer.new.token.table_id ≡ writer.old.token.table_id) × (writer.new.token.id ≡ writer.old.token.id) }
-        ensures still { let v = writer.old.token.me.0 in writer.new.token.me.0 ≡ planned v (plan_of v) }
-        ensures told { let v = writer.new.token.me.0 in AllByRecursion (λ k. 0 < k.number → told_to (plan_of v).told k.number ≡ k.told) v.joined }
-        ensures known { let v = writer.new.token.me.0 in AllByRecursion (λ x. (0 < x.0.caller) × (x.0.caller ≤ v.base.callers)) (plan_of v).told }
-        ensures kept { let v = writer.new.token.me.0 in (s : O.State) (n : ℕ) → O.Contents v.base.order v.base.image s n
-            → Recorded (on_words O.machine) v.base s n (book_in (plan_of v)) × AllByRecursion (IsKept n (book_in (plan_of v))) v.joined }
+        requires of { IsWriterOf self.now writer.old }
+        ensures same { IsSameWriter writer.old writer.new }
+        ensures still { let v = writer_view writer.old in
+            writer_view writer.new ≡ planned v (plan_of v) }
+        ensures told { let v = writer_view writer.new in
+            AllByRecursion (λ k. 0 < k.number → told_to (plan_of v).told k.number ≡ k.told)
+            v.joined }
+        ensures known { let v = writer_view writer.new in
+            AllByRecursion (λ x. (0 < x.0.caller) × (x.0.caller ≤ v.base.callers))
+            (plan_of v).told }
+        ensures kept { let v = writer_view writer.new in
+            (s : O.State) (n : ℕ) → O.Contents v.base.order v.base.image s n →
+            Recorded (on_words O.machine) v.base s n (book_in (plan_of v))
+            × AllByRecursion (IsKept n (book_in (plan_of v))) v.joined }
     {
         self.table
             .shared

@@ -1,7 +1,7 @@
 //! Notes, by which one caller tells another what it has seen.
 ghost use Rattle.std.specs.Prelude.{◌≡◌, ℕ, ◌+◌};
 ghost use Rattle.rom_lr.specs.Notes.{HasLearnt};
-ghost use Rattle.rom_lr.specs.Seats.{IsSameSeat, IsSeatOf};
+ghost use Rattle.rom_lr.specs.Seats.{IsNoteOf, IsSameSeat, IsSeatOf, noted, view};
 ghost use Rattle.rom_rule.specs.Kinds.{note_of, noting};
 ghost use Rattle.rom_rule.specs.declared.views.Position.TheVariants.{Out};
 
@@ -15,12 +15,12 @@ use std::marker::Brand;
 impl<O: Object> Shared<O> {
     /// What the seat has seen, for another to learn, in one step. It takes no memory.
     pub fn note(&self, seat: &mut Seat) -> Note
-        requires of { IsSeatOf self.now.table.shared.table_id self.now.table.shared.key seat.old }
-        requires out { seat.old.token.me.0.position ≡ Out }
+        requires of { IsSeatOf self.now seat.old }
+        requires out { (view seat.old).position ≡ Out }
         ensures same { IsSameSeat seat.old seat.new }
-        ensures still { seat.new.token.me.0 ≡ noting seat.old.token.me.0 }
-        ensures of { result.token.table_id ≡ self.now.table.shared.table_id }
-        ensures note { result.token.me.0 ≡ note_of seat.old.token.me.0 }
+        ensures still { view seat.new ≡ noting (view seat.old) }
+        ensures of { IsNoteOf self.now result }
+        ensures note { noted result ≡ note_of (view seat.old) }
     {
         let token = self.table.shared.split_seat::<TakesNote>(&mut seat.token);
         Note { token }
@@ -30,23 +30,23 @@ impl<O: Object> Shared<O> {
     /// in two steps. So what it reads later is no older than what that caller had read. It takes no
     /// memory.
     pub fn learn(&self, seat: &mut Seat, note: Note)
-        requires of { IsSeatOf self.now.table.shared.table_id self.now.table.shared.key seat.old }
-        requires out { seat.old.token.me.0.position ≡ Out }
-        requires note { note.token.table_id ≡ self.now.table.shared.table_id }
+        requires of { IsSeatOf self.now seat.old }
+        requires out { (view seat.old).position ≡ Out }
+        requires note { IsNoteOf self.now note }
         ensures same { IsSameSeat seat.old seat.new }
-        ensures learnt { HasLearnt seat.old.token.me.0 note.token.me.0 seat.new.token.me.0 }
+        ensures learnt { HasLearnt (view seat.old) (noted note) (view seat.new) }
     {
         self.learn_as::<Brand>(seat, note);
     }
 
     // The note's view is spent, and then it is as the opening left every other one.
     fn learn_as<N: Origin>(&self, seat: &mut Seat, note: Note)
-        requires picked { N.base ≡ seat.old.token.me.0.base }
-        requires of { IsSeatOf self.now.table.shared.table_id self.now.table.shared.key seat.old }
-        requires out { seat.old.token.me.0.position ≡ Out }
-        requires note { note.token.table_id ≡ self.now.table.shared.table_id }
+        requires picked { N.base ≡ (view seat.old).base }
+        requires of { IsSeatOf self.now seat.old }
+        requires out { (view seat.old).position ≡ Out }
+        requires note { IsNoteOf self.now note }
         ensures same { IsSameSeat seat.old seat.new }
-        ensures learnt { HasLearnt seat.old.token.me.0 note.token.me.0 seat.new.token.me.0 }
+        ensures learnt { HasLearnt (view seat.old) (noted note) (view seat.new) }
     {
         let Note { token } = note;
         let table = &self.table.shared;

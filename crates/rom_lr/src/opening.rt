@@ -2,12 +2,12 @@
 ghost use Rattle.std.specs.Prelude.{◌≡◌, ℕ, ◌+◌, ◌<◌, ◌≤◌, IfOk, length};
 ghost use Rattle.rom_model.specs.Blocks.{IsOrder, region_len};
 ghost use Rattle.rom_lr.specs.Opening.{AreNew, dealt_view};
-ghost use Rattle.rom_lr.specs.Seats.{IsSeatOf, IsWriterOf};
+ghost use Rattle.rom_lr.specs.Seats.{IsSameWriter, IsSeatOf, IsWriterOf, opened_with, plan, view, writer_view};
 ghost use Rattle.rom_lr.specs.Writing.{NobodyReads};
 ghost use Rattle.rom_lr.specs.declared.side.Side.TheVariants.{Main};
 ghost use Rattle.rom_rule.specs.Kinds.{dealing, newcomer};
 ghost use Rattle.rom_rule.specs.Places.{AreCallers, opening_words};
-ghost use Rattle.rom_rule.specs.Views.{base_of, opening_view, plan_of};
+ghost use Rattle.rom_rule.specs.Views.{opening_view};
 
 use crate::seats::{Seat, WriterSeat};
 use crate::shared::Shared;
@@ -47,13 +47,16 @@ impl<O: Object> Shared<O> {
         requires callers { AreCallers callers }
         requires sized { length image.now ≡ region_len order }
         requires formed { (s : O.State) × (k : ℕ) × O.Contents order image.now s k }
-        ensures of { IfOk result (λ opened. IsWriterOf opened.0.table.shared.table_id opened.0.table.shared.key opened.1) }
-        ensures layout { IfOk result (λ opened. (opened.0.layout.order ≡ order) × (opened.0.layout.callers ≡ callers)) }
-        ensures base { IfOk result (λ opened. base_of opened.0.table.shared.key ≡ record { order = order; callers = callers; image = image.now; faults = faults }) }
-        ensures writer { IfOk result (λ opened. opened.1.token.me.0 ≡ dealt_view (base_of opened.0.table.shared.key) callers) }
-        ensures unread { IfOk result (λ opened. NobodyReads opened.1.token.me.0 Main) }
+        ensures of { IfOk result (λ opened. IsWriterOf opened.0 opened.1) }
+        ensures layout { IfOk result (λ opened. (opened.0.layout.order ≡ order)
+            × (opened.0.layout.callers ≡ callers)) }
+        ensures base { IfOk result (λ opened. opened_with opened.0
+            ≡ record { order = order; callers = callers; image = image.now; faults = faults }) }
+        ensures writer { IfOk result (λ opened. writer_view opened.1
+            ≡ dealt_view (opened_with opened.0) callers) }
+        ensures unread { IfOk result (λ opened. NobodyReads opened.1 Main) }
         ensures many { IfOk result (λ opened. length opened.2.items ≡ callers) }
-        ensures seats { IfOk result (λ opened. AreNew opened.0.table.shared.table_id opened.0.table.shared.key opened.2.items) }
+        ensures seats { IfOk result (λ opened. AreNew opened.0 opened.2.items) }
     {
         let (shared, mut writer) = Shared::open(alloc, order, callers, image, faults)?;
         let seats = shared.deal_all(alloc, &mut writer)?;
@@ -72,10 +75,13 @@ impl<O: Object> Shared<O> {
         requires callers { AreCallers callers }
         requires sized { length image.now ≡ region_len order }
         requires formed { (s : O.State) × (k : ℕ) × O.Contents order image.now s k }
-        ensures of { IfOk result (λ opened. IsWriterOf opened.0.table.shared.table_id opened.0.table.shared.key opened.1) }
-        ensures layout { IfOk result (λ opened. (opened.0.layout.order ≡ order) × (opened.0.layout.callers ≡ callers)) }
-        ensures base { IfOk result (λ opened. base_of opened.0.table.shared.key ≡ record { order = order; callers = callers; image = image.now; faults = faults }) }
-        ensures view { IfOk result (λ opened. opened.1.token.me.0 ≡ opening_view (base_of opened.0.table.shared.key)) }
+        ensures of { IfOk result (λ opened. IsWriterOf opened.0 opened.1) }
+        ensures layout { IfOk result (λ opened. (opened.0.layout.order ≡ order)
+            × (opened.0.layout.callers ≡ callers)) }
+        ensures base { IfOk result (λ opened. opened_with opened.0
+            ≡ record { order = order; callers = callers; image = image.now; faults = faults }) }
+        ensures view { IfOk result (λ opened. writer_view opened.1
+            ≡ opening_view (opened_with opened.0)) }
     {
         let layout = Layout::new(order, callers);
         let words = opening_words(alloc, layout, image)?;
@@ -96,12 +102,13 @@ impl<O: Object> Shared<O> {
 
     // The seats of all callers, from 1 on.
     fn deal_all(&self, alloc: Global, writer: &mut WriterSeat) -> Result<Vec<Seat>, AllocError>
-        requires of { IsWriterOf self.now.table.shared.table_id self.now.table.shared.key writer.old }
-        requires opened { writer.old.token.me.0 ≡ opening_view (base_of self.now.table.shared.key) }
-        ensures of { IsWriterOf self.now.table.shared.table_id self.now.table.shared.key writer.new }
-        ensures writer { IfOk result (λ _. writer.new.token.me.0 ≡ dealt_view (base_of self.now.table.shared.key) self.now.layout.callers) }
+        requires of { IsWriterOf self.now writer.old }
+        requires opened { writer_view writer.old ≡ opening_view (opened_with self.now) }
+        ensures of { IsWriterOf self.now writer.new }
+        ensures writer { IfOk result (λ _. writer_view writer.new
+            ≡ dealt_view (opened_with self.now) self.now.layout.callers) }
         ensures many { IfOk result (λ seats. length seats.items ≡ self.now.layout.callers) }
-        ensures seats { IfOk result (λ seats. AreNew self.now.table.shared.table_id self.now.table.shared.key seats.items) }
+        ensures seats { IfOk result (λ seats. AreNew self.now seats.items) }
     {
         let mut seats = Vec::new(alloc);
         for i in 0..self.layout.callers() {
@@ -113,13 +120,14 @@ impl<O: Object> Shared<O> {
 
     // The seat of the next caller. Numbers go from 1, and none is given twice.
     fn deal(&self, writer: &mut WriterSeat, number: u32) -> Seat
-        requires of { IsWriterOf self.now.table.shared.table_id self.now.table.shared.key writer.old }
-        requires next { number ≡ (plan_of writer.old.token.me.0).dealt + 1 }
+        requires of { IsWriterOf self.now writer.old }
+        requires next { number ≡ (plan writer.old).dealt + 1 }
         requires left { number ≤ self.now.layout.callers }
-        ensures of { IsSeatOf self.now.table.shared.table_id self.now.table.shared.key result }
+        ensures of { IsSeatOf self.now result }
         ensures number { result.number ≡ number }
-        ensures seat { result.token.me.0 ≡ newcomer writer.old.token.me.0 }
-        ensures writer { (writer.new.token.table_id ≡ writer.old.token.table_id) × (writer.new.token.id ≡ writer.old.token.id) × (writer.new.token.me.0 ≡ dealing writer.old.token.me.0) }
+        ensures seat { view result ≡ newcomer (writer_view writer.old) }
+        ensures same { IsSameWriter writer.old writer.new }
+        ensures writer { writer_view writer.new ≡ dealing (writer_view writer.old) }
     {
         let token = self.table.shared.split_seat::<Deals>(&mut writer.token);
         Seat {

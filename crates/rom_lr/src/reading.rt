@@ -3,7 +3,7 @@ ghost use Rattle.std.specs.Prelude.{◌≡◌, ℕ, ◌+◌, ◌<◌, slice_inde
 ghost use Rattle.rom_model.specs.Blocks.{region_len};
 ghost use Rattle.rom_model.specs.Machine.{on_words};
 ghost use Rattle.rom_lr.specs.Reading.{HasEntered, HasStepped};
-ghost use Rattle.rom_lr.specs.Seats.{IsSameSeat, IsSeatOf};
+ghost use Rattle.rom_lr.specs.Seats.{IsSameSeat, IsSeatOf, view};
 ghost use Rattle.rom_lr.specs.Side.{side_number};
 ghost use Rattle.rom_rule.specs.Kinds.{moved};
 ghost use Rattle.rom_rule.specs.Views.{image_of, is_reading, side_read};
@@ -19,12 +19,13 @@ impl<O: Object> Shared<O> {
     /// Enters the side that readers are sent to, in three steps, and tells which it is. From then on
     /// the seat reads one committed image of it: that of the history that it has then seen.
     pub fn enter(&self, seat: &mut Seat) -> Side
-        requires of { IsSeatOf self.now.table.shared.table_id self.now.table.shared.key seat.old }
-        requires out { seat.old.token.me.0.position ≡ Out }
+        requires of { IsSeatOf self.now seat.old }
+        requires out { (view seat.old).position ≡ Out }
         ensures same { IsSameSeat seat.old seat.new }
         ensures entered { HasEntered O.Contents (on_words O.machine) seat.old seat.new }
-        ensures reads { IsTrue (is_reading seat.new.token.me.0.position) }
-        ensures side { (result ≡ seat.new.side) × (side_number result ≡ side_read seat.new.token.me.0.position) }
+        ensures reads { IsTrue (is_reading (view seat.new).position) }
+        ensures side { (result ≡ seat.new.side)
+            × (side_number result ≡ side_read (view seat.new).position) }
     {
         let table = &self.table.shared;
         let version = table.load::<LoadsVersion>(&mut seat.token, self.layout.version() as usize);
@@ -42,12 +43,12 @@ impl<O: Object> Shared<O> {
 
     /// Word `at` of the image that the seat reads, an offset from the region's start, in one step.
     pub fn load(&self, seat: &mut Seat, at: u64) -> u64
-        requires of { IsSeatOf self.now.table.shared.table_id self.now.table.shared.key seat.old }
-        requires entered { IsTrue (is_reading seat.old.token.me.0.position) }
+        requires of { IsSeatOf self.now seat.old }
+        requires entered { IsTrue (is_reading (view seat.old).position) }
         requires inside { at < region_len self.now.layout.order }
         ensures same { IsSameSeat seat.old seat.new }
         ensures still { HasStepped seat.old seat.new 1 }
-        ensures word { result ≡ slice_index (image_of seat.old.token.me.0.position) at }
+        ensures word { result ≡ slice_index (image_of (view seat.old).position) at }
     {
         let word = (seat.first + at) as usize;
         self.table.shared.load::<LoadsImage>(&mut seat.token, word)
@@ -55,10 +56,10 @@ impl<O: Object> Shared<O> {
 
     /// Leaves the side, in one step. The seat is out then.
     pub fn leave(&self, seat: &mut Seat)
-        requires of { IsSeatOf self.now.table.shared.table_id self.now.table.shared.key seat.old }
-        requires entered { IsTrue (is_reading seat.old.token.me.0.position) }
+        requires of { IsSeatOf self.now seat.old }
+        requires entered { IsTrue (is_reading (view seat.old).position) }
         ensures same { IsSameSeat seat.old seat.new }
-        ensures out { seat.new.token.me.0 ≡ moved seat.old.token.me.0 Out }
+        ensures out { view seat.new ≡ moved (view seat.old) Out }
     {
         let indicator = (seat.home + seat.version) as usize;
         self.table

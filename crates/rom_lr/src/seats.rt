@@ -31,7 +31,11 @@ pub struct Seat {
     ghost counted: { posted ≡ length token.me.0.calls },
     ghost numbered: { 0 < token.me.0.number },
     ghost within: { token.me.0.number ≤ token.me.0.base.callers },
-    ghost known: { IsTrue (is_reading token.me.0.position) → (indicator_of number version ≡ indicator_in token.me.0.position) × (version < 2) × (side_number side ≡ side_read token.me.0.position) × (first ≡ word_at token.me.0.base.order token.me.0.base.callers (side_read token.me.0.position) 0) },
+    ghost known: { IsTrue (is_reading token.me.0.position) →
+        (indicator_of number version ≡ indicator_in token.me.0.position) × (version < 2)
+        × (side_number side ≡ side_read token.me.0.position)
+        × (first ≡ word_at token.me.0.base.order token.me.0.base.callers
+        (side_read token.me.0.position) 0) },
     ghost near: { first < 2 ^ 32 },
     ghost placed: { (home ≡ indicator_at (indicator_of number 0)) × (home < 2 ^ 32) },
 }
@@ -44,7 +48,8 @@ pub struct WriterSeat {
     pub version: u64,
     ghost bare: { token.me.1 ≡ [] },
     ghost writes: { IsWriter token.me.0 (plan_of token.me.0) },
-    ghost sized: { (length (plan_of token.me.0).main ≡ region_len token.me.0.base.order) × (length (plan_of token.me.0).back ≡ region_len token.me.0.base.order) },
+    ghost sized: { (length (plan_of token.me.0).main ≡ region_len token.me.0.base.order)
+        × (length (plan_of token.me.0).back ≡ region_len token.me.0.base.order) },
     ghost out: { token.me.0.position ≡ Out },
     ghost named: { (version ≡ (plan_of token.me.0).version) × (version < 2) },
 }

@@ -18,6 +18,7 @@ pub struct Shared<O: Object> {
     pub(crate) back: u64,
     ghost sized: { table.shared.table_id.words ≡ table_len layout.order layout.callers },
     ghost laid: { layout ≡ table.shared.key.layout },
-    ghost placed: { (main ≡ main_at layout.order layout.callers 0) × (back ≡ back_at layout.order layout.callers 0) },
+    ghost placed: { (main ≡ main_at layout.order layout.callers 0)
+        × (back ≡ back_at layout.order layout.callers 0) },
     ghost near: { (main < 2 ^ 32) × (back < 2 ^ 32) },
 }

@@ -1,7 +1,7 @@
 //! Shared main as a space, to which an update can be applied.
 ghost use Rattle.std.specs.Prelude.{◌≡◌, ℕ, ◌+◌, ◌<◌, ◌≤◌};
 ghost use Rattle.rom_model.specs.History.{LAST_COUNT};
-ghost use Rattle.rom_lr.specs.Seats.{IsWriterOf};
+ghost use Rattle.rom_lr.specs.Seats.{IsWriterOf, plan, writer_view};
 ghost use Rattle.rom_lr.specs.Writing.{NobodyReads, Writes, but_main};
 ghost use Rattle.rom_lr.specs.declared.side.Side.TheVariants.{Main};
 ghost use Rattle.rom_ranges.specs.Changes.{IsLogOf, IsLogOf-prop};
@@ -21,20 +21,20 @@ struct MainSpace<'a, O: Object> {
     shared: &'a Shared<O>,
     seat: &'a mut WriterSeat,
     log: &'a mut RangeLog,
-    ghost of: { IsWriterOf shared.now.table.shared.table_id shared.now.table.shared.key seat.now },
-    ghost unread: { NobodyReads seat.now.token.me.0 Main },
-    ghost logged: { IsLogOf (plan_of seat.now.token.me.0).back (plan_of seat.now.token.me.0).main log.now } by { IsLogOf-prop (plan_of seat.now.token.me.0).back (plan_of seat.now.token.me.0).main log.now },
+    ghost of: { IsWriterOf shared.now seat.now },
+    ghost unread: { NobodyReads seat.now Main },
+    ghost logged: { IsLogOf (plan seat.now).back (plan seat.now).main log.now } by { IsLogOf-prop (plan seat.now).back (plan seat.now).main log.now },
 }
 
 impl<'a, O: Object> Look for MainSpace<'a, O> {
     ghost use Rattle.std.specs.Prelude.{ℕ, false, true};
     ghost use Rattle.atomic_table.specs.Seated.{TableId};
+    ghost use Rattle.rom_lr.specs.Seats.{plan, writer_view};
     ghost use Rattle.rom_lr.specs.Writing.{but_main};
-    ghost use Rattle.rom_rule.specs.Views.{plan_of};
     ghost use Rattle.rom_rule.specs.declared.views.View.{View};
 
     ghost shown = { record {
-      image = λ s. (plan_of s.seat.now.token.me.0).main;
+      image = λ s. (plan s.seat.now).main;
       tells_loads = false;
       loads = λ _. 0;
       tells_stores = true;
@@ -42,7 +42,13 @@ impl<'a, O: Object> Look for MainSpace<'a, O> {
       has_limit = true;
       limit = λ s. s.log.now.room;
       Rest = ℕ × ℕ × TableId × ℕ × View;
-      rest = λ s. (s.log.ghost_name, s.seat.ghost_name, s.seat.now.token.table_id, s.seat.now.token.id, but_main s.seat.now.token.me.0);
+      rest = λ s. (
+        s.log.ghost_name,
+        s.seat.ghost_name,
+        s.seat.now.token.table_id,
+        s.seat.now.token.id,
+        but_main (writer_view s.seat.now),
+      );
     } };
 
     fn load(&mut self, at: u64) -> u64 {
@@ -68,16 +74,19 @@ pub fn apply_main<O: Object>(
     log: &mut RangeLog,
     call: &O::Call,
 ) -> O::Reply
-    requires of { IsWriterOf shared.now.table.shared.table_id shared.now.table.shared.key seat.old }
-    requires unread { NobodyReads seat.old.token.me.0 Main }
-    requires region { let v = seat.old.token.me.0 in (s : O.State) × (k : ℕ) × O.Contents v.base.order (plan_of v).main s k × (k < LAST_COUNT) }
-    requires logged { let p = plan_of seat.old.token.me.0 in IsLogOf p.back p.main log.old }
+    requires of { IsWriterOf shared.now seat.old }
+    requires unread { NobodyReads seat.old Main }
+    requires region { let v = writer_view seat.old in
+        (s : O.State) × (k : ℕ) × O.Contents v.base.order (plan_of v).main s k × (k < LAST_COUNT) }
+    requires logged { let p = plan seat.old in IsLogOf p.back p.main log.old }
     requires room { log.old.added + O.STORES ≤ log.old.room }
-    ensures done { let v = seat.old.token.me.0 in (s : O.State) (k : ℕ) → O.Contents v.base.order (plan_of v).main s k
-        → let after = O.machine.step v.base.order s k call.now in
-        (result ≡ after.1) × O.Contents v.base.order (plan_of seat.new.token.me.0).main after.0 (k + 1) }
-    ensures still { let p = plan_of seat.old.token.me.0 in Writes seat.old seat.new (record p { main = (plan_of seat.new.token.me.0).main }) }
-    ensures logged { IsLogOf (plan_of seat.old.token.me.0).back (plan_of seat.new.token.me.0).main log.new }
+    ensures done { let v = writer_view seat.old in
+        (s : O.State) (k : ℕ) → O.Contents v.base.order (plan_of v).main s k →
+        let after = O.machine.step v.base.order s k call.now in
+        (result ≡ after.1) × O.Contents v.base.order (plan seat.new).main after.0 (k + 1) }
+    ensures still { let p = plan seat.old in
+        Writes seat.old seat.new (record p { main = (plan seat.new).main }) }
+    ensures logged { IsLogOf (plan seat.old).back (plan seat.new).main log.new }
     ensures added { log.new.added ≤ log.old.added + O.STORES }
     ensures room { log.new.room ≡ log.old.room }
 {

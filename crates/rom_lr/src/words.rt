@@ -1,10 +1,9 @@
 //! The writer's loads and stores of region words.
 ghost use Rattle.std.specs.Prelude.{◌≡◌, ℕ, ◌+◌, ◌<◌, slice_index, slice_set};
 ghost use Rattle.rom_model.specs.Blocks.{region_len};
-ghost use Rattle.rom_lr.specs.Seats.{IsWriterOf};
+ghost use Rattle.rom_lr.specs.Seats.{IsWriterOf, plan, steps_of};
 ghost use Rattle.rom_lr.specs.Writing.{NobodyReads, Writes};
 ghost use Rattle.rom_lr.specs.declared.side.Side.TheVariants.{Back, Main};
-ghost use Rattle.rom_rule.specs.Views.{plan_of};
 
 use crate::seats::WriterSeat;
 use crate::shared::Shared;
@@ -15,11 +14,11 @@ impl<O: Object> Shared<O> {
     /// Word `at` of shared main, an offset from the region's start, in one step. Readers of either
     /// side may be about.
     pub fn load_main(&self, seat: &mut WriterSeat, at: u64) -> u64
-        requires of { IsWriterOf self.now.table.shared.table_id self.now.table.shared.key seat.old }
+        requires of { IsWriterOf self.now seat.old }
         requires inside { at < region_len self.now.layout.order }
-        ensures still { Writes seat.old seat.new (plan_of seat.old.token.me.0) }
-        ensures step { seat.new.token.me.0.steps ≡ seat.old.token.me.0.steps + 1 }
-        ensures word { result ≡ slice_index (plan_of seat.old.token.me.0).main at }
+        ensures still { Writes seat.old seat.new (plan seat.old) }
+        ensures step { steps_of seat.new ≡ steps_of seat.old + 1 }
+        ensures word { result ≡ slice_index (plan seat.old).main at }
     {
         let word = (self.main + at) as usize;
         self.table.shared.load::<LoadsRegion>(&mut seat.token, word)
@@ -28,11 +27,11 @@ impl<O: Object> Shared<O> {
     /// Word `at` of shared back, an offset from the region's start, in one step. Readers of either
     /// side may be about.
     pub fn load_back(&self, seat: &mut WriterSeat, at: u64) -> u64
-        requires of { IsWriterOf self.now.table.shared.table_id self.now.table.shared.key seat.old }
+        requires of { IsWriterOf self.now seat.old }
         requires inside { at < region_len self.now.layout.order }
-        ensures still { Writes seat.old seat.new (plan_of seat.old.token.me.0) }
-        ensures step { seat.new.token.me.0.steps ≡ seat.old.token.me.0.steps + 1 }
-        ensures word { result ≡ slice_index (plan_of seat.old.token.me.0).back at }
+        ensures still { Writes seat.old seat.new (plan seat.old) }
+        ensures step { steps_of seat.new ≡ steps_of seat.old + 1 }
+        ensures word { result ≡ slice_index (plan seat.old).back at }
     {
         let word = (self.back + at) as usize;
         self.table.shared.load::<LoadsRegion>(&mut seat.token, word)
@@ -41,11 +40,12 @@ impl<O: Object> Shared<O> {
     /// Replaces word `at` of shared main, an offset from the region's start, in one step. It is asked
     /// for only while nobody reads main: so what a reader has of it never changes under its hands.
     pub fn store_main(&self, seat: &mut WriterSeat, at: u64, value: u64)
-        requires of { IsWriterOf self.now.table.shared.table_id self.now.table.shared.key seat.old }
+        requires of { IsWriterOf self.now seat.old }
         requires inside { at < region_len self.now.layout.order }
-        requires unread { NobodyReads seat.old.token.me.0 Main }
-        ensures stored { let p = plan_of seat.old.token.me.0 in Writes seat.old seat.new (record p { main = slice_set p.main at value }) }
-        ensures step { seat.new.token.me.0.steps ≡ seat.old.token.me.0.steps + 1 }
+        requires unread { NobodyReads seat.old Main }
+        ensures stored { let p = plan seat.old in
+            Writes seat.old seat.new (record p { main = slice_set p.main at value }) }
+        ensures step { steps_of seat.new ≡ steps_of seat.old + 1 }
     {
         let word = (self.main + at) as usize;
         self.table
@@ -56,11 +56,12 @@ impl<O: Object> Shared<O> {
     /// Replaces word `at` of shared back, an offset from the region's start, in one step. It is asked
     /// for only while nobody reads back.
     pub fn store_back(&self, seat: &mut WriterSeat, at: u64, value: u64)
-        requires of { IsWriterOf self.now.table.shared.table_id self.now.table.shared.key seat.old }
+        requires of { IsWriterOf self.now seat.old }
         requires inside { at < region_len self.now.layout.order }
-        requires unread { NobodyReads seat.old.token.me.0 Back }
-        ensures stored { let p = plan_of seat.old.token.me.0 in Writes seat.old seat.new (record p { back = slice_set p.back at value }) }
-        ensures step { seat.new.token.me.0.steps ≡ seat.old.token.me.0.steps + 1 }
+        requires unread { NobodyReads seat.old Back }
+        ensures stored { let p = plan seat.old in
+            Writes seat.old seat.new (record p { back = slice_set p.back at value }) }
+        ensures step { steps_of seat.new ≡ steps_of seat.old + 1 }
     {
         let word = (self.back + at) as usize;
         self.table

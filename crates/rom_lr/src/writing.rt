@@ -1,14 +1,13 @@
 //! How the writer sends readers to a side, and waits until the other is left.
 ghost use Rattle.std.specs.Prelude.{◌≡◌, ◌≢◌, ℕ, ◌+◌, ◌-◌, ◌<◌, ◌≤◌};
 ghost use Rattle.rom_model.specs.Machine.{on_words};
-ghost use Rattle.rom_lr.specs.Seats.{IsWriterOf};
+ghost use Rattle.rom_lr.specs.Seats.{IsWriterOf, plan, steps_of, writer_view};
 ghost use Rattle.rom_lr.specs.Switch.{CanSwitch, HasSwitched};
 ghost use Rattle.rom_lr.specs.Writing.{HasWaited, Writes, checked, settled};
 ghost use Rattle.rom_lr.specs.declared.side.Side.TheVariants.{Back, Main};
 ghost use Rattle.rom_rule.specs.Kinds.{CanSwitchToBack, CanSwitchToMain, observed};
 ghost use Rattle.rom_rule.specs.Places.{indicator_of};
 ghost use Rattle.rom_rule.specs.Readers.{Settled};
-ghost use Rattle.rom_rule.specs.Views.{plan_of};
 
 use crate::seats::WriterSeat;
 use crate::shared::Shared;
@@ -24,10 +23,12 @@ impl<O: Object> Shared<O> {
     /// that were found in this pass, and makes the pass's record where there are any. `before` and
     /// `after` are the device's counts of faults at the pass's start and now; they go into the record.
     pub fn switch(&self, seat: &mut WriterSeat, side: Side, before: u64, after: u64)
-        requires of { IsWriterOf self.now.table.shared.table_id self.now.table.shared.key seat.old }
-        requires can { CanSwitch O.Contents (on_words O.machine) seat.old.token.me.0.base (plan_of seat.old.token.me.0) side before after }
-        ensures switched { HasSwitched O.Contents (on_words O.machine) seat.old seat.new side before after }
-        ensures step { seat.new.token.me.0.steps ≡ seat.old.token.me.0.steps + 1 }
+        requires of { IsWriterOf self.now seat.old }
+        requires can { CanSwitch O.Contents (on_words O.machine) (writer_view seat.old).base
+            (plan seat.old) side before after }
+        ensures switched { HasSwitched O.Contents (on_words O.machine) seat.old seat.new side before
+            after }
+        ensures step { steps_of seat.new ≡ steps_of seat.old + 1 }
     {
         match side {
             Side::Main => self.switch_to_main::<Brand>(seat, before, after),
@@ -37,10 +38,12 @@ impl<O: Object> Shared<O> {
 
     fn switch_to_main<N: PassEnd>(&self, seat: &mut WriterSeat, before: u64, after: u64)
         requires picked { (N.before ≡ before) × (N.after ≡ after) }
-        requires of { IsWriterOf self.now.table.shared.table_id self.now.table.shared.key seat.old }
-        requires can { CanSwitchToMain O.Contents (on_words O.machine) seat.old.token.me.0.base (plan_of seat.old.token.me.0) before after }
-        ensures switched { HasSwitched O.Contents (on_words O.machine) seat.old seat.new Main before after }
-        ensures step { seat.new.token.me.0.steps ≡ seat.old.token.me.0.steps + 1 }
+        requires of { IsWriterOf self.now seat.old }
+        requires can { CanSwitchToMain O.Contents (on_words O.machine) (writer_view seat.old).base
+            (plan seat.old) before after }
+        ensures switched { HasSwitched O.Contents (on_words O.machine) seat.old seat.new Main before
+            after }
+        ensures step { steps_of seat.new ≡ steps_of seat.old + 1 }
     {
         let word = self.layout.side() as usize;
         self.table
@@ -50,10 +53,12 @@ impl<O: Object> Shared<O> {
 
     fn switch_to_back<N: PassEnd>(&self, seat: &mut WriterSeat, before: u64, after: u64)
         requires picked { (N.before ≡ before) × (N.after ≡ after) }
-        requires of { IsWriterOf self.now.table.shared.table_id self.now.table.shared.key seat.old }
-        requires can { CanSwitchToBack O.Contents (on_words O.machine) seat.old.token.me.0.base (plan_of seat.old.token.me.0) before after }
-        ensures switched { HasSwitched O.Contents (on_words O.machine) seat.old seat.new Back before after }
-        ensures step { seat.new.token.me.0.steps ≡ seat.old.token.me.0.steps + 1 }
+        requires of { IsWriterOf self.now seat.old }
+        requires can { CanSwitchToBack O.Contents (on_words O.machine) (writer_view seat.old).base
+            (plan seat.old) before after }
+        ensures switched { HasSwitched O.Contents (on_words O.machine) seat.old seat.new Back before
+            after }
+        ensures step { steps_of seat.new ≡ steps_of seat.old + 1 }
     {
         let word = self.layout.side() as usize;
         self.table
@@ -67,10 +72,10 @@ impl<O: Object> Shared<O> {
     /// loaded only while `version` names the other one, so a caller that loads `version` meanwhile
     /// arrives at its other indicator.
     pub fn settle<R: Wait>(&self, rt: &R, seat: &mut WriterSeat)
-        requires of { IsWriterOf self.now.table.shared.table_id self.now.table.shared.key seat.old }
+        requires of { IsWriterOf self.now seat.old }
         ensures waited { HasWaited seat.old seat.new }
-        ensures loads { plan_of seat.new.token.me.0 ≡ settled self.now.layout.callers (plan_of seat.old.token.me.0) }
-        ensures settled { Settled seat.new.token.me.0.base (plan_of seat.new.token.me.0) }
+        ensures loads { plan seat.new ≡ settled self.now.layout.callers (plan seat.old) }
+        ensures settled { Settled (writer_view seat.new).base (plan seat.new) }
     {
         let former = seat.version;
         self.wait_for_all(rt, seat, 1 - former);
@@ -81,10 +86,11 @@ impl<O: Object> Shared<O> {
     // Loads the indicators of the version that isn't named, one caller after the other, each until it
     // is 0.
     fn wait_for_all<R: Wait>(&self, rt: &R, seat: &mut WriterSeat, version: u64)
-        requires of { IsWriterOf self.now.table.shared.table_id self.now.table.shared.key seat.old }
+        requires of { IsWriterOf self.now seat.old }
         requires low { version < 2 }
-        requires other { (plan_of seat.old.token.me.0).version ≢ version }
-        ensures waited { Writes seat.old seat.new (checked version self.now.layout.callers (plan_of seat.old.token.me.0)) }
+        requires other { (plan seat.old).version ≢ version }
+        ensures waited { Writes seat.old seat.new (checked version self.now.layout.callers
+            (plan seat.old)) }
     {
         for i in 0..self.layout.callers() {
             self.wait_for(rt, seat, i + 1, version);
@@ -94,11 +100,12 @@ impl<O: Object> Shared<O> {
     // Loads a caller's indicator of the version that isn't named until it is 0.
     #[inline(always)]
     fn wait_for<R: Wait>(&self, rt: &R, seat: &mut WriterSeat, caller: u32, version: u64)
-        requires of { IsWriterOf self.now.table.shared.table_id self.now.table.shared.key seat.old }
+        requires of { IsWriterOf self.now seat.old }
         requires caller { (1 ≤ caller) × (caller ≤ self.now.layout.callers) }
         requires low { version < 2 }
-        requires other { (plan_of seat.old.token.me.0).version ≢ version }
-        ensures waited { Writes seat.old seat.new (observed (indicator_of caller version) 0 (plan_of seat.old.token.me.0)) }
+        requires other { (plan seat.old).version ≢ version }
+        ensures waited { Writes seat.old seat.new (observed (indicator_of caller version) 0
+            (plan seat.old)) }
     {
         if self.check(seat, caller, version) != 0 {
             self.wait_beside(rt, seat, caller, version);
@@ -109,11 +116,12 @@ impl<O: Object> Shared<O> {
     #[cold]
     #[inline(never)]
     fn wait_beside<R: Wait>(&self, rt: &R, seat: &mut WriterSeat, caller: u32, version: u64)
-        requires of { IsWriterOf self.now.table.shared.table_id self.now.table.shared.key seat.old }
+        requires of { IsWriterOf self.now seat.old }
         requires caller { (1 ≤ caller) × (caller ≤ self.now.layout.callers) }
         requires low { version < 2 }
-        requires other { (plan_of seat.old.token.me.0).version ≢ version }
-        ensures waited { Writes seat.old seat.new (observed (indicator_of caller version) 0 (plan_of seat.old.token.me.0)) }
+        requires other { (plan seat.old).version ≢ version }
+        ensures waited { Writes seat.old seat.new (observed (indicator_of caller version) 0
+            (plan seat.old)) }
     {
         let backoff = Backoff::new();
         for _ in rt.forever() {
@@ -128,11 +136,12 @@ impl<O: Object> Shared<O> {
     // One load of a caller's indicator of the version that isn't named.
     #[inline(always)]
     fn check(&self, seat: &mut WriterSeat, caller: u32, version: u64) -> u64
-        requires of { IsWriterOf self.now.table.shared.table_id self.now.table.shared.key seat.old }
+        requires of { IsWriterOf self.now seat.old }
         requires caller { (1 ≤ caller) × (caller ≤ self.now.layout.callers) }
         requires low { version < 2 }
-        requires other { (plan_of seat.old.token.me.0).version ≢ version }
-        ensures checked { Writes seat.old seat.new (observed (indicator_of caller version) result (plan_of seat.old.token.me.0)) }
+        requires other { (plan seat.old).version ≢ version }
+        ensures checked { Writes seat.old seat.new (observed (indicator_of caller version) result
+            (plan seat.old)) }
     {
         let word = self.layout.indicator(caller, version) as usize;
         self.table
@@ -141,9 +150,10 @@ impl<O: Object> Shared<O> {
     }
 
     fn name_version(&self, seat: &mut WriterSeat, version: u64)
-        requires of { IsWriterOf self.now.table.shared.table_id self.now.table.shared.key seat.old }
+        requires of { IsWriterOf self.now seat.old }
         requires low { version < 2 }
-        ensures named { let p = plan_of seat.old.token.me.0 in Writes seat.old seat.new (record p { version = version }) }
+        ensures named { let p = plan seat.old in
+            Writes seat.old seat.new (record p { version = version }) }
     {
         let word = self.layout.version() as usize;
         self.table

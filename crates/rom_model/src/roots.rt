@@ -10,6 +10,9 @@ pub const VERSION: u64 = 1;
 /// How many updates were counted.
 pub const COUNT: u64 = 2;
 
+/// The greatest count: an update that finds it is not done.
+pub const LAST_COUNT: u64 = 1 << 62;
+
 /// Where the queue's first node begins, or 0.
 pub const QUEUE_HEAD: u64 = 3;
 

@@ -13,6 +13,3 @@ mod recovery;
 mod restore;
 
 pub use recovery::{RecoverRefused, Recovered, recover};
-
-#[cfg(test)]
-mod tests;

@@ -1,12 +1,11 @@
 -- Seats of a table at which no call was posted.
 use Rattle.std.specs.Prelude.{◌≡◌, []}
-use Rattle.atomic_table.specs.Seated.{TableId}
-use Rattle.rom_lr.specs.Seats.{IsSeatOf, IsWriterOf}
+use Rattle.rom_lr.specs.Seats.{IsSeatOf, IsWriterOf, view, writer_view}
+use Rattle.rom_lr.specs.declared.shared.Shared.{Shared}
 use Rattle.rom_model.specs.Region.{Contents}
 use Rattle.rom_model.specs.State.{empty}
 use Rattle.rom_rows.specs.declared.job.Job.{Job}
 use Rattle.rom_rows.specs.declared.job.Job.TheVariants.{Reads, Writes}
-use Rattle.rom_rule.specs.declared.law.Key.{Key}
 use Rattle.rom_rule.specs.declared.views.Base.{Base}
 use Rattle.rom_rule.specs.declared.views.Plan.{Plan}
 use Rattle.rom_rule.specs.declared.views.Position.TheVariants.{Out}
@@ -27,10 +26,11 @@ pub record IsUntouched (b : Base) (p : Plan) : Type 0 where
 abbrev pub AtRest : View → Type 0
 AtRest v = IsUntouched v.base (plan_of v)
 
-abbrev pub MayStart : TableId → Key → Job → Type 0
-MayStart table key (Reads seat wrong) = IsSeatOf table key seat × (seat.token.me.0.position ≡ Out)
-MayStart table key (Writes seat) = IsWriterOf table key seat × AtRest seat.token.me.0
+module _ {Object Call Query Reply Answer : Type 0} where
+  abbrev pub MayStart : Shared Object Call Query Reply Answer → Job → Type 0
+  MayStart shared (Reads seat wrong) = IsSeatOf shared seat × ((view seat).position ≡ Out)
+  MayStart shared (Writes seat) = IsWriterOf shared seat × AtRest (writer_view seat)
 
--- the job's seat is one of this table, and it may start
-pub record IsReady (table : TableId) (key : Key) (job : Job) : Type 0 where
-  pub may : MayStart table key job
+  -- the job's seat is one of this table, and it may start
+  pub record IsReady (shared : Shared Object Call Query Reply Answer) (job : Job) : Type 0 where
+    pub may : MayStart shared job

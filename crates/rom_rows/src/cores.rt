@@ -5,9 +5,9 @@ ghost use Rattle.rom_header.specs.Layout.{back_of, main_of, words_needed};
 ghost use Rattle.rom_header.specs.Regions.{IsHeap};
 ghost use Rattle.rom_model.specs.Region.{Contents};
 ghost use Rattle.rom_model.specs.State.{State};
-ghost use Rattle.rom_combine.specs.AtRest.{IsIn};
+ghost use Rattle.rom_combine.specs.AtRest.{IsCoreOf};
 ghost use Rattle.rom_lr.specs.Opening.{AreNew, IsNew};
-ghost use Rattle.rom_lr.specs.Seats.{IsSeatOf};
+ghost use Rattle.rom_lr.specs.Seats.{IsPosted, IsSeatOf, view};
 ghost use Rattle.rom_rows.specs.Callers.{HasCalls};
 ghost use Rattle.rom_model.specs.Blocks.{IsOrder, region_len};
 ghost use Rattle.rom_rule.specs.declared.views.Position.TheVariants.{Out};
@@ -36,15 +36,17 @@ fn table_on<D: Device + Drop>(
     requires fits { words_needed geometry ≤ D.shown.size device }
     requires order { IsOrder geometry }
     requires heap { IsTrue D.shown.tells_words → IsHeap geometry (D.shown.words device) }
-    requires main { IsTrue D.shown.tells_words → main_of geometry (D.shown.words device) ≡ image.now }
-    requires back { IsTrue D.shown.tells_words → back_of geometry (D.shown.words device) ≡ image.now }
+    requires main { IsTrue D.shown.tells_words →
+        main_of geometry (D.shown.words device) ≡ image.now }
+    requires back { IsTrue D.shown.tells_words →
+        back_of geometry (D.shown.words device) ≡ image.now }
     requires certain { IsSynced D.shown device }
     requires sized { length image.now ≡ region_len geometry }
     requires formed { (s : State) × (k : ℕ) × Contents geometry image.now s k }
-    ensures of { IfOk result (λ opened. IsIn opened.1.table.shared.table_id opened.1.table.shared.key opened.0) }
+    ensures of { IfOk result (λ opened. IsCoreOf opened.1 opened.0) }
     ensures order { IfOk result (λ opened. IsOrder opened.1.layout.order) }
     ensures many { IfOk result (λ opened. length opened.2.items ≡ 3) }
-    ensures seats { IfOk result (λ opened. AreNew opened.1.table.shared.table_id opened.1.table.shared.key opened.2.items) }
+    ensures seats { IfOk result (λ opened. AreNew opened.1 opened.2.items) }
 {
     let twin = Twin::new(device, geometry);
     let faults = twin.fault_count();
@@ -59,11 +61,11 @@ pub(crate) fn seated_on<D: Device + Drop>(
     alloc: Global,
     device: D,
 ) -> Result<(Core<D, Trio>, Shared<Trio>, (Seat, Seat, Seat)), Fail>
-    ensures of { IfOk result (λ opened. IsIn opened.1.table.shared.table_id opened.1.table.shared.key opened.0) }
+    ensures of { IfOk result (λ opened. IsCoreOf opened.1 opened.0) }
     ensures order { IfOk result (λ opened. IsOrder opened.1.layout.order) }
-    ensures first { IfOk result (λ opened. IsNew opened.1.table.shared.table_id opened.1.table.shared.key 1 opened.2.0) }
-    ensures second { IfOk result (λ opened. IsNew opened.1.table.shared.table_id opened.1.table.shared.key 2 opened.2.1) }
-    ensures third { IfOk result (λ opened. IsNew opened.1.table.shared.table_id opened.1.table.shared.key 3 opened.2.2) }
+    ensures first { IfOk result (λ opened. IsNew opened.1 1 opened.2.0) }
+    ensures second { IfOk result (λ opened. IsNew opened.1 2 opened.2.1) }
+    ensures third { IfOk result (λ opened. IsNew opened.1 3 opened.2.2) }
 {
     let (device, geometry, image) = match open_device::<D, Trio>(alloc, device) {
         Ok(
@@ -90,12 +92,12 @@ pub(crate) fn post_three(
     second: &mut Seat,
     third: &mut Seat,
 )
-    requires first { HasCalls shared.now.table.shared.table_id shared.now.table.shared.key 0 0 first.old }
-    requires second { HasCalls shared.now.table.shared.table_id shared.now.table.shared.key 0 0 second.old }
-    requires third { HasCalls shared.now.table.shared.table_id shared.now.table.shared.key 0 0 third.old }
-    ensures first { HasCalls shared.now.table.shared.table_id shared.now.table.shared.key 1 0 first.new }
-    ensures second { HasCalls shared.now.table.shared.table_id shared.now.table.shared.key 1 0 second.new }
-    ensures third { HasCalls shared.now.table.shared.table_id shared.now.table.shared.key 1 0 third.new }
+    requires first { HasCalls shared.now 0 0 first.old }
+    requires second { HasCalls shared.now 0 0 second.old }
+    requires third { HasCalls shared.now 0 0 third.old }
+    ensures first { HasCalls shared.now 1 0 first.new }
+    ensures second { HasCalls shared.now 1 0 second.new }
+    ensures third { HasCalls shared.now 1 0 third.new }
 {
     post_call(shared, first, Call::Enq(1));
     post_call(shared, second, Call::Add(2));
@@ -107,12 +109,13 @@ pub(crate) fn take_told(
     shared: &Shared<Trio>,
     seat: &mut Seat,
 ) -> Result<Option<Updated<Reply>>, Fail>
-    requires of { IsSeatOf shared.now.table.shared.table_id shared.now.table.shared.key seat.old }
-    requires posted { length seat.old.token.me.0.calls ≡ length seat.old.token.me.0.outcomes + 1 }
-    ensures of { IsSeatOf shared.now.table.shared.table_id shared.now.table.shared.key seat.new }
-    ensures position { seat.new.token.me.0.position ≡ seat.old.token.me.0.position }
-    ensures calls { length seat.new.token.me.0.calls ≡ length seat.old.token.me.0.calls }
-    ensures outcomes { OnOk result (length seat.new.token.me.0.outcomes ≡ length seat.old.token.me.0.outcomes + 1) }
+    requires of { IsSeatOf shared.now seat.old }
+    requires posted { IsPosted seat.old }
+    ensures of { IsSeatOf shared.now seat.new }
+    ensures position { (view seat.new).position ≡ (view seat.old).position }
+    ensures calls { length (view seat.new).calls ≡ length (view seat.old).calls }
+    ensures outcomes { OnOk result (length (view seat.new).outcomes
+        ≡ length (view seat.old).outcomes + 1) }
 {
     let Some((place, words)) = take_answer(shared, seat) else {
         return Err("not answered".into());
@@ -127,12 +130,12 @@ pub(crate) fn take_three(
     second: &mut Seat,
     third: &mut Seat,
 ) -> Result<[Option<Updated<Reply>>; 3], Fail>
-    requires first { HasCalls shared.now.table.shared.table_id shared.now.table.shared.key 1 0 first.old }
-    requires second { HasCalls shared.now.table.shared.table_id shared.now.table.shared.key 1 0 second.old }
-    requires third { HasCalls shared.now.table.shared.table_id shared.now.table.shared.key 1 0 third.old }
-    ensures first { OnOk result (HasCalls shared.now.table.shared.table_id shared.now.table.shared.key 1 1 first.new) }
-    ensures second { OnOk result (HasCalls shared.now.table.shared.table_id shared.now.table.shared.key 1 1 second.new) }
-    ensures third { OnOk result (HasCalls shared.now.table.shared.table_id shared.now.table.shared.key 1 1 third.new) }
+    requires first { HasCalls shared.now 1 0 first.old }
+    requires second { HasCalls shared.now 1 0 second.old }
+    requires third { HasCalls shared.now 1 0 third.old }
+    ensures first { OnOk result (HasCalls shared.now 1 1 first.new) }
+    ensures second { OnOk result (HasCalls shared.now 1 1 second.new) }
+    ensures third { OnOk result (HasCalls shared.now 1 1 third.new) }
 {
     let one = take_told(shared, first)?;
     let two = take_told(shared, second)?;
@@ -142,11 +145,11 @@ pub(crate) fn take_three(
 
 /// The count of updates in the image that the seat enters.
 pub(crate) fn read_count(shared: &Shared<Trio>, seat: &mut Seat) -> u64
-    requires of { IsSeatOf shared.now.table.shared.table_id shared.now.table.shared.key seat.old }
-    requires out { seat.old.token.me.0.position ≡ Out }
+    requires of { IsSeatOf shared.now seat.old }
+    requires out { (view seat.old).position ≡ Out }
     requires order { IsOrder shared.now.layout.order }
-    ensures of { IsSeatOf shared.now.table.shared.table_id shared.now.table.shared.key seat.new }
-    ensures out { seat.new.token.me.0.position ≡ Out }
+    ensures of { IsSeatOf shared.now seat.new }
+    ensures out { (view seat.new).position ≡ Out }
 {
     shared.enter(seat);
     let count = shared.load(seat, COUNT);

@@ -1,7 +1,7 @@
 //! Callers who post and read beside the thread that runs the passes.
 ghost use Rattle.std.specs.Prelude.{◌≡◌, ◌+◌, All, IfSome, length};
-ghost use Rattle.rom_combine.specs.AtRest.{IsIn};
-ghost use Rattle.rom_lr.specs.Seats.{IsSeatOf};
+ghost use Rattle.rom_combine.specs.AtRest.{IsCoreOf};
+ghost use Rattle.rom_lr.specs.Seats.{IsPosted, IsSeatOf, view};
 ghost use Rattle.rom_rows.specs.Callers.{HasCalls, IsManned};
 ghost use Rattle.rom_rule.specs.declared.views.Position.TheVariants.{Out};
 
@@ -39,12 +39,13 @@ const TURNS: u64 = 20_000_000;
 
 /// Looks for the answer until it is there.
 pub(crate) fn await_answer(shared: &Shared<Trio>, seat: &mut Seat) -> Option<(u64, Back)>
-    requires of { IsSeatOf shared.now.table.shared.table_id shared.now.table.shared.key seat.old }
-    requires posted { length seat.old.token.me.0.calls ≡ length seat.old.token.me.0.outcomes + 1 }
-    ensures of { IsSeatOf shared.now.table.shared.table_id shared.now.table.shared.key seat.new }
-    ensures position { seat.new.token.me.0.position ≡ seat.old.token.me.0.position }
-    ensures calls { length seat.new.token.me.0.calls ≡ length seat.old.token.me.0.calls }
-    ensures answered { IfSome result (λ _. length seat.new.token.me.0.outcomes ≡ length seat.old.token.me.0.outcomes + 1) }
+    requires of { IsSeatOf shared.now seat.old }
+    requires posted { IsPosted seat.old }
+    ensures of { IsSeatOf shared.now seat.new }
+    ensures position { (view seat.new).position ≡ (view seat.old).position }
+    ensures calls { length (view seat.new).calls ≡ length (view seat.old).calls }
+    ensures answered { IfSome result (λ _. length (view seat.new).outcomes
+        ≡ length (view seat.old).outcomes + 1) }
 {
     let backoff = Backoff::new();
     for _ in 0..TURNS {
@@ -60,7 +61,7 @@ pub(crate) fn await_answer(shared: &Shared<Trio>, seat: &mut Seat) -> Option<(u6
 /// Posts calls that put and remove keys of the map in turn, one after the other, and tells whether each
 /// was done, at a place after that of the one before.
 fn post_all(shared: &Shared<Trio>, seat: &mut Seat) -> bool
-    requires new { HasCalls shared.now.table.shared.table_id shared.now.table.shared.key 0 0 seat.old }
+    requires new { HasCalls shared.now 0 0 seat.old }
 {
     let mut least = 0;
     for i in 0..CALLS {
@@ -87,10 +88,10 @@ fn post_all(shared: &Shared<Trio>, seat: &mut Seat) -> bool
 
 /// Whether, in the image that the seat enters, the map has as many keys as are found there.
 fn is_whole(shared: &Shared<Trio>, seat: &mut Seat) -> bool
-    requires of { IsSeatOf shared.now.table.shared.table_id shared.now.table.shared.key seat.old }
-    requires out { seat.old.token.me.0.position ≡ Out }
-    ensures of { IsSeatOf shared.now.table.shared.table_id shared.now.table.shared.key seat.new }
-    ensures out { seat.new.token.me.0.position ≡ Out }
+    requires of { IsSeatOf shared.now seat.old }
+    requires out { (view seat.old).position ≡ Out }
+    ensures of { IsSeatOf shared.now seat.new }
+    ensures out { (view seat.new).position ≡ Out }
 {
     shared.enter(seat);
     let first = asked(shared, seat, Query::Get(0));
@@ -116,8 +117,8 @@ fn is_whole(shared: &Shared<Trio>, seat: &mut Seat) -> bool
 
 /// Reads, and tells whether each image was whole.
 fn read_all(shared: &Shared<Trio>, seat: &mut Seat) -> bool
-    requires of { IsSeatOf shared.now.table.shared.table_id shared.now.table.shared.key seat.old }
-    requires out { seat.old.token.me.0.position ≡ Out }
+    requires of { IsSeatOf shared.now seat.old }
+    requires out { (view seat.old).position ≡ Out }
 {
     let mut right = true;
     for _ in 0..READS {
@@ -135,7 +136,7 @@ pub(crate) fn pass_until<R: Wait, D: Device, G: Gate>(
     gate: &G,
     many: u32,
 ) -> bool
-    requires of { IsIn shared.now.table.shared.table_id shared.now.table.shared.key core.old }
+    requires of { IsCoreOf shared.now core.old }
 {
     let backoff = Backoff::new();
     let mut done: u32 = 0;
@@ -153,7 +154,7 @@ pub(crate) fn pass_until<R: Wait, D: Device, G: Gate>(
 }
 
 fn work<R: Wait>(rt: &R, shared: &Shared<Trio>, job: &mut Work)
-    requires ready { IsManned shared.now.table.shared.table_id shared.now.table.shared.key job.old }
+    requires ready { IsManned shared.now job.old }
 {
     match job {
         Work::Posts(seat, right) => *right = post_all(shared, seat),
@@ -163,7 +164,7 @@ fn work<R: Wait>(rt: &R, shared: &Shared<Trio>, job: &mut Work)
 }
 
 fn work_all<R: Threads + Wait + Sync>(rt: &R, shared: &Shared<Trio>, jobs: &mut [Work])
-    requires ready { All (λ job. IsManned shared.now.table.shared.table_id shared.now.table.shared.key job) jobs.old }
+    requires ready { All (λ job. IsManned shared.now job) jobs.old }
 {
     thread::for_each_mut(rt, jobs, 4, &|_, job| work(rt, shared, job));
 }

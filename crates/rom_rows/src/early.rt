@@ -1,7 +1,7 @@
 //! A call is answered while a reader stays, once its batch is committed, and its caller posts again
 //! while that pass runs.
 ghost use Rattle.std.specs.Prelude.{All, IsTrue};
-ghost use Rattle.rom_lr.specs.Seats.{IsSeatOf};
+ghost use Rattle.rom_lr.specs.Seats.{IsSeatOf, view};
 ghost use Rattle.rom_rows.specs.Callers.{HasCalls};
 ghost use Rattle.rom_rows.specs.Staying.{IsStaying};
 ghost use Rattle.rom_rule.specs.Views.{is_reading};
@@ -23,9 +23,9 @@ use std::thread::Threads;
 /// each was told that it was queued, at places 0 and 1, and whether the first batch was committed and
 /// no sync was made since when its call was answered.
 fn hold(shared: &Shared<Trio>, watch: &Watch, reader: &mut Seat, poster: &mut Seat) -> bool
-    requires reader { IsSeatOf shared.now.table.shared.table_id shared.now.table.shared.key reader.old }
-    requires stays { IsTrue (is_reading reader.old.token.me.0.position) }
-    requires poster { HasCalls shared.now.table.shared.table_id shared.now.table.shared.key 1 0 poster.old }
+    requires reader { IsSeatOf shared.now reader.old }
+    requires stays { IsTrue (is_reading (view reader.old).position) }
+    requires poster { HasCalls shared.now 1 0 poster.old }
 {
     let Some((first, words)) = await_answer(shared, poster) else {
         shared.leave(reader);
@@ -42,7 +42,7 @@ fn hold(shared: &Shared<Trio>, watch: &Watch, reader: &mut Seat, poster: &mut Se
 }
 
 fn stay<R: Wait>(rt: &R, shared: &Shared<Trio>, watch: &Watch, job: &mut Stay<'_>)
-    requires ready { IsStaying shared.now.table.shared.table_id shared.now.table.shared.key job.old }
+    requires ready { IsStaying shared.now job.old }
 {
     let went = match job {
         Stay::Holds(reader, poster, _) => hold(shared, watch, reader, poster),
@@ -59,7 +59,7 @@ fn stay_all<R: Threads + Wait + Sync>(
     watch: &Watch,
     jobs: &mut [Stay<'_>],
 )
-    requires ready { All (λ job. IsStaying shared.now.table.shared.table_id shared.now.table.shared.key job) jobs.old }
+    requires ready { All (λ job. IsStaying shared.now job) jobs.old }
 {
     thread::for_each_mut(rt, jobs, 2, &|_, job| stay(rt, shared, watch, job));
 }

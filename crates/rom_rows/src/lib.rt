@@ -1,11 +1,10 @@
 //! Tests that need a heap's object and the crates which know no object, together.
 //!
-//! The crates that keep a heap safe are generic in its object, and so their own tests stand on words
-//! alone. Here passes run on a heap of `Trio` on devices in memory, which list their calls, fail where
-//! they are told to and are stopped anywhere; then what is left is opened again. Callers post and read in
-//! threads of their own beside the passes; they call a store, and scripts of theirs are played. At last
-//! the whole program runs two scripts, whose text is replayed on a plain model, and drills. No crate stands
-//! on this one. The functions that are no tests have contracts for the tests' sake: each test says what
+//! The crates that keep a heap safe are generic in its object, and have none to be tried with. Here
+//! passes run on a heap of `Trio` on devices in memory, which list their calls, fail where they are told
+//! to and are stopped anywhere; then what is left is opened again. Callers post and read in threads of
+//! their own beside the passes; they call a store, and scripts of theirs are played. No crate stands on
+//! this one. The functions that are no tests have contracts for the tests' sake: each test says what
 //! callers are told and what a device then holds.
 #![tactic(auto)]
 
@@ -28,10 +27,6 @@ mod heaps;
 mod hindered;
 mod job;
 #[cfg(test)]
-mod lawful;
-#[cfg(test)]
-mod model;
-#[cfg(test)]
 mod passes;
 #[cfg(test)]
 mod played;
@@ -40,16 +35,11 @@ mod ranges;
 #[cfg(test)]
 mod readers;
 #[cfg(test)]
-mod scripts;
-#[cfg(test)]
 mod seats;
 mod stay;
 #[cfg(test)]
 mod stores;
 #[cfg(test)]
-mod texts;
-#[cfg(test)]
-mod tried;
 mod turns;
 #[cfg(test)]
 mod waiting;

@@ -7,7 +7,7 @@ ghost use Rattle.rom_model.specs.VecSpace.{words_of};
 ghost use Rattle.rom_lr.specs.Writing.{NobodyReads};
 ghost use Rattle.rom_lr.specs.declared.side.Side.TheVariants.{Main};
 ghost use Rattle.rom_lr.specs.Opening.{AreNew, IsNew};
-ghost use Rattle.rom_lr.specs.Seats.{IsSeatOf, IsWriterOf};
+ghost use Rattle.rom_lr.specs.Seats.{IsSeatOf, IsWriterOf, view, writer_view};
 ghost use Rattle.rom_rows.specs.Untouched.{AtRest, IsReady};
 ghost use Rattle.rom_rule.specs.declared.views.Position.TheVariants.{Out};
 
@@ -29,11 +29,11 @@ const TURNS: u64 = 500;
 
 /// Whether all words of the image that the seat enters are those given.
 fn finds(shared: &Shared<Trio>, seat: &mut Seat, image: &[u64]) -> bool
-    requires of { IsSeatOf shared.now.table.shared.table_id shared.now.table.shared.key seat.old }
-    requires out { seat.old.token.me.0.position ≡ Out }
+    requires of { IsSeatOf shared.now seat.old }
+    requires out { (view seat.old).position ≡ Out }
     requires sized { length image.now ≡ region_len shared.now.layout.order }
-    ensures of { IsSeatOf shared.now.table.shared.table_id shared.now.table.shared.key seat.new }
-    ensures out { seat.new.token.me.0.position ≡ Out }
+    ensures of { IsSeatOf shared.now seat.new }
+    ensures out { (view seat.new).position ≡ Out }
 {
     shared.enter(seat);
     let mut same = true;
@@ -47,11 +47,11 @@ fn finds(shared: &Shared<Trio>, seat: &mut Seat, image: &[u64]) -> bool
 
 /// The same of every time that the seat enters.
 fn finds_always(shared: &Shared<Trio>, seat: &mut Seat, image: &[u64]) -> bool
-    requires of { IsSeatOf shared.now.table.shared.table_id shared.now.table.shared.key seat.old }
-    requires out { seat.old.token.me.0.position ≡ Out }
+    requires of { IsSeatOf shared.now seat.old }
+    requires out { (view seat.old).position ≡ Out }
     requires sized { length image.now ≡ region_len shared.now.layout.order }
-    ensures of { IsSeatOf shared.now.table.shared.table_id shared.now.table.shared.key seat.new }
-    ensures out { seat.new.token.me.0.position ≡ Out }
+    ensures of { IsSeatOf shared.now seat.new }
+    ensures out { (view seat.new).position ≡ Out }
 {
     let mut same = true;
     for _ in 0..READS {
@@ -62,10 +62,10 @@ fn finds_always(shared: &Shared<Trio>, seat: &mut Seat, image: &[u64]) -> bool
 }
 
 fn switch_often<R: Wait>(rt: &R, shared: &Shared<Trio>, writer: &mut WriterSeat)
-    requires of { IsWriterOf shared.now.table.shared.table_id shared.now.table.shared.key writer.old }
-    requires rests { AtRest writer.old.token.me.0 }
-    ensures of { IsWriterOf shared.now.table.shared.table_id shared.now.table.shared.key writer.new }
-    ensures rests { AtRest writer.new.token.me.0 }
+    requires of { IsWriterOf shared.now writer.old }
+    requires rests { AtRest (writer_view writer.old) }
+    ensures of { IsWriterOf shared.now writer.new }
+    ensures rests { AtRest (writer_view writer.new) }
 {
     for _ in 0..TURNS {
         to_main(rt, shared, writer);
@@ -82,8 +82,8 @@ struct Room<'a> {
 }
 
 fn work<R: Wait>(rt: &R, room: &Room<'_>, job: &mut Job)
-    requires ready { IsReady room.now.shared.now.table.shared.table_id room.now.shared.now.table.shared.key job.old }
-    ensures ready { IsReady room.now.shared.now.table.shared.table_id room.now.shared.now.table.shared.key job.new }
+    requires ready { IsReady room.now.shared.now job.old }
+    ensures ready { IsReady room.now.shared.now job.new }
 {
     match job {
         Job::Reads(seat, same) => *same = finds_always(room.shared, seat, room.image),
@@ -92,7 +92,7 @@ fn work<R: Wait>(rt: &R, room: &Room<'_>, job: &mut Job)
 }
 
 fn work_all<R: Threads + Wait + Sync>(rt: &R, room: &Room<'_>, jobs: &mut [Job])
-    requires ready { All (λ job. IsReady room.now.shared.now.table.shared.table_id room.now.shared.now.table.shared.key job) jobs.old }
+    requires ready { All (λ job. IsReady room.now.shared.now job) jobs.old }
 {
     thread::for_each_mut(rt, jobs, 3, &|_, job| work(rt, room, job));
 }
@@ -103,12 +103,13 @@ fn opened(
     heap: &VecSpace,
 ) -> Result<(Shared<Trio>, WriterSeat, Vec<Seat>), AllocError>
     requires made { Contents 4 (words_of heap.now) empty 0 }
-    ensures of { IfOk result (λ opened. IsWriterOf opened.0.table.shared.table_id opened.0.table.shared.key opened.1) }
-    ensures layout { IfOk result (λ opened. (opened.0.layout.order ≡ 4) × (opened.0.layout.callers ≡ 3)) }
-    ensures rests { IfOk result (λ opened. AtRest opened.1.token.me.0) }
-    ensures unread { IfOk result (λ opened. NobodyReads opened.1.token.me.0 Main) }
+    ensures of { IfOk result (λ opened. IsWriterOf opened.0 opened.1) }
+    ensures layout { IfOk result (λ opened. (opened.0.layout.order ≡ 4)
+        × (opened.0.layout.callers ≡ 3)) }
+    ensures rests { IfOk result (λ opened. AtRest (writer_view opened.1)) }
+    ensures unread { IfOk result (λ opened. NobodyReads opened.1 Main) }
     ensures many { IfOk result (λ opened. length opened.2.items ≡ 3) }
-    ensures seats { IfOk result (λ opened. AreNew opened.0.table.shared.table_id opened.0.table.shared.key opened.2.items) }
+    ensures seats { IfOk result (λ opened. AreNew opened.0 opened.2.items) }
 {
     let (shared, writer, seats) = Shared::<Trio>::new(alloc, 4, 3, heap.words(), 0)?;
     Ok((shared, writer, seats))
@@ -120,13 +121,14 @@ pub fn seated(
     heap: &VecSpace,
 ) -> Result<(Shared<Trio>, WriterSeat, (Seat, Seat, Seat)), AllocError>
     requires made { Contents 4 (words_of heap.now) empty 0 }
-    ensures of { IfOk result (λ opened. IsWriterOf opened.0.table.shared.table_id opened.0.table.shared.key opened.1) }
-    ensures layout { IfOk result (λ opened. (opened.0.layout.order ≡ 4) × (opened.0.layout.callers ≡ 3)) }
-    ensures rests { IfOk result (λ opened. AtRest opened.1.token.me.0) }
-    ensures unread { IfOk result (λ opened. NobodyReads opened.1.token.me.0 Main) }
-    ensures first { IfOk result (λ opened. IsNew opened.0.table.shared.table_id opened.0.table.shared.key 1 opened.2.0) }
-    ensures second { IfOk result (λ opened. IsNew opened.0.table.shared.table_id opened.0.table.shared.key 2 opened.2.1) }
-    ensures third { IfOk result (λ opened. IsNew opened.0.table.shared.table_id opened.0.table.shared.key 3 opened.2.2) }
+    ensures of { IfOk result (λ opened. IsWriterOf opened.0 opened.1) }
+    ensures layout { IfOk result (λ opened. (opened.0.layout.order ≡ 4)
+        × (opened.0.layout.callers ≡ 3)) }
+    ensures rests { IfOk result (λ opened. AtRest (writer_view opened.1)) }
+    ensures unread { IfOk result (λ opened. NobodyReads opened.1 Main) }
+    ensures first { IfOk result (λ opened. IsNew opened.0 1 opened.2.0) }
+    ensures second { IfOk result (λ opened. IsNew opened.0 2 opened.2.1) }
+    ensures third { IfOk result (λ opened. IsNew opened.0 3 opened.2.2) }
 {
     let (shared, writer, mut seats) = opened(alloc, heap)?;
     let third = seats.pop().unwrap();

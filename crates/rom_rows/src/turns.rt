@@ -1,9 +1,8 @@
-//! What the writer does at a table beside its readers, and what one reader tells another. It is no
-//! test itself, so that what it asks for is tried by edits too.
+//! What the writer does at a table beside its readers, and what one reader tells another.
 ghost use Rattle.std.specs.Prelude.{◌≡◌, ℕ, ◌<◌};
 ghost use Rattle.rom_model.specs.Blocks.{region_len};
 ghost use Rattle.rom_model.specs.Seen.{StartsWith};
-ghost use Rattle.rom_lr.specs.Seats.{IsSeatOf, IsWriterOf};
+ghost use Rattle.rom_lr.specs.Seats.{IsSeatOf, IsWriterOf, view, writer_view};
 ghost use Rattle.rom_rows.specs.Untouched.{AtRest};
 ghost use Rattle.rom_rule.specs.declared.views.Position.TheVariants.{Out};
 
@@ -13,10 +12,10 @@ use std::sync::Wait;
 
 /// Sends readers to main, and waits until back is left.
 pub fn to_main<R: Wait>(rt: &R, shared: &Shared<Trio>, writer: &mut WriterSeat)
-    requires of { IsWriterOf shared.now.table.shared.table_id shared.now.table.shared.key writer.old }
-    requires rests { AtRest writer.old.token.me.0 }
-    ensures of { IsWriterOf shared.now.table.shared.table_id shared.now.table.shared.key writer.new }
-    ensures rests { AtRest writer.new.token.me.0 }
+    requires of { IsWriterOf shared.now writer.old }
+    requires rests { AtRest (writer_view writer.old) }
+    ensures of { IsWriterOf shared.now writer.new }
+    ensures rests { AtRest (writer_view writer.new) }
 {
     shared.switch(writer, Side::Main, 0, 0);
     shared.settle(rt, writer);
@@ -24,10 +23,10 @@ pub fn to_main<R: Wait>(rt: &R, shared: &Shared<Trio>, writer: &mut WriterSeat)
 
 /// Sends readers to back, and waits until main is left.
 pub fn to_back<R: Wait>(rt: &R, shared: &Shared<Trio>, writer: &mut WriterSeat)
-    requires of { IsWriterOf shared.now.table.shared.table_id shared.now.table.shared.key writer.old }
-    requires rests { AtRest writer.old.token.me.0 }
-    ensures of { IsWriterOf shared.now.table.shared.table_id shared.now.table.shared.key writer.new }
-    ensures rests { AtRest writer.new.token.me.0 }
+    requires of { IsWriterOf shared.now writer.old }
+    requires rests { AtRest (writer_view writer.old) }
+    ensures of { IsWriterOf shared.now writer.new }
+    ensures rests { AtRest (writer_view writer.new) }
 {
     shared.switch(writer, Side::Back, 0, 0);
     shared.settle(rt, writer);
@@ -42,10 +41,10 @@ pub fn change_back<R: Wait>(
     at: u64,
     value: u64,
 ) -> (u64, u64)
-    requires of { IsWriterOf shared.now.table.shared.table_id shared.now.table.shared.key writer.old }
-    requires rests { AtRest writer.old.token.me.0 }
+    requires of { IsWriterOf shared.now writer.old }
+    requires rests { AtRest (writer_view writer.old) }
     requires inside { at < region_len shared.now.layout.order }
-    ensures of { IsWriterOf shared.now.table.shared.table_id shared.now.table.shared.key writer.new }
+    ensures of { IsWriterOf shared.now writer.new }
     ensures stored { result.1 ≡ value }
 {
     shared.switch(writer, Side::Main, 0, 0);
@@ -64,10 +63,10 @@ pub fn change_main<R: Wait>(
     at: u64,
     value: u64,
 ) -> u64
-    requires of { IsWriterOf shared.now.table.shared.table_id shared.now.table.shared.key writer.old }
-    requires rests { AtRest writer.old.token.me.0 }
+    requires of { IsWriterOf shared.now writer.old }
+    requires rests { AtRest (writer_view writer.old) }
     requires inside { at < region_len shared.now.layout.order }
-    ensures of { IsWriterOf shared.now.table.shared.table_id shared.now.table.shared.key writer.new }
+    ensures of { IsWriterOf shared.now writer.new }
     ensures stored { result ≡ value }
 {
     to_main(rt, shared, writer);
@@ -81,15 +80,15 @@ pub fn change_main<R: Wait>(
 
 /// Tells the second caller what the first has seen.
 pub fn tell(shared: &Shared<Trio>, first: &mut Seat, second: &mut Seat)
-    requires first { IsSeatOf shared.now.table.shared.table_id shared.now.table.shared.key first.old }
-    requires second { IsSeatOf shared.now.table.shared.table_id shared.now.table.shared.key second.old }
-    requires first_out { first.old.token.me.0.position ≡ Out }
-    requires second_out { second.old.token.me.0.position ≡ Out }
-    ensures first { IsSeatOf shared.now.table.shared.table_id shared.now.table.shared.key first.new }
-    ensures second { IsSeatOf shared.now.table.shared.table_id shared.now.table.shared.key second.new }
-    ensures first_out { first.new.token.me.0.position ≡ Out }
-    ensures second_out { second.new.token.me.0.position ≡ Out }
-    ensures told { StartsWith second.new.token.me.0.seen first.old.token.me.0.seen }
+    requires first { IsSeatOf shared.now first.old }
+    requires second { IsSeatOf shared.now second.old }
+    requires first_out { (view first.old).position ≡ Out }
+    requires second_out { (view second.old).position ≡ Out }
+    ensures first { IsSeatOf shared.now first.new }
+    ensures second { IsSeatOf shared.now second.new }
+    ensures first_out { (view first.new).position ≡ Out }
+    ensures second_out { (view second.new).position ≡ Out }
+    ensures told { StartsWith (view second.new).seen (view first.old).seen }
 {
     let note = shared.note(first);
     shared.learn(second, note);

@@ -1,5 +1,5 @@
 -- The kinds of step on posted calls: a caller posts a call in its slot, the writer finds it, answers it, and the caller takes the answer. As in `Kinds.antt`, each has its sentence, its condition, and what it tells.
-use Rattle.std.specs.Prelude.{◌≡◌, ℕ, ◌+◌, ◌/◌, ◌%◌, ◌^◌, ◌<◌, ◌≤◌, List, [], ◌∷◌, ◌++◌, map, take, drop, length, nat_lt, slice_index, slice_index_or, Option, true, false, ◌==◌, if◌then◌else◌}
+use Rattle.std.specs.Prelude.{◌≡◌, ℕ, ◌+◌, ◌/◌, ◌%◌, ◌<◌, ◌≤◌, List, [], ◌∷◌, ◌++◌, map, take, drop, length, nat_lt, slice_index, slice_index_or, Option, true, false, ◌==◌, if◌then◌else◌}
 use Rattle.std.specs.List.{AllByRecursion}
 use mathlib.Core.Option.{some}
 use lib.ListN.{get_elem?}
@@ -16,7 +16,7 @@ use Rattle.rom_model.specs.declared.record.Found.{Found}
 use Rattle.rom_model.specs.declared.record.PassRecord.{PassRecord}
 use Rattle.rom_rule.specs.Calls.{IsLater, IsWhole, answer_words, found_of, packed, told_to}
 use Rattle.rom_rule.specs.Kinds.{IsBatch, Seated, TellsEach, making, planned}
-use Rattle.rom_rule.specs.Places.{slot_at}
+use Rattle.rom_rule.specs.Places.{CALL, PLACE, REPLY, TURN, slot_at}
 use Rattle.rom_rule.specs.Records.{IsCall, KnowsEntries}
 use Rattle.rom_rule.specs.Views.{Each, Told, is_made, plan_of}
 use Rattle.rom_rule.specs.declared.views.Base.{Base}
@@ -36,16 +36,16 @@ abbrev pub CanStoreArgument : View → ℕ → Type 0
 CanStoreArgument v j = HasNonePosted v × (j ≤ length v.laid) × (j ≤ 40)
 
 abbrev pub stored_argument : Step ℕ → Seated → ℕ → Seated → Type 0
-stored_argument st m found m' = (j : ℕ) → st.word ≡ slot_at m.0.base.callers m.0.number (1 + j) → m' ≡ (record m.0 { laid = take j m.0.laid ++ st.first ∷ []; steps = m.0.steps + 1 }, m.1)
+stored_argument st m found m' = (j : ℕ) → st.word ≡ slot_at m.0.base.callers m.0.number (CALL + j) → m' ≡ (record m.0 { laid = take j m.0.laid ++ st.first ∷ []; steps = m.0.steps + 1 }, m.1)
 
 -- A caller stores its turn, odd.
--- When: it has no call posted, the words that it has stored are those of a call, and it has posted fewer than 2 ^ 62.
+-- When: it has no call posted, the words that it has stored are those of a call, and it has posted fewer than the count's limit.
 pub record CanPost {S : Type 0} (step : ℕ → S → ℕ → List ℕ → Option (S × List ℕ)) (v : View) : Type 0 where
   pub none_posted : HasNonePosted v
   pub whole : v.laid ≡ packed (drop 1 v.laid)
   pub few : length (drop 1 v.laid) ≤ 40
   pub call : IsCall step v.base (drop 1 v.laid)
-  pub room : length v.calls < 2 ^ 62
+  pub room : length v.calls < LAST_COUNT
 
 abbrev pub posting : View → View
 posting v = record v { calls = v.calls ++ drop 1 v.laid ∷ []; since = length v.seen; steps = v.steps + 1 }
@@ -62,7 +62,7 @@ abbrev pub CanScan : Plan → ℕ → Type 0
 CanScan p c = (c ≡ p.scanned + 1) × (p.mine ≡ [])
 
 abbrev pub scanned : Step ℕ → Seated → ℕ → Seated → Type 0
-scanned st m turn m' = (c : ℕ) → 0 < c → st.word ≡ slot_at m.0.base.callers c 0 → m' ≡ (planned m.0 (found_after c turn (plan_of m.0)), m.1)
+scanned st m turn m' = (c : ℕ) → 0 < c → st.word ≡ slot_at m.0.base.callers c TURN → m' ≡ (planned m.0 (found_after c turn (plan_of m.0)), m.1)
 
 -- When: it is the first caller's, and each request is answered. A new pass begins.
 abbrev pub CanBegin : Plan → Type 0
@@ -72,7 +72,7 @@ abbrev pub beginning : Plan → Plan
 beginning p = record p { records = p.records ++ p.mine; mine = []; requests = []; passes = p.passes + 1; scanned = 0 }
 
 abbrev pub begun : Step ℕ → Seated → ℕ → Seated → Type 0
-begun st m turn m' = (st.word ≡ slot_at m.0.base.callers 1 0) × (m' ≡ (planned m.0 (found_after 1 turn (beginning (plan_of m.0))), m.1))
+begun st m turn m' = (st.word ≡ slot_at m.0.base.callers 1 TURN) × (m' ≡ (planned m.0 (found_after 1 turn (beginning (plan_of m.0))), m.1))
 
 -- the request of caller c, as g makes it
 abbrev pub alter : ℕ → (Request → Request) → Request → Request
@@ -100,7 +100,7 @@ loading j x f = record f { words = take j f.words ++ x ∷ [] }
 module _ {S : Type 0} (Contents : ℕ → List ℕ → S → ℕ → Type 0) (step : ℕ → S → ℕ → List ℕ → Option (S × List ℕ)) where
   -- It tells that the number of words is at most 40, and once all are loaded, that they are those of a call.
   abbrev pub loaded_argument : Step ℕ → Seated → ℕ → Seated → Type 0
-  loaded_argument st m found m' = (c j : ℕ) → 0 < c → j < 41 → st.word ≡ slot_at m.0.base.callers c (1 + j) → (m' ≡ (planned m.0 (altered c (loading j found) (plan_of m.0)), m.1))
+  loaded_argument st m found m' = (c j : ℕ) → 0 < c → j < 41 → st.word ≡ slot_at m.0.base.callers c (CALL + j) → (m' ≡ (planned m.0 (altered c (loading j found) (plan_of m.0)), m.1))
       × (j ≡ 0 → found ≤ 40) × ((f : Request) (args : List ℕ) → IsPending (plan_of m.0) c f → take j f.words ++ found ∷ [] ≡ packed args → IsCall step m.0.base args)
 
 -- The writer stores word j of a request's reply, or their number.
@@ -112,7 +112,7 @@ abbrev pub laying : ℕ → ℕ → Request → Request
 laying j x f = record f { laid = take j f.laid ++ x ∷ [] }
 
 abbrev pub stored_reply : Step ℕ → Seated → ℕ → Seated → Type 0
-stored_reply st m found m' = (c j : ℕ) → 0 < c → j < 21 → st.word ≡ slot_at m.0.base.callers c (43 + j) → m' ≡ (planned m.0 (altered c (laying j st.first) (plan_of m.0)), m.1)
+stored_reply st m found m' = (c j : ℕ) → 0 < c → j < 21 → st.word ≡ slot_at m.0.base.callers c (REPLY + j) → m' ≡ (planned m.0 (altered c (laying j st.first) (plan_of m.0)), m.1)
 
 module _ {S : Type 0} (Contents : ℕ → List ℕ → S → ℕ → Type 0) (step : ℕ → S → ℕ → List ℕ → Option (S × List ℕ)) where
   -- The first word that the writer stores of an answer, in a pass without a record, makes the record.
@@ -130,7 +130,7 @@ module _ {S : Type 0} (Contents : ℕ → List ℕ → S → ℕ → Type 0) (st
 
   abbrev pub made_record : Fate → ℕ → ℕ → Step ℕ → Seated → ℕ → Seated → Type 0
   made_record fate before after st m found m' = (k : ℕ) × (more : List Entry) × IsBatch Contents step m.0.base (plan_of m.0) k more × TellsEach fate k more (plan_of m.0)
-      × ((c j : ℕ) → 0 < c → j < 21 → st.word ≡ slot_at m.0.base.callers c (43 + j) → m' ≡ (planned m.0 (altered c (laying j st.first) (making fate before after k more (plan_of m.0))), m.1))
+      × ((c j : ℕ) → 0 < c → j < 21 → st.word ≡ slot_at m.0.base.callers c (REPLY + j) → m' ≡ (planned m.0 (altered c (laying j st.first) (making fate before after k more (plan_of m.0))), m.1))
 
   -- The first word of an answer, whether the pass has its record or not.
   abbrev pub begun_answer : Fate → ℕ → ℕ → Step ℕ → Seated → ℕ → Seated → Type 0
@@ -142,7 +142,7 @@ abbrev pub placing : ℕ → Request → Request
 placing x f = record f { place = x ∷ [] }
 
 abbrev pub stored_place : Step ℕ → Seated → ℕ → Seated → Type 0
-stored_place st m found m' = (c : ℕ) → 0 < c → st.word ≡ slot_at m.0.base.callers c 42 → m' ≡ (planned m.0 (altered c (placing st.first) (plan_of m.0)), m.1)
+stored_place st m found m' = (c : ℕ) → 0 < c → st.word ≡ slot_at m.0.base.callers c PLACE → m' ≡ (planned m.0 (altered c (placing st.first) (plan_of m.0)), m.1)
 
 -- The writer stores a request's turn, even.
 -- When: it is pending, and the words that stand in the slot are what the records told of it.
@@ -153,7 +153,7 @@ abbrev pub answering : Request → Request
 answering f = record f { answered = true }
 
 abbrev pub answered : Step ℕ → Seated → ℕ → Seated → Type 0
-answered st m found m' = (c : ℕ) → 0 < c → st.word ≡ slot_at m.0.base.callers c 0 → m' ≡ (planned m.0 (altered c answering (plan_of m.0)), m.1)
+answered st m found m' = (c : ℕ) → 0 < c → st.word ≡ slot_at m.0.base.callers c TURN → m' ≡ (planned m.0 (altered c answering (plan_of m.0)), m.1)
 
 -- the longer of two lists
 abbrev pub longer : List Entry → List Entry → List Entry
@@ -191,7 +191,7 @@ module _ {S : Type 0} (Contents : ℕ → List ℕ → S → ℕ → Type 0) (st
     pub own : (s : S) (n : ℕ) → Contents m.0.base.order m.0.base.image s n → KnowsEntries m.0.base.callers n m'.0
 
   abbrev pub loaded_turn : Step ℕ → Seated → ℕ → Seated → Type 0
-  loaded_turn st m turn m' = (st.word ≡ slot_at m.0.base.callers m.0.number 0) × (turn % 2 ≡ 1 → m' ≡ (record m.0 { steps = m.0.steps + 1 }, m.1)) × (turn % 2 ≡ 0 → Learnt m m')
+  loaded_turn st m turn m' = (st.word ≡ slot_at m.0.base.callers m.0.number TURN) × (turn % 2 ≡ 1 → m' ≡ (record m.0 { steps = m.0.steps + 1 }, m.1)) × (turn % 2 ≡ 0 → Learnt m m')
 
 -- the last of a caller's outcomes
 abbrev pub IsLast : View → Told → Type 0
@@ -201,4 +201,4 @@ IsLast v x = (before : List Told) × (v.outcomes ≡ before ++ x ∷ [])
 -- When: it has no call posted.
 abbrev pub loaded_answer : Step ℕ → Seated → ℕ → Seated → Type 0
 loaded_answer st m found m' = (m' ≡ (record m.0 { steps = m.0.steps + 1 }, m.1))
-    × ((x : Told) → IsLast m.0 x → (length (answer_words x.1) ≤ 22) × ((j : ℕ) → j < length (answer_words x.1) → st.word ≡ slot_at m.0.base.callers m.0.number (42 + j) → found ≡ slice_index (answer_words x.1) j))
+    × ((x : Told) → IsLast m.0 x → (length (answer_words x.1) ≤ 22) × ((j : ℕ) → j < length (answer_words x.1) → st.word ≡ slot_at m.0.base.callers m.0.number (PLACE + j) → found ≡ slice_index (answer_words x.1) j))

@@ -1,13 +1,16 @@
 -- What the rule says of calls, from their posting to their answers.
-use Rattle.std.specs.Prelude.{◌≡◌, ℕ, ◌+◌, ◌-◌, ◌*◌, ◌^◌, ◌<◌, ◌≤◌, List, [], ◌∷◌, map, filter, drop, length, slice_index, slice_index_or, Bool, true, false, ◌==◌, ◌&&◌, not, if◌then◌else◌}
+use Rattle.std.specs.Prelude.{◌≡◌, ℕ, ◌+◌, ◌-◌, ◌*◌, ◌<◌, ◌≤◌, List, [], ◌∷◌, map, filter, drop, length, slice_index, slice_index_or, Bool, true, false, ◌==◌, ◌&&◌, not, if◌then◌else◌}
 use Rattle.std.specs.List.{AllByRecursion}
 use mathlib.Core.Option.{some}
 use lib.ListN.{get_elem?}
+use Rattle.rom_model.specs.History.{LAST_COUNT}
 use Rattle.rom_model.specs.Seen.{StartsWith}
+use Rattle.rom_model.specs.Undone.{SPENT, FAILED, DOUBT}
 use Rattle.rom_model.specs.declared.call.Updated.{Updated}
 use Rattle.rom_model.specs.declared.call.Updated.TheVariants.{Done, Spent, Failed, Doubt}
 use Rattle.rom_model.specs.declared.kept.Kept.{Kept}
 use Rattle.rom_model.specs.declared.record.Found.{Found}
+use Rattle.rom_rule.specs.Places.{CALL, PLACE, REPLY, TURN}
 use Rattle.rom_rule.specs.declared.views.Request.{Request}
 use Rattle.rom_rule.specs.Views.{Each, Told, CallerCalls, PlanCalls}
 
@@ -26,9 +29,9 @@ packed words = length words ∷ words
 -- how an answer is laid out: the place or a code, then the reply
 abbrev pub answer_words : Updated (List ℕ) → List ℕ
 answer_words (Done reply place) = place ∷ packed reply
-answer_words Spent = (2 ^ 62) ∷ packed []
-answer_words Failed = (2 ^ 62 + 1) ∷ packed []
-answer_words Doubt = (2 ^ 62 + 2) ∷ packed []
+answer_words Spent = SPENT ∷ packed []
+answer_words Failed = FAILED ∷ packed []
+answer_words Doubt = DOUBT ∷ packed []
 
 -- what was told of the calls of one caller
 abbrev pub told_to : List Told → ℕ → List Told
@@ -68,22 +71,22 @@ owing made c requests = if made then owed c requests else 0
 pub record SlotHolds (Callable : List ℕ → Type 0) (slots : List ℕ) (c : ℕ) (calls : List (List ℕ)) (given owe : ℕ) (answers : List Told) : Type 0 where
   pub given_le : given ≤ length calls
   pub one_open : length calls ≤ given + 1
-  pub few : length calls < 2 ^ 62 + 1
-  pub turn : slot_word_at slots c 0 ≡ given + length calls
+  pub few : length calls ≤ LAST_COUNT
+  pub turn : slot_word_at slots c TURN ≡ given + length calls
   pub short : (k : ℕ) → k < length calls → (length (slice_index_or calls k []) ≤ 40) × Callable (slice_index_or calls k [])
-  pub posted : length calls ≡ given + 1 → Lies slots c 1 (packed (slice_index_or calls given []))
+  pub posted : length calls ≡ given + 1 → Lies slots c CALL (packed (slice_index_or calls given []))
   pub recorded : length answers ≡ given + owe
   pub asked : StartsWith (numbered c 0 calls) (map found_in answers)
-  pub answered : (i : ℕ) (x : Told) → length calls ≡ given → i + 1 ≡ given → get_elem? answers i ≡ some x → (length (answer_words x.1) ≤ 22) × Lies slots c 42 (answer_words x.1)
+  pub answered : (i : ℕ) (x : Told) → length calls ≡ given → i + 1 ≡ given → get_elem? answers i ≡ some x → (length (answer_words x.1) ≤ 22) × Lies slots c PLACE (answer_words x.1)
 
 -- Of a request that isn't answered yet: its call is posted, what was loaded of it are its first words, and what was stored of its answer stands in the slot.
 pub record IsOpen (slots : List ℕ) (calls : List (List ℕ)) (given : ℕ) (f : Request) : Type 0 where
   pub posted : length calls ≡ given + 1
   pub seq : f.seq ≡ given
   pub loaded : StartsWith (packed (slice_index_or calls given [])) f.words
-  pub placed : Lies slots f.caller 42 f.place
+  pub placed : Lies slots f.caller PLACE f.place
   pub place_few : length f.place ≤ 1
-  pub laid : Lies slots f.caller 43 f.laid
+  pub laid : Lies slots f.caller REPLY f.laid
   pub laid_few : length f.laid ≤ 21
 
 abbrev pub Open : ℕ → List ℕ → (ℕ → List (List ℕ)) → (ℕ → ℕ) → Request → Type 0
@@ -115,7 +118,7 @@ pub record KnowsCalls (callers : ℕ) (slots : List ℕ) (count : ℕ) (calls : 
   pub mine : 0 < t.number → t.calls ≡ calls t.number
   pub outcomes : 0 < t.number → StartsWith (told_to p.told t.number) t.outcomes
   pub taken_le : 0 < t.number → length t.outcomes ≤ given t.number
-  pub laid_there : 0 < t.number → Lies slots t.number 1 t.laid
+  pub laid_there : 0 < t.number → Lies slots t.number CALL t.laid
   pub laid_few : length t.laid ≤ 41
   pub since_le : t.since ≤ p.len
   pub since : (x : Told) → 0 < t.number → get_elem? (told_to p.told t.number) (length t.outcomes) ≡ some x → IsLater count t.since x

@@ -40,6 +40,19 @@ indicator_at k = 14 + offset_of_indicator k
 abbrev pub slots_at : ℕ → ℕ
 slots_at callers = 14 + 8 * callers
 
+-- The words of a slot: the turn, the posted call, and of its answer the place or the code, and the reply. A call and a reply begin with the number of their words.
+abbrev pub TURN : ℕ
+TURN = 0
+
+abbrev pub CALL : ℕ
+CALL = 1
+
+abbrev pub PLACE : ℕ
+PLACE = 42
+
+abbrev pub REPLY : ℕ
+REPLY = 43
+
 -- word j of the slot of caller c
 abbrev pub slot_at : ℕ → ℕ → ℕ → ℕ
 slot_at callers c j = slots_at callers + (64 * (c - 1) + j)

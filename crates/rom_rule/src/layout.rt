@@ -17,6 +17,18 @@ const LINE: u64 = 8;
 /// The number of words of a caller's slot.
 const SLOT: u64 = 64;
 
+/// The word of a slot that has the turn: odd while a call is posted, even once it is answered.
+pub const TURN: u64 = 0;
+
+/// Where the posted call stands in a slot: the number of its words, then they.
+pub const CALL: u64 = 1;
+
+/// The word of a slot that has the place of the last answer, or the code of one that was not done.
+pub const PLACE: u64 = 42;
+
+/// Where the reply of the last answer stands in a slot: the number of its words, then they.
+pub const REPLY: u64 = 43;
+
 /// The places of the words of one shared table. Every place is the word's number in the table.
 #[derive(Clone, Copy, Debug, PartialEq, Eq)]
 pub struct Layout {
@@ -89,8 +101,8 @@ impl Layout {
         FIRST + LINE * self.callers as u64
     }
 
-    /// Word j, below 64, of the slot in which a caller posts its calls and finds their answers;
-    /// callers are numbered from 1.
+    /// Word j, below 64, of the slot in which a caller posts its calls and finds their answers, as
+    /// `TURN`, `CALL`, `PLACE` and `REPLY`; callers are numbered from 1.
     pub fn slot(&self, caller: u32, j: u64) -> u64
         requires caller { (1 ≤ caller) × (caller ≤ self.now.callers) }
         requires word { j < 64 }

@@ -17,8 +17,6 @@
 mod kinds;
 mod law;
 mod layout;
-#[cfg(test)]
-mod tests;
 mod views;
 
 pub use kinds::{
@@ -28,5 +26,5 @@ pub use kinds::{
     StoresPlace, StoresReply, StoresVersion, SwitchesToBack, SwitchesToMain, TakesNote,
 };
 pub use law::{Key, Law, SharedWords, Token};
-pub use layout::Layout;
+pub use layout::{CALL, Layout, PLACE, REPLY, TURN};
 pub use views::{Base, Plan, Position, Request, View};

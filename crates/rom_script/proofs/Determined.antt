@@ -12,9 +12,9 @@ use Rattle.rom_model.specs.declared.call.Answer.TheVariants as answer
 use Rattle.rom_model.specs.declared.call.Updated.TheVariants.{Done, Spent, Failed, Doubt}
 use Rattle.rom_model.specs.declared.line.LineResult.{LineResult}
 use Rattle.rom_model.specs.declared.line.LineResult.TheVariants as outcome
-use Rattle.rom_script.specs.Text.{result_text, line_text, results_text, callers_text, ResultFits, AreOfType}
+use Rattle.rom_text.specs.Text.{result_text, line_text, results_text, callers_text, ResultFits, AreOfType}
 use Rattle.rom_script.specs.Trio.{reply_text, answer_text, ReplyFits, AnswerFits, TextDetermines, trio_texts}
-use Rattle.rom_script.proofs.Reading.{is_word, AllAreWords, words_of, with_spaces, both, line_read, decimal_is_a_word, decimal_read, wide}
+use Rattle.rom_text.proofs.Reading.{is_word, AllAreWords, words_of, with_spaces, both, line_read, decimal_is_a_word, decimal_read, wide}
 
 -- the reply that a word and a number name
 abbrev reply_of : List ℕ → ℕ → Reply

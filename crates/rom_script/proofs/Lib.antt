@@ -1,14 +1,7 @@
--- Lemmas on streams, digits, lines and steps.
-pub mod Prints
-pub mod Taking
-pub mod Digits
-pub mod Pieces
-pub mod Handing
-pub mod Steps
-pub mod Reading
-pub mod Phrases
+-- Lemmas on what lines ask for, on what texts determine, and on drills.
+pub mod Asking
 pub mod Determined
-pub mod RunText
 pub mod Drills
 pub mod Sums
 pub mod Summaries
+pub use Rattle.rom_text.proofs.Prints

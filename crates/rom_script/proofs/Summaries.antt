@@ -1,7 +1,7 @@
 -- The lines of a drill, of which the pieces stand one behind another.
 use Rattle.std.specs.Prelude.{◌≡◌, ℕ, List, [], ◌++◌, codes}
 use Rattle.std.proofs.Common.{refl, append_assoc, append-nil}
-use Rattle.rom_script.specs.Text.{line_text}
+use Rattle.rom_text.specs.Text.{line_text}
 
 pub drill_line : (start callers calls : List ℕ) → codes "drill " ++ (start ++ (codes " callers " ++ (callers ++ (codes " calls " ++ (calls ++ (codes "\n" ++ [])))))) ≡ line_text (codes "drill " ++ start ++ codes " callers " ++ callers ++ codes " calls " ++ calls)
 drill_line start callers calls = simp (append_assoc, append-nil) refl

@@ -13,7 +13,7 @@ use Rattle.rom_model.specs.declared.line.Step.{Step}
 use Rattle.rom_model.specs.declared.line.Step.TheVariants.{Update, Ask}
 use Rattle.rom_model.specs.declared.line.LineResult.{LineResult}
 use Rattle.rom_model.specs.declared.line.LineResult.TheVariants as outcome
-use Rattle.rom_script.specs.Text.{line_text}
+use Rattle.rom_text.specs.Text.{line_text}
 use Rattle.rom_script.specs.Trio.{answer_text}
 
 -- the number before those of a caller's items

@@ -1,13 +1,14 @@
--- Streams of bytes, the lines of scripts, and the texts of results.
-pub mod Streams
-pub mod Limits
-pub mod Memory
-pub mod Adapts
-pub mod Phrases
+-- The language of a queue, a set and a map: its lines, its texts and its drill.
 pub mod Lines
+pub mod Asking
 pub mod Scripts
-pub mod Text
 pub mod Trio
 pub mod Runs
-pub mod Gathered
 pub mod Drill
+pub mod Summaries
+pub use Rattle.rom_text.specs.Streams
+pub use Rattle.rom_text.specs.Limits
+pub use Rattle.rom_text.specs.Memory
+pub use Rattle.rom_text.specs.Adapts
+pub use Rattle.rom_text.specs.Phrases
+pub use Rattle.rom_text.specs.Text

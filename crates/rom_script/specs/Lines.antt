@@ -1,32 +1,14 @@
--- The lines of a script, and what each asks for.
-use Rattle.std.specs.Prelude.{◌≡◌, ℕ, ◌-◌, ◌^◌, ◌<◌, ◌==◌, List, [], ◌∷◌, ◌++◌, length, take, map, codes, decimal, slice_index, if◌then◌else◌, Option, IfSome}
+-- What the lines of a script ask for.
+use Rattle.std.specs.Prelude.{◌≡◌, ℕ, ◌^◌, ◌<◌, List, ◌++◌, codes, Option}
 use Rattle.rom_model.specs.declared.call.Call.{Call}
 use Rattle.rom_model.specs.declared.call.Call.TheVariants as call
 use Rattle.rom_model.specs.declared.call.Query.{Query}
 use Rattle.rom_model.specs.declared.call.Query.TheVariants as query
 use Rattle.rom_model.specs.declared.line.Step.{Step}
 use Rattle.rom_model.specs.declared.line.Step.TheVariants.{Update, Ask, Unread}
-
--- the byte goes onto the first piece
-abbrev pub onto_first : ℕ → List (List ℕ) → List (List ℕ)
-onto_first b [] = (b ∷ []) ∷ []
-onto_first b (piece ∷ pieces) = (b ∷ piece) ∷ pieces
-
--- the pieces between the LFs; a last piece without LF counts if it isn't empty
-abbrev pub pieces_of : List ℕ → List (List ℕ)
-pieces_of [] = []
-pieces_of (b ∷ bs) = if b == 10 then [] ∷ pieces_of bs else onto_first b (pieces_of bs)
-
--- one CR at a line's end isn't part of it
-abbrev pub without_cr : List ℕ → List ℕ
-without_cr piece = if slice_index piece (length piece - 1) == 13 then take (length piece - 1) piece else piece
-
-abbrev pub lines_of : List ℕ → List (List ℕ)
-lines_of bytes = map without_cr (pieces_of bytes)
-
--- a space and a number, in digits without sign and without leading zero
-abbrev pub spaced : ℕ → List ℕ
-spaced n = 32 ∷ decimal n
+use Rattle.rom_text.specs.Lines as any
+use Rattle.rom_text.specs.Streams.{ShownSource}
+pub use Rattle.rom_text.specs.Lines.{lines_of, pieces_of, spaced, without_cr}
 
 -- how a call is written
 abbrev pub call_line : Call → List ℕ
@@ -78,10 +60,12 @@ Reads line Unread = ((c : Call) → CallFits c → line ≡ call_line c → ⊥)
 
 -- each line is written as its step is
 abbrev pub AreRead : List (List ℕ) → List (Step Call Query) → Type 0
-AreRead [] [] = Unit {0}
-AreRead (line ∷ lines) (step ∷ steps) = Reads line step × AreRead lines steps
-AreRead lines steps = ⊥
+AreRead = any.AreRead Reads
 
 -- the steps are those of a source's lines, where it tells its bytes
 abbrev pub AreStepsOf : Option (List ℕ) → List (Step Call Query) → Type 0
-AreStepsOf source steps = IfSome source (λ bytes. AreRead (lines_of bytes) steps)
+AreStepsOf = any.AreStepsOf Reads
+
+-- the scripts' steps are those of the sources' lines, where these tell their bytes
+abbrev pub AreScripts : {S : Type 0} → ShownSource S → List S → List (List (Step Call Query)) → Type 0
+AreScripts = any.AreScripts Reads

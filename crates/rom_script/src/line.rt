@@ -1,11 +1,10 @@
-//! The lines of a script.
-ghost use Rattle.std.specs.Prelude.{◌≡◌, ◌⊎◌, ◌-◌, ◌<◌, ◌≤◌, ◌∷◌, length, drop, slice_index, slice_range};
-ghost use Rattle.rom_script.specs.Lines.{Reads, lines_of};
-ghost use Rattle.rom_script.specs.Lines as lines;
-ghost use Rattle.rom_script.specs.Phrases.{Asks};
+//! What the lines of a script ask a queue, a set and a map for.
+ghost use Rattle.rom_script.specs.Asking.{Asks};
+ghost use Rattle.rom_script.specs.Lines.{Reads};
 
-use crate::phrase::{len_before, read_phrase};
+use rom_heap::Trio;
 use rom_model::{Call, Query, Step};
+use rom_text::{Lines, read_phrase};
 
 /// What a script's line asks for.
 pub type Line = Step<Call, Query>;
@@ -41,30 +40,13 @@ pub fn read_line(line: &[u8]) -> Line
     }
 }
 
-/// The bytes without a CR at their end.
-fn without_cr(piece: &[u8]) -> &[u8]
-    ensures { result.now ≡ lines.without_cr piece.now }
-{
-    if piece.last() == Some(&b'\r') {
-        &piece[..piece.len() - 1]
-    } else {
-        piece
-    }
-}
+/// The language of scripts.
+pub struct TrioLines;
 
-/// Where the line that begins at `start` ends, without its LF and one CR before it, and where the
-/// next one begins. All are indices of `bytes`.
-pub fn line_end(bytes: &[u8], start: u64) -> (u64, u64)
-    requires { start < length bytes.now }
-    ensures line { lines_of (drop start bytes.now)
-        ≡ slice_range bytes.now start result.0 ∷ lines_of (drop result.1 bytes.now) }
-    ensures next { (result.1 ≡ length bytes.now) ⊎ (slice_index bytes.now (result.1 - 1) ≡ 10) }
-    ensures order { (start ≤ result.0) × (result.0 ≤ result.1) × (start < result.1) }
-    ensures within { result.1 ≤ length bytes.now }
-{
-    let rest = &bytes[start as usize..];
-    let len = len_before(b'\n', rest);
-    let line = without_cr(&rest[..len]);
-    let next = (len + 1).min(rest.len());
-    (start + line.len() as u64, start + next as u64)
+impl Lines<Trio> for TrioLines {
+    ghost Reads = { Reads };
+
+    fn read_line(line: &[u8]) -> Line {
+        read_line(line)
+    }
 }

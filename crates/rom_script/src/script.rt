@@ -1,14 +1,14 @@
 //! Whole scripts: their lines in order.
-ghost use Rattle.std.specs.Prelude.{◌≡◌, ℕ, ◌+◌, ◌<◌, ◌≤◌, List, [], ◌∷◌, ◌++◌, length, vec_len, IfOk, IfSome, OnOk, slice_get};
-ghost use Rattle.rom_script.specs.declared.read.TheConstants.{MAX_BYTES};
-ghost use Rattle.rom_script.specs.Limits.{EndsReading, FitsScript};
-ghost use Rattle.rom_script.specs.Lines.{AreRead, AreStepsOf, lines_of};
+ghost use Rattle.std.specs.Prelude.{◌≡◌, ◌≤◌, length, IfOk, IfSome, OnOk, slice_get};
+ghost use Rattle.rom_text.specs.declared.read.TheConstants.{MAX_BYTES};
+ghost use Rattle.rom_text.specs.Limits.{EndsReading, FitsScript};
+ghost use Rattle.rom_script.specs.Lines.{AreStepsOf};
 ghost use Rattle.rom_script.specs.Scripts.{steps_of};
 
-use crate::line::{Line, line_end, read_line};
-use crate::read::{ReadRefused, read_bytes};
-use crate::streams::Source;
-use std::alloc::{AllocError, Global};
+use crate::line::{Line, TrioLines};
+use rom_heap::Trio;
+use rom_text::{ReadRefused, Source};
+use std::alloc::Global;
 
 /// The lines of a script, in order. A contract sees them as `steps_of` the script.
 #[derive(Drop)]
@@ -47,21 +47,6 @@ impl Script {
     }
 }
 
-/// What the lines of some bytes ask for.
-fn lines_in(alloc: Global, bytes: &[u8]) -> Result<Vec<Line>, AllocError>
-    ensures read { IfOk result (λ lines. AreRead (lines_of bytes.now) lines.items) }
-    ensures few { IfOk result (λ lines. vec_len lines ≤ length bytes.now) }
-{
-    let mut lines = Vec::new(alloc);
-    let mut start = 0;
-    while start < bytes.len() as u64 {
-        let (end, next) = line_end(bytes, start);
-        lines.push(read_line(&bytes[start as usize..end as usize]))?;
-        start = next;
-    }
-    Ok(lines)
-}
-
 /// Reads a script to the end of its source. What was taken is lost to the source after an `Err`.
 pub fn read_script<S: Source>(alloc: Global, source: &mut S) -> Result<Script, ReadRefused>
     ensures lines { IfOk result (λ script. AreStepsOf (S.shown.left source.old) (steps_of script)) }
@@ -69,7 +54,6 @@ pub fn read_script<S: Source>(alloc: Global, source: &mut S) -> Result<Script, R
     ensures fits { OnOk result (IfSome (S.shown.left source.old) FitsScript) }
     ensures ends { EndsReading S.shown source.old source.new result }
 {
-    let bytes = read_bytes(alloc, source)?;
-    let lines = lines_in(alloc, &bytes)?;
+    let lines = rom_text::read_script::<Trio, TrioLines, S>(alloc, source)?;
     Ok(Script { lines })
 }

@@ -1,19 +1,16 @@
 //! What a drill tells of its results: five lines.
-ghost use Rattle.std.specs.Prelude.{◌≡◌, ◌-◌, ◌*◌, ◌^◌, ◌<◌, ◌≤◌, ◌++◌, [], All, decimal, codes, drop, length, map};
+ghost use Rattle.std.specs.Prelude.{◌≡◌, ◌-◌, ◌*◌, ◌^◌, ◌<◌, ◌≤◌, ◌++◌, All, decimal, codes, length, map};
 ghost use Rattle.std.specs.List.{flat_map};
 ghost use Rattle.rom_script.specs.Drill.{drill_lines};
 ghost use Rattle.rom_script.specs.Drill as summed;
-ghost use Rattle.rom_script.specs.Streams.{Prints};
-ghost use Rattle.rom_script.specs.Text.{line_text};
+ghost use Rattle.rom_text.specs.Streams.{Prints};
+ghost use Rattle.rom_text.specs.Text.{line_text};
 ghost use Rattle.rom_script.specs.Trio.{answer_text};
 
-use crate::gathered::Gathered;
 use crate::line::Line;
-use crate::print::{print_pieces, print_text};
-use crate::streams::{IoFailed, Sink};
-use crate::told::Told;
 use itoa::Buffer;
 use rom_model::{Answer, Call, LineResult, Reply, Updated};
+use rom_text::{IoFailed, Report, Sink, Told, print_gathered, print_pieces, print_text};
 
 /// What a line has put into the queue.
 fn enqueued_by(line: &Line, told: &LineResult<Reply, Answer>) -> u64
@@ -167,17 +164,14 @@ fn print_lines<O: Sink>(out: &mut O, told: &Summary) -> Result<(), IoFailed>
     print_closing(out, told)
 }
 
-/// Prints the five lines into a block, and hands it over.
-fn print_through<O: Sink>(out: &mut Gathered<O>, told: &Summary) -> Result<(), IoFailed>
-    requires none { drop out.old.handed out.old.block.items ≡ [] }
-    requires opened { O.shown.taken out.old.opened.value ≡ O.shown.taken out.old.out.now }
-    ensures prints { Prints O.shown out.old.out.now out.new.out.now result
-        (drill_lines told.now.start told.now.callers told.now.calls told.now.enqueued told.now.dequeued
-        told.now.sizes told.now.total told.now.count) }
-    ensures same_sink { out.new.out.ghost_name ≡ out.old.out.ghost_name }
-{
-    print_lines(out, told)?;
-    out.hand_over()
+impl Report for Summary {
+    ghost use Rattle.rom_script.specs.Summaries.{shown_summary};
+
+    ghost shown = { shown_summary };
+
+    fn print<O: Sink>(&self, out: &mut O) -> Result<(), IoFailed> {
+        print_lines(out, self)
+    }
 }
 
 /// Prints the five lines of a drill. They leave in one block, and nothing of them waits after the
@@ -187,6 +181,5 @@ pub fn print_drill<O: Sink>(out: &mut O, told: &Summary) -> Result<(), IoFailed>
         (drill_lines told.now.start told.now.callers told.now.calls told.now.enqueued told.now.dequeued
         told.now.sizes told.now.total told.now.count) }
 {
-    let mut gathered = Gathered::over(out);
-    print_through(&mut gathered, told)
+    print_gathered(out, told)
 }

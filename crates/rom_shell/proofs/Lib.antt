@@ -1,20 +1,6 @@
--- Lemmas on scripts and what stops leave of them, on what a run of one says, and on counting.
-pub mod Lawful
-pub mod Leaving
-pub mod Lines
+-- Lemmas on what is printed of a heap and of a drill, on the words of the command line, and on counting.
 pub mod Showing
 pub mod Ending
 pub mod Drilling
 pub mod Summing
-pub mod Sources
 pub mod Replies
-pub mod Saying
-pub mod Walking
-pub mod Turns
-pub mod Rows
-pub mod One
-pub mod Many
-pub mod Taken
-pub mod Shapes
-pub mod Matching
-pub mod Values

@@ -15,10 +15,11 @@ use Rattle.rom_model.specs.Machine.{on_words}
 use Rattle.rom_model.specs.State.{State, tell}
 use Rattle.rom_model.specs.Story.{Story, count}
 use Rattle.rom_model.specs.Trio.{trio}
-use Rattle.rom_script.specs.Drill.{drill_lines}
-use Rattle.rom_script.specs.Runs.{IsCutShort, IsWritten}
-use Rattle.rom_script.specs.Streams.{ShownSink}
-use Rattle.rom_shell.specs.Statuses.{is_faulted}
+use Rattle.rom_run.specs.Played.{AreAnswered}
+use Rattle.rom_run.specs.Statuses.{is_faulted}
+use Rattle.rom_script.specs.Drill.{drill_lines, drill_scripts}
+use Rattle.rom_text.specs.Runs.{IsCutShort, IsWritten}
+use Rattle.rom_text.specs.Streams.{ShownSink}
 
 -- the state at closing
 abbrev pub closing : Story State → State
@@ -58,3 +59,9 @@ drill_status results = if list_any (λ rs. list_any is_faulted rs) results then 
 -- The whole text is printed, and the status is that of the results; or some of it, where the sink failed.
 abbrev pub IsDrillText : {O : Type 0} → ShownSink O → List ℕ → List (List (LineResult Reply Answer)) → O → O → ℕ → Type 0
 IsDrillText sink text results old new status = ((status ≡ drill_status results) × IsWritten sink old new text) ⊎ ((status ≡ 5) × IsCutShort sink old new text)
+
+-- Results of a drill's scripts are those of one history, which is the story's, and what is told of them is printed.
+pub record HaveDrilled {O : Type 0} (sink : ShownSink O) (start callers calls : ℕ) (old new : O) (status : ℕ) (story : Story State) : Type 0 where
+  pub results : List (List (LineResult Reply Answer))
+  pub answered : AreAnswered trio story (drill_scripts start callers calls) results
+  pub printed : IsDrillText sink (drill_told start callers calls story) results old new status

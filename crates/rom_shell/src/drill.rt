@@ -1,41 +1,28 @@
 //! Generated scripts on a new heap, of which five lines are told.
-ghost use Rattle.std.specs.Prelude.{◌≡◌, ◌⊎◌, ◌≤◌, ◌^◌, ℕ, All, List, length, map, codes, IfSome, IsNone, IsSome, IsTrue, Some};
-ghost use Rattle.rom_device.specs.Device.{Leaves, told_words};
+ghost use Rattle.std.specs.Prelude.{◌≡◌, ◌⊎◌, ◌≤◌, ◌^◌, All, length, map, IfSome, IsNone, IsSome, Some};
+ghost use Rattle.rom_heap.specs.Parts.{FirstBreak};
 ghost use Rattle.rom_model.specs.Lawful.{IsLawful};
-ghost use Rattle.rom_model.specs.Machine.{on_words};
 ghost use Rattle.rom_model.specs.Region.{Contents};
-ghost use Rattle.rom_model.specs.State.{empty};
 ghost use Rattle.rom_model.specs.Trio.{trio};
-ghost use Rattle.rom_model.specs.Space.{ChangesOnly};
-ghost use Rattle.rom_header.specs.Layout.{words_needed};
-ghost use Rattle.rom_combine.specs.Session.{ImageNow, SessionImage};
+ghost use Rattle.rom_run.specs.Statuses.{number_of};
+ghost use Rattle.rom_run.specs.Working.{HasNone, HasSession, IsDeviceKept};
+ghost use Rattle.rom_run.specs.declared.heap.Heap.TheVariants.{New};
 ghost use Rattle.rom_script.specs.Drill as drilled;
 ghost use Rattle.rom_script.specs.Drill.{drill_lines};
-ghost use Rattle.rom_script.specs.Runs.{IsTold};
-ghost use Rattle.rom_script.specs.Streams.{StopsWriting, WriteFailed};
-ghost use Rattle.rom_shell.specs.Devices.{CountsFaults, HasDeviceFailed, IsSparedBy, IsUnmade};
-ghost use Rattle.rom_shell.specs.Drilled.{IsDrillText, drill_status};
-ghost use Rattle.rom_shell.specs.Run.{HaveDrilled, IsNewHeap};
-ghost use Rattle.rom_shell.specs.Statuses.{number_of};
-ghost use Rattle.rom_store.specs.Making.{IsMadeThen, NoneOrHolds};
-ghost use Rattle.rom_store.specs.Sessions.{EachStory, HasStory};
+ghost use Rattle.rom_text.specs.Streams.{StopsWriting, WriteFailed};
+ghost use Rattle.rom_shell.specs.Drilled.{HaveDrilled, IsDrillText, drill_status};
+ghost use Rattle.rom_store.specs.Sessions.{EachStory};
 
-use crate::results::any_faulted;
-use crate::scripted::end_unmade;
-use crate::status::Status;
-use crate::worked::Worked;
-use rom_combine::Gate;
 use rom_device::Device;
 use rom_heap::Trio;
 use rom_model::{Answer, LineResult, Query, Reply};
+use rom_run::{Heap, Status, Worked, any_faulted, end_without_memory, play_heap};
 use rom_script::{Line, Sink, Summary, drill_scripts, print_drill, sum_dequeued, sum_enqueued};
-use rom_store::{NotFormatted, Played, Unmade, play_new};
+use rom_store::{Gate, Played};
+use rom_words::DRILL_ORDER;
 use std::alloc::Global;
 use std::sync::Wait;
 use std::thread::Threads;
-
-/// The order of the heap of a drill.
-pub(crate) const DRILL_ORDER: u32 = 12;
 
 /// The status of results that are all told of.
 fn status_of(results: &[Vec<LineResult<Reply, Answer>>]) -> Status
@@ -55,10 +42,11 @@ fn tell_drill<O: Sink>(
     told: &Summary,
     results: &[Vec<LineResult<Reply, Answer>>],
 ) -> Status
-    ensures printed { IsDrillText O.shown (drill_lines told.now.start told.now.callers told.now.calls
-        told.now.enqueued told.now.dequeued told.now.sizes told.now.total told.now.count)
+    ensures printed { IsDrillText O.shown (drill_lines told.now.start told.now.callers
+        told.now.calls told.now.enqueued told.now.dequeued told.now.sizes told.now.total told.now.count)
         (map (λ v. v.items) results.now) out.old out.new (number_of result) }
-    ensures statuses { (result ≡ Status.Done) ⊎ (result ≡ Status.SinkFailed) ⊎ (result ≡ Status.DeviceFailed) }
+    ensures statuses { (result ≡ Status.Done) ⊎ (result ≡ Status.SinkFailed)
+        ⊎ (result ≡ Status.DeviceFailed) }
     ensures sink_failed { result ≡ Status.SinkFailed → WriteFailed O.shown out.old out.new }
     ensures writing { StopsWriting O.shown out.old out.new }
     ensures rest { O.shown.rest out.new ≡ O.shown.rest out.old }
@@ -90,7 +78,7 @@ fn end_of<D: Device, O: Sink>(
     ensures drilled { EachStory trio Contents played.closed.session (λ story.
         IsLawful trio story (drilled.drill_scripts start callers calls)
         (map (λ v. v.items) played.results.items)
-        → HaveDrilled O.shown start callers calls story out.old out.new (number_of result.status)) }
+        → HaveDrilled O.shown start callers calls out.old out.new (number_of result.status) story) }
     ensures sink_failed { result.status ≡ Status.SinkFailed → WriteFailed O.shown out.old out.new }
     ensures writing { StopsWriting O.shown out.old out.new }
     ensures rest { O.shown.rest out.new ≡ O.shown.rest out.old }
@@ -132,49 +120,29 @@ pub(crate) fn drill_heap<R: Threads + Wait + Sync, D: Device + Send, O: Sink, G:
 ) -> Worked<D>
     requires callers { (1 ≤ callers) × (callers ≤ 16) }
     requires calls { calls ≤ 10000 }
-    ensures size { D.shown.size result.device ≡ D.shown.size device }
-    ensures outside { IsTrue D.shown.tells_words →
-        ChangesOnly 0 (words_needed 12) (D.shown.words device) (D.shown.words result.device) }
     ensures statuses { (number_of result.status ≡ 0) ⊎ (number_of result.status ≡ 3)
         ⊎ (number_of result.status ≡ 5) ⊎ (number_of result.status ≡ 6)
         ⊎ (number_of result.status ≡ 7) }
-    ensures session { (number_of result.status ≡ 0) ⊎ (number_of result.status ≡ 5) → IsSome result.session }
-    ensures no_session { (number_of result.status ≡ 3) ⊎ (number_of result.status ≡ 6) → IsNone result.session }
-
-    ensures story { IfSome result.session (HasStory trio Contents) }
-    ensures opening { IfSome result.session (λ session. EachStory trio Contents session (λ story.
-        IsNewHeap 12 (told_words D.shown device) story)) }
-    ensures drilled { IfSome result.session (λ session. EachStory trio Contents session (λ story.
-        HaveDrilled O.shown start callers calls story out.old out.new (number_of result.status))) }
-    ensures now { IsTrue D.shown.tells_images → IfSome result.session (λ session.
-        EachStory trio Contents session (λ story.
-        (i : List ℕ) → D.shown.leaves result.device i → ImageNow Contents (on_words trio) story i)) }
-    ensures since { IsTrue D.shown.tells_images → IfSome result.session (λ session.
-        EachStory trio Contents session (λ story.
-        IsMadeThen D.shown Contents 12 empty (SessionImage Contents (on_words trio) story) device
-        result.device)) }
-    ensures faults { IfSome result.session (λ session. EachStory trio Contents session (λ story.
-        CountsFaults D.shown device result.device story)) }
+    ensures ran { (number_of result.status ≡ 0) ⊎ (number_of result.status ≡ 5) →
+        IsSome result.session }
+    ensures not_run { (number_of result.status ≡ 3) ⊎ (number_of result.status ≡ 6) →
+        IsNone result.session }
+    ensures session { IfSome result.session (HasSession trio Contents D.shown (New 12) device
+        result.device (HaveDrilled O.shown start callers calls out.old out.new
+        (number_of result.status))) }
+    ensures none { IsNone result.session → HasNone trio Contents D.shown O.shown FirstBreak (New 12)
+        device result.device out.old out.new (number_of result.status) }
+    ensures kept { IsDeviceKept D.shown (New 12) device result.device }
     ensures sink_failed { number_of result.status ≡ 5 → WriteFailed O.shown out.old out.new }
-
-    ensures images { IsTrue D.shown.tells_images → IsNone result.session →
-        Leaves D.shown (NoneOrHolds Contents 12 empty) device result.device }
-    ensures spared { IsSparedBy D.shown 12 device result.device (number_of result.status) }
-    ensures heap_refused { number_of result.status ≡ 3 →
-        IsUnmade D.shown O.shown 12 device result.device out.old out.new }
-    ensures device_failed { number_of result.status ≡ 7 → IsNone result.session →
-        HasDeviceFailed D.shown O.shown device result.device out.old out.new }
-    ensures unfailed { number_of result.status ≡ 6 → D.shown.faults result.device ≡ D.shown.faults device }
-    ensures no_memory { number_of result.status ≡ 6 → IsTold O.shown out.old out.new (codes "no memory") }
     ensures writing { StopsWriting O.shown out.old out.new }
     ensures rest { O.shown.rest out.new ≡ O.shown.rest out.old }
 {
     let Ok(scripts) = drill_scripts(alloc, start, callers, calls) else {
-        let why = NotFormatted::OutOfMemory;
-        return end_unmade(Unmade { device, why }, out);
+        return end_without_memory::<Trio, D, O>(device, out);
     };
-    match play_new::<D, Trio, R, G>(rt, alloc, device, DRILL_ORDER, &scripts, gate) {
+    let heap = Heap::New(DRILL_ORDER);
+    match play_heap::<Trio, D, O, R, G>(rt, alloc, heap, device, &scripts, out, gate) {
         Ok(played) => end_of(played, start, callers, calls, &scripts, out),
-        Err(unmade) => end_unmade(unmade, out),
+        Err(worked) => worked,
     }
 }

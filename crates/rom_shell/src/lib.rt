@@ -5,36 +5,17 @@
 //! update once and in its caller's order, each read from one committed state. A heap that is made
 //! holds the empty state whatever a stop leaves of it, one that is shown holds what it held, and
 //! what is refused is told by the very refusal of the device's words. Each script has a caller of its
-//! own, in a thread, and the callers share one heap. What the words are is decided by a test that takes
-//! no memory, and `clap` then gives their names and numbers; a drill makes its scripts by itself.
+//! own, in a thread, and the callers share one heap. The promise is `rom_run`'s, by the use that a
+//! command makes of a heap; what it prints of its session is said here. What the words are is decided
+//! by a test that takes no memory (`rom_words`); a drill makes its scripts by itself.
 #![tactic(auto)]
 
-mod command_line;
 mod drill;
-mod format;
 mod program;
-mod refusals;
-mod results;
-mod script;
-mod scripted;
 mod stat;
-mod status;
-mod tell;
-mod words;
-mod worked;
 
-pub use program::{Ended, run};
-pub use rom_store::Session;
-pub use status::Status;
-pub use words::{DeviceWant, Wanted, files_of};
-
-#[cfg(test)]
-mod caller_tests;
-#[cfg(test)]
-mod drill_tests;
-#[cfg(test)]
-mod heap_tests;
-#[cfg(test)]
-mod run_tests;
-#[cfg(test)]
-mod tests;
+pub use program::run;
+pub use rom_run::{Ended, Status};
+pub use rom_store::{NoGate, Session};
+pub use rom_text::{DeviceWant, Wanted};
+pub use rom_words::files_of;

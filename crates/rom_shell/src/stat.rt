@@ -1,7 +1,7 @@
 //! The sizes of the heap on a device.
-ghost use Rattle.std.specs.Prelude.{◌≡◌, ◌≢◌, ◌⊎◌, ◌-◌, ◌++◌, ℕ, [], List, IsTrue, IsSome, IsNone, IfSome, OnOk, codes};
+ghost use Rattle.std.specs.Prelude.{◌≡◌, ◌≢◌, ◌⊎◌, ◌-◌, ◌++◌, ℕ, IsSome, IsNone, IfSome};
 ghost use Rattle.std.specs.List.{flat_map};
-ghost use Rattle.rom_device.specs.Device.{Leaves, told_words};
+ghost use Rattle.rom_heap.specs.Parts.{FirstBreak};
 ghost use Rattle.rom_model.specs.Blocks.{IsOrder};
 ghost use Rattle.rom_model.specs.Region.{Contents};
 ghost use Rattle.rom_model.specs.State.{State, cap, live};
@@ -9,30 +9,21 @@ ghost use Rattle.rom_model.specs.State as state;
 ghost use Rattle.rom_model.specs.Trio.{trio};
 ghost use Rattle.rom_model.specs.VecSpace.{words_of};
 ghost use Rattle.rom_model.specs.declared.call.Query.TheVariants.{Len, Total};
-ghost use Rattle.rom_model.specs.Machine.{on_words};
-ghost use Rattle.rom_combine.specs.Costs.{WithinHeap};
-ghost use Rattle.rom_combine.specs.Session.{SessionImage};
-ghost use Rattle.rom_recover.specs.Recovered.{Mended};
-ghost use Rattle.rom_script.specs.Runs.{IsTold};
-ghost use Rattle.rom_script.specs.Streams.{Prints, StopsWriting};
-ghost use Rattle.rom_script.specs.Text.{line_text};
+ghost use Rattle.rom_run.specs.Statuses.{number_of};
+ghost use Rattle.rom_run.specs.Working.{HasNone, HasSession, IsAsBefore, IsDeviceKept};
+ghost use Rattle.rom_run.specs.declared.heap.Heap.TheVariants.{Standing};
+ghost use Rattle.rom_text.specs.Streams.{Prints, StopsWriting};
+ghost use Rattle.rom_text.specs.Text.{line_text};
 ghost use Rattle.rom_script.specs.Trio.{answer_text};
-ghost use Rattle.rom_shell.specs.Devices.{CountsFaults, HasDeviceFailed, IsOpenedFrom, IsPut, IsUnopened};
-ghost use Rattle.rom_shell.specs.Run.{AreAnswered};
-ghost use Rattle.rom_shell.specs.Stat.{stat_lines, stat_text};
-ghost use Rattle.rom_shell.specs.Statuses.{number_of};
-ghost use Rattle.rom_store.specs.Refusals.{named_order};
-ghost use Rattle.rom_store.specs.Sessions.{EachStory, HasStory, unchanged};
+ghost use Rattle.rom_shell.specs.Stat.{IsPut, IsShown, stat_lines, stat_text};
+ghost use Rattle.rom_store.specs.Sessions.{EachStory};
 
-use crate::refusals::{refusal_status, tell_refusal};
-use crate::status::Status;
-use crate::worked::Worked;
 use itoa::Buffer;
 use rom_device::Device;
 use rom_heap::{Trio, free_elements};
 use rom_model::{Answer, COUNT, Look, Object, Query, VecSpace};
+use rom_run::{OpenHeap, Status, Worked, open_heap};
 use rom_script::{IoFailed, Sink, Told, print_pieces, print_text};
-use rom_store::{Opened, Refused, Session, open_device};
 use std::alloc::Global;
 
 /// What is printed of a heap.
@@ -50,13 +41,14 @@ impl Sizes {
     fn of(space: &mut VecSpace, order: u32) -> Sizes
         requires order { IsOrder order }
         requires region { (s : State) × (k : ℕ) × Contents order (words_of space.old) s k }
-        ensures sizes { (s : State) (k : ℕ) → Contents order (words_of space.old) s k → result ≡ record {
-          order = order;
-          count = k;
-          sizes = state.tell s Len;
-          free = cap order - live s;
-          total = state.tell s Total;
-        } }
+        ensures sizes { (s : State) (k : ℕ) → Contents order (words_of space.old) s k →
+            result ≡ record {
+              order = order;
+              count = k;
+              sizes = state.tell s Len;
+              free = cap order - live s;
+              total = state.tell s Total;
+            } }
     {
         Sizes {
             order,
@@ -97,86 +89,53 @@ fn print_before<O: Sink>(out: &mut O, pieces: &[&str], answer: &Answer) -> Resul
     print_text(out, "\n")
 }
 
-/// Prints the sizes of the heap in a region, on a device that has failed so often. The session is
-/// that of the heap, on which nothing is done.
-fn show_image<O: Sink>(order: u32, faults: u64, image: Vec<u64>, out: &mut O) -> Session
+/// Prints the sizes of the heap in a region.
+fn print_sizes<O: Sink>(space: VecSpace, order: u32, out: &mut O)
     requires order { IsOrder order }
-    requires region { (s : State) × (k : ℕ) × Contents order image.items s k }
-    ensures story { HasStory trio Contents result }
-    ensures session { result ≡ unchanged order image.items faults }
-    ensures printed { EachStory trio Contents result (λ story.
-        IsPut O.shown out.old out.new (stat_text story.order story.opening story.opening_count)) }
+    requires region { (s : State) × (k : ℕ) × Contents order (words_of space) s k }
+    ensures printed { (s : State) (k : ℕ) → Contents order (words_of space) s k →
+        IsPut O.shown out.old out.new (stat_text order s k) }
     ensures writing { StopsWriting O.shown out.old out.new }
     ensures rest { O.shown.rest out.new ≡ O.shown.rest out.old }
 {
-    let mut space = VecSpace::of(image);
-    let session = Session::unchanged(order, &space, faults);
+    let mut space = space;
     let _ = Sizes::of(&mut space, order).print(out);
-    session
 }
 
 /// Opens the heap on the device, and prints its sizes or why it is refused.
 pub(crate) fn show_heap<D: Device, O: Sink>(alloc: Global, device: D, out: &mut O) -> Worked<D>
-    ensures size { D.shown.size result.device ≡ D.shown.size device }
-    ensures outside { IsTrue D.shown.tells_words →
-        WithinHeap (named_order (D.shown.words device)) (D.shown.words device) (D.shown.words result.device) }
     ensures statuses { (number_of result.status ≡ 0) ⊎ (number_of result.status ≡ 3)
         ⊎ (number_of result.status ≡ 6) ⊎ (number_of result.status ≡ 7) }
-    ensures session { number_of result.status ≡ 0 → IsSome result.session }
-    ensures no_session { number_of result.status ≢ 0 → IsNone result.session }
-    ensures story { IfSome result.session (HasStory trio Contents) }
-    ensures opening { IfSome result.session (λ session. EachStory trio Contents session (λ story.
-        IfSome (told_words D.shown device) (λ words. IsOpenedFrom words story))) }
-    ensures answered { IfSome result.session (λ session. EachStory trio Contents session (λ story.
-        AreAnswered trio story [] [])) }
-    ensures printed { IfSome result.session (λ session. EachStory trio Contents session (λ story.
-        IsPut O.shown out.old out.new (stat_text story.order story.opening story.opening_count))) }
-    ensures held { IsTrue D.shown.tells_words → IfSome result.session (λ session.
-        EachStory trio Contents session (λ story. IsOpenedFrom (D.shown.words result.device) story)) }
-    ensures now { IsTrue D.shown.tells_images → IfSome result.session (λ session.
-        EachStory trio Contents session (λ story.
-        (i : List ℕ) → D.shown.leaves result.device i → IsOpenedFrom i story)) }
-    ensures images { IsTrue D.shown.tells_images →
-        Leaves D.shown (Mended (named_order (D.shown.words device)) (D.shown.words device))
-        device result.device }
-    ensures since { IsTrue D.shown.tells_images → IfSome result.session (λ session.
-        EachStory trio Contents session (λ story.
-        Leaves D.shown (SessionImage Contents (on_words trio) story) device result.device)) }
-    ensures faults { IfSome result.session (λ session. EachStory trio Contents session (λ story.
-        CountsFaults D.shown device result.device story)) }
-    ensures heap_refused { number_of result.status ≡ 3 →
-        IsUnopened D.shown O.shown device result.device out.old out.new }
-    ensures device_failed { number_of result.status ≡ 7 →
-        HasDeviceFailed D.shown O.shown device result.device out.old out.new }
-    ensures unfailed { number_of result.status ≢ 3 → number_of result.status ≢ 7 →
+    ensures ran { number_of result.status ≡ 0 → IsSome result.session }
+    ensures not_run { number_of result.status ≢ 0 → IsNone result.session }
+    ensures session { IfSome result.session (HasSession trio Contents D.shown Standing device
+        result.device (IsShown O.shown out.old out.new)) }
+    ensures still { IfSome result.session (λ session. EachStory trio Contents session
+        (IsAsBefore Contents D.shown device result.device)) }
+    ensures none { IsNone result.session → HasNone trio Contents D.shown O.shown FirstBreak Standing
+        device result.device out.old out.new (number_of result.status) }
+    ensures kept { IsDeviceKept D.shown Standing device result.device }
+    ensures unfailed { number_of result.status ≡ 0 →
         D.shown.faults result.device ≡ D.shown.faults device }
-    ensures no_memory { number_of result.status ≡ 6 →
-        IsTold O.shown out.old out.new (codes "no memory") }
     ensures writing { StopsWriting O.shown out.old out.new }
     ensures rest { O.shown.rest out.new ≡ O.shown.rest out.old }
 {
-    match open_device::<D, Trio>(alloc, device) {
+    match open_heap::<Trio, D, O>(alloc, device, out) {
         Ok(
-            Opened {
+            OpenHeap {
                 device,
-                geometry,
-                image,
+                order,
+                space,
+                session,
             },
         ) => {
-            let faults = device.fault_count();
+            print_sizes(space, order, out);
             Worked {
                 device,
                 status: Status::Done,
-                session: Some(show_image(geometry.order(), faults, image, out)),
+                session: Some(session),
             }
         }
-        Err(Refused { device, why }) => {
-            tell_refusal(out, why);
-            Worked {
-                device,
-                status: refusal_status(why),
-                session: None,
-            }
-        }
+        Err(worked) => worked,
     }
 }

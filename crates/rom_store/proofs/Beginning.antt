@@ -1,33 +1,32 @@
 -- What callers are that have done nothing.
 use Rattle.std.proofs.Common.{ℕ, ◌+◌, List, All, get_or, map, refl, sym, ap, subst}
 use Rattle.std.proofs.lemmas.Option.{slice_get-get_or}
-use Rattle.atomic_table.specs.Seated.{TableId}
 use Rattle.rom_lr.specs.Opening.{AreNew, IsNew}
+use Rattle.rom_lr.specs.Seats.{opened_with, view}
 use Rattle.rom_lr.specs.declared.seats.Seat.{Seat}
+use Rattle.rom_lr.specs.declared.shared.Shared.{Shared}
 use Rattle.rom_rule.specs.Kinds.{IsIdle}
 use Rattle.rom_rule.specs.Records.{KnowsEntries}
-use Rattle.rom_rule.specs.Views.{base_of}
-use Rattle.rom_rule.specs.declared.law.Key.{Key}
 use Rattle.rom_rule.specs.declared.views.View.{View}
 use Rattle.rom_store.specs.Callers.{IsNewCaller, caller_at}
 use Rattle.rom_store.specs.Indexed.{Indexed}
 use Rattle.rom_store.proofs.Places.{map_at}
 
-module _ (table : TableId) (key : Key) (seats : List Seat) (new : AreNew table key seats) where
+module _ {Object Call Query Reply Answer : Type 0} (shared : Shared Object Call Query Reply Answer) (seats : List Seat) (new : AreNew shared seats) where
   -- At a new seat nothing is entered and nothing is posted.
-  pub new_idle : All (λ s. IsIdle s.token.me.0) seats
+  pub new_idle : All (λ s. IsIdle (view s)) seats
   new_idle k d lt =
-      let one : IsNew table key (k + 1) (get_or seats k d) = new k (get_or seats k d) (slice_get-get_or seats k d lt) in
+      let one : IsNew shared (k + 1) (get_or seats k d) = new k (get_or seats k d) (slice_get-get_or seats k d lt) in
       subst (λ (v : View). IsIdle v) (sym one.2) (refl, refl)
 
   module _ {S : Type 0} (Contents : ℕ → List ℕ → S → ℕ → Type 0) where
-    new_caller : (i : ℕ) (s : Seat) → IsNew table key (i + 1) s → IsNewCaller Contents table (base_of key) i (caller_at s)
+    new_caller : (i : ℕ) (s : Seat) → IsNew shared (i + 1) s → IsNewCaller Contents shared.table.shared.table_id (opened_with shared) i (caller_at s)
     new_caller i s one = record {
       numbered = record {
         of = record {
           table_is = one.0.0;
           base_is = one.0.1;
-          knows = λ x k held. subst (λ (v : View). KnowsEntries (base_of key).callers k v) (sym one.2) (record { known = tt; own = refl });
+          knows = λ x k held. subst (λ (v : View). KnowsEntries (opened_with shared).callers k v) (sym one.2) (record { known = tt; own = refl });
         };
         number = ap (λ (v : View). v.number) one.2;
       };
@@ -35,5 +34,5 @@ module _ (table : TableId) (key : Key) (seats : List Seat) (new : AreNew table k
     }
 
     -- Each new seat is that of a new caller, in their order.
-    pub new_callers : Indexed (IsNewCaller Contents table (base_of key)) (map caller_at seats)
-    new_callers = map_at (λ i s. IsNew table key (i + 1) s) (IsNewCaller Contents table (base_of key)) caller_at seats (λ i s at one. new_caller i s one) (record { at = new })
+    pub new_callers : Indexed (IsNewCaller Contents shared.table.shared.table_id (opened_with shared)) (map caller_at seats)
+    new_callers = map_at (λ i s. IsNew shared (i + 1) s) (IsNewCaller Contents shared.table.shared.table_id (opened_with shared)) caller_at seats (λ i s at one. new_caller i s one) (record { at = new })

@@ -16,7 +16,6 @@ use Rattle.rom_twin.specs.declared.phase.Phase.TheVariants.{Doubt}
 use Rattle.rom_combine.specs.AtRest.{IsAtRest, Locked}
 use Rattle.rom_combine.specs.Histories.{Doubted, ImageAt}
 use Rattle.rom_combine.specs.Session.{ImageNow, SessionImage}
-use Rattle.rom_lr.specs.Seats.{IsWriterOf}
 use Rattle.rom_lr.specs.Writing.{Writes}
 use Rattle.rom_lr.specs.declared.seats.WriterSeat.{WriterSeat}
 use Rattle.rom_rule.specs.Calls.{told_to}
@@ -134,7 +133,7 @@ module _ {S C Q R A D : Type 0} (m : Machine S C Q R A) (Contents : ℕ → List
 -- The writer's seat as the lock left it, with the callers taken in, after the look at the records, and after a load: it is of the store's table still, and the plan is the published one.
 pub writer_at_end : {D : Type 0} (table named : TableId) (key : Key) (b : Base) (c : Locked D) (s s' u w : WriterSeat) (ps : List Caller) →
     (s.token.table_id ≡ c.table_id) × (s.token.id ≡ c.id) × (s.token.me.0 ≡ c.view) → s'.token.table_id ≡ s.token.table_id → s'.token.me.0 ≡ record s.token.me.0 { joined = s.token.me.0.joined ++ joined_of ps; steps = s'.token.me.0.steps } →
-    u.token.table_id ≡ s'.token.table_id → u.token.me.0 ≡ planned s'.token.me.0 (plan_of s'.token.me.0) → Writes u w (plan_of u.token.me.0) → c.table_id ≡ named → c.view.base ≡ b → table ≡ named → base_of key ≡ b → IsWriterOf table key w
+    u.token.table_id ≡ s'.token.table_id → u.token.me.0 ≡ planned s'.token.me.0 (plan_of s'.token.me.0) → Writes u w (plan_of u.token.me.0) → c.table_id ≡ named → c.view.base ≡ b → table ≡ named → base_of key ≡ b → (w.token.table_id ≡ table) × (w.token.me.0.base ≡ base_of key)
 writer_at_end table named key b c s s' u w ps same stays joined looks still last of is table_is key_is = (
   last.0 ∙ (looks ∙ (stays ∙ (same.0 ∙ (of ∙ sym table_is)))),
   ap (λ (y : View). y.base) last.2 ∙ (ap (λ (y : View). y.base) still ∙ (ap (λ (y : View). y.base) joined ∙ (ap (λ (y : View). y.base) same.2 ∙ (is ∙ sym key_is)))),

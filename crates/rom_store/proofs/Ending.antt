@@ -4,7 +4,6 @@ use Rattle.std.specs.Prelude.{slice_get, IsSomeAnd}
 use Rattle.std.specs.List.{AllByRecursion}
 use Rattle.std.proofs.lemmas.List.{take-append-drop}
 use Rattle.std.proofs.lemmas.Option.{slice_get-get_or}
-use Rattle.atomic_table.specs.Seated.{TableId}
 use Rattle.rom_model.specs.History.{after}
 use Rattle.rom_model.specs.Leaving.{IsClosed, IsFront, IsKept}
 use Rattle.rom_model.specs.Machine.{Machine, on_words}
@@ -20,14 +19,14 @@ use Rattle.rom_combine.proofs.Applies.{was_some}
 use Rattle.rom_combine.specs.Histories.{ImageAt}
 use Rattle.rom_combine.specs.Images.{HoldsIn}
 use Rattle.rom_combine.specs.Session.{ImageNow, SessionImage}
-use Rattle.rom_lr.specs.Seats.{IsWriterOf}
+use Rattle.rom_lr.specs.Seats.{IsWriterOf, writer_view}
+use Rattle.rom_lr.specs.declared.shared.Shared.{Shared}
 use Rattle.rom_lr.specs.declared.seats.WriterSeat.{WriterSeat}
 use Rattle.rom_rule.specs.Calls.{told_to}
 use Rattle.rom_rule.specs.Kinds.{informed}
 use Rattle.rom_rule.specs.Records as rule
 use Rattle.rom_rule.specs.Records.{IsCall, Recorded}
 use Rattle.rom_rule.specs.Views.{Told, book_in, kept_of, records_of}
-use Rattle.rom_rule.specs.declared.law.Key.{Key}
 use Rattle.rom_rule.specs.declared.views.Base.{Base}
 use Rattle.rom_rule.specs.declared.views.Plan.{Plan}
 use Rattle.rom_rule.specs.declared.views.View.{View}
@@ -83,8 +82,8 @@ taken_more v w u x ps p before after same =
     ∙ ap (λ (z : List Kept). record v { joined = z; steps = u.steps }) joined_is
 
 -- and its seat, which is still of that table
-pub writer_stays : (table : TableId) (key : Key) (s t : WriterSeat) (x : View) → t.token.table_id ≡ s.token.table_id → t.token.me.0 ≡ informed s.token.me.0 x → IsWriterOf table key s → IsWriterOf table key t
-writer_stays table key s t x same after of = (same ∙ of.0, ap (λ (z : View). z.base) after ∙ of.1)
+pub writer_stays : {Object Call Query Reply Answer : Type 0} (shared : Shared Object Call Query Reply Answer) (s t : WriterSeat) (x : View) → t.token.table_id ≡ s.token.table_id → writer_view t ≡ informed (writer_view s) x → IsWriterOf shared s → IsWriterOf shared t
+writer_stays shared s t x same after of = (same ∙ of.0, ap (λ (z : View). z.base) after ∙ of.1)
 
 all_the_same : {X : Type 0} (xs : List X) → map (λ x. x) xs ≡ xs
 all_the_same [] = refl

@@ -1,7 +1,5 @@
 -- What words hold is one, what an inspection tells of them, what the opening and a pass keep, and what callers in threads do and are told.
--- What words hold is one, and what an inspection tells of them; what callers are that have done nothing; what the opening and a pass keep under the lock; what an update was told, what a closing says; what callers in threads do and are told, and what a thread may be lent.
-pub mod Holding
-pub mod Inspected
+-- What callers are that have done nothing; what the opening and a pass keep under the lock; what an update was told, what a closing says; what callers in threads do and are told, and what a thread may be lent.
 pub mod Beginning
 pub mod Mending
 pub mod Tracing

@@ -1,6 +1,7 @@
 -- What contracts see of a caller: of its pass, and of what it reads between two calls of a reading.
 use Rattle.std.specs.Prelude.{◌≡◌, ℕ, ◌+◌, List, Option, IsTrue}
 use Rattle.atomic_table.specs.Seated.{TableId}
+use Rattle.rom_lr.specs.Seats.{view}
 use Rattle.rom_lr.specs.declared.seats.Seat.{Seat}
 use Rattle.rom_rule.specs.Readers.{Stands}
 use Rattle.rom_rule.specs.Records.{KnowsEntries}
@@ -15,7 +16,7 @@ pub record Caller : Type 0 where
 
 -- the caller at a seat
 abbrev pub caller_at : Seat → Caller
-caller_at s = record { table_id = s.token.table_id; view = s.token.me.0 }
+caller_at s = record { table_id = s.token.table_id; view = view s }
 
 -- a call keeps the store and the number
 abbrev pub IsSameCaller : Caller → Caller → Type 0

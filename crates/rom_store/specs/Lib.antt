@@ -1,9 +1,9 @@
 -- What a device holds, and what the opening and the making of a heap answer and leave.
-pub mod AtRest
-pub mod Refusals
-pub mod Calls
-pub mod Opening
-pub mod Making
+pub use Rattle.rom_open.specs.Refusals
+pub use Rattle.rom_open.specs.Calls
+pub use Rattle.rom_open.specs.AtRest
+pub use Rattle.rom_open.specs.Opening
+pub use Rattle.rom_open.specs.Making
 pub mod Blank
 pub mod Callers
 pub mod Indexed
@@ -15,3 +15,4 @@ pub mod Openings
 pub mod Sessions
 pub mod Closing
 pub mod Working
+pub mod Playing

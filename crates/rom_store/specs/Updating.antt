@@ -13,7 +13,9 @@ use Rattle.rom_rule.specs.declared.views.View.{View}
 -- a place is below the last count, so that no code stands for one
 abbrev pub IsWithinPlaces : {R : Type 0} → Updated R → Type 0
 IsWithinPlaces (told.Done reply place) = place < LAST_COUNT
-IsWithinPlaces other = Unit {0}
+IsWithinPlaces told.Spent = Unit {0}
+IsWithinPlaces told.Failed = Unit {0}
+IsWithinPlaces told.Doubt = Unit {0}
 
 -- After some steps the caller was told what became of the call that it has posted, and nothing else of its view has changed but what it has seen.
 pub record HasBeenTold {S : Type 0} (Contents : ℕ → List ℕ → S → ℕ → Type 0) (step : ℕ → S → ℕ → List ℕ → Option (S × List ℕ)) (v w : View) : Type 0 where

@@ -26,7 +26,7 @@ pub record IsRoom {X Y : Type 0} (scripts : List (List X)) (i : ℕ) (results : 
   pub fits : length (script_of scripts (i + 1)) ≤ room
 
 -- A pass and a list of results are those of a caller that hasn't begun, and the list has room for each of its lines.
-pub record IsReady {S X Y : Type 0} (Contents : ℕ → List ℕ → S → ℕ → Type 0) (table : TableId) (base : Base) (scripts : List (List X)) (pass : Caller) (results : List Y) (room : ℕ) : Type 0 where
+pub record HasNotBegun {S X Y : Type 0} (Contents : ℕ → List ℕ → S → ℕ → Type 0) (table : TableId) (base : Base) (scripts : List (List X)) (pass : Caller) (results : List Y) (room : ℕ) : Type 0 where
   pub of : IsCallerOf Contents table base pass
   pub from_one : 0 < pass.view.number
   pub known : pass.view.number ≤ length scripts
@@ -36,7 +36,7 @@ pub record IsReady {S X Y : Type 0} (Contents : ℕ → List ℕ → S → ℕ �
 
 -- The job at this place of a list that has the last caller first: of so many callers, one that hasn't begun.
 pub record IsNext {S X Y : Type 0} (Contents : ℕ → List ℕ → S → ℕ → Type 0) (table : TableId) (base : Base) (scripts : List (List X)) (j : ℕ) (pass : Caller) (results : List Y) (room : ℕ) : Type 0 where
-  pub ready : IsReady Contents table base scripts pass results room
+  pub ready : HasNotBegun Contents table base scripts pass results room
   pub place : pass.view.number + j ≡ length scripts
 
 -- Of an object, and of a heap's order and image at opening:

@@ -26,7 +26,8 @@ pub struct Closed<D: Device, O: Object> {
 impl<D: Device, O: Object> Model for Closed<D, O> {
     ghost use Rattle.rom_model.specs.VecSpace.{words_of};
     ghost use Rattle.rom_model.specs.Machine.{on_words};
-    ghost use Rattle.rom_rule.specs.Views.{plan_of, records_of};
+    ghost use Rattle.rom_lr.specs.Seats.{plan};
+    ghost use Rattle.rom_rule.specs.Views.{records_of};
     ghost use Rattle.rom_store.specs.Closing.{ClosedSeen, IsClosedStore};
 
     ghost Value = { ClosedSeen D };
@@ -37,13 +38,14 @@ impl<D: Device, O: Object> Model for Closed<D, O> {
         order = c.begun.order;
         image = words_of c.begun.image.value;
         faults = c.begun.faults;
-        history = (plan_of c.seat.token.me.0).history;
-        records = records_of (plan_of c.seat.token.me.0);
+        history = (plan c.seat).history;
+        records = records_of (plan c.seat);
         phase = c.twin.phase;
       };
     } };
 
-    ghost invariant = { λ c. IsClosedStore O.Contents (on_words O.machine) c.shared.table.shared.table_id c.shared.table.shared.key c.seat c.begun c.count };
+    ghost invariant = { λ c. let table = c.shared.table.shared in
+        IsClosedStore O.Contents (on_words O.machine) table.table_id table.key c.seat c.begun c.count };
 }
 
 impl<D: Device, O: Object> Closed<D, O> {
@@ -56,7 +58,8 @@ impl<D: Device, O: Object> Closed<D, O> {
 
     /// The count of updates at the closing.
     pub fn count(&self) -> u64
-        ensures { let b = self.now.session in (s : O.State) (k : ℕ) → O.Contents b.order b.image s k →
+        ensures { let b = self.now.session in
+            (s : O.State) (k : ℕ) → O.Contents b.order b.image s k →
             result ≡ k + length b.history }
     {
         self.count
@@ -65,7 +68,8 @@ impl<D: Device, O: Object> Closed<D, O> {
     /// Answers a query from the last published state.
     pub fn ask(&mut self, query: &O::Query) -> O::Answer
         ensures still { self.new ≡ self.old }
-        ensures told { let b = self.old.session in (s : O.State) (k : ℕ) → O.Contents b.order b.image s k →
+        ensures told { let b = self.old.session in
+            (s : O.State) (k : ℕ) → O.Contents b.order b.image s k →
             result ≡ O.machine.tell (after (on_words O.machine) b.order s k b.history) query.now }
     {
         ask_main(&self.shared, &mut self.seat, query)

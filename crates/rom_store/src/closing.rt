@@ -5,8 +5,7 @@ ghost use Rattle.rom_model.specs.Machine.{on_words};
 ghost use Rattle.rom_model.specs.Passes.{faults_after};
 ghost use Rattle.rom_combine.specs.Costs.{WithinHeap};
 ghost use Rattle.rom_combine.specs.Session.{ImageNow, SessionImage};
-ghost use Rattle.rom_lr.specs.Seats.{IsWriterOf};
-ghost use Rattle.rom_rule.specs.Views.{base_of};
+ghost use Rattle.rom_lr.specs.Seats.{IsSameWriter, IsWriterOf, opened_with, steps_of, writer_view};
 ghost use Rattle.rom_store.specs.Callers.{IsCallerOf, IsNumbered};
 ghost use Rattle.rom_store.specs.Closing.{HasLeftSince, joined_of, kept_in};
 ghost use Rattle.rom_store.specs.Held.{start_of};
@@ -25,14 +24,13 @@ use std::sync::Wait;
 
 // The writer keeps what each of these callers knew, in their order.
 fn take_in_all<O: Object>(shared: &Shared<O>, writer: &mut WriterSeat, passes: Vec<Pass>)
-    requires of { IsWriterOf shared.now.table.shared.table_id shared.now.table.shared.key writer.old }
+    requires of { IsWriterOf shared.now writer.old }
     requires passes { Indexed (λ _ p. IsCallerOf O.Contents shared.now.table.shared.table_id
-        (base_of shared.now.table.shared.key) p) passes.items }
-    ensures same { (writer.new.token.table_id ≡ writer.old.token.table_id)
-        × (writer.new.token.id ≡ writer.old.token.id) }
-    ensures joined { let v = writer.old.token.me.0 in writer.new.token.me.0 ≡ record v {
+        (opened_with shared.now) p) passes.items }
+    ensures same { IsSameWriter writer.old writer.new }
+    ensures joined { let v = writer_view writer.old in writer_view writer.new ≡ record v {
       joined = v.joined ++ joined_of passes.items;
-      steps = writer.new.token.me.0.steps;
+      steps = steps_of writer.new;
     } }
 {
     for pass in passes {

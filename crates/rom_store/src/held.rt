@@ -1,7 +1,7 @@
 //! What lies behind the lock.
 ghost use Rattle.std.specs.Prelude.{◌≡◌};
 ghost use Rattle.rom_model.specs.Machine.{on_words};
-ghost use Rattle.rom_rule.specs.Views.{base_of};
+ghost use Rattle.rom_lr.specs.Seats.{opened_with};
 ghost use Rattle.rom_store.specs.Held.{IsHeld, start_of};
 
 use crate::label::Label;
@@ -39,7 +39,8 @@ impl<D: Device, O: Object, N: Label> Model for Held<D, O, N> {
 
     ghost view = { λ h. h.core };
 
-    ghost invariant = { λ h. IsHeld D.shown O.Contents (on_words O.machine) N.table N.base (start_of N.size N.words N.clock) N.since h.core };
+    ghost invariant = { λ h. IsHeld D.shown O.Contents (on_words O.machine) N.table N.base
+        (start_of N.size N.words N.clock) N.since h.core };
 }
 
 impl<D: Device, O: Object, N: Label> Held<D, O, N> {
@@ -60,7 +61,7 @@ impl<D: Device, O: Object, N: Label> Held<D, O, N> {
     /// before it to post their calls, unless they did not for some passes.
     pub fn pass<R: Wait, G: Gate>(&mut self, rt: &R, shared: &Shared<O>, gate: &G, pace: Pace)
         requires table { shared.now.table.shared.table_id ≡ N.table }
-        requires base { base_of shared.now.table.shared.key ≡ N.base }
+        requires base { opened_with shared.now ≡ N.base }
     {
         let [last, before] = self.found;
         let wanted = last.saturating_add(before).min(shared.layout.callers());

@@ -1,10 +1,5 @@
 //! A heap on a device that callers share: its opening, their reads and updates, and its closing.
 //!
-//! What the words of a device hold is an order, and a state and a count of the object: the header
-//! names the order and the region that counts, and that region stands for the state and the count.
-//! `open_device` and `format_device` open the heap that stands there and make a new one; their
-//! contracts say what each refusal comes from and what a stop leaves.
-//!
 //! [`open_store`] opens a heap for 1 to 16 callers, and [`Opening::start`] makes the [`Store`] that they
 //! share and a [`Pass`] for each. A caller reads by `read`, or by `enter`, `ask` and `leave`, without a
 //! lock; it updates by `update`, which posts the call and has whoever holds the lock do all that are
@@ -16,11 +11,8 @@
 mod begun;
 mod closed;
 mod closing;
-mod from_device;
 mod held;
-mod image;
 mod label;
-mod new_heap;
 mod notes;
 mod opening;
 mod pace;
@@ -28,8 +20,6 @@ mod pass;
 mod playing;
 mod playing_new;
 mod reading;
-mod ready;
-mod reasons;
 mod rooms;
 mod running;
 mod seated;
@@ -39,19 +29,15 @@ mod updating;
 mod work;
 
 pub use closed::Closed;
-pub use from_device::{Opened, Refused, open_device};
 pub use label::Label;
-pub use new_heap::{NotFormatted, format_device, write_heap};
 pub use opening::{Opening, open_store};
 pub use pass::Pass;
 pub use playing::play;
 pub use playing_new::{Unmade, play_new};
 pub use reading::Reading;
-pub use reasons::Why;
+pub use rom_combine::{Gate, NoGate};
 pub use rom_lr::{Note, Steps};
+pub use rom_open::{NotFormatted, Opened, Refused, Why, format_device, open_device, write_heap};
 pub use running::Played;
 pub use session::Session;
 pub use store::Store;
-
-#[cfg(test)]
-mod tests;

@@ -1,6 +1,7 @@
 //! Notes, by which one caller tells another what it has seen.
 ghost use Rattle.std.specs.Prelude.{◌≡◌, ◌+◌};
 ghost use Rattle.rom_model.specs.Seen.{StartsWith};
+ghost use Rattle.rom_lr.specs.Seats.{noted};
 ghost use Rattle.rom_store.specs.Callers.{IsCallerOf, IsSameCaller};
 
 use crate::label::Label;
@@ -18,7 +19,7 @@ impl<D: Device, O: Object, N: Label> Store<D, O, N> {
         ensures same { IsSameCaller pass.old pass.new }
         ensures still { pass.new.view ≡ record pass.old.view { steps = pass.new.view.steps } }
         ensures note { result.token.table_id ≡ N.table }
-        ensures seen { result.token.me.0.seen ≡ pass.old.view.seen }
+        ensures seen { (noted result).seen ≡ pass.old.view.seen }
     {
         self.shared.note(&mut pass.seat)
     }
@@ -31,7 +32,7 @@ impl<D: Device, O: Object, N: Label> Store<D, O, N> {
         ensures of { IsCallerOf O.Contents N.table N.base pass.new }
         ensures same { IsSameCaller pass.old pass.new }
         ensures later { StartsWith pass.new.view.seen pass.old.view.seen }
-        ensures learnt { StartsWith pass.new.view.seen note.token.me.0.seen }
+        ensures learnt { StartsWith pass.new.view.seen (noted note).seen }
         ensures still { pass.new.view ≡ record pass.old.view {
           seen = pass.new.view.seen;
           joined = pass.new.view.joined;

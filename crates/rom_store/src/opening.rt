@@ -7,24 +7,22 @@ ghost use Rattle.rom_header.specs.Held.{Holds};
 ghost use Rattle.rom_header.specs.Layout.{back_of, main_of, words_needed};
 ghost use Rattle.rom_header.specs.Regions.{IsHeap};
 ghost use Rattle.rom_lr.specs.Opening.{dealt_view};
-ghost use Rattle.rom_lr.specs.Seats.{IsWriterOf};
+ghost use Rattle.rom_lr.specs.Seats.{IsWriterOf, opened_with, writer_view};
 ghost use Rattle.rom_recover.specs.Recovered.{IsDone, Mended};
+ghost use Rattle.rom_open.specs.Calls.{HasFaults, is_late};
+ghost use Rattle.rom_open.specs.Refusals.{IsRefusal, NamesTooFew, named_order};
 ghost use Rattle.rom_combine.specs.AtRest.{IsReady};
 ghost use Rattle.rom_combine.specs.Costs.{WithinHeap};
 ghost use Rattle.rom_rule.specs.Places.{AreCallers};
 ghost use Rattle.rom_rule.specs.Views.{base_of};
 ghost use Rattle.rom_store.specs.Callers.{IsNewCaller};
-ghost use Rattle.rom_store.specs.Calls.{HasFaults, is_late};
 ghost use Rattle.rom_store.specs.Indexed.{Indexed};
-ghost use Rattle.rom_store.specs.Refusals.{IsRefusal, NamesTooFew, named_order};
 
 use crate::begun::Begun;
-use crate::from_device::{Opened, Refused, open_device};
 use crate::held::Held;
 use crate::label::Label;
 use crate::pace::Pace;
 use crate::pass::Pass;
-use crate::reasons::Why;
 use crate::seated::Seated;
 use crate::store::Store;
 use rom_combine::Core;
@@ -32,6 +30,7 @@ use rom_device::Device;
 use rom_header::Geometry;
 use rom_lr::Shared;
 use rom_model::{Object, VecSpace};
+use rom_open::{Opened, Refused, Why, open_device};
 use rom_twin::Twin;
 use std::alloc::Global;
 use std::marker::Model;
@@ -60,7 +59,8 @@ impl<D: Device, O: Object> Model for Opening<D, O> {
       passes = o.passes.items;
     } };
 
-    ghost invariant = { λ o. IsOpening D.shown O.Contents o.shared.table.shared.table_id o.shared.table.shared.key o.core o.begun };
+    ghost invariant = { λ o. let table = o.shared.table.shared in
+        IsOpening D.shown O.Contents table.table_id table.key o.core o.begun };
 }
 
 impl<D: Device, O: Object> Opening<D, O> {
@@ -74,16 +74,14 @@ impl<D: Device, O: Object> Opening<D, O> {
         requires back { IsTrue D.shown.tells_words →
             back_of geometry (D.shown.words device) ≡ words_of seated.begun.image.value }
         requires certain { IsSynced D.shown device }
-        requires of { IsWriterOf seated.shared.table.shared.table_id
-            seated.shared.table.shared.key seated.writer }
-        requires writer { let b = base_of seated.shared.table.shared.key in
-            seated.writer.token.me.0 ≡ dealt_view b b.callers }
-        requires begun { let b = base_of seated.shared.table.shared.key in
+        requires of { IsWriterOf seated.shared seated.writer }
+        requires writer { let b = opened_with seated.shared in
+            writer_view seated.writer ≡ dealt_view b b.callers }
+        requires begun { let b = opened_with seated.shared in
             (seated.begun.order ≡ b.order) × (words_of seated.begun.image.value ≡ b.image)
             × (seated.begun.faults ≡ b.faults) × (b.order ≡ geometry) }
-        requires ready { IsReady O.STORES (base_of seated.shared.table.shared.key).callers
-            seated.log }
-        requires formed { let b = base_of seated.shared.table.shared.key in
+        requires ready { IsReady O.STORES (opened_with seated.shared).callers seated.log }
+        requires formed { let b = opened_with seated.shared in
             (s : O.State) × (k : ℕ) × O.Contents b.order b.image s k }
         requires faults { seated.begun.faults ≤ D.shown.faults device }
         ensures opening { result ≡ record {

@@ -14,13 +14,13 @@ pub struct Pass {
 
 impl Model for Pass {
     ghost use Rattle.rom_rule.specs.Kinds.{IsIdle};
-    ghost use Rattle.rom_store.specs.Callers.{Caller};
+    ghost use Rattle.rom_store.specs.Callers.{Caller, caller_at};
 
     ghost Value = { Caller };
 
-    ghost view = { λ p. record { table_id = p.seat.token.table_id; view = p.seat.token.me.0 } };
+    ghost view = { λ p. caller_at p.seat };
 
-    ghost invariant = { λ p. IsIdle p.seat.token.me.0 };
+    ghost invariant = { λ p. IsIdle (caller_at p.seat).view };
 }
 
 impl Pass {

@@ -1,5 +1,5 @@
 //! Scripts on a heap that is made for them.
-ghost use Rattle.std.specs.Prelude.{◌≡◌, Err, Ok, ℕ, ◌+◌, ◌<◌, ◌≤◌, [], List, length, map, All, vec_len, vec_capacity, IfErr, IfOk, IsTrue};
+ghost use Rattle.std.specs.Prelude.{◌≡◌, Err, Ok, ℕ, ◌+◌, ◌<◌, ◌≤◌, List, length, map, All, IfErr, IfOk, IsTrue};
 ghost use Rattle.rom_model.specs.Blocks.{IsOrder};
 ghost use Rattle.rom_model.specs.History.{LAST_COUNT};
 ghost use Rattle.rom_model.specs.Lawful.{IsLawful};
@@ -11,21 +11,18 @@ ghost use Rattle.rom_device.specs.Device.{Does, Leaves, Stays};
 ghost use Rattle.rom_header.specs.Fresh.{HasTooFewFor, IsFormatAnswer, IsRefused};
 ghost use Rattle.rom_header.specs.Layout.{words_needed};
 ghost use Rattle.rom_header.specs.declared.fresh.FormatRefused.{FormatRefused};
+ghost use Rattle.rom_open.specs.Making.{HasFaultsUnmade, IsMadeThen, NoneOrHolds};
+ghost use Rattle.rom_open.specs.declared.new_heap.NotFormatted.TheVariants as unmade;
 ghost use Rattle.rom_lr.specs.Opening.{dealt_view};
-ghost use Rattle.rom_lr.specs.Seats.{IsWriterOf};
+ghost use Rattle.rom_lr.specs.Seats.{IsWriterOf, opened_with, writer_view};
 ghost use Rattle.rom_combine.specs.AtRest.{IsReady};
 ghost use Rattle.rom_combine.specs.Session.{ImageNow, SessionImage};
-ghost use Rattle.rom_rule.specs.Views.{base_of};
 ghost use Rattle.rom_store.specs.Callers.{IsNewCaller};
 ghost use Rattle.rom_store.specs.Indexed.{Indexed};
-ghost use Rattle.rom_store.specs.Making.{HasFaultsUnmade, IsMadeThen, NoneOrHolds};
+ghost use Rattle.rom_store.specs.Playing.{HasRooms};
 ghost use Rattle.rom_store.specs.Sessions.{EachStory, HasStory};
 ghost use Rattle.rom_store.specs.Traced.{WentThrough};
-ghost use Rattle.rom_store.specs.Working.{IsRoom};
-ghost use Rattle.rom_store.specs.declared.new_heap.NotFormatted.TheVariants as unmade;
 
-use crate::from_device::Refused;
-use crate::new_heap::{NotFormatted, write_heap};
 use crate::opening::Opening;
 use crate::pace::Pace;
 use crate::rooms::Rooms;
@@ -35,6 +32,7 @@ use rom_combine::Gate;
 use rom_device::Device;
 use rom_header::Geometry;
 use rom_model::{Object, Step, VecSpace, new_region};
+use rom_open::{NotFormatted, write_heap};
 use std::alloc::{AllocError, Global};
 use std::sync::Wait;
 use std::thread::Threads;
@@ -66,28 +64,22 @@ where
     O::Answer: Drop,
     requires order { IsOrder order }
     requires callers { (0 < length scripts.now) × (length scripts.now ≤ 16) }
-    ensures rooms { IfOk result (λ made. Indexed (λ i room.
-        IsRoom (map (λ v. v.items) scripts.now) i room.items (vec_capacity room))
-        made.rooms.results.items) }
-    ensures rooms_many { IfOk result (λ made. vec_len made.rooms.results ≡ length scripts.now) }
-    ensures jobs { IfOk result (λ made. (made.rooms.jobs.items ≡ [])
-        × (length scripts.now ≤ vec_capacity made.rooms.jobs)) }
+    ensures rooms { IfOk result (λ made. HasRooms scripts.now made.rooms) }
     ensures region { IfOk result (λ made.
         O.Contents order (words_of made.region) O.machine.empty 0) }
-    ensures of { IfOk result (λ made. IsWriterOf made.seated.shared.table.shared.table_id
-        made.seated.shared.table.shared.key made.seated.writer) }
-    ensures base { IfOk result (λ made. base_of made.seated.shared.table.shared.key ≡ record {
+    ensures of { IfOk result (λ made. IsWriterOf made.seated.shared made.seated.writer) }
+    ensures base { IfOk result (λ made. opened_with made.seated.shared ≡ record {
       order = order;
       callers = length scripts.now;
       image = words_of made.region;
       faults = faults;
     }) }
-    ensures writer { IfOk result (λ made. made.seated.writer.token.me.0
-        ≡ dealt_view (base_of made.seated.shared.table.shared.key) (length scripts.now)) }
+    ensures writer { IfOk result (λ made. writer_view made.seated.writer
+        ≡ dealt_view (opened_with made.seated.shared) (length scripts.now)) }
     ensures ready { IfOk result (λ made. IsReady O.STORES (length scripts.now) made.seated.log) }
     ensures many { IfOk result (λ made. length made.seated.passes.items ≡ length scripts.now) }
     ensures passes { IfOk result (λ made. Indexed (IsNewCaller O.Contents
-        made.seated.shared.table.shared.table_id (base_of made.seated.shared.table.shared.key))
+        made.seated.shared.table.shared.table_id (opened_with made.seated.shared))
         made.seated.passes.items) }
     ensures begun { IfOk result (λ made. (made.seated.begun.order ≡ order)
         × (words_of made.seated.begun.image.value ≡ words_of made.region)

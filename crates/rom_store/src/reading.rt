@@ -3,7 +3,7 @@ ghost use Rattle.std.specs.Prelude.{◌≡◌, ℕ, ◌+◌, ◌≤◌, ◌++◌
 ghost use Rattle.rom_model.specs.History.{after};
 ghost use Rattle.rom_model.specs.Machine.{on_words};
 ghost use Rattle.rom_model.specs.Seen.{StartsWith};
-ghost use Rattle.rom_lr.specs.Seats.{IsSameSeat, IsSeatOf};
+ghost use Rattle.rom_lr.specs.Seats.{IsSameSeat, IsSeatOf, view};
 ghost use Rattle.rom_rule.specs.Readers.{Stands};
 ghost use Rattle.rom_rule.specs.Views.{front_of, image_of, is_reading};
 ghost use Rattle.rom_rule.specs.declared.views.Position.TheVariants.{Out};
@@ -30,15 +30,17 @@ pub struct Reading {
 }
 
 impl Model for Reading {
-    ghost use Rattle.std.specs.Prelude.{◌≡◌, IsTrue, length};
+    ghost use Rattle.std.specs.Prelude.{IsTrue};
+    ghost use Rattle.rom_lr.specs.Seats.{IsAnswered};
     ghost use Rattle.rom_rule.specs.Views.{is_reading};
-    ghost use Rattle.rom_store.specs.Callers.{Caller};
+    ghost use Rattle.rom_store.specs.Callers.{Caller, caller_at};
 
     ghost Value = { Caller };
 
-    ghost view = { λ r. record { table_id = r.seat.token.table_id; view = r.seat.token.me.0 } };
+    ghost view = { λ r. caller_at r.seat };
 
-    ghost invariant = { λ r. (IsTrue (is_reading r.seat.token.me.0.position)) × (length r.seat.token.me.0.calls ≡ length r.seat.token.me.0.outcomes) };
+    ghost invariant = { λ r. IsTrue (is_reading (caller_at r.seat).view.position)
+        × IsAnswered r.seat };
 }
 
 impl<D: Device, O: Object, N: Label> Store<D, O, N> {
@@ -59,8 +61,8 @@ impl<D: Device, O: Object, N: Label> Store<D, O, N> {
         ensures front { (s : O.State) (k : ℕ) → O.Contents N.base.order N.base.image s k →
             result.1 ≡ k + length pass.new.view.seen }
         ensures answer { (s : O.State) (k : ℕ) → O.Contents N.base.order N.base.image s k →
-            result.0 ≡ O.machine.tell (after (on_words O.machine) N.base.order s k pass.new.view.seen)
-            query.now }
+            result.0 ≡ O.machine.tell
+            (after (on_words O.machine) N.base.order s k pass.new.view.seen) query.now }
         ensures fronts { pass.new.view.fronts ≡ pass.old.view.fronts ++ result.1 ∷ [] }
         ensures still { pass.new.view ≡ record pass.old.view {
           seen = pass.new.view.seen;
@@ -86,7 +88,8 @@ impl<D: Device, O: Object, N: Label> Store<D, O, N> {
         ensures of { IsReaderOf O.Contents (on_words O.machine) N.table N.base result }
         ensures same { IsSameCaller pass result }
         ensures later { StartsWith result.view.seen pass.view.seen }
-        ensures fronts { result.view.fronts ≡ pass.view.fronts ++ front_of result.view.position ∷ [] }
+        ensures fronts { result.view.fronts
+            ≡ pass.view.fronts ++ front_of result.view.position ∷ [] }
         ensures still { result.view ≡ record pass.view {
           position = result.view.position;
           seen = result.view.seen;
@@ -155,20 +158,21 @@ impl<D: Device, O: Object, N: Label> Store<D, O, N> {
         query: &O::Query,
         steps: &mut Steps<L>,
     ) -> (O::Answer, u64)
-        requires of { IsSeatOf N.table self.now.shared.table.shared.key seat.old }
-        requires reads { IsTrue (is_reading seat.old.token.me.0.position) }
-        requires stands { let v = seat.old.token.me.0 in Stands O.Contents (on_words O.machine)
+        requires of { IsSeatOf self.now.shared seat.old }
+        requires reads { IsTrue (is_reading (view seat.old).position) }
+        requires stands { let v = view seat.old in Stands O.Contents (on_words O.machine)
             v.base (image_of v.position) v.seen (front_of v.position) }
         ensures same { IsSameSeat seat.old seat.new }
-        ensures still { seat.new.token.me.0 ≡ record seat.old.token.me.0 {
-          steps = seat.new.token.me.0.steps;
+        ensures still { view seat.new ≡ record (view seat.old) {
+          steps = (view seat.new).steps;
         } }
-        ensures front { result.1 ≡ front_of seat.old.token.me.0.position }
-        ensures answer { let v = seat.old.token.me.0 in (s : O.State) (k : ℕ) →
+        ensures front { result.1 ≡ front_of (view seat.old).position }
+        ensures answer { let v = view seat.old in (s : O.State) (k : ℕ) →
             O.Contents v.base.order v.base.image s k →
-            result.0 ≡ O.machine.tell (after (on_words O.machine) v.base.order s k v.seen) query.now }
-        ensures counted { HasCounted seat.old.token.me.0 seat.new.token.me.0 steps.old steps.new }
-        ensures most { let v = seat.old.token.me.0 in (s : O.State) (k : ℕ) →
+            result.0 ≡ O.machine.tell (after (on_words O.machine) v.base.order s k v.seen)
+            query.now }
+        ensures counted { HasCounted (view seat.old) (view seat.new) steps.old steps.new }
+        ensures most { let v = view seat.old in (s : O.State) (k : ℕ) →
             O.Contents v.base.order v.base.image s k → steps.new ≤ steps.old + O.machine.cost
             v.base.order (after (on_words O.machine) v.base.order s k v.seen) query.now + 1 }
     {

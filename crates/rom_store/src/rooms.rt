@@ -2,6 +2,7 @@
 ghost use Rattle.std.specs.Prelude.{◌≡◌, ◌+◌, ◌≤◌, [], length, map, IfOk, vec_len, vec_capacity};
 ghost use Rattle.rom_store.specs.Callers.{IsNewCaller, IsNumbered};
 ghost use Rattle.rom_store.specs.Indexed.{Both, Indexed};
+ghost use Rattle.rom_store.specs.Playing.{HasRooms};
 ghost use Rattle.rom_store.specs.Working.{HasDone, IsNext, IsPast, IsRoom, script_of};
 
 use crate::label::Label;
@@ -37,12 +38,7 @@ fn reserve<C, Q, R: Drop, A: Drop>(
 impl<R: Drop, A: Drop> Rooms<R, A> {
     /// As much as these scripts need.
     pub fn for_scripts<C, Q>(alloc: Global, scripts: &[Vec<Step<C, Q>>]) -> Result<Self, AllocError>
-        ensures many { IfOk result (λ rooms. vec_len rooms.results ≡ length scripts.now) }
-        ensures rooms { IfOk result (λ rooms. Indexed (λ i room.
-            IsRoom (map (λ v. v.items) scripts.now) i room.items (vec_capacity room))
-            rooms.results.items) }
-        ensures jobs { IfOk result (λ rooms. (rooms.jobs.items ≡ [])
-            × (length scripts.now ≤ vec_capacity rooms.jobs)) }
+        ensures rooms { IfOk result (HasRooms scripts.now) }
     {
         let results = reserve(alloc, scripts)?;
         let jobs = Vec::with_capacity(alloc, scripts.len())?;

@@ -1,20 +1,16 @@
 //! Scripts on an opened heap, one caller each, in threads, and its closing.
-ghost use Rattle.std.specs.Prelude.{◌≡◌, ℕ, ◌+◌, ◌<◌, ◌≤◌, [], List, length, map, All, vec_len, vec_capacity, IsTrue};
-ghost use Rattle.rom_model.specs.History.{LAST_COUNT};
+ghost use Rattle.std.specs.Prelude.{◌≡◌, ℕ, ◌≤◌, List, map, IsTrue};
 ghost use Rattle.rom_model.specs.Lawful.{IsLawful};
 ghost use Rattle.rom_model.specs.Machine.{on_words};
 ghost use Rattle.rom_model.specs.Passes.{faults_after};
-ghost use Rattle.rom_device.specs.Device.{Leaves};
 ghost use Rattle.rom_combine.specs.Costs.{WithinHeap};
 ghost use Rattle.rom_combine.specs.Session.{ImageNow, SessionImage};
 ghost use Rattle.rom_rule.specs.Views.{base_of};
-ghost use Rattle.rom_store.specs.Callers.{IsNewCaller};
 ghost use Rattle.rom_store.specs.Closing.{HasLeftSince};
 ghost use Rattle.rom_store.specs.Held.{start_of};
-ghost use Rattle.rom_store.specs.Indexed.{Indexed};
+ghost use Rattle.rom_store.specs.Playing.{CanPlay, IsPlayed};
 ghost use Rattle.rom_store.specs.Sessions.{EachStory, HasStory};
 ghost use Rattle.rom_store.specs.Traced.{WentThrough};
-ghost use Rattle.rom_store.specs.Working.{IsRoom};
 
 use crate::closed::Closed;
 use crate::label::Label;
@@ -35,7 +31,7 @@ pub struct Played<D: Device, O: Object, R: Drop, A: Drop> {
     pub closed: Closed<D, O>,
 }
 
-// All that follows the opening.
+// All that follows the opening, with a label. Each fact of `IsPlayed` is a clause of its own here.
 fn play_as<
     D: Device + Send,
     O: Object + Send + Sync,
@@ -62,15 +58,7 @@ where
     requires since { IsTrue D.shown.tells_images → (t : ℕ) (i : List ℕ) →
         (N.since t i → D.shown.left_since opening.device t i)
         × (D.shown.left_since opening.device t i → N.since t i) }
-    requires opened { (s : O.State) × (k : ℕ) × O.Contents N.base.order N.base.image s k }
-    requires few { All (λ v. length v.items ≤ LAST_COUNT) scripts.now }
-    requires passes { Indexed (IsNewCaller O.Contents N.table N.base) opening.passes }
-    requires passes_many { (length opening.passes ≡ length scripts.now)
-        × (length scripts.now ≡ N.base.callers) }
-    requires rooms { Indexed (λ i room. IsRoom (map (λ v. v.items) scripts.now) i room.items
-        (vec_capacity room)) rooms.results.items }
-    requires rooms_many { vec_len rooms.results ≡ length scripts.now }
-    requires jobs { (rooms.jobs.items ≡ []) × (length scripts.now ≤ vec_capacity rooms.jobs) }
+    requires ready { CanPlay O.Contents N.table N.base opening.passes scripts.now rooms }
     ensures order { result.closed.session.order ≡ N.base.order }
     ensures image { result.closed.session.image ≡ N.base.image }
     ensures opening_faults { result.closed.session.faults ≡ N.base.faults }
@@ -110,7 +98,8 @@ where
     Played { results, closed }
 }
 
-// The scripts on an opened heap, with a label of its own.
+/// The scripts on an opened heap, which is closed then. It picks the label that tells what the store
+/// was started on.
 pub(crate) fn play_on<
     D: Device + Send,
     O: Object + Send + Sync,
@@ -128,38 +117,10 @@ where
     O::Query: Send + Sync,
     O::Reply: Drop + Send + Sync,
     O::Answer: Drop + Send + Sync,
-    requires opened { let b = base_of opening.key in
-        (s : O.State) × (k : ℕ) × O.Contents b.order b.image s k }
-    requires few { All (λ v. length v.items ≤ LAST_COUNT) scripts.now }
-    requires passes { Indexed (IsNewCaller O.Contents opening.table_id (base_of opening.key))
-        opening.passes }
-    requires passes_many { (length opening.passes ≡ length scripts.now)
-        × (length scripts.now ≡ (base_of opening.key).callers) }
-    requires rooms { Indexed (λ i room. IsRoom (map (λ v. v.items) scripts.now) i room.items
-        (vec_capacity room)) rooms.results.items }
-    requires rooms_many { vec_len rooms.results ≡ length scripts.now }
-    requires jobs { (rooms.jobs.items ≡ []) × (length scripts.now ≤ vec_capacity rooms.jobs) }
-    ensures order { result.closed.session.order ≡ (base_of opening.key).order }
-    ensures image { result.closed.session.image ≡ (base_of opening.key).image }
-    ensures opening_faults { result.closed.session.faults ≡ (base_of opening.key).faults }
-    ensures story { HasStory O.machine O.Contents result.closed.session }
-    ensures lawful { EachStory O.machine O.Contents result.closed.session (λ story.
-        IsLawful O.machine story (map (λ v. v.items) scripts.now)
-        (map (λ v. v.items) result.results.items)) }
-    ensures now { IsTrue D.shown.tells_images → EachStory O.machine O.Contents
-        result.closed.session (λ story. (i : List ℕ) → D.shown.leaves result.closed.device i →
-        ImageNow O.Contents (on_words O.machine) story i) }
-    ensures since { IsTrue D.shown.tells_images → EachStory O.machine O.Contents
-        result.closed.session (λ story. Leaves D.shown
-        (SessionImage O.Contents (on_words O.machine) story) opening.device result.closed.device) }
-    ensures went { EachStory O.machine O.Contents result.closed.session (λ story.
-        WentThrough D.shown O.Contents (on_words O.machine) story story.opening_faults
-        result.closed.device) }
-    ensures size { D.shown.size result.closed.device ≡ D.shown.size opening.device }
-    ensures outside { IsTrue D.shown.tells_words → WithinHeap (base_of opening.key).order
-        (D.shown.words opening.device) (D.shown.words result.closed.device) }
-    ensures faults { faults_after result.closed.session.faults result.closed.session.records
-        ≤ D.shown.faults result.closed.device }
+    requires ready { CanPlay O.Contents opening.table_id (base_of opening.key) opening.passes
+        scripts.now rooms }
+    ensures played { IsPlayed D.shown O.machine O.Contents scripts.now result.results.items
+        (base_of opening.key) opening.device result.closed }
 {
     play_as::<D, O, Brand, R, G>(rt, opening, rooms, scripts, gate)
 }

@@ -3,11 +3,10 @@ ghost use Rattle.std.specs.Prelude.{◌≡◌, ℕ, ◌≤◌, All, IfOk, length
 ghost use Rattle.rom_model.specs.Blocks.{IsOrder, region_len};
 ghost use Rattle.rom_model.specs.VecSpace.{words_of};
 ghost use Rattle.rom_lr.specs.Opening.{AreNew, dealt_view};
-ghost use Rattle.rom_lr.specs.Seats.{IsWriterOf};
+ghost use Rattle.rom_lr.specs.Seats.{IsWriterOf, opened_with, view, writer_view};
 ghost use Rattle.rom_combine.specs.AtRest.{IsReady};
 ghost use Rattle.rom_rule.specs.Kinds.{IsIdle};
 ghost use Rattle.rom_rule.specs.Places.{AreCallers};
-ghost use Rattle.rom_rule.specs.Views.{base_of};
 ghost use Rattle.rom_store.specs.Callers.{IsNewCaller, caller_at};
 ghost use Rattle.rom_store.specs.Indexed.{Indexed};
 
@@ -32,7 +31,7 @@ pub(crate) struct Seated<O: Object> {
 
 // A pass for each seat, in their order.
 fn passes_of(alloc: Global, seats: Vec<Seat>) -> Result<Vec<Pass>, AllocError>
-    requires idle { All (λ s. IsIdle s.token.me.0) seats.items }
+    requires idle { All (λ s. IsIdle (view s)) seats.items }
     ensures passes { IfOk result (λ passes. passes.items ≡ map caller_at seats.items) }
 {
     let mut passes = Vec::with_capacity(alloc, seats.len())?;
@@ -65,20 +64,19 @@ impl<O: Object> Seated<O> {
         requires order { IsOrder order }
         requires callers { AreCallers callers }
         requires formed { (s : O.State) × (k : ℕ) × O.Contents order (words_of image.now) s k }
-        ensures of { IfOk result (λ t.
-            IsWriterOf t.shared.table.shared.table_id t.shared.table.shared.key t.writer) }
-        ensures base { IfOk result (λ t. base_of t.shared.table.shared.key ≡ record {
+        ensures of { IfOk result (λ t. IsWriterOf t.shared t.writer) }
+        ensures base { IfOk result (λ t. opened_with t.shared ≡ record {
           order = order;
           callers = callers;
           image = words_of image.now;
           faults = faults;
         }) }
-        ensures writer { IfOk result (λ t. t.writer.token.me.0
-            ≡ dealt_view (base_of t.shared.table.shared.key) callers) }
+        ensures writer { IfOk result (λ t. writer_view t.writer
+            ≡ dealt_view (opened_with t.shared) callers) }
         ensures ready { IfOk result (λ t. IsReady O.STORES callers t.log) }
         ensures many { IfOk result (λ t. length t.passes.items ≡ callers) }
         ensures passes { IfOk result (λ t. Indexed (IsNewCaller O.Contents
-            t.shared.table.shared.table_id (base_of t.shared.table.shared.key)) t.passes.items) }
+            t.shared.table.shared.table_id (opened_with t.shared)) t.passes.items) }
         ensures begun { IfOk result (λ t. (t.begun.order ≡ order)
             × (words_of t.begun.image.value ≡ words_of image.now) × (t.begun.faults ≡ faults)) }
     {

@@ -1,7 +1,7 @@
 //! The store: a heap that callers share.
 ghost use Rattle.std.specs.Prelude.{◌≡◌};
 ghost use Rattle.rom_model.specs.VecSpace.{words_of};
-ghost use Rattle.rom_rule.specs.Views.{base_of};
+ghost use Rattle.rom_lr.specs.Seats.{opened_with};
 
 use crate::begun::Begun;
 use crate::held::Held;
@@ -20,7 +20,7 @@ pub struct Store<D: Device, O: Object, N: Label> {
     pub(crate) begun: Begun,
     pub(crate) pace: Pace,
     ghost named: { shared.table.shared.table_id ≡ N.table },
-    ghost based: { base_of shared.table.shared.key ≡ N.base },
+    ghost based: { opened_with shared ≡ N.base },
     ghost ordered: { begun.order ≡ N.base.order },
     ghost imaged: { words_of begun.image.value ≡ N.base.image },
     ghost counted: { begun.faults ≡ N.base.faults },

@@ -6,7 +6,7 @@ ghost use Rattle.rom_model.specs.Lawful.{as_words};
 ghost use Rattle.rom_model.specs.Machine.{on_words};
 ghost use Rattle.rom_model.specs.Seen.{StartsWith, next_call};
 ghost use Rattle.rom_model.specs.declared.call.Updated.{Updated};
-ghost use Rattle.rom_lr.specs.Seats.{IsSameSeat, IsSeatOf};
+ghost use Rattle.rom_lr.specs.Seats.{IsPosted, IsSameSeat, IsSeatOf, view};
 ghost use Rattle.rom_rule.specs.CallKinds.{IsTold};
 ghost use Rattle.rom_rule.specs.Calls.{answer_words, packed};
 ghost use Rattle.rom_rule.specs.Views.{kept_of};
@@ -22,21 +22,11 @@ use rom_announce::{answered, linger, nap, post, take, wake_next};
 use rom_combine::Gate;
 use rom_device::Device;
 use rom_lr::Seat;
-use rom_model::{Back, Object, Updated};
+use rom_model::{Back, DOUBT, FAILED, LAST_COUNT, Object, SPENT, Updated};
 use std::sync::{MutexGuard, Wait};
-
-/// The greatest count, and the most calls of one caller.
-const LAST: u64 = 1 << 62;
 
 /// How often a caller looks at its turn before it waits for the lock.
 const LOOKS: u64 = 64;
-
-/// What stands for a place where a call was not done.
-const SPENT: u64 = 1 << 62;
-
-const FAILED: u64 = (1 << 62) + 1;
-
-const DOUBT: u64 = (1 << 62) + 2;
 
 /// What a caller was told, by its words.
 fn told_by<O: Object>(place: u64, words: &Back) -> Updated<O::Reply>
@@ -89,8 +79,10 @@ impl<D: Device, O: Object, N: Label> Store<D, O, N> {
 
         // What one pass told of it, in whose record the device's counts of faults stand.
         ensures taken { length pass.old.view.outcomes < LAST_COUNT →
-            IsTold O.Contents (on_words O.machine) N.base
-            (next_call (kept_of pass.old.view) (O.machine.call_words call.now), as_words O.machine result)
+            IsTold O.Contents (on_words O.machine) N.base (
+              next_call (kept_of pass.old.view) (O.machine.call_words call.now),
+              as_words O.machine result,
+            )
             (length pass.old.view.seen) pass.old.view.seen pass.new.view.seen }
 
         // Where it is done, the caller has seen a legal history that ends with the batch of that
@@ -101,7 +93,7 @@ impl<D: Device, O: Object, N: Label> Store<D, O, N> {
             (next_call (kept_of pass.old.view) (O.machine.call_words call.now))
             (O.machine.reply_words reply) place pass.old.view.seen pass.new.view.seen }
     {
-        if pass.seat.posted >= LAST {
+        if pass.seat.posted >= LAST_COUNT {
             return Updated::Spent;
         }
         post(&self.shared, &mut pass.seat, &O::call_words(call));
@@ -112,12 +104,10 @@ impl<D: Device, O: Object, N: Label> Store<D, O, N> {
 
     // Until the posted call is answered: looks at the turn some times, and then takes the lock.
     fn await_answer<R: Wait, G: Gate>(&self, rt: &R, seat: &mut Seat, gate: &G)
-        requires of { IsSeatOf N.table self.now.shared.table.shared.key seat.old }
-        requires posted { length seat.old.token.me.0.calls
-            ≡ length seat.old.token.me.0.outcomes + 1 }
+        requires of { IsSeatOf self.now.shared seat.old }
+        requires posted { IsPosted seat.old }
         ensures same { IsSameSeat seat.old seat.new }
-        ensures told { HasBeenTold O.Contents (on_words O.machine) seat.old.token.me.0
-            seat.new.token.me.0 }
+        ensures told { HasBeenTold O.Contents (on_words O.machine) (view seat.old) (view seat.new) }
     {
         if self.look(rt, seat, gate) {
             return;
@@ -132,15 +122,14 @@ impl<D: Device, O: Object, N: Label> Store<D, O, N> {
 
     // Looks at the turn up to 64 times: under the lock, where it is free, and else after a sleep.
     fn look<R: Wait, G: Gate>(&self, rt: &R, seat: &mut Seat, gate: &G) -> bool
-        requires of { IsSeatOf N.table self.now.shared.table.shared.key seat.old }
-        requires posted { length seat.old.token.me.0.calls
-            ≡ length seat.old.token.me.0.outcomes + 1 }
+        requires of { IsSeatOf self.now.shared seat.old }
+        requires posted { IsPosted seat.old }
         ensures same { IsSameSeat seat.old seat.new }
-        ensures not_yet { OnFalse result (seat.new.token.me.0 ≡ record seat.old.token.me.0 {
-          steps = seat.new.token.me.0.steps;
+        ensures not_yet { OnFalse result (view seat.new ≡ record (view seat.old) {
+          steps = (view seat.new).steps;
         }) }
         ensures told { OnTrue result (HasBeenTold O.Contents (on_words O.machine)
-            seat.old.token.me.0 seat.new.token.me.0) }
+            (view seat.old) (view seat.new)) }
     {
         for looked in 0..LOOKS {
             if self.look_once(rt, seat, gate, looked) {
@@ -151,15 +140,14 @@ impl<D: Device, O: Object, N: Label> Store<D, O, N> {
     }
 
     fn look_once<R: Wait, G: Gate>(&self, rt: &R, seat: &mut Seat, gate: &G, looked: u64) -> bool
-        requires of { IsSeatOf N.table self.now.shared.table.shared.key seat.old }
-        requires posted { length seat.old.token.me.0.calls
-            ≡ length seat.old.token.me.0.outcomes + 1 }
+        requires of { IsSeatOf self.now.shared seat.old }
+        requires posted { IsPosted seat.old }
         ensures same { IsSameSeat seat.old seat.new }
-        ensures not_yet { OnFalse result (seat.new.token.me.0 ≡ record seat.old.token.me.0 {
-          steps = seat.new.token.me.0.steps;
+        ensures not_yet { OnFalse result (view seat.new ≡ record (view seat.old) {
+          steps = (view seat.new).steps;
         }) }
         ensures told { OnTrue result (HasBeenTold O.Contents (on_words O.machine)
-            seat.old.token.me.0 seat.new.token.me.0) }
+            (view seat.old) (view seat.new)) }
     {
         match self.held.try_lock() {
             Some(held) => self.look_or_pass(rt, seat, gate, held),
@@ -173,9 +161,8 @@ impl<D: Device, O: Object, N: Label> Store<D, O, N> {
     // While another caller runs a pass: where that is quick, the answer may come before a sleep, which
     // is longer the more often the caller has looked.
     fn rest<R: Wait>(&self, rt: &R, seat: &Seat, looked: u64)
-        requires of { IsSeatOf N.table self.now.shared.table.shared.key seat.now }
-        requires posted { length seat.now.token.me.0.calls
-            ≡ length seat.now.token.me.0.outcomes + 1 }
+        requires of { IsSeatOf self.now.shared seat.now }
+        requires posted { IsPosted seat.now }
     {
         match self.pace {
             Pace::Slow => {}
@@ -193,15 +180,14 @@ impl<D: Device, O: Object, N: Label> Store<D, O, N> {
         gate: &G,
         mut held: MutexGuard<'_, Held<D, O, N>>,
     ) -> bool
-        requires of { IsSeatOf N.table self.now.shared.table.shared.key seat.old }
-        requires posted { length seat.old.token.me.0.calls
-            ≡ length seat.old.token.me.0.outcomes + 1 }
+        requires of { IsSeatOf self.now.shared seat.old }
+        requires posted { IsPosted seat.old }
         ensures same { IsSameSeat seat.old seat.new }
-        ensures not_yet { OnFalse result (seat.new.token.me.0 ≡ record seat.old.token.me.0 {
-          steps = seat.new.token.me.0.steps;
+        ensures not_yet { OnFalse result (view seat.new ≡ record (view seat.old) {
+          steps = (view seat.new).steps;
         }) }
         ensures told { OnTrue result (HasBeenTold O.Contents (on_words O.machine)
-            seat.old.token.me.0 seat.new.token.me.0) }
+            (view seat.old) (view seat.new)) }
     {
         if answered(&self.shared, seat) {
             return true;

@@ -6,7 +6,7 @@ ghost use Rattle.rom_model.specs.declared.line.Step.{Step};
 ghost use Rattle.rom_store.specs.Callers.{IsCallerOf};
 ghost use Rattle.rom_store.specs.Closing.{kept_in};
 ghost use Rattle.rom_store.specs.Indexed.{Indexed};
-ghost use Rattle.rom_store.specs.Working.{HasDone, IsFirst, IsNext, IsPast, IsReady, script_of};
+ghost use Rattle.rom_store.specs.Working.{HasDone, HasNotBegun, IsFirst, IsNext, IsPast, script_of};
 
 use crate::label::Label;
 use crate::pass::Pass;
@@ -54,7 +54,8 @@ fn take_line<D: Device, O: Object, N: Label, R: Wait, G: Gate, L: Ledger>(
     ensures done { (lines : List (Step O.Call O.Query))
         (results : List (LineResult O.Reply O.Answer)) →
         HasDone O.machine O.Contents N.base pass.old lines results →
-        HasDone O.machine O.Contents N.base pass.new (lines ++ line.now ∷ []) (results ++ result ∷ []) }
+        HasDone O.machine O.Contents N.base pass.new
+        (lines ++ line.now ∷ []) (results ++ result ∷ []) }
 {
     match line {
         Step::Update(call) => LineResult::Update(store.update(rt, pass, call, gate)),
@@ -129,7 +130,7 @@ where
     O::Answer: Drop,
     requires opened { (s : O.State) × (k : ℕ) × O.Contents N.base.order N.base.image s k }
     requires few { All (λ v. length v.items ≤ LAST_COUNT) room.now.scripts.now }
-    requires ready { IsReady O.Contents N.table N.base (map (λ v. v.items) room.now.scripts.now)
+    requires ready { HasNotBegun O.Contents N.table N.base (map (λ v. v.items) room.now.scripts.now)
         job.old.pass job.old.results.items (vec_capacity job.old.results) }
     ensures of { IsCallerOf O.Contents N.table N.base job.new.pass }
     ensures number { job.new.pass.view.number ≡ job.old.pass.view.number }
@@ -164,7 +165,7 @@ where
     O::Answer: Drop + Send + Sync,
     requires opened { (s : O.State) × (k : ℕ) × O.Contents N.base.order N.base.image s k }
     requires few { All (λ v. length v.items ≤ LAST_COUNT) room.now.scripts.now }
-    requires ready { All (λ j. IsReady O.Contents N.table N.base
+    requires ready { All (λ j. HasNotBegun O.Contents N.table N.base
         (map (λ v. v.items) room.now.scripts.now) j.pass j.results.items (vec_capacity j.results))
         jobs.old }
     ensures of { (i : ℕ) (c : _) → slice_get jobs.new i ≡ Some c →

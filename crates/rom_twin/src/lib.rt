@@ -14,6 +14,3 @@ mod twin;
 
 pub use phase::Phase;
 pub use twin::Twin;
-
-#[cfg(test)]
-mod tests;

@@ -1,7 +1,7 @@
 use Rattle.rom_model.specs.Machine.{on_words}
 use Rattle.std.proofs.Common.{arith, ◌≡◌, ℕ, List, [], ◌∷◌, sym, refl, ap, ◌∙◌, subst, Some}
 use Rattle.rom_announce.specs.Answering.{answered_with, fate_of, with_reply}
-use Rattle.rom_rule.specs.CallKinds.{IsAnswer, IsPending, altered, answered, answering, begun, placing}
+use Rattle.rom_rule.specs.CallKinds.{IsAnswer, IsPending, altered, answering, placing}
 use Rattle.rom_rule.specs.Calls.{packed}
 use Rattle.rom_rule.specs.Views.{plan_of}
 use Rattle.rom_rule.specs.declared.views.Plan.{Plan}

@@ -2,7 +2,7 @@ use Rattle.rom_model.specs.Machine.{on_words}
 use Rattle.std.proofs.Common.{rules, arith, ◌≡◌, ℕ, sym, refl, ap, ◌∙◌, subst, Some}
 use Rattle.rom_model.specs.declared.record.Fate.{Fate}
 use Rattle.rom_announce.specs.Answering.{HasRecord}
-use Rattle.rom_rule.specs.CallKinds.{CanMakeRecord, altered, begun, laying}
+use Rattle.rom_rule.specs.CallKinds.{CanMakeRecord, altered, laying}
 use Rattle.rom_rule.specs.Kinds.{planned}
 use Rattle.rom_rule.specs.Places.{slot_at}
 use Rattle.rom_rule.specs.Views.{base_of, plan_of}

@@ -1,6 +1,6 @@
 use Rattle.rom_model.specs.Machine.{on_words}
 use Rattle.std.proofs.Common.{rules, ◌≡◌, refl, sym, ap, ◌∙◌, subst, Some}
-use Rattle.rom_rule.specs.CallKinds.{altered, answered, answering}
+use Rattle.rom_rule.specs.CallKinds.{altered, answering}
 use Rattle.rom_rule.specs.Kinds.{planned}
 use Rattle.rom_rule.specs.Places.{slot_at}
 use Rattle.rom_rule.specs.Views.{base_of, plan_of}

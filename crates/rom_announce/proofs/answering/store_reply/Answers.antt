@@ -1,6 +1,6 @@
 use Rattle.std.proofs.Common.{rules, arith, ◌≡◌, ℕ, ◌+◌, ◌<◌, List, [], ◌∷◌, ◌++◌, take, length, get_or, sym, refl, ap, ◌∙◌, subst, length-take, Some}
 use Rattle.rom_announce.specs.Answering.{with_reply}
-use Rattle.rom_rule.specs.CallKinds.{IsPending, altered, laying, longer}
+use Rattle.rom_rule.specs.CallKinds.{IsPending, altered, laying}
 use Rattle.rom_rule.specs.Views.{plan_of}
 use Rattle.rom_rule.specs.declared.views.Plan.{Plan}
 use Rattle.rom_rule.specs.declared.views.Request.{Request}

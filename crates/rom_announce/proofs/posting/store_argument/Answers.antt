@@ -1,7 +1,6 @@
 use Rattle.rom_model.specs.Machine.{on_words}
 use Rattle.std.proofs.Common.{rules, refl, ◌≡◌, ℕ, ◌+◌, ◌<◌, ◌≤◌, [], ◌∷◌, ◌++◌, take, length, sym, ap, ◌∙◌, subst, IsTrue}
 use Rattle.rom_lr.specs.Side.{side_number}
-use Rattle.rom_rule.specs.Calls.{numbered}
 use Rattle.rom_rule.specs.Places.{indicator_of, slot_at, word_at}
 use Rattle.rom_rule.specs.Views.{base_of, indicator_in, is_reading, side_read}
 use Rattle.rom_rule.specs.declared.views.Base.{Base}

@@ -1,8 +1,8 @@
 use Rattle.std.proofs.Common.{ℕ, List, sym, ap, ◌∙◌, subst}
 use Rattle.rom_lr.specs.Opening.{dealt_view}
+use Rattle.rom_lr.specs.Seats.{opened_with}
 use Rattle.rom_model.specs.Region.{Contents}
 use Rattle.rom_model.specs.State.{empty}
-use Rattle.rom_rule.specs.Views.{base_of}
 use Rattle.rom_rule.specs.declared.views.Base.{Base}
 use Rattle.rom_bench.proofs.passes.passed.Goals as goal
 
@@ -11,7 +11,7 @@ new-requires-clause-formed g c = (empty, 0, subst (λ (ws : List ℕ). Contents 
 
 pub core_of-core-requires-clause-writer : goal.core_of-core-requires-clause-writer
 core_of-core-requires-clause-writer g c =
-    let b = base_of c.in_ok-shared.shared.table.shared.key in
+    let b = opened_with c.in_ok-shared.shared in
     c.in_ok-shared.ensures.writer ∙ ap (dealt_view b) (sym (ap (λ (b : Base). b.callers) c.in_ok-shared.ensures.base))
 
 pub core_of-core-requires-clause-order_is : goal.core_of-core-requires-clause-order_is

@@ -3,4 +3,4 @@ use Rattle.rom_bench.specs.Posting.{IsPosterOf}
 use Rattle.rom_bench.proofs.passes.post_all.Given as goal
 
 abbrev pub invariant-loop-poster : goal.invariant-loop-poster
-invariant-loop-poster l = All (IsPosterOf l.shared.table.shared.table_id l.shared.table.shared.key) l.posters
+invariant-loop-poster l = All (IsPosterOf l.shared) l.posters

@@ -3,4 +3,4 @@ use Rattle.rom_bench.specs.Posting.{IsPosterOf}
 use Rattle.rom_bench.proofs.passes.posters_of.Given as goal
 
 abbrev pub invariant-loop-seat : goal.invariant-loop-seat
-invariant-loop-seat l = All (IsPosterOf l.shared.table.shared.table_id l.shared.table.shared.key) l.posters.items
+invariant-loop-seat l = All (IsPosterOf l.shared) l.posters.items

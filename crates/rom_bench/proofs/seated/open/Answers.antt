@@ -17,7 +17,7 @@ loop-seat-preserved c =
     let gives = c.into_iter-seat-iterator.ensures.into_iter_gives in
     let all = YieldsList-from_vec {s = c.into_iter-seat-iterator.result} c.in_ok-shared.seats.items gives.0 (gives.1 ∙ c.in_ok-shared.seats.ok.0) in
     let turn = YieldsList-turn all c.loop-seat.yielded c.loop-seat.seat-iterator c.loop-seat.yielded_by c.next.result c.next.new.self c.in-Some.seat c.in-Some.is c.next.ensures.steps in
-    let table = c.in_ok-shared.shared.table.shared in
-    let ready = is_ready-new table.table_id table.key c.in_ok-shared.seats.items (length c.loop-seat.yielded) c.in-Some.seat c.in_ok-shared.ensures.seats turn in
-    subst (λ (l : List Reader). All (λ r. IsReady table.table_id table.key r.seat) l) (sym c.in_ok-push.ensures.items)
-    (All-push (λ r. IsReady table.table_id table.key r.seat) c.loop-seat.readers.items _ c.loop-seat.invariant ready)
+    let shared = c.in_ok-shared.shared in
+    let ready = is_ready-new shared c.in_ok-shared.seats.items (length c.loop-seat.yielded) c.in-Some.seat c.in_ok-shared.ensures.seats turn in
+    subst (λ (l : List Reader). All (λ r. IsReady shared r.seat) l) (sym c.in_ok-push.ensures.items)
+    (All-push (λ r. IsReady shared r.seat) c.loop-seat.readers.items _ c.loop-seat.invariant ready)

@@ -2,4 +2,4 @@ use Rattle.rom_bench.specs.Ready.{IsReady}
 use Rattle.rom_bench.proofs.seated.read_in.Given as goal
 
 abbrev pub invariant-loop : goal.invariant-loop
-invariant-loop l = IsReady l.shared.table.shared.table_id l.shared.table.shared.key l.reader.seat
+invariant-loop l = IsReady l.shared l.reader.seat

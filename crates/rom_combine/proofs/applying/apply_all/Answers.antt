@@ -15,7 +15,7 @@ use Rattle.rom_rule.specs.declared.views.View.{View}
 use Rattle.rom_rule.specs.Views.{plan_of}
 use Rattle.rom_rule.specs.Records.{IsCall}
 use Rattle.rom_combine.proofs.Writing.{main_writes, writes_still}
-use Rattle.rom_combine.specs.declared.answering.Answer.{Answer}
+use Rattle.rom_combine.specs.declared.answering.CallAnswer.{CallAnswer}
 use Rattle.rom_combine.specs.declared.scanning.Posted.{Posted}
 use Rattle.rom_combine.specs.Applying.{batch_first, IsApplied, IsDoneOne, count_in}
 use Rattle.rom_combine.proofs.Applies.{posted_at, none_applied, next_state, one_applied}
@@ -24,13 +24,13 @@ use Rattle.rom_combine.proofs.applying.apply_all.Goals as goal
 pub loop-i-init : goal.loop-i-init
 loop-i-init g c = let u : View = c.args.seat.now.token.me.0 in let h = c.requires.held in (
   (refl, refl, writes_still u c.args.seat.now.writes),
-  ap length c.requires.none,
+  ap length c.clear.ensures,
   (
     h.0,
     h.1,
     h.2,
     h.4,
-    subst (λ (l : List Answer). IsApplied g.O.Object.Contents (on_words g.O.Object.machine) u.base h.0 h.1 (plan_of u) (plan_of u).main 0 l) (sym c.requires.none) (none_applied g.O.Object.Contents (on_words g.O.Object.machine) u.base h.0 h.1 (plan_of u) (plan_of u).main h.3),
+    subst (λ (l : List CallAnswer). IsApplied g.O.Object.Contents (on_words g.O.Object.machine) u.base h.0 h.1 (plan_of u) (plan_of u).main 0 l) (sym c.clear.ensures) (none_applied g.O.Object.Contents (on_words g.O.Object.machine) u.base h.0 h.1 (plan_of u) (plan_of u).main h.3),
   ),
   (c.requires.logged, omega (arith, c.requires.clear), omega (arith, c.requires.clear), refl),
 )
@@ -76,7 +76,7 @@ loop-i-preserved g c = let inv = c.loop-i.invariant in let u : View = c.args.sea
         h.1,
         h.2,
         h.3,
-        subst (λ (l : List Answer). IsApplied g.O.Object.Contents (on_words g.O.Object.machine) b h.0 h.1 p (plan_of c.apply_one.new.seat.token.me.0).main (i + 1) l) (sym pushed)
+        subst (λ (l : List CallAnswer). IsApplied g.O.Object.Contents (on_words g.O.Object.machine) b h.0 h.1 p (plan_of c.apply_one.new.seat.token.me.0).main (i + 1) l) (sym pushed)
             (one_applied g.O.Object.Contents (on_words g.O.Object.machine) b h.0 h.1 p (plan_of v).main (plan_of c.apply_one.new.seat.token.me.0).main i c.loop-i.answers.items f.0 c.apply_one.result h.4 c.requires.fresh f.1 did),
       ),
       (

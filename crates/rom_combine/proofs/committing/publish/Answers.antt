@@ -25,8 +25,8 @@ use Rattle.rom_rule.specs.Calls.{found_of}
 use Rattle.rom_rule.specs.Records.{IsCall}
 use Rattle.rom_rule.specs.Kinds.{CanSwitchToMain, IsBatch, TellsEach, making, switched}
 use Rattle.rom_rule.proofs.Told.{length_map}
-use Rattle.rom_combine.specs.Scanning.{posted_of, IsFresh}
-use Rattle.rom_combine.specs.Answering.{IsLeft}
+use Rattle.rom_combine.specs.Scanning.{posted_of, IsUnanswered}
+use Rattle.rom_combine.specs.Answering.{HasGiven}
 use Rattle.rom_combine.specs.Applying.{IsApplied}
 use Rattle.rom_combine.proofs.Limits.{batch_fits}
 use Rattle.rom_combine.proofs.Publishes.{can_publish, is_left}
@@ -39,7 +39,7 @@ pub returns-then-is_err-clause-left : goal.returns-then-is_err-clause-left
 returns-then-is_err-clause-left g c = let u : View = c.args.seat.now.token.me.0 in let b : Base = u.base in let p : Plan = plan_of u in let h = c.requires.held in
     let v₁ : View = c.begin_on.new.seat.token.me.0 in let one : plan_of v₁ ≡ p = ap plan_of c.begin_on.ensures.same.2 in let base₁ : v₁.base ≡ b = ap (λ (z : View). z.base) c.begin_on.ensures.same.2 in
     let now : ℕ = g.D.Device.shown.faults c.begin_on.new.twin.device in let rose : HasFault fate.Failed c.args.before now = search rules in
-    subst (λ (z : Plan). IsLeft g.O.Object.Contents (on_words g.O.Object.machine) b fate.Failed c.args.before now z 0 c.refuse.new.answers.items) (sym one)
+    subst (λ (z : Plan). HasGiven g.O.Object.Contents (on_words g.O.Object.machine) b fate.Failed c.args.before now z 0 c.refuse.new.answers.items) (sym one)
     (is_refused g.O.Object.Contents (on_words g.O.Object.machine) b (2 ^ 62 + 1) fate.Failed p c.args.before now c.args.found.now c.refuse.new.answers.items refl refl
     (may_know g.O.Object.Contents (on_words g.O.Object.machine) b fate.Failed p c.args.before now h.0 h.1 (λ (e : fate.Failed ≡ fate.Published). cc) c.requires.unmade c.requires.fresh c.requires.counts (omega (arith, c.requires.before, c.begin_on.ensures.later)) rose h.2)
     c.requires.rising c.requires.fresh c.requires.found c.refuse.ensures)
@@ -55,7 +55,7 @@ returns-then-is_err-clause-since g c told s n op = let u : View = c.args.seat.no
 pub apply_all-requires-clause-fresh : goal.apply_all-requires-clause-fresh
 apply_all-requires-clause-fresh g c = let u : View = c.args.seat.now.token.me.0 in let b : Base = u.base in let p : Plan = plan_of u in let h = c.requires.held in
     let v₁ : View = c.begin_on.new.seat.token.me.0 in let one : plan_of v₁ ≡ p = ap plan_of c.begin_on.ensures.same.2 in let base₁ : v₁.base ≡ b = ap (λ (z : View). z.base) c.begin_on.ensures.same.2 in
-    subst (λ (z : Base × Plan). Each (λ _ f. IsFresh (IsCall (on_words g.O.Object.machine) z.0) f) z.1.requests) (λ j. (sym base₁ j, sym one j)) c.requires.fresh
+    subst (λ (z : Base × Plan). Each (λ _ f. IsUnanswered (IsCall (on_words g.O.Object.machine) z.0) f) z.1.requests) (λ j. (sym base₁ j, sym one j)) c.requires.fresh
 
 pub switch-requires-clause-can : goal.switch-requires-clause-can
 switch-requires-clause-can g c = let u : View = c.args.seat.now.token.me.0 in let b : Base = u.base in let p : Plan = plan_of u in let h = c.requires.held in
@@ -82,7 +82,7 @@ returns-then-is_ok-clause-left g c = let u : View = c.args.seat.now.token.me.0 i
     let now : ℕ = g.D.Device.shown.faults c.commit_on.new.twin.device in let now_is : c.fault_count-now.result ≡ now = c.fault_count-now.ensures in let sw = c.switch.ensures.switched in let v₄ : View = c.switch.new.seat.token.me.0 in
     let same = g.met.O.Object.one_contents b.order b.image h.0 a.0 h.1 a.1 h.2 opened in let counts = same.1 in let place = h.4 in let below = c.requires.below in
     let four : plan_of v₄ ≡ switched 0 (making fate.Published c.args.before now sw.0 sw.1 (record p { main = m₂ })) = ap plan_of sw.4.2 ∙ (λ j. switched 0 (making fate.Published c.args.before (now_is j) sw.0 sw.1 (three j))) in
-    subst (λ (z : Plan). IsLeft g.O.Object.Contents (on_words g.O.Object.machine) b fate.Published c.args.before now z 0 c.apply_all.new.answers.items) (sym four)
+    subst (λ (z : Plan). HasGiven g.O.Object.Contents (on_words g.O.Object.machine) b fate.Published c.args.before now z 0 c.apply_all.new.answers.items) (sym four)
     (is_left g.O.Object.Contents (on_words g.O.Object.machine) b a.0 a.1 p m₂ (length c.args.found.now) c.args.before now sw.0 sw.1 c.apply_all.new.answers.items long opened c.requires.rising c.requires.fresh applied
     (batch_fits (on_words g.O.Object.machine) b.order (after (on_words g.O.Object.machine) b.order a.0 a.1 p.history) (a.1 + length p.history) (take (length c.args.found.now) (map found_of p.requests)) (omega (arith, counts, place, below)))
     (subst (λ (z : Base × Plan). IsBatch g.O.Object.Contents (on_words g.O.Object.machine) z.0 z.1 sw.0 sw.1) (λ j. (base₃ j, three j)) sw.2) (subst (TellsEach fate.Published sw.0 sw.1) three sw.3))
@@ -116,7 +116,7 @@ returns-then-eq-clause-left g c = let u : View = c.args.seat.now.token.me.0 in l
     let now : ℕ = g.D.Device.shown.faults c.commit_on.new.twin.device in let doubt : c.commit_on.new.twin.phase ≡ phase.Doubt = search rules in let cause = c.commit_on.ensures.doubt doubt in
     let rose : HasFault fate.Doubt c.args.before now = omega (arith, c.requires.before, c.begin_on.ensures.later, cause.later, cause.failed.once) in let v₅ : View = c.put_back.new.seat.token.me.0 in
     let five : plan_of v₅ ≡ p = ap plan_of c.put_back.ensures.2 ∙ ((λ j. record (three j) { main = (three j).back }) ∙ ap (λ (l : List ℕ). record p { main = l }) (sym c.requires.same)) in
-    subst (λ (z : Plan). IsLeft g.O.Object.Contents (on_words g.O.Object.machine) b fate.Doubt c.args.before now z 0 c.refuse-then-eq.new.answers.items) (sym five)
+    subst (λ (z : Plan). HasGiven g.O.Object.Contents (on_words g.O.Object.machine) b fate.Doubt c.args.before now z 0 c.refuse-then-eq.new.answers.items) (sym five)
     (is_refused g.O.Object.Contents (on_words g.O.Object.machine) b (2 ^ 62 + 2) fate.Doubt p c.args.before now c.args.found.now c.refuse-then-eq.new.answers.items refl refl
     (may_know g.O.Object.Contents (on_words g.O.Object.machine) b fate.Doubt p c.args.before now h.0 h.1 (λ (e : fate.Doubt ≡ fate.Published). cc) c.requires.unmade c.requires.fresh c.requires.counts (omega (arith, c.requires.before, c.begin_on.ensures.later, c.commit_on.ensures.later)) rose h.2)
     c.requires.rising c.requires.fresh c.requires.found c.refuse-then-eq.ensures)
@@ -150,7 +150,7 @@ returns-clause-left g c = let u : View = c.args.seat.now.token.me.0 in let b : B
     let now : ℕ = g.D.Device.shown.faults c.commit_on.new.twin.device in let undo : c.commit_on.new.twin.phase ≡ phase.Undo = search rules in let cause = (c.commit_on.ensures.undo undo).1 in
     let rose : HasFault fate.Failed c.args.before now = omega (arith, c.requires.before, c.begin_on.ensures.later, cause.rose) in let v₅ : View = c.put_back.new.seat.token.me.0 in
     let five : plan_of v₅ ≡ p = ap plan_of c.put_back.ensures.2 ∙ ((λ j. record (three j) { main = (three j).back }) ∙ ap (λ (l : List ℕ). record p { main = l }) (sym c.requires.same)) in
-    subst (λ (z : Plan). IsLeft g.O.Object.Contents (on_words g.O.Object.machine) b fate.Failed c.args.before now z 0 c.refuse-2.new.answers.items) (sym five)
+    subst (λ (z : Plan). HasGiven g.O.Object.Contents (on_words g.O.Object.machine) b fate.Failed c.args.before now z 0 c.refuse-2.new.answers.items) (sym five)
     (is_refused g.O.Object.Contents (on_words g.O.Object.machine) b (2 ^ 62 + 1) fate.Failed p c.args.before now c.args.found.now c.refuse-2.new.answers.items refl refl
     (may_know g.O.Object.Contents (on_words g.O.Object.machine) b fate.Failed p c.args.before now h.0 h.1 (λ (e : fate.Failed ≡ fate.Published). cc) c.requires.unmade c.requires.fresh c.requires.counts (omega (arith, c.requires.before, c.begin_on.ensures.later, c.commit_on.ensures.later)) rose h.2)
     c.requires.rising c.requires.fresh c.requires.found c.refuse-2.ensures)

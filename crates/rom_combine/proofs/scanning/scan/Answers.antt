@@ -22,7 +22,7 @@ loop-caller-init g c = let u : View = c.args.seat.now.token.me.0 in (
   1,
   omega arith,
   scan_first (IsCall (on_words g.O.Object.machine) u.base) (plan_of u) (plan_of c.visit.new.seat.token.me.0) c.visit.new.found.items
-      (subst (λ (l : List Posted). IsVisit (IsCall (on_words g.O.Object.machine) u.base) (beginning (plan_of u)) (plan_of c.visit.new.seat.token.me.0) 1 l c.visit.new.found.items) c.requires.empty c.visit.ensures.visited),
+      (subst (λ (l : List Posted). IsVisit (IsCall (on_words g.O.Object.machine) u.base) (beginning (plan_of u)) (plan_of c.visit.new.seat.token.me.0) 1 l c.visit.new.found.items) c.clear.ensures c.visit.ensures.visited),
   c.visit.ensures.same,
 )
 

@@ -4,4 +4,4 @@ use Rattle.rom_rule.specs.declared.views.Position.TheVariants.{Out}
 use Rattle.rom_rows.proofs.readers.finds_always.Given as goal
 
 abbrev pub invariant-loop : goal.invariant-loop
-invariant-loop l = IsSeatOf l.shared.table.shared.table_id l.shared.table.shared.key l.seat × (l.seat.token.me.0.position ≡ Out)
+invariant-loop l = IsSeatOf l.shared l.seat × (l.seat.token.me.0.position ≡ Out)

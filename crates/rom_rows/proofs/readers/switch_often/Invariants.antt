@@ -3,4 +3,4 @@ use Rattle.rom_rows.specs.Untouched.{AtRest}
 use Rattle.rom_rows.proofs.readers.switch_often.Given as goal
 
 abbrev pub invariant-loop : goal.invariant-loop
-invariant-loop g l = IsWriterOf l.shared.table.shared.table_id l.shared.table.shared.key l.writer × AtRest l.writer.token.me.0
+invariant-loop g l = IsWriterOf l.shared l.writer × AtRest l.writer.token.me.0

@@ -1,6 +1,6 @@
 use Rattle.std.proofs.Common.{subst}
-use Rattle.rom_script.specs.Phrases.{Asks}
-use Rattle.rom_script.proofs.Phrases.{asked_reads, no_phrase_reads}
+use Rattle.rom_script.specs.Asking.{Asks}
+use Rattle.rom_script.proofs.Asking.{asked_reads, no_phrase_reads}
 use Rattle.rom_script.proofs.line.read_line.Goals as goal
 
 pub returns-in-Some : goal.returns-in-Some

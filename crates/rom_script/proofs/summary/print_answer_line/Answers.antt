@@ -1,5 +1,5 @@
 use Rattle.rom_script.specs.Trio.{answer_text}
-use Rattle.rom_script.proofs.Prints.{printed, stopped, prints_stopped, stopped_first, both_printed}
+use Rattle.rom_text.proofs.Prints.{printed, stopped, prints_stopped, stopped_first, both_printed}
 use Rattle.rom_script.proofs.summary.print_answer_line.Goals as goal
 
 pub returns-in_err-print : goal.returns-in_err-print

@@ -1,7 +1,7 @@
 use Rattle.std.proofs.Common.{◌++◌, codes, decimal}
-use Rattle.rom_script.specs.Text.{line_text}
+use Rattle.rom_text.specs.Text.{line_text}
 use Rattle.rom_script.specs.Trio.{answer_text}
-use Rattle.rom_script.proofs.Prints.{printed, stopped, prints_stopped, stopped_first, printed_both, stopped_second, both_printed}
+use Rattle.rom_text.proofs.Prints.{printed, stopped, prints_stopped, stopped_first, printed_both, stopped_second, both_printed}
 use Rattle.rom_script.proofs.summary.print_closing.Goals as goal
 
 pub returns-in_err-print_answer_line : goal.returns-in_err-print_answer_line

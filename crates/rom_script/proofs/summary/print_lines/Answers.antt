@@ -1,8 +1,8 @@
 use Rattle.std.proofs.Common.{◌++◌, codes, decimal, subst}
-use Rattle.rom_script.specs.Streams.{Prints}
-use Rattle.rom_script.specs.Text.{line_text}
+use Rattle.rom_text.specs.Streams.{Prints}
+use Rattle.rom_text.specs.Text.{line_text}
 use Rattle.rom_script.specs.Trio.{answer_text}
-use Rattle.rom_script.proofs.Prints.{Stopped, printed, stopped, prints_stopped, stopped_first, both_printed}
+use Rattle.rom_text.proofs.Prints.{Stopped, printed, stopped, prints_stopped, stopped_first, both_printed}
 use Rattle.rom_script.proofs.Summaries.{two_and_three}
 use Rattle.rom_script.proofs.summary.print_lines.Goals as goal
 

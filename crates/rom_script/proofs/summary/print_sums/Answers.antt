@@ -1,7 +1,7 @@
 use Rattle.std.proofs.Common.{◌≡◌, ◌++◌, ◌∙◌, codes, decimal, subst}
-use Rattle.rom_script.specs.Streams.{Prints}
-use Rattle.rom_script.specs.Text.{line_text}
-use Rattle.rom_script.proofs.Prints.{Printed, Stopped, printed, stopped, prints_stopped, stopped_first, both_printed}
+use Rattle.rom_text.specs.Streams.{Prints}
+use Rattle.rom_text.specs.Text.{line_text}
+use Rattle.rom_text.proofs.Prints.{Printed, Stopped, printed, stopped, prints_stopped, stopped_first, both_printed}
 use Rattle.rom_script.proofs.Summaries.{drill_line, sums_line}
 use Rattle.rom_script.proofs.summary.print_sums.Goals as goal
 

@@ -1,15 +1,15 @@
-use Rattle.std.proofs.Common.{◌≡◌, ◌+◌, map, length, ap, sym, subst, ◌∙◌}
-use Rattle.rom_model.specs.History.{after}
+use Rattle.std.proofs.Common.{◌≡◌, ◌+◌, ◌≤◌, map, length, ap, sym, subst, ◌∙◌}
+use Rattle.rom_heap.specs.Laws.{contents_within}
+use Rattle.rom_model.specs.History.{LAST_COUNT, after}
 use Rattle.rom_model.specs.Machine.{on_words}
 use Rattle.rom_model.specs.Region.{Contents}
 use Rattle.rom_model.specs.State.{tell}
-use Rattle.rom_model.specs.Story.{count}
 use Rattle.rom_model.specs.Trio.{trio}
 use Rattle.rom_model.specs.declared.call.Query.TheVariants.{Len, Total}
 use Rattle.rom_script.specs.Drill.{dequeued, drill_lines, drill_scripts, enqueued}
 use Rattle.rom_shell.specs.Drilled.{IsDrillText, drill_told}
-use Rattle.rom_shell.specs.Statuses.{number_of}
-use Rattle.rom_shell.proofs.Lawful.{lawful_answers}
+use Rattle.rom_run.specs.Statuses.{number_of}
+use Rattle.rom_run.proofs.Lawful.{lawful_answers}
 use Rattle.rom_shell.proofs.Summing.{lawful_put, lawful_taken}
 use Rattle.rom_shell.proofs.drill.end_of.Goals as goal
 
@@ -33,9 +33,10 @@ returns-clause-drilled g c = λ story of lawful.
     ∙ (λ i. story.opening_count + length (second i).session.history) ∙ ap (λ h. story.opening_count + length h) (sym of.history) in
     let text : drill_lines start callers calls c.sum_enqueued.result c.sum_dequeued.result c.ask.result c.ask-2.result c.count.result ≡ drill_told start callers calls story = λ i. drill_lines start callers calls (into i) (out_of i) (sizes i) (total i) (count_is i) in
     let same = ap (map (λ v. v.items)) c.deref-3.ensures.value in
+    let few : story.opening_count ≤ LAST_COUNT = (contents_within session.order session.image story.opening story.opening_count of.opening).2 in
     record {
       results = results;
-      answered = lawful_answers session story (drill_scripts start callers calls) results of lawful;
+      answered = lawful_answers trio story (drill_scripts start callers calls) results few lawful;
       printed = subst (λ t. IsDrillText g.O.Sink.shown t results c.args.out.now c.tell_drill-status.new.out (number_of c.tell_drill-status.result)) text
           (subst (λ rs. IsDrillText g.O.Sink.shown (drill_lines start callers calls c.sum_enqueued.result c.sum_dequeued.result c.ask.result c.ask-2.result c.count.result) rs c.args.out.now c.tell_drill-status.new.out (number_of c.tell_drill-status.result)) same
           c.tell_drill-status.ensures.printed);

@@ -18,7 +18,7 @@ take_in-requires-clause-caller g c =
 
 pub loop-pass-preserved : goal.loop-pass-preserved
 loop-pass-preserved g c = let b = c.loop-pass.invariant in let told = c.take_in.ensures in record {
-  of = writer_stays c.args.shared.now.table.shared.table_id c.args.shared.now.table.shared.key c.loop-pass.writer c.take_in.new.writer c.pass.inside.seat.token.me.0 told.same.0 told.joined b.of;
+  of = writer_stays c.args.shared.now c.loop-pass.writer c.take_in.new.writer c.pass.inside.seat.token.me.0 told.same.0 told.joined b.of;
   id = cc (told.same.1, b.id);
   joined = taken_more c.args.writer.now.token.me.0 c.loop-pass.writer.token.me.0 c.take_in.new.writer.token.me.0 c.pass.inside.seat.token.me.0 c.loop-pass.yielded c.in-Some.pass b.joined told.joined (ap (λ (p : Caller). p.view) c.pass.view_is);
 }

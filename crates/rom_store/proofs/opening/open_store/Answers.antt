@@ -8,8 +8,8 @@ use Rattle.rom_header.specs.Regions.{IsCurrentRegion}
 use Rattle.rom_recover.specs.Recovered.{Mended}
 use Rattle.rom_rule.specs.Views.{base_of}
 use Rattle.rom_rule.specs.declared.views.Base.{Base}
-use Rattle.rom_store.specs.Calls.{is_late}
-use Rattle.rom_store.specs.Refusals.{named_order}
+use Rattle.rom_open.specs.Calls.{is_late}
+use Rattle.rom_open.specs.Refusals.{named_order}
 use Rattle.rom_store.proofs.Mending.{mends_within}
 use Rattle.rom_store.proofs.opening.open_store.Goals as goal
 

@@ -1,15 +1,71 @@
-use Rattle.std.proofs.Common.{◌≡◌, ◌∙◌, ℕ, List, rules, sym, subst}
+use Rattle.std.proofs.Common.{◌≡◌, ◌∙◌, ℕ, List, arith, rules, sym, subst}
 use Rattle.rom_combine.specs.AtRest.{IsReady}
 use Rattle.rom_rule.specs.declared.views.Base.{Base}
+use Rattle.rom_combine.specs.Costs.{WithinHeap}
 use Rattle.rom_combine.specs.Session.{SessionImage}
 use Rattle.rom_device.specs.Device.{Leaves}
 use Rattle.rom_model.specs.Machine.{on_words}
 use Rattle.rom_model.specs.VecSpace.{words_of}
 use Rattle.rom_rule.specs.Views.{base_of}
+use Rattle.rom_store.specs.Openings.{Started}
+use Rattle.rom_store.specs.Playing.{CanPlay}
 use Rattle.rom_store.proofs.playing_new.play_new.Goals as goal
 
 pub of-opening-requires-clause-ready : goal.of-opening-requires-clause-ready
 of-opening-requires-clause-ready g c = subst (λ (b : Base). IsReady g.O.Object.STORES b.callers c.in-Ok.made.seated.log) (sym c.in-Ok.ensures.base) c.in-Ok.ensures.ready
+
+pub play_on-requires-clause-ready : goal.play_on-requires-clause-ready
+play_on-requires-clause-ready g c = λ κs outlive.
+    let Contents = g.O.Object.Contents in
+    let made = c.in-Ok.ensures in
+    let scripts = c.args.scripts.now in
+    let rooms = c.in-Ok.made.rooms in
+    subst (λ (o : Started _). CanPlay Contents o.table_id (base_of o.key) o.passes scripts rooms) (sym c.of-opening.ensures.opening)
+    (record {
+      opened = (g.O.Object.machine.empty, 0, subst (λ (b : Base). Contents b.order b.image g.O.Object.machine.empty 0) (sym made.base) made.region);
+      fresh = made.passes;
+      as_many = (made.many, λ j. (sym made.base j).callers);
+      room = made.rooms;
+      few = c.requires.few;
+    })
+
+pub returns-clause-story : goal.returns-clause-story
+returns-clause-story g c = c.play_on.ensures.played.session.story
+
+pub returns-clause-lawful : goal.returns-clause-lawful
+returns-clause-lawful g c = c.play_on.ensures.played.session.lawful
+
+pub returns-clause-order : goal.returns-clause-order
+returns-clause-order g c = c.play_on.ensures.played.order ∙ (λ j. (base_of (c.of-opening.ensures.opening j).key).order) ∙ (λ j. (c.in-Ok.ensures.base j).order)
+
+pub returns-clause-now : goal.returns-clause-now
+returns-clause-now g c = c.play_on.ensures.played.session.now
+
+pub returns-clause-went : goal.returns-clause-went
+returns-clause-went g c = c.play_on.ensures.played.session.went
+
+pub returns-clause-size : goal.returns-clause-size
+returns-clause-size g c = c.play_on.ensures.played.size ∙ (λ j. g.D.Device.shown.size (c.of-opening.ensures.opening j).device) ∙ c.write_heap.ensures.alters.size
+
+pub returns-clause-outside : goal.returns-clause-outside
+returns-clause-outside g c told =
+    let words = g.D.Device.shown.words in
+    let closed = c.play_on.result.closed in
+    let base_is = (λ j. base_of (c.of-opening.ensures.opening j).key) ∙ c.in-Ok.ensures.base in
+    let first = c.write_heap.ensures.alters.words told in
+    let second : WithinHeap c.args.order (words c.write_heap.new.device) (words closed.device) =
+    subst (λ (z : ℕ × List ℕ). WithinHeap z.0 z.1 (words closed.device)) (λ j. ((base_is j).order, words (c.of-opening.ensures.opening j).device)) (c.play_on.ensures.played.outside told) in
+    record {
+      as_long = second.as_long ∙ first.as_long;
+      before = λ k low. absurd (omega (arith, low));
+      behind = λ k high. second.behind k (omega (arith, high)) ∙ first.behind k high;
+    }
+
+pub returns-clause-faults : goal.returns-clause-faults
+returns-clause-faults g c =
+    let base_is = (λ j. base_of (c.of-opening.ensures.opening j).key) ∙ c.in-Ok.ensures.base in
+    let same : c.play_on.result.closed.session.faults ≡ c.fault_count.result = c.play_on.ensures.played.opening_faults ∙ (λ j. (base_is j).faults) in
+    (omega (arith, same, c.fault_count.ensures), c.play_on.ensures.played.session.faults)
 
 pub returns-clause-empty : goal.returns-clause-empty
 returns-clause-empty g c = λ story is.
@@ -17,8 +73,8 @@ returns-clause-empty g c = λ story is.
     let session = c.play_on.result.closed.session in
     let region : List ℕ = words_of c.in-Ok.made.region in
     let base_is = (λ j. base_of (c.of-opening.ensures.opening j).key) ∙ c.in-Ok.ensures.base in
-    let order_is : session.order ≡ c.args.order = c.play_on.ensures.order ∙ (λ j. (base_is j).order) in
-    let image_is : session.image ≡ region = c.play_on.ensures.image ∙ (λ j. (base_is j).image) in
+    let order_is : session.order ≡ c.args.order = c.play_on.ensures.played.order ∙ (λ j. (base_is j).order) in
+    let image_is : session.image ≡ region = c.play_on.ensures.played.image ∙ (λ j. (base_is j).image) in
     let at : object.Contents c.args.order region story.opening story.opening_count = subst (λ (z : ℕ × List ℕ). object.Contents z.0 z.1 story.opening story.opening_count) (λ j. (order_is j, image_is j)) is.opening in
     let w = g.world in
     (g.met.O.Object w.𝓛 w.𝓜 w.𝓡 ((λ s x. x), (λ x. x), (λ x. x), λ x. x)).one_contents c.args.order region story.opening object.machine.empty story.opening_count 0 at c.in-Ok.ensures.region
@@ -32,5 +88,5 @@ returns-clause-since g c = λ told story is.
       at = c.write_heap.new.device;
       making = c.write_heap.ensures.images told;
       stands = let held = c.write_heap.ensures.held_images told in search rules;
-      since = subst (λ d. Leaves shown (SessionImage g.O.Object.Contents step story) d closed.device) (λ j. (c.of-opening.ensures.opening j).device) (c.play_on.ensures.since told story is);
+      since = subst (λ d. Leaves shown (SessionImage g.O.Object.Contents step story) d closed.device) (λ j. (c.of-opening.ensures.opening j).device) (c.play_on.ensures.played.since told story is);
     }

@@ -1,15 +1,15 @@
 use Rattle.std.proofs.Common.{subst, sym, map, vec_capacity, length, arith, ap}
 use Rattle.std.specs.Prelude.{All}
 use Rattle.rom_store.specs.Indexed.{Indexed}
-use Rattle.rom_store.specs.Working.{IsReady, IsNext}
+use Rattle.rom_store.specs.Working.{HasNotBegun, IsNext}
 use Rattle.rom_store.proofs.Places.{all_of, written_back}
 use Rattle.rom_store.proofs.Gathering.{all_past}
 use Rattle.rom_store.proofs.work.work_jobs.Goals as goal
 
 pub work_all-requires-clause-ready : goal.work_all-requires-clause-ready
 work_all-requires-clause-ready g c = let scripts = map (λ v. v.items) c.args.room.now.scripts.now in
-    λ κs le. subst (All (λ j. IsReady g.O.Object.Contents g.N.Label.table g.N.Label.base scripts j.pass j.results.items (vec_capacity j.results))) (sym c.as_mut_slice.ensures.value)
-    (all_of _ (λ j. IsReady g.O.Object.Contents g.N.Label.table g.N.Label.base scripts j.pass j.results.items (vec_capacity j.results)) _ (λ i job next. next.ready) c.requires.next)
+    λ κs le. subst (All (λ j. HasNotBegun g.O.Object.Contents g.N.Label.table g.N.Label.base scripts j.pass j.results.items (vec_capacity j.results))) (sym c.as_mut_slice.ensures.value)
+    (all_of _ (λ j. HasNotBegun g.O.Object.Contents g.N.Label.table g.N.Label.base scripts j.pass j.results.items (vec_capacity j.results)) _ (λ i job next. next.ready) c.requires.next)
 
 pub returns-clause-past : goal.returns-clause-past
 returns-clause-past g c = let scripts = map (λ v. v.items) c.args.room.now.scripts.now in

@@ -17,6 +17,7 @@ use Rattle.rom_combine.specs.Told.{fate_of}
 use Rattle.rom_combine.proofs.Outside.{within_then}
 use Rattle.rom_combine.proofs.Spending.{most_then}
 use Rattle.rom_combine.specs.declared.passed.Outcome.TheVariants as outcome
+use Rattle.rom_combine.specs.declared.passed.Passed.{Passed}
 use Rattle.atomic_table.proofs.Lists.{at_map}
 use Rattle.rom_rule.proofs.Told.{length_map, at_some}
 use Rattle.rom_combine.specs.Resting.{rested}
@@ -39,10 +40,10 @@ use Rattle.rom_rule.specs.CallKinds.{beginning}
 use Rattle.rom_rule.proofs.Books.{full_batch}
 use Rattle.rom_rule.specs.Records.{IsCall}
 use Rattle.rom_rule.specs.Readers as rule
-use Rattle.rom_combine.specs.declared.answering.Answer.{Answer}
-use Rattle.rom_combine.specs.Scanning.{IsFresh, IsScan, posted_of, but_requests}
+use Rattle.rom_combine.specs.declared.answering.CallAnswer.{CallAnswer}
+use Rattle.rom_combine.specs.Scanning.{IsUnanswered, IsScan, posted_of, but_requests}
 use Rattle.rom_combine.specs.declared.scanning.Posted.{Posted}
-use Rattle.rom_combine.specs.Answering.{IsLeft, IsRecordedBy, SameCalls, caller_of}
+use Rattle.rom_combine.specs.Answering.{HasGiven, IsRecordedBy, SameCalls, caller_of}
 use Rattle.rom_combine.specs.Answering.{refused}
 use Rattle.rom_combine.specs.Histories.{PassMakes, ImageAt}
 use Rattle.rom_combine.specs.AtRest.{IsAtRest, Locked}
@@ -68,10 +69,10 @@ returns-then-is_empty-clause-passed g c = let v : View = c.self.inside.seat.toke
     let zero : length c.scan.new.found.items ≡ 0 = search rules in
     let x = pass_nothing g.O.Object.Contents (on_words g.O.Object.machine) v.base (plan_of v) (plan_of w) c.args.shared.now.layout.callers (g.D.Device.shown.faults c.self.inside.twin.device) (g.D.Device.shown.faults c.self.inside.twin.device) c.scan.new.found.items inv.start inv.count (λ s₁ s₂ j k. g.met.O.Object.one_contents v.base.order v.base.image s₁ s₂ j k) inv.opening sc zero
     (none_answered g.O.Object.Contents (on_words g.O.Object.machine) v.base (plan_of v) (plan_of w) _ c.scan.new.found.items sc zero) in
-    subst (λ z. (y : IsPass g.O.Object.Contents (on_words g.O.Object.machine) z.view.base (plan_of z.view) (plan_of w) c.args.shared.now.layout.callers (g.D.Device.shown.faults z.twin.device) (g.D.Device.shown.faults c.self.inside.twin.device) (record { found = 0; done = 0; outcome = Rattle.rom_combine.specs.declared.passed.Outcome.TheVariants.Nothing }))
+    rw c.of.ensures.is (subst (λ z. (y : IsPass g.O.Object.Contents (on_words g.O.Object.machine) z.view.base (plan_of z.view) (plan_of w) c.args.shared.now.layout.callers (g.D.Device.shown.faults z.twin.device) (g.D.Device.shown.faults c.self.inside.twin.device) (record { found = 0; done = 0; outcome = Rattle.rom_combine.specs.declared.passed.Outcome.TheVariants.Nothing }))
     × (Rattle.std.proofs.Common.IsTrue g.D.Device.shown.tells_images → (s : g.O.Object.State) (n : ℕ) → g.O.Object.Contents z.view.base.order z.view.base.image s n →
     Rattle.rom_device.specs.Device.Runs g.D.Device.shown (Rattle.rom_device.specs.Device.Becomes (PassMakes g.O.Object.Contents (on_words g.O.Object.machine) z.view.base s n fate.Published (plan_of z.view).history y.more)) z.twin.device c.self.inside.twin.device))
-    c.self.view_is (x, (λ told s n op. becomes_none g.D.Device.shown (PassMakes g.O.Object.Contents (on_words g.O.Object.machine) v.base s n fate.Published (plan_of v).history x.more) c.self.inside.twin.device))
+    c.self.view_is (x, (λ told s n op. becomes_none g.D.Device.shown (PassMakes g.O.Object.Contents (on_words g.O.Object.machine) v.base s n fate.Published (plan_of v).history x.more) c.self.inside.twin.device)))
 
 pub returns-then-is_empty-clause-now : goal.returns-then-is_empty-clause-now
 returns-then-is_empty-clause-now g c told s n op i left = let v : View = c.self.inside.seat.token.me.0 in let w : View = c.scan.new.seat.token.me.0 in let inv = c.self.invariant.0 in let sc = c.scan.ensures.scanned in
@@ -92,10 +93,10 @@ answer_all-requires-clause-left g c = let v : View = c.self.inside.seat.token.me
     let full : inv.count + length q.history ≡ LAST_COUNT = omega (arith, word, c.load_main-place.ensures.word, c.if-place-eq-LAST_COUNT.true) in
     let of : v.base ≡ base_of c.args.shared.now.table.shared.key = ap (λ z. z.view.base) c.self.view_is ∙ c.requires.of.1 in
     let callers : c.args.shared.now.layout.callers ≡ v.base.callers = ap (λ l. l.callers) c.args.shared.now.laid ∙ sym (ap (λ (z : Base). z.callers) of) in
-    let fresh : Each (λ _ f. IsFresh (IsCall (on_words g.O.Object.machine) v.base) f) q.requests = λ j f e. (sc.fresh j f e).1 in
+    let fresh : Each (λ _ f. IsUnanswered (IsCall (on_words g.O.Object.machine) v.base) f) q.requests = λ j f e. (sc.fresh j f e).1 in
     let from : faults_after v.base.faults q.records ≤ before = subst (λ (z : List PassRecord × ℕ). faults_after v.base.faults z.0 ≤ z.1) (λ j. (sym (ap (λ (z : Plan). z.records) sc.rest) j, sym c.fault_count-before.ensures j)) inv.counts in (
       fate.Published,
-      subst (λ (z : Base × Plan × List Answer). IsLeft g.O.Object.Contents (on_words g.O.Object.machine) z.0 fate.Published before before z.1 0 z.2) (λ j. (sym base_x j, sym plan_x j, sym c.as_slice-then-place-eq-LAST_COUNT.ensures.value j))
+      subst (λ (z : Base × Plan × List CallAnswer). HasGiven g.O.Object.Contents (on_words g.O.Object.machine) z.0 fate.Published before before z.1 0 z.2) (λ j. (sym base_x j, sym plan_x j, sym c.as_slice-answers.ensures.value j))
           (is_refused g.O.Object.Contents (on_words g.O.Object.machine) v.base (2 ^ 62) fate.Published q before before c.as_slice.result.now c.refuse.new.answers.items refl refl
           (may_spend g.O.Object.Contents (on_words g.O.Object.machine) v.base q before before inv.start inv.count full (ap (λ (z : Plan). z.mine) sc.rest) fresh from (omega arith) inv.opening)
           (subst (λ (k : ℕ). AreScanned 0 k (Rattle.std.proofs.Common.map caller_in q.requests)) callers sc.rising) fresh (c.as_slice.ensures.value ∙ sc.items_are) c.refuse.ensures),
@@ -105,7 +106,7 @@ pub publish-outcome-requires-clause-fresh : goal.publish-outcome-requires-clause
 publish-outcome-requires-clause-fresh g c = let v : View = c.self.inside.seat.token.me.0 in let w : View = c.scan.new.seat.token.me.0 in let inv = c.self.invariant.0 in let sc = c.scan.ensures.scanned in
     let base : w.base ≡ v.base = ap (λ (z : View). z.base) c.scan.ensures.same.2 in
     let x : View = c.load_main-place.new.seat.token.me.0 in let plan_x : plan_of x ≡ plan_of w = ap plan_of c.load_main-place.ensures.still.2 in let base_x : x.base ≡ v.base = ap (λ (z : View). z.base) c.load_main-place.ensures.still.2 ∙ base in
-    subst (λ (z : Base × Plan). Each (λ _ f. IsFresh (IsCall (on_words g.O.Object.machine) z.0) f) z.1.requests) (λ j. (sym base_x j, sym plan_x j)) (λ j f e. (sc.fresh j f e).1)
+    subst (λ (z : Base × Plan). Each (λ _ f. IsUnanswered (IsCall (on_words g.O.Object.machine) z.0) f) z.1.requests) (λ j. (sym base_x j, sym plan_x j)) (λ j f e. (sc.fresh j f e).1)
 
 pub invariant_of-self-then-place-eq-LAST_COUNT : goal.invariant_of-self-then-place-eq-LAST_COUNT
 invariant_of-self-then-place-eq-LAST_COUNT g c = let v : View = c.self.inside.seat.token.me.0 in let w : View = c.scan.new.seat.token.me.0 in let inv = c.self.invariant.0 in let sc = c.scan.ensures.scanned in
@@ -120,8 +121,8 @@ invariant_of-self-then-place-eq-LAST_COUNT g c = let v : View = c.self.inside.se
     let word : slice_index q.main 2 ≡ inv.count + length q.history = (g.met.O.Object.contents_within x.base.order q.main _ _ held).1 in
     let full : inv.count + length q.history ≡ LAST_COUNT = omega (arith, word, ap (λ (z : Plan). slice_index z.main 2) plan_x, c.load_main-place.ensures.word, c.if-place-eq-LAST_COUNT.true) in
     let first = at_some items 0 some_found in
-    let at : get_elem? c.as_slice-then-place-eq-LAST_COUNT.result.now 0 ≡ some (refused (2 ^ 62) first.0) = ap (λ (l : List Answer). get_elem? l 0) (c.as_slice-then-place-eq-LAST_COUNT.ensures.value ∙ (c.refuse.ensures ∙ ap (map (refused (2 ^ 62))) c.as_slice.ensures.value)) ∙ at_map (refused (2 ^ 62)) items 0 first.0 first.1 in
-    let made = made_by g.O.Object.Contents (on_words g.O.Object.machine) x.base q (plan_of u) before before c.as_slice-then-place-eq-LAST_COUNT.result.now fate.Published (refused (2 ^ 62) first.0) at refl (ap (λ (z : Plan). z.mine) scan) c.answer_all.ensures.recorded in
+    let at : get_elem? c.as_slice-answers.result.now 0 ≡ some (refused (2 ^ 62) first.0) = ap (λ (l : List CallAnswer). get_elem? l 0) (c.as_slice-answers.ensures.value ∙ (c.refuse.ensures ∙ ap (map (refused (2 ^ 62))) c.as_slice.ensures.value)) ∙ at_map (refused (2 ^ 62)) items 0 first.0 first.1 in
+    let made = made_by g.O.Object.Contents (on_words g.O.Object.machine) x.base q (plan_of u) before before c.as_slice-answers.result.now fate.Published (refused (2 ^ 62) first.0) at refl (ap (λ (z : Plan). z.mine) scan) c.answer_all.ensures.recorded in
     let batched = made.2 inv.start inv.count op in
     let none : made.1 ≡ [] = batched.1 ∙ full_batch (on_words g.O.Object.machine) x.base.order (after (on_words g.O.Object.machine) x.base.order inv.start inv.count q.history) made.0 (map found_of q.requests) (batched.0 ∙ full) in
     (core_spent g.O.Object.Contents (on_words g.O.Object.machine) g.D.Device.shown c.self.inside.twin v u q before made.0 made.1 inv base_u scan made.3 none found c.answer_all.ensures.answered (omega (arith, c.fault_count-before.ensures)), ready_by g.O.Object.STORES v.base u.base c.self.inside.log c.self.inside.log c.self.invariant.1 base_u c.self.invariant.1.clear refl)
@@ -139,18 +140,18 @@ returns-then-place-eq-LAST_COUNT-clause-passed g c = let v : View = c.self.insid
     let word : slice_index q.main 2 ≡ inv.count + length q.history = (g.met.O.Object.contents_within x.base.order q.main _ _ held).1 in
     let full : inv.count + length q.history ≡ LAST_COUNT = omega (arith, word, ap (λ (z : Plan). slice_index z.main 2) plan_x, c.load_main-place.ensures.word, c.if-place-eq-LAST_COUNT.true) in
     let first = at_some items 0 some_found in
-    let at : get_elem? c.as_slice-then-place-eq-LAST_COUNT.result.now 0 ≡ some (refused (2 ^ 62) first.0) = ap (λ (l : List Answer). get_elem? l 0) (c.as_slice-then-place-eq-LAST_COUNT.ensures.value ∙ (c.refuse.ensures ∙ ap (map (refused (2 ^ 62))) c.as_slice.ensures.value)) ∙ at_map (refused (2 ^ 62)) items 0 first.0 first.1 in
-    let made = made_by g.O.Object.Contents (on_words g.O.Object.machine) x.base q (plan_of u) before before c.as_slice-then-place-eq-LAST_COUNT.result.now fate.Published (refused (2 ^ 62) first.0) at refl (ap (λ (z : Plan). z.mine) scan) c.answer_all.ensures.recorded in
+    let at : get_elem? c.as_slice-answers.result.now 0 ≡ some (refused (2 ^ 62) first.0) = ap (λ (l : List CallAnswer). get_elem? l 0) (c.as_slice-answers.ensures.value ∙ (c.refuse.ensures ∙ ap (map (refused (2 ^ 62))) c.as_slice.ensures.value)) ∙ at_map (refused (2 ^ 62)) items 0 first.0 first.1 in
+    let made = made_by g.O.Object.Contents (on_words g.O.Object.machine) x.base q (plan_of u) before before c.as_slice-answers.result.now fate.Published (refused (2 ^ 62) first.0) at refl (ap (λ (z : Plan). z.mine) scan) c.answer_all.ensures.recorded in
     let batched = made.2 inv.start inv.count op in
     let none : made.1 ≡ [] = batched.1 ∙ full_batch (on_words g.O.Object.machine) x.base.order (after (on_words g.O.Object.machine) x.base.order inv.start inv.count q.history) made.0 (map found_of q.requests) (batched.0 ∙ full) in
     let scanned : IsScan (IsCall (on_words g.O.Object.machine) x.base) (plan_of v) q c.args.shared.now.layout.callers items = subst (λ (r : Base × Plan). IsScan (IsCall (on_words g.O.Object.machine) r.0) (plan_of v) r.1 c.args.shared.now.layout.callers items) (λ j. (sym base_x j, sym plan_x j)) sc in
     let many : ℕ = c.len-many.result in let many_is : many ≡ length items = omega (arith, c.len-many.ensures.value) in
     let whole = pass_refused g.O.Object.Contents (on_words g.O.Object.machine) x.base (plan_of v) q (plan_of u) c.args.shared.now.layout.callers before before made.0 many items made.1 outcome.Published scanned made.2 made.3 none some_found many_is c.answer_all.ensures.answered (λ (e : outcome.Published ≡ outcome.Nothing). cc) c.answer_all.ensures.calls in
     let a = c.self.inside.twin.device in
-    subst (λ (r : Base × Locked g.row.D.Denot × ℕ × ℕ). (z : IsPass g.O.Object.Contents (on_words g.O.Object.machine) r.0 (plan_of r.1.view) (plan_of u) c.args.shared.now.layout.callers r.2 r.3 (record { found = many; done = 0; outcome = outcome.Published }))
+    rw c.of-then-place-eq-LAST_COUNT.ensures.is (subst (λ (r : Base × Locked g.row.D.Denot × ℕ × ℕ). (z : IsPass g.O.Object.Contents (on_words g.O.Object.machine) r.0 (plan_of r.1.view) (plan_of u) c.args.shared.now.layout.callers r.2 r.3 (record { found = many; done = 0; outcome = outcome.Published }))
     × (IsTrue g.D.Device.shown.tells_images → (s : g.O.Object.State) (n : ℕ) → g.O.Object.Contents r.0.order r.0.image s n → Runs g.D.Device.shown (Becomes (PassMakes g.O.Object.Contents (on_words g.O.Object.machine) r.0 s n fate.Published (plan_of r.1.view).history z.more)) r.1.twin.device a))
     (λ j. ((base_x ∙ ap (λ r. r.view.base) c.self.view_is) j, c.self.view_is j, (c.fault_count-before.ensures ∙ ap (λ r. g.D.Device.shown.faults r.twin.device) c.self.view_is) j, c.fault_count-before.ensures j))
-    (whole.0, λ told s n op'. becomes_none g.D.Device.shown (PassMakes g.O.Object.Contents (on_words g.O.Object.machine) x.base s n fate.Published (plan_of v).history whole.0.more) a)
+    (whole.0, λ told s n op'. becomes_none g.D.Device.shown (PassMakes g.O.Object.Contents (on_words g.O.Object.machine) x.base s n fate.Published (plan_of v).history whole.0.more) a))
 
 pub returns-then-place-eq-LAST_COUNT-clause-now : goal.returns-then-place-eq-LAST_COUNT-clause-now
 returns-then-place-eq-LAST_COUNT-clause-now g c told s n op i left = let v : View = c.self.inside.seat.token.me.0 in let x : View = c.load_main-place.new.seat.token.me.0 in let u : View = c.answer_all.new.seat.token.me.0 in let t = c.self.inside.twin in
@@ -171,10 +172,10 @@ invariant_of-self-then-ne g c = let v : View = c.self.inside.seat.token.me.0 in 
     let not_published : o ≢ outcome.Published = search rules in let not_nothing = c.publish-outcome.ensures.some in let stays : plan_of y ≡ q = c.publish-outcome.ensures.stays not_published in
     let base_y : y.base ≡ x.base = ap (λ (z : View). z.base) c.publish-outcome.ensures.same.2 in
     let u : View = c.answer_all-then-ne.new.seat.token.me.0 in let base_u : u.base ≡ v.base = ap (λ (z : View). z.base) c.answer_all-then-ne.ensures.same.2 ∙ (base_y ∙ base_x) in
-    let now : ℕ = c.fault_count-now.result in let given : List Answer = c.as_slice-then-ne.result.now in
+    let now : ℕ = c.fault_count-now.result in let given : List CallAnswer = c.as_slice-then-ne.result.now in
     let found_y : 0 < length (plan_of y).requests = omega (arith, found, ap (λ (z : Plan). length z.requests) stays) in
     let first = first_left g.O.Object.Contents (on_words g.O.Object.machine) x.base (fate_of o) before (g.D.Device.shown.faults t.device) (plan_of y) c.publish-outcome.new.answers.items c.publish-outcome.ensures.left found_y in
-    let at : get_elem? given 0 ≡ some first.0 = ap (λ (l : List Answer). get_elem? l 0) c.as_slice-then-ne.ensures.value ∙ first.1 in
+    let at : get_elem? given 0 ≡ some first.0 = ap (λ (l : List CallAnswer). get_elem? l 0) c.as_slice-then-ne.ensures.value ∙ first.1 in
     let recorded : IsRecordedBy g.O.Object.Contents (on_words g.O.Object.machine) x.base q (plan_of u) before now given = subst (λ (z : Base × Plan). IsRecordedBy g.O.Object.Contents (on_words g.O.Object.machine) z.0 z.1 (plan_of u) before now given) (λ j. (base_y j, stays j)) c.answer_all-then-ne.ensures.recorded in
     let made = made_by g.O.Object.Contents (on_words g.O.Object.machine) x.base q (plan_of u) before now given (fate_of o) first.0 at first.2 (ap (λ (z : Plan). z.mine) scan) recorded in
     let since : IsTrue g.D.Device.shown.tells_images → (s : g.O.Object.State) (n : ℕ) → g.O.Object.Contents x.base.order x.base.image s n → Runs g.D.Device.shown (Becomes (PassMakes g.O.Object.Contents (on_words g.O.Object.machine) x.base s n (fate_of o) q.history (batch_now g.O.Object.Contents (on_words g.O.Object.machine) x.base s n q))) c.self.inside.twin.device t.device = λ told s n o'. c.publish-outcome.ensures.since told s n o' in
@@ -197,19 +198,19 @@ returns-then-ne-clause-passed g c = let v : View = c.self.inside.seat.token.me.0
     let not_published : o ≢ outcome.Published = search rules in let not_nothing = c.publish-outcome.ensures.some in let stays : plan_of y ≡ q = c.publish-outcome.ensures.stays not_published in
     let base_y : y.base ≡ x.base = ap (λ (z : View). z.base) c.publish-outcome.ensures.same.2 in
     let u : View = c.answer_all-then-ne.new.seat.token.me.0 in let base_u : u.base ≡ v.base = ap (λ (z : View). z.base) c.answer_all-then-ne.ensures.same.2 ∙ (base_y ∙ base_x) in
-    let now : ℕ = c.fault_count-now.result in let given : List Answer = c.as_slice-then-ne.result.now in
+    let now : ℕ = c.fault_count-now.result in let given : List CallAnswer = c.as_slice-then-ne.result.now in
     let found_y : 0 < length (plan_of y).requests = omega (arith, found, ap (λ (z : Plan). length z.requests) stays) in
     let first = first_left g.O.Object.Contents (on_words g.O.Object.machine) x.base (fate_of o) before (g.D.Device.shown.faults t.device) (plan_of y) c.publish-outcome.new.answers.items c.publish-outcome.ensures.left found_y in
-    let at : get_elem? given 0 ≡ some first.0 = ap (λ (l : List Answer). get_elem? l 0) c.as_slice-then-ne.ensures.value ∙ first.1 in
+    let at : get_elem? given 0 ≡ some first.0 = ap (λ (l : List CallAnswer). get_elem? l 0) c.as_slice-then-ne.ensures.value ∙ first.1 in
     let recorded : IsRecordedBy g.O.Object.Contents (on_words g.O.Object.machine) x.base q (plan_of u) before now given = subst (λ (z : Base × Plan). IsRecordedBy g.O.Object.Contents (on_words g.O.Object.machine) z.0 z.1 (plan_of u) before now given) (λ j. (base_y j, stays j)) c.answer_all-then-ne.ensures.recorded in
     let made = made_by g.O.Object.Contents (on_words g.O.Object.machine) x.base q (plan_of u) before now given (fate_of o) first.0 at first.2 (ap (λ (z : Plan). z.mine) scan) recorded in
     let since : IsTrue g.D.Device.shown.tells_images → (s : g.O.Object.State) (n : ℕ) → g.O.Object.Contents x.base.order x.base.image s n → Runs g.D.Device.shown (Becomes (PassMakes g.O.Object.Contents (on_words g.O.Object.machine) x.base s n (fate_of o) q.history (batch_now g.O.Object.Contents (on_words g.O.Object.machine) x.base s n q))) c.self.inside.twin.device t.device = λ told s n o'. c.publish-outcome.ensures.since told s n o' in
     let scanned : IsScan (IsCall (on_words g.O.Object.machine) x.base) (plan_of v) q c.args.shared.now.layout.callers items = subst (λ (r : Base × Plan). IsScan (IsCall (on_words g.O.Object.machine) r.0) (plan_of v) r.1 c.args.shared.now.layout.callers items) (λ j. (sym base_x j, sym plan_x j)) sc in
     let many : ℕ = c.len-many.result in let many_is : many ≡ length items = omega (arith, c.len-many.ensures.value) in
     let whole = passed_refused g.O.Object.Contents (on_words g.O.Object.machine) g.D.Device.shown c.self.inside.twin.device t.device x.base (plan_of v) q (plan_of u) c.args.shared.now.layout.callers before now made.0 many items made.1 o scanned made.2 made.3 (none_refused g.O.Object.Contents (on_words g.O.Object.machine) o made.1 not_published not_nothing) some_found many_is c.answer_all-then-ne.ensures.answered not_nothing (subst (λ (z : Plan). SameCalls z (plan_of u)) stays c.answer_all-then-ne.ensures.calls) since in
-    subst (λ (r : Base × Locked g.row.D.Denot × ℕ × ℕ). (z : IsPass g.O.Object.Contents (on_words g.O.Object.machine) r.0 (plan_of r.1.view) (plan_of u) c.args.shared.now.layout.callers r.2 r.3 (record { found = many; done = 0; outcome = o }))
+    rw c.of-then-ne.ensures.is (subst (λ (r : Base × Locked g.row.D.Denot × ℕ × ℕ). (z : IsPass g.O.Object.Contents (on_words g.O.Object.machine) r.0 (plan_of r.1.view) (plan_of u) c.args.shared.now.layout.callers r.2 r.3 (record { found = many; done = 0; outcome = o }))
     × (IsTrue g.D.Device.shown.tells_images → (s : g.O.Object.State) (n : ℕ) → g.O.Object.Contents r.0.order r.0.image s n → Runs g.D.Device.shown (Becomes (PassMakes g.O.Object.Contents (on_words g.O.Object.machine) r.0 s n (fate_of o) (plan_of r.1.view).history z.more)) r.1.twin.device t.device))
-    (λ j. ((base_x ∙ ap (λ r. r.view.base) c.self.view_is) j, c.self.view_is j, (c.fault_count-before.ensures ∙ ap (λ r. g.D.Device.shown.faults r.twin.device) c.self.view_is) j, c.fault_count-now.ensures j)) whole
+    (λ j. ((base_x ∙ ap (λ r. r.view.base) c.self.view_is) j, c.self.view_is j, (c.fault_count-before.ensures ∙ ap (λ r. g.D.Device.shown.faults r.twin.device) c.self.view_is) j, c.fault_count-now.ensures j)) whole)
 
 pub returns-then-ne-clause-now : goal.returns-then-ne-clause-now
 returns-then-ne-clause-now g c told s n op i left = let v : View = c.self.inside.seat.token.me.0 in let x : View = c.load_main-place.new.seat.token.me.0 in let u : View = c.answer_all-then-ne.new.seat.token.me.0 in let t = c.publish-outcome.new.twin in
@@ -257,7 +258,7 @@ answer_all-requires-2-clause-left g c = let v : View = c.self.inside.seat.token.
     let lm : View = c.load_main.new.seat.token.me.0 in let plan_lm : plan_of lm ≡ plan_of y = ap plan_of c.load_main.ensures.still.2 in
     let base_lm : lm.base ≡ x.base = ap (λ (r : View). r.base) c.load_main.ensures.still.2 ∙ ap (λ (r : View). r.base) c.publish-outcome.ensures.same.2 in (
       fate_of c.publish-outcome.result,
-      subst (λ (r : Base × Plan × ℕ × List Answer). IsLeft g.O.Object.Contents (on_words g.O.Object.machine) r.0 (fate_of c.publish-outcome.result) c.fault_count-before.result r.2 r.1 0 r.3)
+      subst (λ (r : Base × Plan × ℕ × List CallAnswer). HasGiven g.O.Object.Contents (on_words g.O.Object.machine) r.0 (fate_of c.publish-outcome.result) c.fault_count-before.result r.2 r.1 0 r.3)
           (λ j. (sym base_lm j, sym plan_lm j, sym c.fault_count-now.ensures j, sym c.as_slice-3.ensures.value j)) c.publish-outcome.ensures.left,
     )
 
@@ -423,9 +424,9 @@ returns-clause-passed g c = let v : View = c.self.inside.seat.token.me.0 in let 
     (c.publish-outcome.ensures.order ∙ (inv.order_is ∙ ap (λ (r : Base). r.order) (sym base_x))) (subst (λ w. MayPublish (fate_of w)) (sym is_pub) tt) heldm (c.publish-outcome.ensures.since told s n op) (c.settle.ensures.since told) in
     let whole = passed_published g.O.Object.Contents (on_words g.O.Object.machine) g.D.Device.shown a d x.base (plan_of v) (plan_of x) (plan_of y) (plan_of u) (plan_of z) c.args.shared.now.layout.callers c.fault_count-before.result (g.D.Device.shown.faults c.publish-outcome.new.twin.device) end c.settle.ensures.rested.version c.settle.ensures.rested.clear many diff c.scan.new.found.items o scan pb given settled some_found many_is done c.answer_all-2.ensures.answered is_pub c.publish-outcome.ensures.calls
     (subst (λ (r : Plan). SameCalls r (plan_of u)) plan_lm c.answer_all-2.ensures.calls) run in
-    subst (λ (r : Base × Locked g.row.D.Denot × ℕ). (z' : IsPass g.O.Object.Contents (on_words g.O.Object.machine) r.0 (plan_of r.1.view) (plan_of z) c.args.shared.now.layout.callers r.2 end (record { found = many; done = diff; outcome = o }))
+    rw c.of-2.ensures.is (subst (λ (r : Base × Locked g.row.D.Denot × ℕ). (z' : IsPass g.O.Object.Contents (on_words g.O.Object.machine) r.0 (plan_of r.1.view) (plan_of z) c.args.shared.now.layout.callers r.2 end (record { found = many; done = diff; outcome = o }))
     × (IsTrue g.D.Device.shown.tells_images → (s : g.O.Object.State) (n : ℕ) → g.O.Object.Contents r.0.order r.0.image s n → Runs g.D.Device.shown (Becomes (PassMakes g.O.Object.Contents (on_words g.O.Object.machine) r.0 s n (fate_of o) (plan_of r.1.view).history z'.more)) r.1.twin.device d))
-    (λ j. ((base_x ∙ ap (λ r. r.view.base) c.self.view_is) j, c.self.view_is j, (c.fault_count-before.ensures ∙ ap (λ r. g.D.Device.shown.faults r.twin.device) c.self.view_is) j)) whole
+    (λ j. ((base_x ∙ ap (λ r. r.view.base) c.self.view_is) j, c.self.view_is j, (c.fault_count-before.ensures ∙ ap (λ r. g.D.Device.shown.faults r.twin.device) c.self.view_is) j)) whole)
 
 pub returns-clause-now : goal.returns-clause-now
 returns-clause-now g c told s n op i left = let v : View = c.self.inside.seat.token.me.0 in let w : View = c.scan.new.seat.token.me.0 in let x : View = c.load_main-place.new.seat.token.me.0 in let z : View = c.settle.new.seat.token.me.0 in let t = c.settle.new.twin in
@@ -459,10 +460,10 @@ returns-clause-most g c = let v : View = c.self.inside.seat.token.me.0 in let w 
     let logged : held_count c.publish-outcome.new.log.ranges ≤ g.O.Object.STORES * many = omega (arith, stored, c.publish-outcome.ensures.few is_pub) in
     let a = c.self.inside.twin in let m = c.publish-outcome.new.twin.device in let d = c.settle.new.twin.device in
     let first : SpendsAtMost shown (writes_before_commit a.phase a.order (g.O.Object.STORES * many) + 1) (syncs_before_commit a.phase + 1) a.device m = subst (λ (n : ℕ). SpendsAtMost shown (writes_before_commit a.phase a.order (g.O.Object.STORES * n) + 1) (syncs_before_commit a.phase + 1) a.device m) many_is c.publish-outcome.ensures.most in
-    subst (λ (r : Locked g.row.D.Denot). SpendsAtMost shown (batch_writes r.twin.phase r.twin.order (g.O.Object.STORES * many)) (batch_syncs r.twin.phase) r.twin.device d) c.self.view_is (record {
+    rw c.of-2.ensures.is (subst (λ (r : Locked g.row.D.Denot). SpendsAtMost shown (batch_writes r.twin.phase r.twin.order (g.O.Object.STORES * many)) (batch_syncs r.twin.phase) r.twin.device d) c.self.view_is (record {
       most_writes = record { later = omega (arith, first.most_writes.later, c.settle.ensures.most.most_writes.later); most = omega (arith, logged, first.most_writes.most, c.settle.ensures.most.most_writes.most) };
       most_syncs = record { later = omega (arith, first.most_syncs.later, c.settle.ensures.most.most_syncs.later); most = omega (arith, first.most_syncs.most, c.settle.ensures.most.most_syncs.most) };
-    })
+    }))
 
 pub returns-clause-whole : goal.returns-clause-whole
 returns-clause-whole g c =
@@ -473,7 +474,7 @@ returns-clause-whole g c =
     c.publish-outcome.ensures.whole c.settle.ensures.most (omega (arith, held)) (omega arith))
 
 -- a pass that published has done a call
-some_done : (g : Over) (c : goal.After-settle g) → 0 < c.load_main.result - c.load_main-place.result
+some_done : (g : Over) (c : goal.After-of-2 g) → 0 < c.load_main.result - c.load_main-place.result
 some_done g c = let v : View = c.self.inside.seat.token.me.0 in let w : View = c.scan.new.seat.token.me.0 in let inv = c.self.invariant.0 in let sc = c.scan.ensures.scanned in
     let x : View = c.load_main-place.new.seat.token.me.0 in let q : Plan = plan_of x in let plan_x : q ≡ plan_of w = ap plan_of c.load_main-place.ensures.still.2 in let y : View = c.publish-outcome.new.seat.token.me.0 in
     let base_x : x.base ≡ v.base = ap (λ (z : View). z.base) c.load_main-place.ensures.still.2 ∙ ap (λ (z : View). z.base) c.scan.ensures.same.2 in
@@ -486,7 +487,7 @@ some_done g c = let v : View = c.self.inside.seat.token.me.0 in let w : View = c
     let history : length (plan_of y).history ≡ length q.history + length pb.more = ap length pb.history ∙ length-append q.history pb.more in
     let some_found : 0 < length c.scan.new.found.items = search rules in
     let found : 0 < length q.requests = omega (arith, some_found, ap length sc.items_are, length_map posted_of (plan_of w).requests, ap (λ (z : Plan). length z.requests) plan_x) in
-    let fresh : Each (λ _ f. IsFresh (IsCall (on_words g.O.Object.machine) x.base) f) q.requests = subst (λ (z : Base × Plan). Each (λ _ f. IsFresh (IsCall (on_words g.O.Object.machine) z.0) f) z.1.requests) (λ j. (sym base_x j, sym plan_x j)) (λ j f e. (sc.fresh j f e).1) in
+    let fresh : Each (λ _ f. IsUnanswered (IsCall (on_words g.O.Object.machine) x.base) f) q.requests = subst (λ (z : Base × Plan). Each (λ _ f. IsUnanswered (IsCall (on_words g.O.Object.machine) z.0) f) z.1.requests) (λ j. (sym base_x j, sym plan_x j)) (λ j f e. (sc.fresh j f e).1) in
     let within = (g.met.O.Object.contents_within x.base.order q.main _ _ held).2 in
     let low : inv.count + length q.history < LAST_COUNT = omega (arith, within, word, ap (λ (z : Plan). slice_index z.main 2) plan_x, c.load_main-place.ensures.word, c.if-place-eq-LAST_COUNT.false) in
     let some_more : 0 < length pb.more = batch_done g.O.Object.Contents (on_words g.O.Object.machine) x.base q inv.start inv.count pb.front pb.more op pb.batch fresh found low in
@@ -494,10 +495,10 @@ some_done g c = let v : View = c.self.inside.seat.token.me.0 in let w : View = c
     omega (arith, done, some_more)
 
 pub returns-clause-spent : goal.returns-clause-spent
-returns-clause-spent g c published none = absurd (omega (arith, none, some_done g c))
+returns-clause-spent g c published none = let done : c.of-2.result.done ≡ c.load_main.result - c.load_main-place.result = ap (λ (r : Passed). r.done) c.of-2.ensures.is in absurd (omega (arith, none, done, some_done g c))
 
 pub returns-clause-unwaited : goal.returns-clause-unwaited
-returns-clause-unwaited g c none = absurd (omega (arith, none, some_done g c))
+returns-clause-unwaited g c none = let done : c.of-2.result.done ≡ c.load_main.result - c.load_main-place.result = ap (λ (r : Passed). r.done) c.of-2.ensures.is in absurd (omega (arith, none, done, some_done g c))
 
 pub returns-clause-does : goal.returns-clause-does
 returns-clause-does g c =
@@ -530,7 +531,7 @@ pub returns-then-place-eq-LAST_COUNT-clause-unwaited : goal.returns-then-place-e
 returns-then-place-eq-LAST_COUNT-clause-unwaited g c none = let v : View = c.self.inside.seat.token.me.0 in let w : View = c.scan.new.seat.token.me.0 in let x : View = c.load_main-place.new.seat.token.me.0 in let u : View = c.answer_all.new.seat.token.me.0 in
     let scan : but_requests (plan_of x) ≡ but_requests (beginning (plan_of v)) = ap (λ (z : View). but_requests (plan_of z)) c.load_main-place.ensures.still.2 ∙ c.scan.ensures.scanned.rest in
     let items : List Posted = c.scan.new.found.items in let some_found : 0 < length items = search rules in let before : ℕ = c.fault_count-before.result in
-    let given : List Answer = c.as_slice-then-place-eq-LAST_COUNT.result.now in let given_is : given ≡ map (refused (2 ^ 62)) items = c.as_slice-then-place-eq-LAST_COUNT.ensures.value ∙ (c.refuse.ensures ∙ ap (map (refused (2 ^ 62))) c.as_slice.ensures.value) in
+    let given : List CallAnswer = c.as_slice-answers.result.now in let given_is : given ≡ map (refused (2 ^ 62)) items = c.as_slice-answers.ensures.value ∙ (c.refuse.ensures ∙ ap (map (refused (2 ^ 62))) c.as_slice.ensures.value) in
     let some_given : 0 < length given = omega (arith, some_found, ap length given_is, length_map (refused (2 ^ 62)) items) in
     clear_by g.O.Object.Contents (on_words g.O.Object.machine) x.base (plan_of x) (plan_of u) before before given some_given (ap (λ (z : Plan). z.mine) scan) c.answer_all.ensures.recorded ∙ (ap (λ (z : Plan). z.clear) scan ∙ ap (λ r. (plan_of r.view).clear) c.self.view_is)
 
@@ -540,6 +541,6 @@ returns-then-ne-clause-unwaited g c none = let v : View = c.self.inside.seat.tok
     let plan_x : plan_of x ≡ plan_of w = ap plan_of c.load_main-place.ensures.still.2 in let scan : but_requests (plan_of y) ≡ but_requests (beginning (plan_of v)) = ap but_requests (stays ∙ plan_x) ∙ sc.rest in
     let some_found : 0 < length c.scan.new.found.items = search rules in let before : ℕ = c.fault_count-before.result in let now : ℕ = c.fault_count-now.result in let left = c.publish-outcome.ensures.left in
     let found : 0 < length (plan_of y).requests = omega (arith, some_found, ap length sc.items_are, length_map posted_of (plan_of w).requests, ap (λ (z : Plan). length z.requests) (stays ∙ plan_x)) in
-    let given : List Answer = c.as_slice-then-ne.result.now in let items : List Answer = c.publish-outcome.new.answers.items in
+    let given : List CallAnswer = c.as_slice-then-ne.result.now in let items : List CallAnswer = c.publish-outcome.new.answers.items in
     let some_given : 0 < length given = omega (arith, found, ap length left.same, length_map caller_in (plan_of y).requests, length_map caller_of items, ap length c.as_slice-then-ne.ensures.value) in
     clear_by g.O.Object.Contents (on_words g.O.Object.machine) y.base (plan_of y) (plan_of u) before now given some_given (ap (λ (z : Plan). z.mine) scan) c.answer_all-then-ne.ensures.recorded ∙ (ap (λ (z : Plan). z.clear) scan ∙ ap (λ r. (plan_of r.view).clear) c.self.view_is)

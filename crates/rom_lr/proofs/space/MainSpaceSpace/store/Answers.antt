@@ -1,15 +1,14 @@
-use Rattle.std.proofs.Common.{◌+◌, ◌≤◌, sym, refl, ap, subst, arith}
-use Rattle.rom_lr.specs.Writing.{NobodyReads}
-use Rattle.rom_lr.specs.declared.side.Side.TheVariants.{Main}
+use Rattle.std.proofs.Common.{◌≡◌, ◌+◌, ◌≤◌, sym, refl, ap, subst, arith}
 use Rattle.rom_lr.proofs.Logging.{log_stored}
 use Rattle.rom_ranges.specs.Changes.{IsLogOf}
+use Rattle.rom_rule.specs.Readers.{Settled}
 use Rattle.rom_rule.specs.Views.{plan_of}
 use Rattle.rom_rule.specs.declared.views.Plan.{Plan}
 use Rattle.rom_rule.specs.declared.views.View.{View}
 use Rattle.rom_lr.proofs.space.MainSpaceSpace.store.Goals as goal
 
 pub invariant_of-self-clause-unread : goal.invariant_of-self-clause-unread
-invariant_of-self-clause-unread g c = subst (λ (v : View). NobodyReads v Main) (sym c.store_main.ensures.stored.2) c.args.self.now.unread
+invariant_of-self-clause-unread g c = subst (λ (v : View). ((plan_of v).side ≡ 1) × Settled v.base (plan_of v)) (sym c.store_main.ensures.stored.2) c.args.self.now.unread
 
 pub invariant_of-self-clause-logged : goal.invariant_of-self-clause-logged
 invariant_of-self-clause-logged g c =

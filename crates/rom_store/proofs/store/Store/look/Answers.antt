@@ -1,4 +1,4 @@
-use Rattle.std.proofs.Common.{rules, ◌≡◌, ◌+◌, length, refl, sym, ap, ◌∙◌, subst}
+use Rattle.std.proofs.Common.{◌≡◌, ◌+◌, length, refl, sym, ◌∙◌, subst}
 use Rattle.rom_rule.specs.declared.views.View.{View}
 use Rattle.rom_store.proofs.store.Store.look.Goals as goal
 

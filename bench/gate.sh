@@ -1,0 +1,73 @@
+#!/bin/sh
+# Runs `rt ci --anew` and tells where its time went: the processor seconds of each crate's proof, of its
+# tests and of its edits, those of all compilers together, the memory of the largest check, and the minutes
+# by the clock. It looks at the processes once a second, so each figure is low by up to that much a process.
+# It ends with the status of `rt ci`, whose own lines it keeps in a file and names.
+# Usage, from any folder: bench/gate.sh
+# It needs Linux's /proc.
+cd "$(dirname "$0")/.." || exit 1
+[ -r /proc/self/stat ] || { echo "there is no /proc to look at" >&2; exit 1; }
+folder=$(mktemp -d) || exit 1
+log=$folder/log
+samples=$folder/samples
+ticks=$(getconf CLK_TCK)
+began=$(date +%s)
+
+# Whether one process stands below another.
+stands_below() {
+    at=$1
+    while [ "${at:-0}" -gt 1 ]; do
+        [ "$at" = "$2" ] && return 0
+        at=$(sed -n 's/^PPid:[[:space:]]*//p' "/proc/$at/status" 2>/dev/null)
+    done
+    return 1
+}
+
+# A line for each check and compiler below the process: its number, what it works on, its ticks, its memory.
+look() {
+    for process in $(pgrep -x 'rattle|antt-kernel|clang|clang-[0-9]+|llc|opt|rattle-link|rattle-test'); do
+        stands_below "$process" "$1" || continue
+        words=$(tr '\0' ' ' <"/proc/$process/cmdline" 2>/dev/null)
+        name=$(echo "$words" | sed -n 's/.* --crate-name \([^ ]*\) .*/\1/p')
+        where=$(readlink "/proc/$process/cwd" 2>/dev/null)
+        case "$where $words" in
+            */rt-edit-*) part=edits ;;
+            *" check "*" --test "*) part=tests ;;
+            *" check "*) part=proof ;;
+            *) part=compilers name=all ;;
+        esac
+        used=$(sed 's/.*) //' "/proc/$process/stat" 2>/dev/null | awk '{ print $12 + $13 }')
+        most=$(sed -n 's/^VmHWM:[[:space:]]*\([0-9]*\).*/\1/p' "/proc/$process/status" 2>/dev/null)
+        [ -n "$used" ] && echo "$process ${name:-unknown} $part $used ${most:-0}"
+    done
+}
+
+rt ci --anew >"$log" 2>&1 </dev/null &
+gate=$!
+while kill -0 "$gate" 2>/dev/null; do
+    look "$gate" >>"$samples"
+    sleep 1
+done
+wait "$gate"
+status=$?
+
+awk -v ticks="$ticks" -v clock="$(($(date +%s) - began))" '
+    # A number of a process may be given again, to one that works on something else.
+    { key = $1 " " $2 " " $3; if ($4 > used[key]) used[key] = $4; if ($5 > memory) { memory = $5; largest = $2 } }
+    END {
+        for (key in used) {
+            split(key, words, " ")
+            seconds[words[2] " " words[3]] += used[key] / ticks
+            if (words[3] != "compilers") crates[words[2]] = 1
+            all += used[key] / ticks
+        }
+        print "crate proof tests edits"
+        for (name in crates)
+            printf "%s %d %d %d\n", name, seconds[name " proof"], seconds[name " tests"], seconds[name " edits"] | "sort"
+        close("sort")
+        printf "compilers %d\n", seconds["all compilers"]
+        printf "all: %.0f processor minutes, %.0f minutes by the clock; the largest check, of %s, took %.1f GB\n", all / 60, clock / 60, largest, memory / 1048576
+    }' "$samples"
+tail -n 1 "$log"
+echo "the lines of rt ci are in $log"
+exit "$status"

@@ -1,5 +1,0 @@
-use Rattle.std.proofs.Common.{◌≡◌}
-use Rattle.rom_device.proofs.file_tests.number_words.Given as goal
-
-abbrev pub invariant-loop-at : goal.invariant-loop-at
-invariant-loop-at g l = g.D.Device.shown.size l.device ≡ g.D.Device.shown.size l.fn.device

@@ -1,8 +1,0 @@
-use Rattle.std.proofs.Common.{ℕ, ◌≤◌}
-use Rattle.rom_model.specs.VecSpace.{words_of}
-use Rattle.rom_model.specs.State.{State}
-use Rattle.rom_model.specs.Region.{Contents}
-use Rattle.rom_heap.proofs.tests.apply_all.Given as goal
-
-abbrev pub invariant-loop-call : goal.invariant-loop-call
-invariant-loop-call l = (s : State) × (k : ℕ) × Contents 4 (words_of l.space) s k × (k ≤ l.call-index)

@@ -1,0 +1,75 @@
+//! The device that a command works on.
+use rom_device::{FileDevice, Ram};
+use rom_text::DeviceWant;
+use std::alloc::AllocError;
+use std::fs::{File, OpenFile, OpenOptions};
+use std::io;
+use std::io::ErrorKind;
+
+/// A device that the words of a command line name.
+#[derive(Drop)]
+pub enum HostDevice {
+    /// A file, locked for this program alone. One that could not be opened or lengthened is a device
+    /// whose every call fails.
+    File(FileDevice),
+    /// Words in memory.
+    Memory(Ram),
+}
+
+/// Locks a heap's file for this program alone, or says that it cannot be opened: another program has
+/// locked it, or it takes no lock. Two programs that write one heap would each undo what the other
+/// did. The lock goes with the file, so with the process at the latest, however that ends.
+fn locked(file: File) -> io::Result<File> {
+    file.try_lock()?;
+    Ok(file)
+}
+
+/// The words of a file that is there.
+fn open_old(rt: &HostRuntime, name: &str) -> io::Result<FileDevice> {
+    let file = locked(OpenOptions::new().read(true).write(true).open(rt, name)?)?;
+    let bytes = file.metadata()?.len();
+    Ok(FileDevice::new(file, bytes))
+}
+
+/// The words of a file that is made if need be, and lengthened with zeros to so many. It is never
+/// shortened.
+fn open_made(rt: &HostRuntime, name: &str, words: u64) -> io::Result<FileDevice> {
+    let file = locked(
+        OpenOptions::new()
+            .read(true)
+            .write(true)
+            .create(true)
+            .open(rt, name)?,
+    )?;
+    // Asked for once it is locked: until then another program may have lengthened it.
+    let bytes = file.metadata()?.len();
+    let wanted = words.saturating_mul(8);
+    if bytes < wanted {
+        file.set_len(wanted)?;
+    }
+    Ok(FileDevice::new(file, bytes.max(wanted)))
+}
+
+/// The device of a file, or one that fails where there is none.
+fn file_or_missing(opened: io::Result<FileDevice>) -> Result<HostDevice, AllocError> {
+    match opened {
+        Ok(device) => Ok(HostDevice::File(device)),
+        Err(error) if error.kind() == ErrorKind::OutOfMemory => Err(AllocError),
+        Err(_) => Ok(HostDevice::File(FileDevice::missing())),
+    }
+}
+
+/// So many words in memory, each 0.
+fn memory_of(rt: &HostRuntime, words: u64) -> Result<HostDevice, AllocError> {
+    Ok(HostDevice::Memory(Ram::zeroed(rt.alloc(), words)?))
+}
+
+/// The device that is asked for. Words that are no command have none, and get an empty one.
+pub fn device_of(rt: &HostRuntime, wanted: &DeviceWant) -> Result<HostDevice, AllocError> {
+    match wanted {
+        DeviceWant::Nothing => memory_of(rt, 0),
+        DeviceWant::Fresh(words) => memory_of(rt, *words),
+        DeviceWant::Old(name) => file_or_missing(open_old(rt, name.as_str())),
+        DeviceWant::Made(name, words) => file_or_missing(open_made(rt, name.as_str(), *words)),
+    }
+}

@@ -1,0 +1,3 @@
+-- What words hold is one, and what an inspection tells of them.
+pub mod Holding
+pub mod Inspected

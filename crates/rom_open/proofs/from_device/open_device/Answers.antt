@@ -1,0 +1,20 @@
+use Rattle.rom_recover.specs.Recovered.{Mended}
+use Rattle.rom_header.specs.Held.{Holds}
+use Rattle.rom_open.specs.Refusals.{named_order}
+use Rattle.rom_device.proofs.Going.{leaves_by}
+use Rattle.rom_open.proofs.Holding.{holds_one, same_current}
+use Rattle.rom_open.proofs.from_device.open_device.Goals as goal
+
+pub returns-in-Ok-clause-one : goal.returns-in-Ok-clause-one
+returns-in-Ok-clause-one g c = holds_one g.O.Object.Contents g.met.O.Object.one_contents
+
+pub returns-in-Err-clause-one : goal.returns-in-Err-clause-one
+returns-in-Err-clause-one g c = holds_one g.O.Object.Contents g.met.O.Object.one_contents
+
+pub returns-in-Ok-clause-held_images : goal.returns-in-Ok-clause-held_images
+returns-in-Ok-clause-held_images g c told s k contents =
+    let x = g.D.Device.shown.words c.args.device in
+    let accepted = c.in-Ok.accepted in
+    let current = c.in-Ok.ensures.accepted (g.met.D.Device.tells_both told) in
+    leaves_by g.D.Device.shown (Mended (named_order x) x) (λ i. Holds g.O.Object.Contents accepted.geometry i s k) c.args.device c.accept.new.device (λ i mended. record { region = accepted.image.items; current = same_current accepted.geometry x i accepted.image.items current mended.same; contents = contents })
+    (c.in-Ok.ensures.images told)

@@ -1,0 +1,6 @@
+-- Which words are refused, and what the opening and the making of a heap answer, count and leave.
+pub mod Refusals
+pub mod Calls
+pub mod AtRest
+pub mod Opening
+pub mod Making

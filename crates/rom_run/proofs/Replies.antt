@@ -1,0 +1,34 @@
+-- What was printed of scripts, and why they could not be read.
+use Rattle.std.specs.Prelude.{◌≡◌, ℕ, List, IfSome, codes, Option, Some, None}
+use Rattle.std.proofs.Common.{arith}
+use Rattle.rom_model.specs.Machine.{Machine}
+use Rattle.rom_model.specs.declared.line.Step.{Step}
+use Rattle.rom_device.specs.Device.{ShownDevice}
+use Rattle.rom_text.specs.Runs.{IsTold}
+use Rattle.rom_text.specs.Streams.{ShownSink, ShownSource}
+use Rattle.rom_text.specs.Text.{Texts}
+use Rattle.rom_store.specs.Sessions.{SessionSeen}
+use Rattle.rom_run.specs.Played.{HasReplies, HavePlayed, IsText}
+use Rattle.rom_run.specs.Reading.{IsUnread}
+use Rattle.rom_run.specs.Statuses.{number_of}
+use Rattle.rom_run.specs.Working.{HasSession}
+use Rattle.rom_run.specs.declared.heap.Heap.{Heap}
+use Rattle.rom_run.specs.declared.status.Status.{Status}
+use Rattle.rom_run.specs.declared.status.Status.TheVariants.{NoMemory}
+
+-- what was printed of scripts that were read from these sources
+pub replies_of : {S C Q R A D X K : Type 0} (machine : Machine S C Q R A) (Contents : ℕ → List ℕ → S → ℕ → Type 0) (shown : ShownDevice D) (sink : ShownSink K) (texts : Texts R A) (AreRun : List X → List (List (Step C Q)) → Type 0)
+    (heap : Heap) (was now : D) (sources : List X) (scripts : List (List (Step C Q))) (old new : K) (status : ℕ) (session : Option SessionSeen) → AreRun sources scripts →
+    IfSome session (HasSession machine Contents shown heap was now (HavePlayed machine sink texts scripts old new status)) →
+    IfSome session (HasSession machine Contents shown heap was now (HasReplies machine AreRun (IsText sink texts) sources old new status))
+replies_of machine Contents shown sink texts AreRun heap was now sources scripts old new status None read played = tt
+replies_of machine Contents shown sink texts AreRun heap was now sources scripts old new status (Some z) read played = record {
+  story = played.story;
+  each = played.each;
+  told = λ story of. let p = played.told story of in record { scripts = scripts; results = p.results; read = read; answered = p.answered; printed = p.printed };
+}
+
+-- scripts that could not be read for want of memory, by the status
+pub unread_memory : {X K : Type 0} (source : ShownSource X) (sink : ShownSink K) (before after : List X) (old new : K) (status : Status) → IsUnread source sink status before after old new → number_of status ≡ 6 → IsTold sink old new (codes "no memory")
+unread_memory source sink before after old new NoMemory why six = why
+unread_memory source sink before after old new other why six = absurd (omega (arith, six))

@@ -1,0 +1,148 @@
+-- Why there is no heap, as it is told.
+use Rattle.std.specs.Prelude.{◌≡◌, ◌⊎◌, ℕ, List, IsTrue, codes, Result, Err}
+use Rattle.std.proofs.Common.{refl, arith, inl, inr, ⊎_elim}
+use Rattle.rom_model.specs.Machine.{Machine}
+use Rattle.rom_model.specs.declared.unfit.Break.{Break}
+use Rattle.rom_device.specs.Device.{ShownDevice, Makes}
+use Rattle.rom_header.specs.Calls.{format_fault}
+use Rattle.rom_header.specs.Fresh.{HasTooFewFor, IsFormatAnswer}
+use Rattle.rom_header.specs.declared.fresh.FormatRefused.{FormatRefused}
+use Rattle.rom_header.specs.declared.fresh.FormatRefused.TheVariants as format
+use Rattle.rom_text.specs.Runs.{IsTold}
+use Rattle.rom_text.specs.Streams.{ShownSink}
+use Rattle.rom_open.specs.Calls.{HasFaults}
+use Rattle.rom_open.specs.Making.{HasFaultsUnmade, IfMade}
+use Rattle.rom_open.specs.declared.new_heap.NotFormatted.{NotFormatted}
+use Rattle.rom_open.specs.declared.new_heap.NotFormatted.TheVariants as unmade
+use Rattle.rom_open.specs.declared.reasons.Why.{Why}
+use Rattle.rom_open.specs.declared.reasons.Why.TheVariants.{Device, OutOfMemory}
+use Rattle.rom_open.specs.Refusals.{IsRefusal, NamesTooFew}
+use Rattle.rom_run.specs.Keeping.{HasDeviceFailed, IsLeft, IsUnmade}
+use Rattle.rom_run.specs.Refusing.{refusal_line, refusal_status, unmade_line, unmade_status}
+use Rattle.rom_run.specs.Statuses.{number_of}
+use Rattle.rom_run.specs.Working.{HasNone}
+use Rattle.rom_run.specs.declared.heap.Heap.TheVariants.{New, Standing}
+use Rattle.rom_run.specs.declared.status.Status.TheVariants.{DeviceFailed, HeapRefused, NoMemory}
+
+module _ {D O : Type 0} (shown : ShownDevice D) (sink : ShownSink O) (was now : D) (old new : O) where
+  -- a device that failed while its heap was opened
+  pub opening_failed : (why : Why) (n : ℕ) → n ≡ number_of (refusal_status why) → n ≡ 7 →
+      HasFaults {T = Unit {0}} (Err why) (shown.faults was) (shown.faults now) (shown.failing now) → IsTold sink old new (refusal_line why) → HasDeviceFailed shown sink was now old new
+  opening_failed Device n is seven failed told = record { failed = failed; told = told }
+  opening_failed other n is seven failed told = absurd (omega arith)
+
+  -- or while a heap was made
+  pub making_failed : (why : NotFormatted) (n order : ℕ) (reads writes syncs : Result (Unit {0}) FormatRefused → ℕ) → n ≡ number_of (unmade_status why) → n ≡ 7 →
+      IfMade (Err why) (λ made. Makes shown (reads made) (writes made) (syncs made) was now (format_fault made)) → IsTold sink old new (unmade_line why) → HasDeviceFailed shown sink was now old new
+  making_failed (unmade.Refused format.Device) n order reads writes syncs is seven made told = record { failed = made.cause.failed; told = told }
+  making_failed other n order reads writes syncs is seven made told = absurd (omega arith)
+
+module _ {D O : Type 0} (shown : ShownDevice D) (sink : ShownSink O) (was now : D) (old new : O) (order : ℕ) where
+  -- a heap that was not made for a script, as it is told
+  pub refused_unmade : (why : NotFormatted) (n : ℕ) → n ≡ number_of (unmade_status why) → n ≡ 3 →
+      (IsTrue shown.tells_words → (w : FormatRefused) → why ≡ unmade.Refused w → IsFormatAnswer order (shown.words was) (Err w)) → ((w : FormatRefused) → why ≡ unmade.Refused w → HasTooFewFor order (shown.size was) w) →
+      HasFaultsUnmade why (shown.faults was) (shown.faults now) (shown.failing now) → IsTold sink old new (unmade_line why) → IsUnmade shown sink order was now old new
+  refused_unmade (unmade.Refused format.AlreadyAHeap) n is three answer sizes faults told = record { why = format.AlreadyAHeap; by_name = refl; refused = λ tells. answer tells format.AlreadyAHeap refl; sizes = tt; faults = faults; told = told }
+  refused_unmade (unmade.Refused (format.TooSmall need have)) n is three answer sizes faults told = record {
+    why = format.TooSmall need have;
+    by_name = refl;
+    refused = λ tells. answer tells (format.TooSmall need have) refl;
+    sizes = sizes (format.TooSmall need have) refl;
+    faults = faults;
+    told = told;
+  }
+  refused_unmade (unmade.Refused format.Device) n is three answer sizes faults told = absurd (omega arith)
+  refused_unmade unmade.OutOfMemory n is three answer sizes faults told = absurd (omega arith)
+
+  -- or because the device failed
+  pub failed_unmade : (why : NotFormatted) (n : ℕ) → n ≡ number_of (unmade_status why) → n ≡ 7 → HasFaultsUnmade why (shown.faults was) (shown.faults now) (shown.failing now) → IsTold sink old new (unmade_line why) → HasDeviceFailed shown sink was now old new
+  failed_unmade (unmade.Refused format.Device) n is seven failed told = record { failed = failed; told = told }
+  failed_unmade (unmade.Refused format.AlreadyAHeap) n is seven failed told = absurd (omega arith)
+  failed_unmade (unmade.Refused (format.TooSmall need have)) n is seven failed told = absurd (omega arith)
+  failed_unmade unmade.OutOfMemory n is seven failed told = absurd (omega arith)
+
+-- with the status 6 there was no memory
+pub want_of_memory : (result : Result (Unit {0}) NotFormatted) (why : NotFormatted) (status : ℕ) → result ≡ Err why → status ≡ number_of (unmade_status why) → status ≡ 6 → result ≡ Err unmade.OutOfMemory
+want_of_memory result unmade.OutOfMemory status is told six = is
+want_of_memory result (unmade.Refused format.AlreadyAHeap) status is told six = absurd (omega (arith, told, six))
+want_of_memory result (unmade.Refused (format.TooSmall need have)) status is told six = absurd (omega (arith, told, six))
+want_of_memory result (unmade.Refused format.Device) status is told six = absurd (omega (arith, told, six))
+
+module _ {S C Q R A D K : Type 0} (machine : Machine S C Q R A) (Contents : ℕ → List ℕ → S → ℕ → Type 0) (shown : ShownDevice D) (sink : ShownSink K) (FirstBreak : ℕ → List ℕ → Break → Type 0) (was now : D) (old new : K) where
+  -- there is none, since none was made
+  pub none_made : (order : ℕ) (why : NotFormatted) →
+      (IsTrue shown.tells_words → (w : FormatRefused) → why ≡ unmade.Refused w → IsFormatAnswer order (shown.words was) (Err w)) → ((w : FormatRefused) → why ≡ unmade.Refused w → HasTooFewFor order (shown.size was) w) →
+      HasFaultsUnmade why (shown.faults was) (shown.faults now) (shown.failing now) → (IsTrue shown.tells_images → IsLeft machine Contents shown (New order) was now) → (why ≡ unmade.OutOfMemory → now ≡ was) → IsTold sink old new (unmade_line why) →
+      HasNone machine Contents shown sink FirstBreak (New order) was now old new (number_of (unmade_status why))
+  none_made order why answer sizes faults images memory told = record {
+    images = images;
+    heap_refused = λ three. refused_unmade shown sink was now old new order why _ refl three answer sizes faults told;
+    device_failed = λ seven. failed_unmade shown sink was now old new order why _ refl seven faults told;
+    unfailed = unfailed why faults;
+    uncalled = λ six. memory (remembered why six);
+    no_memory = unremembered why told;
+  }
+    where
+      unfailed : (why : NotFormatted) → HasFaultsUnmade why (shown.faults was) (shown.faults now) (shown.failing now) → number_of (unmade_status why) ≡ 6 → shown.faults now ≡ shown.faults was
+      unfailed unmade.OutOfMemory same six = same
+      unfailed (unmade.Refused format.Device) failed six = absurd (omega (arith, six))
+      unfailed (unmade.Refused format.AlreadyAHeap) failed six = absurd (omega (arith, six))
+      unfailed (unmade.Refused (format.TooSmall need have)) failed six = absurd (omega (arith, six))
+
+      remembered : (why : NotFormatted) → number_of (unmade_status why) ≡ 6 → why ≡ unmade.OutOfMemory
+      remembered unmade.OutOfMemory six = refl
+      remembered (unmade.Refused format.Device) six = absurd (omega (arith, six))
+      remembered (unmade.Refused format.AlreadyAHeap) six = absurd (omega (arith, six))
+      remembered (unmade.Refused (format.TooSmall need have)) six = absurd (omega (arith, six))
+
+      unremembered : (why : NotFormatted) → IsTold sink old new (unmade_line why) → number_of (unmade_status why) ≡ 6 → IsTold sink old new (codes "no memory")
+      unremembered unmade.OutOfMemory told six = told
+      unremembered (unmade.Refused format.Device) told six = absurd (omega (arith, six))
+      unremembered (unmade.Refused format.AlreadyAHeap) told six = absurd (omega (arith, six))
+      unremembered (unmade.Refused (format.TooSmall need have)) told six = absurd (omega (arith, six))
+
+  -- or none was opened, where want of memory may come before any call
+  pub none_opened : (why : Why) → (IsTrue shown.tells_words → IsRefusal Contents FirstBreak (shown.words was) why ⊎ ((why ≡ OutOfMemory) × (now ≡ was))) → NamesTooFew (shown.size was) why →
+      HasFaults {T = Unit {0}} (Err why) (shown.faults was) (shown.faults now) (shown.failing now) → (IsTrue shown.tells_images → IsLeft machine Contents shown Standing was now) → IsTold sink old new (refusal_line why) →
+      HasNone machine Contents shown sink FirstBreak Standing was now old new (number_of (refusal_status why))
+  none_opened Device answer sizes faults images told = record {
+    images = images;
+    heap_refused = λ three. absurd (omega (arith, three));
+    device_failed = λ seven. record { failed = faults; told = told };
+    unfailed = λ six. absurd (omega (arith, six));
+    uncalled = λ six. tt;
+    no_memory = λ six. absurd (omega (arith, six));
+  }
+  none_opened OutOfMemory answer sizes faults images told = record {
+    images = images;
+    heap_refused = λ three. absurd (omega (arith, three));
+    device_failed = λ seven. absurd (omega (arith, seven));
+    unfailed = λ six. faults;
+    uncalled = λ six. tt;
+    no_memory = λ six. told;
+  }
+  none_opened why answer sizes faults images told = by_name why refl refl (λ is. cc) answer sizes faults told images
+    where
+      by_name : (why : Why) → refusal_status why ≡ HeapRefused → number_of (refusal_status why) ≡ 3 → (why ≡ OutOfMemory → ⊥) → (IsTrue shown.tells_words → IsRefusal Contents FirstBreak (shown.words was) why ⊎ ((why ≡ OutOfMemory) × (now ≡ was))) → NamesTooFew (shown.size was) why →
+          HasFaults {T = Unit {0}} (Err why) (shown.faults was) (shown.faults now) (shown.failing now) → IsTold sink old new (refusal_line why) → (IsTrue shown.tells_images → IsLeft machine Contents shown Standing was now) →
+          HasNone machine Contents shown sink FirstBreak Standing was now old new (number_of (refusal_status why))
+      by_name why named three memory answer sizes faults told images = record {
+        images = images;
+        heap_refused = λ is. record { why = why; by_name = named; refused = λ tells. ⊎_elim (λ r. r) (λ none. absurd (memory none.0)) (answer tells); sizes = sizes; faults = faults; told = told };
+        device_failed = λ seven. absurd (omega (arith, three, seven));
+        unfailed = λ six. absurd (omega (arith, three, six));
+        uncalled = λ six. tt;
+        no_memory = λ six. absurd (omega (arith, three, six));
+      }
+
+-- the statuses where there is no heap
+pub unmade_ends : (why : NotFormatted) → (unmade_status why ≡ HeapRefused) ⊎ (unmade_status why ≡ NoMemory) ⊎ (unmade_status why ≡ DeviceFailed)
+unmade_ends (unmade.Refused format.Device) = inr (inr refl)
+unmade_ends (unmade.Refused format.AlreadyAHeap) = inl refl
+unmade_ends (unmade.Refused (format.TooSmall need have)) = inl refl
+unmade_ends unmade.OutOfMemory = inr (inl refl)
+
+pub refusal_ends : (why : Why) → (refusal_status why ≡ HeapRefused) ⊎ (refusal_status why ≡ NoMemory) ⊎ (refusal_status why ≡ DeviceFailed)
+refusal_ends Device = inr (inr refl)
+refusal_ends OutOfMemory = inr (inl refl)
+refusal_ends other = inl refl

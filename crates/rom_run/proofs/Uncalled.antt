@@ -1,0 +1,55 @@
+-- Where the device was not called, all is as it was.
+use Rattle.std.specs.Prelude.{◌≡◌, ◌≢◌, ◌⊎◌, ℕ, List, codes}
+use Rattle.std.proofs.Common.{refl, ap, arith, inl, inr}
+use Rattle.rom_model.specs.Machine.{Machine}
+use Rattle.rom_model.specs.declared.unfit.Break.{Break}
+use Rattle.rom_device.specs.Device.{ShownDevice}
+use Rattle.rom_device.proofs.Going.{leaves_none, runs_none}
+use Rattle.rom_text.specs.Runs.{IsTold}
+use Rattle.rom_text.specs.Streams.{ShownSink}
+use Rattle.rom_run.specs.Statuses.{number_of}
+use Rattle.rom_run.specs.Working.{HasNone, IsDeviceKept}
+use Rattle.rom_run.specs.declared.heap.Heap.{Heap}
+use Rattle.rom_run.specs.declared.heap.Heap.TheVariants.{New, Standing}
+use Rattle.rom_run.specs.declared.status.Status.{Status}
+use Rattle.rom_run.specs.declared.status.Status.TheVariants.{NoMemory, ScriptFailed, ScriptTooLong}
+
+module _ {D : Type 0} (shown : ShownDevice D) (was : D) where
+  -- the device keeps its words
+  pub kept_uncalled : (heap : Heap) → IsDeviceKept shown heap was was
+  kept_uncalled (New order) = record {
+    size = refl;
+    outside = λ told. record { as_long = refl; before = λ k lt. refl; behind = λ k le. refl };
+    spared = λ told refused. record { size = refl; words = λ told. refl; images = λ told. runs_none shown _ (λ x. refl) was };
+  }
+  kept_uncalled Standing = record {
+    size = refl;
+    outside = λ told. record { as_long = refl; before = λ k lt other. refl; behind = λ k le. refl };
+    spared = tt;
+  }
+
+  -- and there is no session, with a status of neither a refused heap nor a device that failed
+  pub none_uncalled : {S C Q R A K : Type 0} (machine : Machine S C Q R A) (Contents : ℕ → List ℕ → S → ℕ → Type 0) (sink : ShownSink K) (FirstBreak : ℕ → List ℕ → Break → Type 0) (old new : K) (status : ℕ) →
+      status ≢ 3 → status ≢ 7 → (status ≡ 6 → IsTold sink old new (codes "no memory")) → (heap : Heap) → HasNone machine Contents shown sink FirstBreak heap was was old new status
+  none_uncalled machine Contents sink FirstBreak old new status unrefused unfailed told (New order) = record {
+    images = λ tells. leaves_none shown _ was;
+    heap_refused = λ three. absurd (unrefused three);
+    device_failed = λ seven. absurd (unfailed seven);
+    unfailed = λ six. refl;
+    uncalled = λ six. refl;
+    no_memory = told;
+  }
+  none_uncalled machine Contents sink FirstBreak old new status unrefused unfailed told Standing = record {
+    images = λ tells. leaves_none shown _ was;
+    heap_refused = λ three. absurd (unrefused three);
+    device_failed = λ seven. absurd (unfailed seven);
+    unfailed = λ six. refl;
+    uncalled = λ six. tt;
+    no_memory = told;
+  }
+
+-- scripts that can't be read are told by another status
+pub unread_otherwise : (status : Status) → (status ≡ ScriptFailed) ⊎ (status ≡ ScriptTooLong) ⊎ (status ≡ NoMemory) → (number_of status ≢ 3) × (number_of status ≢ 7)
+unread_otherwise status (inl is) = (λ three. omega (arith, ap number_of is, three), λ seven. omega (arith, ap number_of is, seven))
+unread_otherwise status (inr (inl is)) = (λ three. omega (arith, ap number_of is, three), λ seven. omega (arith, ap number_of is, seven))
+unread_otherwise status (inr (inr is)) = (λ three. omega (arith, ap number_of is, three), λ seven. omega (arith, ap number_of is, seven))

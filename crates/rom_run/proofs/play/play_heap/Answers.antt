@@ -1,0 +1,26 @@
+use Rattle.rom_run.proofs.Showing.{none_made, none_opened, refusal_ends, unmade_ends}
+use Rattle.rom_run.proofs.play.play_heap.Goals as goal
+
+pub returns-in-Err-clause-none : goal.returns-in-Err-clause-none
+returns-in-Err-clause-none g c =
+    let o = g.O.Object in
+    let ended = c.end_unmade.ensures in
+    let failed = c.in-Err.ensures in
+    rw (c.in-New.is, ended.worked)
+    (none_made o.machine o.Contents g.D.Device.shown g.K.Sink.shown o.FirstBreak c.args.device c.in-Err.unmade.device c.args.out.now c.end_unmade.new.out c.in-New.order c.in-Err.unmade.why
+    failed.refused failed.unmade_sizes failed.unmade_faults failed.unmade_images failed.memory ended.told)
+
+pub returns-in-Err-play-clause-none : goal.returns-in-Err-play-clause-none
+returns-in-Err-play-clause-none g c =
+    let o = g.O.Object in
+    let ended = c.end_unopened.ensures in
+    let failed = c.in-Err-play.ensures in
+    rw (c.in-Standing.is, ended.worked)
+    (none_opened o.machine o.Contents g.D.Device.shown g.K.Sink.shown o.FirstBreak c.args.device c.in-Err-play.refused.device c.args.out.now c.end_unopened.new.out c.in-Err-play.refused.why
+    failed.refused failed.refused_sizes failed.refused_faults failed.refused_images ended.told)
+
+pub returns-in-Err-clause-none_statuses : goal.returns-in-Err-clause-none_statuses
+returns-in-Err-clause-none_statuses g c = rw c.end_unmade.ensures.worked (unmade_ends c.in-Err.unmade.why)
+
+pub returns-in-Err-play-clause-none_statuses : goal.returns-in-Err-play-clause-none_statuses
+returns-in-Err-play-clause-none_statuses g c = rw c.end_unopened.ensures.worked (refusal_ends c.in-Err-play.refused.why)

@@ -1,0 +1,110 @@
+-- What becomes of the device that a command works on, and why there is no heap to work on.
+use Rattle.std.specs.Prelude.{◌≡◌, ◌≤◌, ℕ, List, ◌++◌, IsTrue, codes, decimal, Option, IfSome, Ok, Err}
+use Rattle.rom_model.specs.Faults.{FailedLast}
+use Rattle.rom_model.specs.Machine.{Machine, on_words}
+use Rattle.rom_model.specs.Passes.{faults_after}
+use Rattle.rom_model.specs.Space.{ChangesOnly}
+use Rattle.rom_model.specs.Story.{Story}
+use Rattle.rom_model.specs.declared.unfit.Break.{Break}
+use Rattle.rom_device.specs.Device.{ShownDevice, Does, Leaves, Stays}
+use Rattle.rom_header.specs.Fresh.{IsFormatAnswer, HasTooFewFor, IsRefused}
+use Rattle.rom_header.specs.Held.{Holds}
+use Rattle.rom_header.specs.Layout.{words_needed}
+use Rattle.rom_header.specs.declared.fresh.FormatRefused.{FormatRefused}
+use Rattle.rom_recover.specs.Recovered.{Mended}
+use Rattle.rom_combine.specs.Costs.{WithinHeap}
+use Rattle.rom_combine.specs.Session.{ImageNow, SessionImage}
+use Rattle.rom_text.specs.Runs.{IsTold}
+use Rattle.rom_text.specs.Streams.{ShownSink}
+use Rattle.rom_open.specs.Calls.{HasFaults}
+use Rattle.rom_open.specs.Making.{IsMadeThen, NoneOrHolds}
+use Rattle.rom_open.specs.Refusals.{IsRefusal, NamesTooFew, named_order}
+use Rattle.rom_store.specs.Traced.{WentThrough}
+use Rattle.rom_open.specs.declared.new_heap.NotFormatted.TheVariants.{Refused}
+use Rattle.rom_open.specs.declared.reasons.Why.{Why}
+use Rattle.rom_run.specs.Refusing.{refusal_line, refusal_status, unmade_line, unmade_status}
+use Rattle.rom_run.specs.declared.heap.Heap.{Heap}
+use Rattle.rom_run.specs.declared.heap.Heap.TheVariants.{New, Standing}
+use Rattle.rom_run.specs.declared.status.Status.TheVariants.{HeapRefused}
+
+-- Which words, where they are told, may differ afterwards: those of the heap that is made, or the state and the two regions of the one that the words name. No word behind is touched.
+abbrev pub IsKept : Heap → List ℕ → List ℕ → Type 0
+IsKept (New order) was now = ChangesOnly 0 (words_needed order) was now
+IsKept Standing was now = WithinHeap (named_order was) was now
+
+-- Of an object:
+module _ {S C Q R A : Type 0} (machine : Machine S C Q R A) (Contents : ℕ → List ℕ → S → ℕ → Type 0) where
+  -- The story begins with the empty state on a new heap, where none stood and there are words enough, as far as these are told; or with what the words hold.
+  abbrev pub IsOpening : Heap → Option (List ℕ) → Story S → Type 0
+  IsOpening (New order) words story = IfSome words (λ told. IsFormatAnswer order told (Ok tt)) × (story.order ≡ order) × (story.opening ≡ machine.empty) × (story.opening_count ≡ 0)
+  IsOpening Standing words story = IfSome words (λ told. Holds Contents story.order told story.opening story.opening_count)
+
+  module _ {D : Type 0} (shown : ShownDevice D) where
+    -- What a stop at any moment may leave, where there is no session: a heap that is made isn't there, or holds the empty state and the count 0; in one that stands the same region counts as before.
+    abbrev pub IsLeft : Heap → D → D → Type 0
+    IsLeft (New order) was now = Leaves shown (NoneOrHolds Contents order machine.empty) was now
+    IsLeft Standing was now = Leaves shown (Mended (named_order (shown.words was)) (shown.words was)) was now
+
+    -- What it may leave, where there is one: what could be left before, or an image of the session. Until a heap that is made stands, it may leave none, and from then on none but such an image.
+    abbrev pub IsLeftBySession : Heap → D → D → Story S → Type 0
+    IsLeftBySession (New order) was now story = IsMadeThen shown Contents order machine.empty (SessionImage Contents (on_words machine) story) was now
+    IsLeftBySession Standing was now story = Leaves shown (SessionImage Contents (on_words machine) story) was now
+
+    -- What a stop at the end may leave: the history, or that and the batch in doubt.
+    abbrev pub IsHeldNow : D → Story S → Type 0
+    IsHeldNow now story = (i : List ℕ) → shown.leaves now i → ImageNow Contents (on_words machine) story i
+
+    -- The passes counted the device's faults from its opening on, up to now at most; and the device went through them, one after another, up to now.
+    pub record CountsFaults (was now : D) (story : Story S) : Type 0 where
+      pub before : shown.faults was ≤ story.opening_faults
+      pub after : faults_after story.opening_faults story.records ≤ shown.faults now
+      pub went : WentThrough shown Contents (on_words machine) story story.opening_faults now
+
+module _ {D : Type 0} (shown : ShownDevice D) where
+  -- Nothing changes where a heap that is to be made stands already, or there are too few words for it.
+  abbrev pub IsSpared : Heap → D → D → Type 0
+  IsSpared (New order) was now = IsTrue shown.tells_words → IsRefused order (shown.words was) → Does shown Stays was now
+  IsSpared Standing was now = Unit {0}
+
+-- want of memory to make a heap comes before any call of the device
+abbrev pub IsUncalled : {D : Type 0} → Heap → D → D → Type 0
+IsUncalled (New order) was now = now ≡ was
+IsUncalled Standing was now = Unit {0}
+
+module _ {D K : Type 0} (shown : ShownDevice D) (sink : ShownSink K) where
+  -- The heap isn't made, for this reason: the words and the length are refused so, and the line names it.
+  pub record IsUnmade (order : ℕ) (was now : D) (old new : K) : Type 0 where
+    pub why : FormatRefused
+    pub by_name : unmade_status (Refused why) ≡ HeapRefused
+    pub refused : IsTrue shown.tells_words → IsFormatAnswer order (shown.words was) (Err why)
+    pub sizes : HasTooFewFor order (shown.size was) why
+    pub faults : shown.faults now ≡ shown.faults was
+    pub told : IsTold sink old new (unmade_line (Refused why))
+
+  -- A heap of this order is made where none stood and there are words enough: the device holds the empty state and the count 0, and so does whatever a stop leaves of it.
+  pub record IsMade {S : Type 0} (Contents : ℕ → List ℕ → S → ℕ → Type 0) (empty : S) (order : ℕ) (was now : D) (old new : K) : Type 0 where
+    pub accepted : IsTrue shown.tells_words → IsFormatAnswer order (shown.words was) (Ok tt)
+    pub fits : words_needed order ≤ shown.size was
+    pub held : IsTrue shown.tells_words → Holds Contents order (shown.words now) empty 0
+    pub images : IsTrue shown.tells_images → (i : List ℕ) → shown.leaves now i → Holds Contents order i empty 0
+    pub told : IsTold sink old new (codes "formatted order " ++ decimal order)
+
+  -- Of the device's calls the last one failed, and no other, and the line says so.
+  pub record HasDeviceFailed (was now : D) (old new : K) : Type 0 where
+    pub failed : FailedLast (shown.faults was) (shown.faults now) (shown.failing now)
+    pub told : IsTold sink old new (codes "device failed")
+
+  module _ {S : Type 0} (Contents : ℕ → List ℕ → S → ℕ → Type 0) (FirstBreak : ℕ → List ℕ → Break → Type 0) where
+    -- The heap isn't opened, likewise.
+    pub record IsUnopened (was now : D) (old new : K) : Type 0 where
+      pub why : Why
+      pub by_name : refusal_status why ≡ HeapRefused
+      pub refused : IsTrue shown.tells_words → IsRefusal Contents FirstBreak (shown.words was) why
+      pub sizes : NamesTooFew (shown.size was) why
+      pub faults : HasFaults {T = Unit {0}} (Err why) (shown.faults was) (shown.faults now) (shown.failing now)
+      pub told : IsTold sink old new (refusal_line why)
+
+    -- why a heap is refused by name
+    abbrev pub IsHeapRefused : Heap → D → D → K → K → Type 0
+    IsHeapRefused (New order) was now old new = IsUnmade order was now old new
+    IsHeapRefused Standing was now old new = IsUnopened was now old new

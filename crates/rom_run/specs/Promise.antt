@@ -1,0 +1,51 @@
+-- What a program promises of a command.
+use Rattle.std.specs.Prelude.{◌≡◌, ◌≢◌, ◌↔◌, ◌⊎◌, ℕ, List, length, map, IsSome, IsNone, IfSome, codes, Option, None}
+use Rattle.std.specs.Global.{Vec}
+use Rattle.rom_model.specs.Machine.{Machine}
+use Rattle.rom_model.specs.Story.{Story}
+use Rattle.rom_model.specs.declared.line.Step.{Step}
+use Rattle.rom_model.specs.declared.line.LineResult.{LineResult}
+use Rattle.rom_model.specs.declared.unfit.Break.{Break}
+use Rattle.rom_device.specs.Device.{ShownDevice}
+use Rattle.rom_text.specs.Runs.{AreAskedOnce, AreAtEnd, AreWithin, IsTold, SourceFailed, SourceTooLong}
+use Rattle.rom_text.specs.Streams.{ShownSink, ShownSource, StopsWriting, WriteFailed}
+use Rattle.rom_store.specs.Sessions.{EachStory, SessionSeen}
+use Rattle.rom_run.specs.Played.{HasReplies}
+use Rattle.rom_run.specs.Use.{HasNotFailed, HasNotRun, HasRead, HasRun, IsStatus, Use, heap_of}
+use Rattle.rom_run.specs.Working.{HasMade, HasNone, HasSession, IsDeviceKept, IsStill}
+
+-- of a program's object, device, sources and sink; which scripts it plays, and what it prints of their results
+module _ {S C Q R A D X K : Type 0} (machine : Machine S C Q R A) (Contents : ℕ → List ℕ → S → ℕ → Type 0) (FirstBreak : ℕ → List ℕ → Break → Type 0) (shown : ShownDevice D) (source : ShownSource X) (sink : ShownSink K)
+    (AreRun : List X → List (List (Step C Q)) → Type 0) (Prints : Story S → List (List (LineResult R A)) → K → K → ℕ → Type 0) where
+  -- A command that asks for this use of the device's heap, or words that are none: whatever becomes of it, it ends so and prints so.
+  pub record Promise (asked : Option Use) (was now : D) (sources left : Vec X) (old new : K) (status : ℕ) (session : Option SessionSeen) : Type 0 where
+    -- the status, and where a session is left
+    pub statuses : IsStatus asked status
+    pub ran : HasRun asked status → IsSome session
+    pub not_run : HasNotRun asked status → IsNone session
+    -- where scripts were run or a heap was shown, the results of one history are printed, and what a stop leaves is told by it
+    pub story : IfSome asked (λ does. IfSome session (HasSession machine Contents shown (heap_of does) was now (HasReplies machine AreRun Prints sources.items old new status)))
+    pub still : IfSome session (λ s. EachStory machine Contents s (IsStill Contents shown asked was now))
+    -- else what a stop may leave, and why scripts were not run or a heap not shown
+    pub none : IfSome asked (λ does. IsNone session → HasNone machine Contents shown sink FirstBreak (heap_of does) was now old new status)
+    pub made : status ≡ 0 → HasMade machine Contents shown sink asked was now old new
+    -- the device
+    pub kept : IfSome asked (λ does. IsDeviceKept shown (heap_of does) was now)
+    pub uncalled : (status ≡ 2) ⊎ (status ≡ 4) ⊎ (status ≡ 8) → now ≡ was
+    pub unfailed : HasNotFailed asked status → shown.faults now ≡ shown.faults was
+    -- the sources
+    pub many : length left.items ≡ length sources.items
+    pub asked_once : AreAskedOnce source sources.items left.items
+    pub unread : status ≡ 2 → left ≡ sources
+    pub fit : HasRead status → AreWithin source sources.items
+    pub read : HasRead status → AreAtEnd source left.items
+    pub source_failed : status ≡ 4 → SourceFailed source sink sources.items left.items old new
+    pub none_failed : status ≢ 4 → map source.faults left.items ≡ map source.faults sources.items
+    pub too_long : status ≡ 8 → SourceTooLong source sink sources.items left.items old new
+    -- and the sink
+    pub not_a_command : (status ≡ 2) ↔ (asked ≡ None)
+    pub not_a_command_told : status ≡ 2 → IsTold sink old new (codes "not a command")
+    pub no_memory : status ≡ 6 → IsTold sink old new (codes "no memory")
+    pub sink_failed : status ≡ 5 → WriteFailed sink old new
+    pub writing : StopsWriting sink old new
+    pub rest : sink.rest new ≡ sink.rest old

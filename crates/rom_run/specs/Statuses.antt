@@ -1,0 +1,35 @@
+-- The numbers of the statuses, and the one that results lead to.
+use Rattle.std.specs.Prelude.{ℕ, Bool, true, false, if◌then◌else◌, List}
+use Rattle.std.specs.List.{list_any}
+use Rattle.rom_model.specs.declared.call.Updated.TheVariants.{Failed, Doubt}
+use Rattle.rom_model.specs.declared.line.LineResult.{LineResult}
+use Rattle.rom_model.specs.declared.line.LineResult.TheVariants as outcome
+use Rattle.rom_run.specs.declared.status.Status.{Status}
+use Rattle.rom_run.specs.declared.status.Status.TheVariants as status
+
+abbrev pub number_of : Status → ℕ
+number_of status.Done = 0
+number_of status.Unread = 1
+number_of status.NotACommand = 2
+number_of status.HeapRefused = 3
+number_of status.ScriptFailed = 4
+number_of status.SinkFailed = 5
+number_of status.NoMemory = 6
+number_of status.DeviceFailed = 7
+number_of status.ScriptTooLong = 8
+
+abbrev pub is_unread : {R A : Type 0} → LineResult R A → Bool
+is_unread outcome.Unread = true
+is_unread other = false
+
+-- the device failed under the update
+abbrev pub is_faulted : {R A : Type 0} → LineResult R A → Bool
+is_faulted (outcome.Update Failed) = true
+is_faulted (outcome.Update Doubt) = true
+is_faulted other = false
+
+-- The status of results that are all printed: 7 where the device failed under an update, or else 1 where a line is unread, or else 0.
+abbrev pub status_of : {R A : Type 0} → List (List (LineResult R A)) → ℕ
+status_of results =
+    if list_any (λ rs. list_any is_faulted rs) results then 7 else
+    if list_any (λ rs. list_any is_unread rs) results then 1 else 0

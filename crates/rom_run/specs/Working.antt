@@ -1,0 +1,65 @@
+-- What is promised of a heap that a command works on.
+use Rattle.std.specs.Prelude.{◌≡◌, ℕ, List, IsTrue, codes, Option, Some, None}
+use Rattle.rom_model.specs.Machine.{Machine}
+use Rattle.rom_model.specs.Story.{Story}
+use Rattle.rom_model.specs.declared.unfit.Break.{Break}
+use Rattle.rom_device.specs.Device.{Leaves, ShownDevice, told_words}
+use Rattle.rom_header.specs.Held.{Holds}
+use Rattle.rom_recover.specs.Recovered.{Mended}
+use Rattle.rom_text.specs.Runs.{IsTold}
+use Rattle.rom_text.specs.Streams.{ShownSink}
+use Rattle.rom_open.specs.Refusals.{named_order}
+use Rattle.rom_store.specs.Sessions.{EachStory, HasStory, SessionSeen}
+use Rattle.rom_run.specs.Keeping.{CountsFaults, HasDeviceFailed, IsHeapRefused, IsHeldNow, IsKept, IsLeft, IsLeftBySession, IsMade, IsOpening, IsSpared, IsUncalled}
+use Rattle.rom_run.specs.Use.{Makes, Plays, Shows, Use}
+use Rattle.rom_run.specs.declared.heap.Heap.{Heap}
+
+module _ {D : Type 0} (shown : ShownDevice D) where
+  -- Whatever becomes of it, the device keeps its length and its other words.
+  pub record IsDeviceKept (heap : Heap) (was now : D) : Type 0 where
+    pub size : shown.size now ≡ shown.size was
+    pub outside : IsTrue shown.tells_words → IsKept heap (shown.words was) (shown.words now)
+    pub spared : IsSpared shown heap was now
+
+module _ {S C Q R A : Type 0} (machine : Machine S C Q R A) (Contents : ℕ → List ℕ → S → ℕ → Type 0) {D : Type 0} (shown : ShownDevice D) where
+  -- A session on this heap: how it began, what a stop leaves at the end and at any moment, and that its passes are the device's.
+  pub record IsSessionOn (heap : Heap) (was now : D) (story : Story S) : Type 0 where
+    pub opening : IsOpening machine Contents heap (told_words shown was) story
+    pub at_end : IsTrue shown.tells_images → IsHeldNow machine Contents shown now story
+    pub since : IsTrue shown.tells_images → IsLeftBySession machine Contents shown heap was now story
+    pub faults : CountsFaults machine Contents shown was now story
+
+  -- It has a story, and each of its stories is such a session and has P.
+  pub record HasSession (heap : Heap) (was now : D) (P : Story S → Type 0) (session : SessionSeen) : Type 0 where
+    pub story : HasStory machine Contents session
+    pub each : EachStory machine Contents session (IsSessionOn heap was now)
+    pub told : EachStory machine Contents session P
+
+  module _ {K : Type 0} (sink : ShownSink K) (FirstBreak : ℕ → List ℕ → Break → Type 0) where
+    -- There is no session: what a stop may leave, and by the status why.
+    pub record HasNone (heap : Heap) (was now : D) (old new : K) (status : ℕ) : Type 0 where
+      pub images : IsTrue shown.tells_images → IsLeft machine Contents shown heap was now
+      pub heap_refused : status ≡ 3 → IsHeapRefused shown sink Contents FirstBreak heap was now old new
+      pub device_failed : status ≡ 7 → HasDeviceFailed shown sink was now old new
+      pub unfailed : status ≡ 6 → shown.faults now ≡ shown.faults was
+      pub uncalled : status ≡ 6 → IsUncalled heap was now
+      pub no_memory : status ≡ 6 → IsTold sink old new (codes "no memory")
+
+-- A heap that is only shown is as it was: its words hold what the story begins with, and whatever a stop leaves, the same region counts as before.
+pub record IsAsBefore {S D : Type 0} (Contents : ℕ → List ℕ → S → ℕ → Type 0) (shown : ShownDevice D) (was now : D) (story : Story S) : Type 0 where
+  pub held : IsTrue shown.tells_words → Holds Contents story.order (shown.words now) story.opening story.opening_count
+  pub at_end : IsTrue shown.tells_images → (i : List ℕ) → shown.leaves now i → Holds Contents story.order i story.opening story.opening_count
+  pub images : IsTrue shown.tells_images → Leaves shown (Mended (named_order (shown.words was)) (shown.words was)) was now
+
+abbrev pub IsStill : {S D : Type 0} → (ℕ → List ℕ → S → ℕ → Type 0) → ShownDevice D → Option Use → D → D → Story S → Type 0
+IsStill Contents shown (Some (Plays heap scripts)) was now story = Unit {0}
+IsStill Contents shown (Some (Makes order)) was now story = Unit {0}
+IsStill Contents shown (Some Shows) was now story = IsAsBefore Contents shown was now story
+IsStill Contents shown None was now story = Unit {0}
+
+-- what is made by a command that is done
+abbrev pub HasMade : {S C Q R A D K : Type 0} → Machine S C Q R A → (ℕ → List ℕ → S → ℕ → Type 0) → ShownDevice D → ShownSink K → Option Use → D → D → K → K → Type 0
+HasMade machine Contents shown sink (Some (Plays heap scripts)) was now old new = Unit {0}
+HasMade machine Contents shown sink (Some (Makes order)) was now old new = IsMade shown sink Contents machine.empty order was now old new
+HasMade machine Contents shown sink (Some Shows) was now old new = Unit {0}
+HasMade machine Contents shown sink None was now old new = Unit {0}

@@ -1,0 +1,37 @@
+//! What a program does on a heap with words that it has understood: scripts on a heap, or a new heap.
+//!
+//! It is generic in the object and in how its lines are written. `run_asked` promises it in one
+//! record, `Promise`, by the use that is made of a heap (scripts that are read and played on a new one
+//! of an order, or on the one that stands; or a new one alone): which statuses it ends with and where
+//! a session is left, that what was printed are the results of one history, what a stop leaves of the
+//! device at any moment, and of each refusal the cause and the line. The record has more uses, for
+//! programs with commands of their own (scripts that are drawn, a heap that is shown). So what
+//! `run_asked` does in between is public too: each such function names its clauses, and the record
+//! holds the same.
+#![tactic(auto)]
+
+mod ended;
+mod format;
+mod heap;
+mod play;
+mod program;
+mod refusals;
+mod results;
+mod script;
+mod scripted;
+mod standing;
+mod status;
+mod telling;
+mod worked;
+
+pub use ended::Ended;
+pub use format::make_heap;
+pub use heap::Heap;
+pub use play::{end_of, end_without_memory, play_heap, play_lines};
+pub use program::{Asked, run_asked};
+pub use results::any_faulted;
+pub use scripted::play_sources;
+pub use standing::{OpenHeap, open_heap};
+pub use status::Status;
+pub use telling::tell;
+pub use worked::Worked;

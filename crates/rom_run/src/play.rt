@@ -1,0 +1,225 @@
+//! Scripts on a heap, whichever it is.
+ghost use Rattle.std.specs.Prelude.{◌≡◌, ◌⊎◌, ◌<◌, ◌≤◌, All, List, length, map, codes, IfErr, IfOk, IfSome, IsNone, IsSome, OnOk, None, Some};
+ghost use Rattle.rom_model.specs.History.{LAST_COUNT};
+ghost use Rattle.rom_model.specs.Lawful.{IsLawful};
+ghost use Rattle.rom_model.specs.declared.line.Step.{Step};
+ghost use Rattle.rom_text.specs.Runs.{IsTold};
+ghost use Rattle.rom_text.specs.Streams.{StopsWriting, WriteFailed};
+ghost use Rattle.rom_text.specs.Text.{texts_of};
+ghost use Rattle.rom_run.specs.Played.{HavePlayed};
+ghost use Rattle.rom_run.specs.Refusing.{refusal_line, unmade_line};
+ghost use Rattle.rom_run.specs.Refusing as refusing;
+ghost use Rattle.rom_run.specs.Statuses.{number_of};
+ghost use Rattle.rom_run.specs.Use.{HasOrder, HasRun, Plays, Read};
+ghost use Rattle.rom_run.specs.Working.{HasNone, HasSession, IsDeviceKept};
+ghost use Rattle.rom_run.specs.declared.heap.Heap.{Heap};
+ghost use Rattle.rom_store.specs.Sessions.{EachStory};
+
+use crate::heap::Heap;
+use crate::refusals::{refusal_status, tell_refusal, tell_unmade, unmade_status};
+use crate::results::tell_results;
+use crate::status::Status;
+use crate::telling::tell;
+use crate::worked::Worked;
+use rom_device::Device;
+use rom_model::{Object, Step};
+use rom_open::Refused;
+use rom_store::{Gate, Played, Unmade, play, play_new};
+use rom_text::{Sink, Told};
+use std::alloc::Global;
+use std::sync::Wait;
+use std::thread::Threads;
+
+/// Prints that there is no memory, where the device was not called for it.
+pub fn end_without_memory<O: Object, D: Device, K: Sink>(device: D, out: &mut K) -> Worked<D>
+    ensures worked { result ≡ record {
+      device = device;
+      status = Status.NoMemory;
+      session = None;
+    } }
+    ensures none { (heap : Heap) → HasNone O.machine O.Contents D.shown K.shown O.FirstBreak heap
+        device device out.old out.new 6 }
+    ensures kept { (heap : Heap) → IsDeviceKept D.shown heap device device }
+    ensures told { IsTold K.shown out.old out.new (codes "no memory") }
+    ensures writing { StopsWriting K.shown out.old out.new }
+    ensures rest { K.shown.rest out.new ≡ K.shown.rest out.old }
+{
+    tell(out, &["no memory"]);
+    Worked {
+        device,
+        status: Status::NoMemory,
+        session: None,
+    }
+}
+
+/// Prints why no heap was made for scripts.
+fn end_unmade<D: Device, K: Sink>(unmade: Unmade<D>, out: &mut K) -> Worked<D>
+    ensures worked { result ≡ record {
+      device = unmade.device;
+      status = refusing.unmade_status unmade.why;
+      session = None;
+    } }
+    ensures told { IsTold K.shown out.old out.new (unmade_line unmade.why) }
+    ensures writing { StopsWriting K.shown out.old out.new }
+    ensures rest { K.shown.rest out.new ≡ K.shown.rest out.old }
+{
+    let Unmade { device, why } = unmade;
+    tell_unmade(out, why);
+    Worked {
+        device,
+        status: unmade_status(why),
+        session: None,
+    }
+}
+
+/// Prints why no heap was opened.
+pub(crate) fn end_unopened<D: Device, K: Sink>(refused: Refused<D>, out: &mut K) -> Worked<D>
+    ensures worked { result ≡ record {
+      device = refused.device;
+      status = refusing.refusal_status refused.why;
+      session = None;
+    } }
+    ensures told { IsTold K.shown out.old out.new (refusal_line refused.why) }
+    ensures writing { StopsWriting K.shown out.old out.new }
+    ensures rest { K.shown.rest out.new ≡ K.shown.rest out.old }
+{
+    let Refused { device, why } = refused;
+    tell_refusal(out, why);
+    Worked {
+        device,
+        status: refusal_status(why),
+        session: None,
+    }
+}
+
+/// Prints what the scripts were told, and ends the session.
+pub fn end_of<O: Object, D: Device, K: Sink>(
+    played: Played<D, O, O::Reply, O::Answer>,
+    out: &mut K,
+) -> Worked<D>
+where
+    O::Reply: Told + Drop,
+    O::Answer: Told + Drop,
+    ensures device { result.device ≡ played.closed.device }
+    ensures session { result.session ≡ Some played.closed.session }
+    ensures statuses { (result.status ≡ Status.Done) ⊎ (result.status ≡ Status.Unread)
+        ⊎ (result.status ≡ Status.SinkFailed) ⊎ (result.status ≡ Status.DeviceFailed) }
+    ensures played { (scripts : List (List (Step O.Call O.Query))) →
+        EachStory O.machine O.Contents played.closed.session (λ story.
+        IsLawful O.machine story scripts (map (λ v. v.items) played.results.items)
+        → HavePlayed O.machine K.shown (texts_of O.Reply.shown O.Answer.shown) scripts out.old
+        out.new (number_of result.status) story) }
+    ensures sink_failed { result.status ≡ Status.SinkFailed → WriteFailed K.shown out.old out.new }
+    ensures writing { StopsWriting K.shown out.old out.new }
+    ensures rest { K.shown.rest out.new ≡ K.shown.rest out.old }
+{
+    let Played { results, closed } = played;
+    let status = tell_results(out, &results, closed.count());
+    let (device, session) = closed.parts();
+    Worked {
+        device,
+        status,
+        session: Some(session),
+    }
+}
+
+/// Opens or makes the heap and runs the scripts on it, one caller each, or prints why there is
+/// none. Memory for them is taken before the device is called; where a heap is made, all memory is.
+pub fn play_heap<
+    O: Object + Send + Sync,
+    D: Device + Send,
+    K: Sink,
+    R: Threads + Wait + Sync,
+    G: Gate + Sync,
+>(
+    rt: &R,
+    alloc: Global,
+    heap: Heap,
+    device: D,
+    scripts: &[Vec<Step<O::Call, O::Query>>],
+    out: &mut K,
+    gate: &G,
+) -> Result<Played<D, O, O::Reply, O::Answer>, Worked<D>>
+where
+    O::Call: Send + Sync,
+    O::Query: Send + Sync,
+    O::Reply: Drop + Send + Sync,
+    O::Answer: Drop + Send + Sync,
+    requires order { HasOrder heap }
+    requires callers { (0 < length scripts.now) × (length scripts.now ≤ 16) }
+    requires few { All (λ v. length v.items ≤ LAST_COUNT) scripts.now }
+    ensures session { IfOk result (λ played. HasSession O.machine O.Contents D.shown heap device
+        played.closed.device (λ story. IsLawful O.machine story (map (λ v. v.items) scripts.now)
+        (map (λ v. v.items) played.results.items)) played.closed.session) }
+    ensures kept { IfOk result (λ played.
+        IsDeviceKept D.shown heap device played.closed.device) }
+    ensures unprinted { OnOk result (out.new ≡ out.old) }
+    ensures none { IfErr result (λ worked. HasNone O.machine O.Contents D.shown K.shown O.FirstBreak
+        heap device worked.device out.old out.new (number_of worked.status)) }
+    ensures none_kept { IfErr result (λ worked.
+        IsDeviceKept D.shown heap device worked.device) }
+    ensures none_statuses { IfErr result (λ worked. (worked.status ≡ Status.HeapRefused)
+        ⊎ (worked.status ≡ Status.NoMemory) ⊎ (worked.status ≡ Status.DeviceFailed)) }
+    ensures none_ran { IfErr result (λ worked. IsNone worked.session) }
+    ensures writing { StopsWriting K.shown out.old out.new }
+    ensures rest { K.shown.rest out.new ≡ K.shown.rest out.old }
+{
+    match heap {
+        Heap::New(order) => match play_new::<D, O, R, G>(rt, alloc, device, order, scripts, gate) {
+            Ok(played) => Ok(played),
+            Err(unmade) => Err(end_unmade(unmade, out)),
+        },
+        Heap::Standing => match play::<D, O, R, G>(rt, alloc, device, scripts, gate) {
+            Ok(played) => Ok(played),
+            Err(refused) => Err(end_unopened(refused, out)),
+        },
+    }
+}
+
+/// Opens or makes the heap, runs the scripts on it, one caller each, and prints what they were told,
+/// or why there is no heap.
+pub fn play_lines<
+    O: Object + Send + Sync,
+    D: Device + Send,
+    K: Sink,
+    R: Threads + Wait + Sync,
+    G: Gate + Sync,
+>(
+    rt: &R,
+    alloc: Global,
+    heap: Heap,
+    device: D,
+    scripts: &[Vec<Step<O::Call, O::Query>>],
+    out: &mut K,
+    gate: &G,
+) -> Worked<D>
+where
+    O::Call: Send + Sync,
+    O::Query: Send + Sync,
+    O::Reply: Told + Drop + Send + Sync,
+    O::Answer: Told + Drop + Send + Sync,
+    requires order { HasOrder heap }
+    requires callers { (0 < length scripts.now) × (length scripts.now ≤ 16) }
+    requires few { All (λ v. length v.items ≤ LAST_COUNT) scripts.now }
+    ensures statuses { (number_of result.status ≡ 0) ⊎ (number_of result.status ≡ 1)
+        ⊎ (number_of result.status ≡ 3) ⊎ (number_of result.status ≡ 5)
+        ⊎ (number_of result.status ≡ 6) ⊎ (number_of result.status ≡ 7) }
+    ensures ran { HasRun (Some (Plays heap Read)) (number_of result.status) →
+        IsSome result.session }
+    ensures not_run { (number_of result.status ≡ 3) ⊎ (number_of result.status ≡ 6) →
+        IsNone result.session }
+    ensures session { IfSome result.session (HasSession O.machine O.Contents D.shown heap device
+        result.device (HavePlayed O.machine K.shown (texts_of O.Reply.shown O.Answer.shown)
+        (map (λ v. v.items) scripts.now) out.old out.new (number_of result.status))) }
+    ensures none { IsNone result.session → HasNone O.machine O.Contents D.shown K.shown O.FirstBreak
+        heap device result.device out.old out.new (number_of result.status) }
+    ensures kept { IsDeviceKept D.shown heap device result.device }
+    ensures sink_failed { number_of result.status ≡ 5 → WriteFailed K.shown out.old out.new }
+    ensures writing { StopsWriting K.shown out.old out.new }
+    ensures rest { K.shown.rest out.new ≡ K.shown.rest out.old }
+{
+    match play_heap::<O, D, K, R, G>(rt, alloc, heap, device, scripts, out, gate) {
+        Ok(played) => end_of(played, out),
+        Err(worked) => worked,
+    }
+}

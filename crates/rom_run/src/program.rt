@@ -1,0 +1,149 @@
+//! All that a program does once it has understood its words.
+ghost use Rattle.std.specs.Prelude.{◌≡◌, ◌≢◌, ◌↔◌, ◌⊎◌, length, map, codes, IfSome, IsSome, IsNone, None};
+ghost use Rattle.rom_run.specs.Asked.{HasSources, IsAskedOf, use_of};
+ghost use Rattle.rom_text.specs.Lines.{AreScripts};
+ghost use Rattle.rom_run.specs.Played.{HasReplies, IsText};
+ghost use Rattle.rom_run.specs.Promise.{Promise};
+ghost use Rattle.rom_run.specs.Use.{HasNotFailed, HasNotRun, HasRead, HasRun, IsStatus, heap_of};
+ghost use Rattle.rom_run.specs.Working.{HasMade, HasNone, HasSession, IsDeviceKept, IsStill};
+ghost use Rattle.rom_text.specs.Runs.{AreAskedOnce, AreAtEnd, AreWithin, IsTold, SourceFailed, SourceTooLong};
+ghost use Rattle.rom_text.specs.Streams.{StopsWriting, WriteFailed};
+ghost use Rattle.rom_text.specs.Text.{texts_of};
+ghost use Rattle.rom_store.specs.Sessions.{EachStory};
+
+use crate::ended::Ended;
+use crate::format::make_heap;
+use crate::heap::Heap;
+use crate::scripted::play_sources;
+use crate::status::Status;
+use crate::telling::tell;
+use rom_device::Device;
+use rom_model::Object;
+use rom_store::Gate;
+use rom_text::{Lines, Sink, Source, Told};
+use std::alloc::Global;
+use std::sync::Wait;
+use std::thread::Threads;
+
+/// What a command asks for.
+#[derive(Clone, Copy, Debug, PartialEq, Eq)]
+pub enum Asked {
+    /// To play the scripts on this heap.
+    Play(Heap),
+    /// To make a heap of this order.
+    Make(u32),
+}
+
+/// As `run_asked`, which promises it in one.
+fn run_command<
+    O: Object + Send + Sync,
+    L: Lines<O>,
+    D: Device + Send,
+    S: Source,
+    K: Sink,
+    R: Threads + Wait + Sync,
+    G: Gate + Sync,
+>(
+    rt: &R,
+    alloc: Global,
+    asked: Option<Asked>,
+    device: D,
+    scripts: Vec<S>,
+    out: &mut K,
+    gate: &G,
+) -> Ended<D, S>
+where
+    O::Call: Send + Sync,
+    O::Query: Send + Sync,
+    O::Reply: Told + Drop + Send + Sync,
+    O::Answer: Told + Drop + Send + Sync,
+    requires order { IfSome asked IsAskedOf }
+    requires sources { IfSome asked (HasSources (length scripts.items)) }
+    ensures statuses { IsStatus (use_of asked) result.status }
+    ensures ran { HasRun (use_of asked) result.status → IsSome result.session }
+    ensures not_run { HasNotRun (use_of asked) result.status → IsNone result.session }
+    ensures story { IfSome (use_of asked) (λ does. IfSome result.session (HasSession O.machine
+        O.Contents D.shown (heap_of does) device result.device (HasReplies O.machine
+        (AreScripts L.Reads S.shown) (IsText K.shown (texts_of O.Reply.shown O.Answer.shown))
+        scripts.items out.old out.new result.status))) }
+    ensures still { IfSome result.session (λ session. EachStory O.machine O.Contents session
+        (IsStill O.Contents D.shown (use_of asked) device result.device)) }
+    ensures none { IfSome (use_of asked) (λ does. IsNone result.session → HasNone O.machine
+        O.Contents D.shown K.shown O.FirstBreak (heap_of does) device result.device out.old out.new
+        result.status) }
+    ensures made { result.status ≡ 0 → HasMade O.machine O.Contents D.shown K.shown (use_of asked)
+        device result.device out.old out.new }
+    ensures kept { IfSome (use_of asked) (λ does.
+        IsDeviceKept D.shown (heap_of does) device result.device) }
+    ensures uncalled { (result.status ≡ 2) ⊎ (result.status ≡ 4) ⊎ (result.status ≡ 8)
+        → result.device ≡ device }
+    ensures unfailed { HasNotFailed (use_of asked) result.status →
+        D.shown.faults result.device ≡ D.shown.faults device }
+    ensures many { length result.scripts.items ≡ length scripts.items }
+    ensures asked_once { AreAskedOnce S.shown scripts.items result.scripts.items }
+    ensures unread { result.status ≡ 2 → result.scripts ≡ scripts }
+    ensures fit { HasRead result.status → AreWithin S.shown scripts.items }
+    ensures read { HasRead result.status → AreAtEnd S.shown result.scripts.items }
+    ensures source_failed { result.status ≡ 4 →
+        SourceFailed S.shown K.shown scripts.items result.scripts.items out.old out.new }
+    ensures none_failed { result.status ≢ 4 →
+        map S.shown.faults result.scripts.items ≡ map S.shown.faults scripts.items }
+    ensures too_long { result.status ≡ 8 →
+        SourceTooLong S.shown K.shown scripts.items result.scripts.items out.old out.new }
+    ensures not_a_command { (result.status ≡ 2) ↔ (use_of asked ≡ None) }
+    ensures not_a_command_told { result.status ≡ 2 →
+        IsTold K.shown out.old out.new (codes "not a command") }
+    ensures no_memory { result.status ≡ 6 → IsTold K.shown out.old out.new (codes "no memory") }
+    ensures sink_failed { result.status ≡ 5 → WriteFailed K.shown out.old out.new }
+    ensures writing { StopsWriting K.shown out.old out.new }
+    ensures rest { K.shown.rest out.new ≡ K.shown.rest out.old }
+{
+    let Some(asked) = asked else {
+        tell(out, &["not a command"]);
+        return Ended::of(Status::NotACommand, device, scripts, None);
+    };
+    match asked {
+        Asked::Make(order) => {
+            let mut device = device;
+            let status = make_heap::<O, D, K>(alloc, &mut device, order, out);
+            Ended::of(status, device, scripts, None)
+        }
+        Asked::Play(heap) => {
+            play_sources::<O, L, D, S, K, R, G>(rt, alloc, heap, device, scripts, out, gate)
+        }
+    }
+}
+
+/// Does all that a program does with words that are this command or, where there is none, no
+/// command.
+pub fn run_asked<
+    O: Object + Send + Sync,
+    L: Lines<O>,
+    D: Device + Send,
+    S: Source,
+    K: Sink,
+    R: Threads + Wait + Sync,
+    G: Gate + Sync,
+>(
+    rt: &R,
+    alloc: Global,
+    asked: Option<Asked>,
+    device: D,
+    scripts: Vec<S>,
+    out: &mut K,
+    gate: &G,
+) -> Ended<D, S>
+where
+    O::Call: Send + Sync,
+    O::Query: Send + Sync,
+    O::Reply: Told + Drop + Send + Sync,
+    O::Answer: Told + Drop + Send + Sync,
+    requires order { IfSome asked IsAskedOf }
+    requires sources { IfSome asked (HasSources (length scripts.items)) }
+    ensures promise { Promise O.machine O.Contents O.FirstBreak D.shown S.shown K.shown
+        (AreScripts L.Reads S.shown) (IsText K.shown (texts_of O.Reply.shown O.Answer.shown))
+        (use_of asked) device result.device scripts result.scripts out.old out.new result.status
+        result.session }
+{
+    run_command::<O, L, D, S, K, R, G>(rt, alloc, asked, device, scripts, out, gate)
+}

@@ -1,0 +1,147 @@
+//! What is told where a heap is not opened or not made.
+ghost use Rattle.std.specs.Prelude.{◌≡◌, ◌++◌, codes, decimal};
+ghost use Rattle.rom_text.specs.Runs.{IsTold};
+ghost use Rattle.rom_run.specs.Refusing.{refusal_line, refusal_status, too_small_line, unmade_line, unmade_status};
+ghost use Rattle.rom_run.specs.Refusing as refusing;
+ghost use Rattle.rom_open.specs.declared.new_heap.NotFormatted.TheVariants.{Refused};
+ghost use Rattle.rom_open.specs.declared.reasons.Why.TheVariants.{Malformed, Twins};
+
+use crate::status::Status;
+use crate::telling::tell;
+use itoa::Buffer;
+use rom_header::FormatRefused;
+use rom_model::Rule;
+use rom_open::{NotFormatted, Why};
+use rom_text::Sink;
+
+fn rule_name(rule: Rule) -> &'static str
+    ensures { result.now ≡ refusing.rule_name rule }
+{
+    match rule {
+        Rule::Root => "root",
+        Rule::Link => "link",
+        Rule::Pad => "pad",
+        Rule::Ends => "ends",
+        Rule::Count => "count",
+        Rule::Order => "order",
+        Rule::Bucket => "bucket",
+        Rule::Repeat => "repeat",
+        Rule::Tree => "tree",
+    }
+}
+
+/// A name, and the number behind it.
+fn tell_number<O: Sink>(out: &mut O, name: &str, number: u64)
+    ensures told { IsTold O.shown out.old out.new (name.now ++ decimal number) }
+    ensures rest { O.shown.rest out.new ≡ O.shown.rest out.old }
+{
+    tell(out, &[name, Buffer::new().format(number)]);
+}
+
+fn tell_too_small<O: Sink>(out: &mut O, need: u64, have: u64)
+    ensures told { IsTold O.shown out.old out.new (too_small_line need have) }
+    ensures rest { O.shown.rest out.new ≡ O.shown.rest out.old }
+{
+    let mut of_need = Buffer::new();
+    let mut of_have = Buffer::new();
+    let need = of_need.format(need);
+    let have = of_have.format(have);
+    tell(out, &["refused: too small, need ", need, ", have ", have]);
+}
+
+fn tell_twins<O: Sink>(out: &mut O, offset: u64, main: u64, back: u64)
+    ensures told { IsTold O.shown out.old out.new (refusal_line (Twins offset main back)) }
+    ensures rest { O.shown.rest out.new ≡ O.shown.rest out.old }
+{
+    let mut of_offset = Buffer::new();
+    let mut of_main = Buffer::new();
+    let mut of_back = Buffer::new();
+    let offset = of_offset.format(offset);
+    let main = of_main.format(main);
+    let back = of_back.format(back);
+    tell(
+        out,
+        &[
+            "refused: twins differ at ",
+            offset,
+            ", main ",
+            main,
+            ", back ",
+            back,
+        ],
+    );
+}
+
+fn tell_malformed<O: Sink>(out: &mut O, offset: u64, rule: Rule)
+    ensures told { IsTold O.shown out.old out.new (refusal_line (Malformed offset rule)) }
+    ensures rest { O.shown.rest out.new ≡ O.shown.rest out.old }
+{
+    let mut of_offset = Buffer::new();
+    let offset = of_offset.format(offset);
+    tell(
+        out,
+        &["refused: malformed at ", offset, ", rule ", rule_name(rule)],
+    );
+}
+
+/// Says why a heap is not opened.
+pub fn tell_refusal<O: Sink>(out: &mut O, why: Why)
+    ensures told { IsTold O.shown out.old out.new (refusal_line why) }
+    ensures rest { O.shown.rest out.new ≡ O.shown.rest out.old }
+{
+    match why {
+        Why::NotAHeap => tell(out, &["refused: not a heap"]),
+        Why::BadVersion(version) => tell_number(out, "refused: version ", version),
+        Why::BadOrder(order) => tell_number(out, "refused: order ", order),
+        Why::BadState(state) => tell_number(out, "refused: state ", state),
+        Why::TooSmall { need, have } => tell_too_small(out, need, have),
+        Why::Twins { offset, main, back } => tell_twins(out, offset, main, back),
+        Why::Malformed { offset, rule } => tell_malformed(out, offset, rule),
+        Why::Device => tell(out, &["device failed"]),
+        Why::OutOfMemory => tell(out, &["no memory"]),
+    }
+}
+
+/// The status where a heap is not opened.
+pub fn refusal_status(why: Why) -> Status
+    ensures { result ≡ refusing.refusal_status why }
+{
+    match why {
+        Why::Device => Status::DeviceFailed,
+        Why::OutOfMemory => Status::NoMemory,
+        _ => Status::HeapRefused,
+    }
+}
+
+fn tell_format_refusal<O: Sink>(out: &mut O, refused: FormatRefused)
+    ensures told { IsTold O.shown out.old out.new (unmade_line (Refused refused)) }
+    ensures rest { O.shown.rest out.new ≡ O.shown.rest out.old }
+{
+    match refused {
+        FormatRefused::AlreadyAHeap => tell(out, &["refused: already a heap"]),
+        FormatRefused::TooSmall { need, have } => tell_too_small(out, need, have),
+        FormatRefused::Device => tell(out, &["device failed"]),
+    }
+}
+
+/// Says why no heap is made.
+pub fn tell_unmade<O: Sink>(out: &mut O, why: NotFormatted)
+    ensures told { IsTold O.shown out.old out.new (unmade_line why) }
+    ensures rest { O.shown.rest out.new ≡ O.shown.rest out.old }
+{
+    match why {
+        NotFormatted::Refused(refused) => tell_format_refusal(out, refused),
+        NotFormatted::OutOfMemory => tell(out, &["no memory"]),
+    }
+}
+
+/// The status where no heap is made.
+pub fn unmade_status(why: NotFormatted) -> Status
+    ensures { result ≡ refusing.unmade_status why }
+{
+    match why {
+        NotFormatted::Refused(FormatRefused::Device) => Status::DeviceFailed,
+        NotFormatted::Refused(_) => Status::HeapRefused,
+        NotFormatted::OutOfMemory => Status::NoMemory,
+    }
+}

@@ -1,0 +1,85 @@
+//! Scripts of sources, on a heap.
+ghost use Rattle.std.specs.Prelude.{◌≡◌, ◌≢◌, ◌⊎◌, ◌<◌, ◌≤◌, length, map, codes, IfSome, IsNone, IsSome, None, Some};
+ghost use Rattle.rom_text.specs.Lines.{AreScripts};
+ghost use Rattle.rom_run.specs.Played.{HasReplies, IsText};
+ghost use Rattle.rom_run.specs.Use.{HasNotFailed, HasNotRun, HasOrder, HasRead, HasRun, IsStatus, Plays, Read};
+ghost use Rattle.rom_run.specs.Working.{HasNone, HasSession, IsDeviceKept};
+ghost use Rattle.rom_text.specs.Runs.{AreAskedOnce, AreAtEnd, AreWithin, IsTold, SourceFailed, SourceTooLong};
+ghost use Rattle.rom_text.specs.Streams.{StopsWriting, WriteFailed};
+ghost use Rattle.rom_text.specs.Text.{texts_of};
+
+use crate::ended::Ended;
+use crate::heap::Heap;
+use crate::play::play_lines;
+use crate::script::read_scripts;
+use rom_device::Device;
+use rom_model::Object;
+use rom_store::Gate;
+use rom_text::{Lines, Sink, Source, Told};
+use std::alloc::Global;
+use std::sync::Wait;
+use std::thread::Threads;
+
+/// Reads all scripts, then opens or makes the heap and runs them on it, one caller each, and prints
+/// what they were told; or prints why they are not run. The device is not called before all are
+/// read.
+pub fn play_sources<
+    O: Object + Send + Sync,
+    L: Lines<O>,
+    D: Device + Send,
+    S: Source,
+    K: Sink,
+    R: Threads + Wait + Sync,
+    G: Gate + Sync,
+>(
+    rt: &R,
+    alloc: Global,
+    heap: Heap,
+    device: D,
+    mut scripts: Vec<S>,
+    out: &mut K,
+    gate: &G,
+) -> Ended<D, S>
+where
+    O::Call: Send + Sync,
+    O::Query: Send + Sync,
+    O::Reply: Told + Drop + Send + Sync,
+    O::Answer: Told + Drop + Send + Sync,
+    requires order { HasOrder heap }
+    requires callers { (0 < length scripts.items) × (length scripts.items ≤ 16) }
+    ensures statuses { IsStatus (Some (Plays heap Read)) result.status }
+    ensures ran { HasRun (Some (Plays heap Read)) result.status → IsSome result.session }
+    ensures not_run { HasNotRun (Some (Plays heap Read)) result.status → IsNone result.session }
+    ensures session { IfSome result.session (HasSession O.machine O.Contents D.shown heap device
+        result.device (HasReplies O.machine (AreScripts L.Reads S.shown)
+        (IsText K.shown (texts_of O.Reply.shown O.Answer.shown)) scripts.items out.old out.new
+        result.status)) }
+    ensures none { IsNone result.session → HasNone O.machine O.Contents D.shown K.shown O.FirstBreak
+        heap device result.device out.old out.new result.status }
+    ensures kept { IsDeviceKept D.shown heap device result.device }
+    ensures uncalled { (result.status ≡ 4) ⊎ (result.status ≡ 8) → result.device ≡ device }
+    ensures unfailed { HasNotFailed (Some (Plays heap Read)) result.status →
+        D.shown.faults result.device ≡ D.shown.faults device }
+    ensures many { length result.scripts.items ≡ length scripts.items }
+    ensures asked_once { AreAskedOnce S.shown scripts.items result.scripts.items }
+    ensures fit { HasRead result.status → AreWithin S.shown scripts.items }
+    ensures read { HasRead result.status → AreAtEnd S.shown result.scripts.items }
+    ensures source_failed { result.status ≡ 4 →
+        SourceFailed S.shown K.shown scripts.items result.scripts.items out.old out.new }
+    ensures none_failed { result.status ≢ 4 →
+        map S.shown.faults result.scripts.items ≡ map S.shown.faults scripts.items }
+    ensures too_long { result.status ≡ 8 →
+        SourceTooLong S.shown K.shown scripts.items result.scripts.items out.old out.new }
+    ensures no_memory { result.status ≡ 6 → IsTold K.shown out.old out.new (codes "no memory") }
+    ensures sink_failed { result.status ≡ 5 → WriteFailed K.shown out.old out.new }
+    ensures writing { StopsWriting K.shown out.old out.new }
+    ensures rest { K.shown.rest out.new ≡ K.shown.rest out.old }
+{
+    match read_scripts::<O, L, S, K>(alloc, &mut scripts, out) {
+        Ok(lines) => Ended::after(
+            play_lines::<O, D, K, R, G>(rt, alloc, heap, device, &lines, out, gate),
+            scripts,
+        ),
+        Err(status) => Ended::of(status, device, scripts, None),
+    }
+}

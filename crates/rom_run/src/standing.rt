@@ -1,0 +1,83 @@
+//! The heap that a device has, opened to be shown.
+ghost use Rattle.std.specs.Prelude.{◌≡◌, ◌⊎◌, ℕ, [], IfErr, IfOk, IsNone, OnOk};
+ghost use Rattle.rom_model.specs.Blocks.{IsOrder};
+ghost use Rattle.rom_model.specs.VecSpace.{words_of};
+ghost use Rattle.rom_run.specs.Played.{AreAnswered};
+ghost use Rattle.rom_run.specs.Statuses.{number_of};
+ghost use Rattle.rom_run.specs.Working.{HasNone, HasSession, IsAsBefore, IsDeviceKept};
+ghost use Rattle.rom_run.specs.declared.heap.Heap.TheVariants.{Standing};
+ghost use Rattle.rom_text.specs.Streams.{StopsWriting};
+ghost use Rattle.rom_store.specs.Sessions.{EachStory};
+
+use crate::play::end_unopened;
+use crate::status::Status;
+use crate::worked::Worked;
+use rom_device::Device;
+use rom_model::{Object, VecSpace};
+use rom_open::{Opened, open_device};
+use rom_store::Session;
+use rom_text::Sink;
+use std::alloc::Global;
+
+/// A heap that was opened to be shown.
+#[derive(Drop)]
+pub struct OpenHeap<D> {
+    pub device: D,
+    pub order: u32,
+    /// The words of the region that counts.
+    pub space: VecSpace,
+    /// The session in which nothing was done on it.
+    pub session: Session,
+}
+
+/// Opens the heap on the device, or prints why it is refused.
+pub fn open_heap<O: Object, D: Device, K: Sink>(
+    alloc: Global,
+    device: D,
+    out: &mut K,
+) -> Result<OpenHeap<D>, Worked<D>>
+    ensures order { IfOk result (λ heap. IsOrder heap.order) }
+    ensures region { IfOk result (λ heap.
+        (s : O.State) × (k : ℕ) × O.Contents heap.order (words_of heap.space) s k) }
+    ensures story { IfOk result (λ heap. EachStory O.machine O.Contents heap.session (λ story.
+        (story.order ≡ heap.order)
+        × O.Contents heap.order (words_of heap.space) story.opening story.opening_count)) }
+    ensures session { IfOk result (λ heap. HasSession O.machine O.Contents D.shown Standing device
+        heap.device (λ story. AreAnswered O.machine story [] []) heap.session) }
+    ensures still { IfOk result (λ heap. EachStory O.machine O.Contents heap.session
+        (IsAsBefore O.Contents D.shown device heap.device)) }
+    ensures kept { IfOk result (λ heap. IsDeviceKept D.shown Standing device heap.device) }
+    ensures unfailed { IfOk result (λ heap. D.shown.faults heap.device ≡ D.shown.faults device) }
+    ensures unprinted { OnOk result (out.new ≡ out.old) }
+    ensures none { IfErr result (λ worked. HasNone O.machine O.Contents D.shown K.shown O.FirstBreak
+        Standing device worked.device out.old out.new (number_of worked.status)) }
+    ensures none_kept { IfErr result (λ worked.
+        IsDeviceKept D.shown Standing device worked.device) }
+    ensures none_statuses { IfErr result (λ worked. (worked.status ≡ Status.HeapRefused)
+        ⊎ (worked.status ≡ Status.NoMemory) ⊎ (worked.status ≡ Status.DeviceFailed)) }
+    ensures none_ran { IfErr result (λ worked. IsNone worked.session) }
+    ensures writing { StopsWriting K.shown out.old out.new }
+    ensures rest { K.shown.rest out.new ≡ K.shown.rest out.old }
+{
+    match open_device::<D, O>(alloc, device) {
+        Ok(
+            Opened {
+                device,
+                geometry,
+                image,
+            },
+        ) => {
+            let faults = device.fault_count();
+            let order = geometry.order();
+            let space = VecSpace::of(image);
+            let session = Session::unchanged(order, &space, faults);
+            Ok(OpenHeap {
+                device,
+                order,
+                space,
+                session,
+            })
+        }
+        Err(refused) => Err(end_unopened(refused, out)),
+    }
+}

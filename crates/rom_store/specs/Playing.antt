@@ -1,0 +1,54 @@
+-- Scripts that are played on a heap: what they ask for, and what their session is.
+use Rattle.std.specs.Prelude.{◌≡◌, ℕ, ◌≤◌, List, [], All, IsTrue, length, map, vec_capacity, vec_len}
+use Rattle.std.specs.Global.{Vec}
+use Rattle.atomic_table.specs.Seated.{TableId}
+use Rattle.rom_model.specs.History.{LAST_COUNT}
+use Rattle.rom_model.specs.Lawful.{IsLawful}
+use Rattle.rom_model.specs.Machine.{Machine, on_words}
+use Rattle.rom_model.specs.Passes.{faults_after}
+use Rattle.rom_model.specs.declared.line.LineResult.{LineResult}
+use Rattle.rom_model.specs.declared.line.Step.{Step}
+use Rattle.rom_device.specs.Device.{Leaves, ShownDevice}
+use Rattle.rom_combine.specs.Costs.{WithinHeap}
+use Rattle.rom_combine.specs.Session.{ImageNow, SessionImage}
+use Rattle.rom_rule.specs.declared.views.Base.{Base}
+use Rattle.rom_store.specs.Callers.{Caller, IsNewCaller}
+use Rattle.rom_store.specs.Closing.{ClosedSeen}
+use Rattle.rom_store.specs.Indexed.{Indexed}
+use Rattle.rom_store.specs.Sessions.{EachStory, HasStory}
+use Rattle.rom_store.specs.Traced.{WentThrough}
+use Rattle.rom_store.specs.Working.{IsRoom}
+use Rattle.rom_store.specs.declared.rooms.Rooms.{Rooms}
+
+-- For each script there is an empty list with room for a result of each of its lines, and room for a job.
+pub record HasRooms {X R A : Type 0} (scripts : List (Vec X)) (rooms : Rooms R A) : Type 0 where
+  pub many : vec_len rooms.results ≡ length scripts
+  pub fits : Indexed (λ i room. IsRoom (map (λ v. v.items) scripts) i room.items (vec_capacity room)) rooms.results.items
+  pub jobs : (rooms.jobs.items ≡ []) × (length scripts ≤ vec_capacity rooms.jobs)
+
+-- What is asked before scripts are played: the heap of this table is opened for as many callers as there are scripts, the callers are new, there is room for all results, and no script has more lines than a caller may post updates.
+pub record CanPlay {S X R A : Type 0} (Contents : ℕ → List ℕ → S → ℕ → Type 0) (table : TableId) (base : Base) (passes : List Caller) (scripts : List (Vec X)) (rooms : Rooms R A) : Type 0 where
+  pub opened : (s : S) × (k : ℕ) × Contents base.order base.image s k
+  pub fresh : Indexed (IsNewCaller Contents table base) passes
+  pub as_many : (length passes ≡ length scripts) × (length scripts ≡ base.callers)
+  pub room : HasRooms scripts rooms
+  pub few : All (λ v. length v.items ≤ LAST_COUNT) scripts
+
+module _ {D S C Q R A : Type 0} (shown : ShownDevice D) (machine : Machine S C Q R A) (Contents : ℕ → List ℕ → S → ℕ → Type 0) (scripts : List (Vec (Step C Q))) (results : List (Vec (LineResult R A))) where
+  -- What every session of scripts is. It has a story, and of each: what the lines were told is lawful; each image that a stop leaves now holds the published history, or that with the batch in doubt; the device went through the passes of the records, which have no more faults than it counts.
+  pub record IsSession (closed : ClosedSeen D) : Type 0 where
+    pub story : HasStory machine Contents closed.session
+    pub lawful : EachStory machine Contents closed.session (λ story. IsLawful machine story (map (λ v. v.items) scripts) (map (λ v. v.items) results))
+    pub now : IsTrue shown.tells_images → EachStory machine Contents closed.session (λ story. (i : List ℕ) → shown.leaves closed.device i → ImageNow Contents (on_words machine) story i)
+    pub went : EachStory machine Contents closed.session (λ story. WentThrough shown Contents (on_words machine) story story.opening_faults closed.device)
+    pub faults : faults_after closed.session.faults closed.session.records ≤ shown.faults closed.device
+
+  -- So, and it began with this opening, on this device: each image since then could be left before or is one of the session, and of the device's words only the state and the two regions differ.
+  pub record IsPlayed (base : Base) (was : D) (closed : ClosedSeen D) : Type 0 where
+    pub session : IsSession closed
+    pub order : closed.session.order ≡ base.order
+    pub image : closed.session.image ≡ base.image
+    pub opening_faults : closed.session.faults ≡ base.faults
+    pub since : IsTrue shown.tells_images → EachStory machine Contents closed.session (λ story. Leaves shown (SessionImage Contents (on_words machine) story) was closed.device)
+    pub size : shown.size closed.device ≡ shown.size was
+    pub outside : IsTrue shown.tells_words → WithinHeap base.order (shown.words was) (shown.words closed.device)

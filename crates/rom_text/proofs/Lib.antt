@@ -1,0 +1,10 @@
+-- Lemmas on streams, digits, lines and steps.
+pub mod Prints
+pub mod Taking
+pub mod Digits
+pub mod Pieces
+pub mod Handing
+pub mod Steps
+pub mod Reading
+pub mod Phrases
+pub mod RunText

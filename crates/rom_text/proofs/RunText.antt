@@ -1,0 +1,65 @@
+-- The text of a run, piece by piece.
+use Rattle.std.specs.Prelude.{◌≡◌, ℕ, ◌+◌, ◌<◌, List, [], ◌∷◌, ◌++◌, codes, decimal, length, take, drop, map, min}
+use Rattle.std.proofs.Common.{suc, refl, sym, ap, ◌∙◌, arith, append_assoc, append-nil, get_or, subst, take-append-drop}
+use Rattle.std.proofs.lemmas.List.{drop_more, length-map, length-take, map-append, take_more}
+use Rattle.std.specs.List.{AllByRecursion}
+use Rattle.rom_model.specs.declared.line.LineResult.{LineResult}
+use Rattle.rom_text.specs.Text.{Texts, AreOfType, ResultFits, callers_text, line_text, results_text}
+
+-- the end of the text
+abbrev pub counted : ℕ → List ℕ
+counted n = line_text (codes "count " ++ decimal n)
+
+-- the line of a caller's number
+abbrev pub numbered : ℕ → List ℕ
+numbered caller = line_text (codes "caller " ++ decimal caller)
+
+module _ {R A : Type 0} (texts : Texts R A) where
+  -- a caller's number, and its results
+  abbrev pub caller_text : ℕ → List (LineResult R A) → List ℕ
+  caller_text caller results = numbered caller ++ results_text texts results
+
+  -- the text of some callers, and then of the others
+  of_both : (caller : ℕ) (xs ys : List (List (LineResult R A))) → callers_text texts caller (xs ++ ys) ≡ callers_text texts caller xs ++ callers_text texts (caller + length xs) ys
+  of_both caller [] ys = ap (λ n. callers_text texts n ys) (let same : caller ≡ caller + 0 = omega arith in same)
+  of_both caller (x ∷ xs) ys =
+      let same : (caller + 1) + length xs ≡ caller + suc (length xs) = omega arith in
+      ap (λ more. caller_text caller x ++ more) (of_both (caller + 1) xs ys ∙ ap (λ n. callers_text texts (caller + 1) xs ++ callers_text texts n ys) same)
+      ∙ sym (append_assoc (caller_text caller x) (callers_text texts (caller + 1) xs) (callers_text texts (caller + suc (length xs)) ys))
+
+  -- Of callers whose results are read off such values, of which the one at the index i is d where there is none:
+  module _ {V : Type 0} (f : V → List (LineResult R A)) (xs : List V) (i : ℕ) (d : V) (lt : i < length xs) where
+    first_length : length (map f (take i xs)) ≡ i
+    first_length = length-map (take i xs) f ∙ length-take i xs ∙ (let least : min i (length xs) ≡ i = omega (arith, lt) in least)
+
+    split : (ys : List V) → callers_text texts 1 (map f (take i xs ++ ys)) ≡ callers_text texts 1 (map f (take i xs)) ++ callers_text texts (i + 1) (map f ys)
+    split ys =
+        let next : 1 + length (map f (take i xs)) ≡ i + 1 = omega (arith, first_length) in
+        ap (callers_text texts 1) (map-append f (take i xs) ys) ∙ of_both 1 (map f (take i xs)) (map f ys)
+        ∙ ap (λ n. callers_text texts 1 (map f (take i xs)) ++ callers_text texts n (map f ys)) next
+
+    -- one caller more
+    pub one_caller_more : callers_text texts 1 (map f (take i xs)) ++ caller_text (i + 1) (f (get_or xs i d)) ≡ callers_text texts 1 (map f (take (i + 1) xs))
+    one_caller_more =
+        ap (λ own. callers_text texts 1 (map f (take i xs)) ++ own) (sym (append-nil (caller_text (i + 1) (f (get_or xs i d)))))
+        ∙ sym (split (get_or xs i d ∷ [])) ∙ ap (λ ys. callers_text texts 1 (map f ys)) (sym (take_more xs i d lt))
+
+    -- the callers before it, the caller, and those behind
+    pub callers_around : callers_text texts 1 (map f (take i xs)) ++ (caller_text (i + 1) (f (get_or xs i d)) ++ callers_text texts (i + 1 + 1) (map f (drop (i + 1) xs))) ≡ callers_text texts 1 (map f xs)
+    callers_around =
+        sym (split (get_or xs i d ∷ drop (i + 1) xs))
+        ∙ ap (λ ys. callers_text texts 1 (map f (take i xs ++ ys))) (sym (drop_more xs i d lt))
+        ∙ ap (λ ys. callers_text texts 1 (map f ys)) (take-append-drop i xs)
+
+    -- the numbers of one caller more are of their types
+    pub one_of_type_more : AreOfType texts (map f (take i xs)) → AllByRecursion (ResultFits texts) (f (get_or xs i d)) → AreOfType texts (map f (take (i + 1) xs))
+    one_of_type_more all own =
+        subst (λ ys. AreOfType texts ys) (sym (map-append f (take i xs) (get_or xs i d ∷ [])) ∙ ap (map f) (sym (take_more xs i d lt))) (and_one (map f (take i xs)) all)
+      where
+        and_one : (rows : List (List (LineResult R A))) → AreOfType texts rows → AreOfType texts (rows ++ f (get_or xs i d) ∷ [])
+        and_one [] every = (own, tt)
+        and_one (row ∷ rows) every = (every.0, and_one rows every.1)
+
+-- a text, and then a space, a mark and digits, which are printed as pieces
+pub marked : (told : List ℕ) (mark : ℕ) (digits : List ℕ) → told ++ (32 ∷ mark ∷ (digits ++ [])) ≡ told ++ 32 ∷ mark ∷ [] ++ digits
+marked told mark digits = simp (append_assoc, append-nil) refl

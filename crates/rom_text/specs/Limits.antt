@@ -1,0 +1,47 @@
+-- What a script may hold, and how the reading of one ends.
+use Rattle.std.specs.Prelude.{◌≡◌, ◌≢◌, ℕ, ◌+◌, ◌≤◌, List, length, Result, Err, OnOk}
+use Rattle.std.specs.Io.KnownBytes.{IsAtEnd}
+use Rattle.rom_text.specs.declared.read.TheConstants.{MAX_BYTES}
+use Rattle.rom_text.specs.declared.read.ReadRefused.{ReadRefused}
+use Rattle.rom_text.specs.declared.read.ReadRefused.TheVariants.{Failed, TooLong}
+use Rattle.rom_text.specs.Streams.{ShownSource, IsAskedOnce, ReadFailed, Takes}
+
+-- the bytes are no more than a script may have
+abbrev pub IsWithinLimit : List ℕ → Type 0
+IsWithinLimit bytes = length bytes ≤ MAX_BYTES
+
+-- a whole script may hold these bytes
+abbrev pub FitsScript : List ℕ → Type 0
+FitsScript bytes = IsWithinLimit bytes
+
+-- the bytes are the first that are too many
+abbrev pub IsFirstTooMany : List ℕ → Type 0
+IsFirstTooMany bytes = length bytes ≡ MAX_BYTES + 1
+
+-- no more of a script is ever read
+abbrev pub IsReadAtMost : List ℕ → Type 0
+IsReadAtMost bytes = length bytes ≤ MAX_BYTES + 1
+
+module _ {S : Type 0} (shown : ShownSource S) where
+  -- The first bytes that are too many were taken, some by each read.
+  pub record HasTooManyBytes (old new : S) : Type 0 where
+    pub takes : Takes IsFirstTooMany (shown.left old) (shown.left new)
+    pub unbroken : shown.idle new ≡ shown.idle old
+
+  -- a source has given more than a script may hold
+  abbrev pub IsTooLong : S → S → Type 0
+  IsTooLong old new = HasTooManyBytes old new
+
+  -- A source failed before it had given more bytes than a script may have.
+  pub record FailedEarly (old new : S) : Type 0 where
+    pub cause : ReadFailed shown old new
+    pub takes : Takes IsWithinLimit (shown.left old) (shown.left new)
+
+  -- How the reading of a whole script ends. Each refusal has its cause, and no read follows one that gave no byte.
+  pub record EndsReading {T : Type 0} (old new : S) (result : Result T ReadRefused) : Type 0 where
+    pub to_its_end : OnOk result (IsAtEnd (shown.left new))
+    pub failed : result ≡ Err Failed → FailedEarly old new
+    pub unfailed : result ≢ Err Failed → shown.faults new ≡ shown.faults old
+    pub too_long : result ≡ Err TooLong → IsTooLong old new
+    pub takes : Takes IsReadAtMost (shown.left old) (shown.left new)
+    pub asked_once : IsAskedOnce shown old new

@@ -1,0 +1,65 @@
+//! The lines of a script, and what those of any object ask for.
+ghost use Rattle.std.specs.Prelude.{◌≡◌, ◌⊎◌, ℕ, ◌-◌, ◌<◌, ◌≤◌, List, ◌∷◌, length, drop, slice_index, slice_range, vec_len, IfOk};
+ghost use Rattle.rom_model.specs.declared.line.Step.{Step};
+ghost use Rattle.rom_text.specs.Lines.{AreRead, lines_of};
+ghost use Rattle.rom_text.specs.Lines as lines;
+
+use crate::phrase::len_before;
+use rom_model::{Object, Step};
+use std::alloc::{AllocError, Global};
+
+/// How the calls and queries of an object are written.
+pub trait Lines<O: Object> {
+    /// The line is written as the step is, or as none is.
+    ghost Reads: { List ℕ → Step O.Call O.Query → Type 0 };
+
+    /// What a line asks for, which comes without its LF.
+    fn read_line(line: &[u8]) -> Step<O::Call, O::Query>
+        ensures reads { Reads line.now result };
+}
+
+/// The bytes without a CR at their end.
+fn without_cr(piece: &[u8]) -> &[u8]
+    ensures { result.now ≡ lines.without_cr piece.now }
+{
+    if piece.last() == Some(&b'\r') {
+        &piece[..piece.len() - 1]
+    } else {
+        piece
+    }
+}
+
+/// Where the line that begins at `start` ends, without its LF and one CR before it, and where the
+/// next one begins. All are indices of `bytes`.
+pub fn line_end(bytes: &[u8], start: u64) -> (u64, u64)
+    requires { start < length bytes.now }
+    ensures line { lines_of (drop start bytes.now)
+        ≡ slice_range bytes.now start result.0 ∷ lines_of (drop result.1 bytes.now) }
+    ensures next { (result.1 ≡ length bytes.now) ⊎ (slice_index bytes.now (result.1 - 1) ≡ 10) }
+    ensures order { (start ≤ result.0) × (result.0 ≤ result.1) × (start < result.1) }
+    ensures within { result.1 ≤ length bytes.now }
+{
+    let rest = &bytes[start as usize..];
+    let len = len_before(b'\n', rest);
+    let line = without_cr(&rest[..len]);
+    let next = (len + 1).min(rest.len());
+    (start + line.len() as u64, start + next as u64)
+}
+
+/// What the lines of some bytes ask for.
+pub fn lines_in<O: Object, L: Lines<O>>(
+    alloc: Global,
+    bytes: &[u8],
+) -> Result<Vec<Step<O::Call, O::Query>>, AllocError>
+    ensures read { IfOk result (λ lines. AreRead L.Reads (lines_of bytes.now) lines.items) }
+    ensures few { IfOk result (λ lines. vec_len lines ≤ length bytes.now) }
+{
+    let mut lines = Vec::new(alloc);
+    let mut start = 0;
+    while start < bytes.len() as u64 {
+        let (end, next) = line_end(bytes, start);
+        lines.push(L::read_line(&bytes[start as usize..end as usize]))?;
+        start = next;
+    }
+    Ok(lines)
+}

@@ -1,0 +1,76 @@
+//! The words of a line: its name, and the numbers behind it.
+ghost use Rattle.std.specs.Prelude.{◌≡◌, ◌≢◌, ◌↔◌, ℕ, ◌^◌, ◌<◌, ◌≤◌, List, ◌∷◌, length, slice_index, decimal, IsTrue, IfSome, IfNone};
+ghost use Rattle.rom_text.specs.Phrases.{NumbersFit, IsPlain, line_words, phrase_words, words_behind};
+
+use arrayvec::ArrayVec;
+use memchr::memchr;
+
+/// The greatest number of numbers in a line.
+const MAX_NUMBERS: usize = 3;
+
+/// The words of a line that may ask for something.
+#[derive(Drop)]
+pub struct Phrase<'a> {
+    /// The first word.
+    pub name: &'a [u8],
+    /// The words behind it.
+    pub numbers: ArrayVec<u64, MAX_NUMBERS>,
+}
+
+/// How many bytes stand before the first such byte, or all where there is none.
+pub fn len_before(byte: u8, bytes: &[u8]) -> usize
+    ensures within { result ≤ length bytes.now }
+    ensures before { (k : ℕ) → k < result → slice_index bytes.now k ≢ byte }
+    ensures found { result < length bytes.now → slice_index bytes.now result ≡ byte }
+{
+    memchr(byte, bytes).unwrap_or(bytes.len())
+}
+
+/// Whether they do not begin with a plus, nor with a zero before more bytes.
+fn is_plain(digits: &[u8]) -> bool
+    ensures { IsTrue result ↔ IsPlain digits.now }
+{
+    !matches!(digits, [b'+', ..] | [b'0', _, ..])
+}
+
+/// The number that the digits spell, without sign and without leading zero.
+pub fn read_number(digits: &[u8]) -> Option<u64>
+    ensures found { IfSome result (λ n. digits.now ≡ decimal n) }
+    ensures none { IfNone result ((n : ℕ) → n < 2 ^ 64 → digits.now ≢ decimal n) }
+{
+    // `parse` takes a plus and leading zeros too.
+    if !is_plain(digits) {
+        return None;
+    }
+    let Ok(text) = str::from_utf8(digits) else {
+        return None;
+    };
+    text.parse().ok()
+}
+
+/// The first word of a line, and what stands behind it.
+fn first_word(line: &[u8]) -> (&[u8], &[u8])
+    ensures words { line_words line.now ≡ result.0.now ∷ words_behind result.1.now }
+    ensures less { length result.1.now ≤ length line.now }
+{
+    line.split_at(len_before(b' ', line))
+}
+
+/// The words of a line, or `None` where one behind the first is no number or there are more than
+/// three of these.
+pub fn read_phrase(line: &[u8]) -> Option<Phrase<'_>>
+    ensures words { IfSome result (λ p. line_words line.now ≡ phrase_words p.name.now p.numbers.items) }
+    ensures fit { IfSome result (λ p. NumbersFit p.numbers.items) }
+    ensures none { IfNone result ((name numbers : List ℕ) → length numbers ≤ MAX_NUMBERS → NumbersFit numbers
+        → line_words line.now ≢ phrase_words name numbers) }
+{
+    let (name, mut rest) = first_word(line);
+    let mut numbers = ArrayVec::new();
+    while let [_, behind @ ..] = rest {
+        let (word, more) = first_word(behind);
+        let number = read_number(word)?;
+        numbers.try_push(number).ok()?;
+        rest = more;
+    }
+    Some(Phrase { name, numbers })
+}

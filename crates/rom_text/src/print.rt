@@ -1,0 +1,71 @@
+//! Texts, written piece by piece. Nothing here takes memory. After `IoFailed` the sink has taken
+//! some of the text, from its front.
+ghost use Rattle.std.specs.Prelude.{decimal, OnOk};
+ghost use Rattle.std.specs.List.{flat_map};
+ghost use Rattle.rom_text.specs.Streams.{Prints};
+ghost use Rattle.rom_text.specs.Text.{UpdateFits, read_text, update_text};
+
+use crate::streams::{IoFailed, Sink};
+use crate::told::Told;
+use itoa::Buffer;
+use rom_model::Updated;
+
+/// Prints bytes.
+fn print_bytes<O: Sink>(out: &mut O, bytes: &[u8]) -> Result<(), IoFailed>
+    ensures prints { Prints O.shown out.old out.new result bytes.now }
+{
+    let mut at = 0;
+    while at < bytes.len() {
+        at += out.write(&bytes[at..])? as usize;
+    }
+    Ok(())
+}
+
+/// Prints a text.
+pub fn print_text<O: Sink>(out: &mut O, text: &str) -> Result<(), IoFailed>
+    ensures prints { Prints O.shown out.old out.new result text.now }
+{
+    print_bytes(out, text.as_bytes())
+}
+
+/// Prints a number in decimal digits.
+pub fn print_number<O: Sink>(out: &mut O, n: u128) -> Result<(), IoFailed>
+    ensures prints { Prints O.shown out.old out.new result (decimal n) }
+{
+    print_text(out, Buffer::new().format(n))
+}
+
+/// Prints texts one after another.
+pub fn print_pieces<O: Sink>(out: &mut O, pieces: &[&str]) -> Result<(), IoFailed>
+    ensures prints { Prints O.shown out.old out.new result (flat_map (λ piece. piece.now) pieces.now) }
+{
+    for piece in pieces {
+        print_text(out, piece)?;
+    }
+    Ok(())
+}
+
+/// Prints what an update was told, with its place where it was done.
+pub fn print_update<R: Told, O: Sink>(out: &mut O, updated: &Updated<R>) -> Result<(), IoFailed>
+    ensures prints { Prints O.shown out.old out.new result (update_text R.shown.text updated.now) }
+    ensures fits { OnOk result (UpdateFits R.shown.Fits updated.now) }
+{
+    match updated {
+        Updated::Done(reply, place) => {
+            reply.print(out)?;
+            print_pieces(out, &[" @", Buffer::new().format(*place)])
+        }
+        Updated::Spent => print_text(out, "spent"),
+        Updated::Failed => print_text(out, "fault"),
+        Updated::Doubt => print_text(out, "doubt"),
+    }
+}
+
+/// Prints what a query was told, with the front that it read.
+pub fn print_answer<A: Told, O: Sink>(out: &mut O, answer: &A, front: u64) -> Result<(), IoFailed>
+    ensures prints { Prints O.shown out.old out.new result (read_text A.shown.text answer.now front) }
+    ensures fits { OnOk result (A.shown.Fits answer.now) }
+{
+    answer.print(out)?;
+    print_pieces(out, &[" #", Buffer::new().format(front)])
+}

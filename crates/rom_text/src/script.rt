@@ -1,0 +1,27 @@
+//! Whole scripts: what their lines ask for, in order.
+ghost use Rattle.std.specs.Prelude.{◌≤◌, length, IfOk, IfSome, OnOk};
+ghost use Rattle.rom_text.specs.declared.read.TheConstants.{MAX_BYTES};
+ghost use Rattle.rom_text.specs.Limits.{EndsReading, FitsScript};
+ghost use Rattle.rom_text.specs.Lines.{AreStepsOf};
+
+use crate::lines::{Lines, lines_in};
+use crate::read::{ReadRefused, read_bytes};
+use crate::streams::Source;
+use rom_model::{Object, Step};
+use std::alloc::Global;
+
+/// Reads a script to the end of its source. What was taken is lost to the source after an `Err`.
+pub fn read_script<O: Object, L: Lines<O>, S: Source>(
+    alloc: Global,
+    source: &mut S,
+) -> Result<Vec<Step<O::Call, O::Query>>, ReadRefused>
+    ensures lines { IfOk result (λ lines.
+        AreStepsOf L.Reads (S.shown.left source.old) lines.items) }
+    ensures few { IfOk result (λ lines. length lines.items ≤ MAX_BYTES) }
+    ensures fits { OnOk result (IfSome (S.shown.left source.old) FitsScript) }
+    ensures ends { EndsReading S.shown source.old source.new result }
+{
+    let bytes = read_bytes(alloc, source)?;
+    let lines = lines_in::<O, L>(alloc, &bytes)?;
+    Ok(lines)
+}

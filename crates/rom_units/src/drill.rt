@@ -1,0 +1,154 @@
+//! The scripts of drills, line by line, and their five lines.
+
+use rom_model::{Answer, Call, LineResult, Query, Reply, Updated};
+use rom_script::{
+    Collect, IoFailed, Line, Summary, drill_script, drill_scripts, print_drill, sum_dequeued,
+    sum_enqueued,
+};
+use std::test::Fail;
+
+type Told = LineResult<Reply, Answer>;
+
+/// From 1 the numbers 59559187, 1495354192 and 671064393 are drawn, and a fourth one.
+const WORKED: [Line; 9] = [
+    Line::Update(Call::Put(0, 1000)),
+    Line::Update(Call::Put(1, 1000)),
+    Line::Update(Call::Put(2, 1000)),
+    Line::Update(Call::Put(3, 1000)),
+    Line::Update(Call::Enq(227)),
+    Line::Update(Call::Deq),
+    Line::Update(Call::Move(0, 1, 4)),
+    Line::Ask(Query::Total),
+    Line::Update(Call::Rem(4)),
+];
+
+/// The sum of the start and the caller's number is taken whole: here the numbers follow 15.
+const LAST_START: [Line; 8] = [
+    Line::Update(Call::Put(60, 1000)),
+    Line::Update(Call::Put(61, 1000)),
+    Line::Update(Call::Put(62, 1000)),
+    Line::Update(Call::Put(63, 1000)),
+    Line::Update(Call::Add(127)),
+    Line::Ask(Query::Get(56)),
+    Line::Update(Call::Rem(120)),
+    Line::Update(Call::Add(121)),
+];
+
+/// Here they follow 0.
+const FROM_0: [Line; 11] = [
+    Line::Update(Call::Put(0, 1000)),
+    Line::Update(Call::Put(1, 1000)),
+    Line::Update(Call::Put(2, 1000)),
+    Line::Update(Call::Put(3, 1000)),
+    Line::Update(Call::Enq(0)),
+    Line::Update(Call::Deq),
+    Line::Update(Call::Enq(5367)),
+    Line::Update(Call::Deq),
+    Line::Update(Call::Enq(2497)),
+    Line::Update(Call::Deq),
+    Line::Update(Call::Move(1, 2, 29)),
+];
+
+/// A start, a caller, how many callers there are, and the lines of four items.
+const SCRIPTS: [(u64, u64, u64, &[Line]); 3] = [
+    (1, 1, 1, &WORKED),
+    (u64::MAX, 16, 16, &LAST_START),
+    (2147483647, 1, 1, &FROM_0),
+];
+
+#[test]
+fn scripts_follow_from_their_start(rt: HostRuntime) -> Result<(), Fail> {
+    for (start, caller, callers, lines) in SCRIPTS {
+        assert!(rt; 1 <= caller && caller <= callers && callers <= 16);
+        let script = drill_script(rt.alloc(), start, caller, callers, 4)?;
+        assert_eq!(rt; script.as_slice(), lines, "from {start}");
+    }
+    Ok(())
+}
+
+#[test]
+fn each_caller_has_a_script(rt: HostRuntime) -> Result<(), Fail> {
+    let scripts = drill_scripts(rt.alloc(), 7, 16, 5)?;
+    assert_eq!(rt; scripts.len(), 16);
+    let last = drill_script(rt.alloc(), 7, 16, 16, 5)?;
+    assert_eq!(rt; scripts[15].as_slice(), last.as_slice());
+    assert_eq!(rt; last.first(), Some(&Line::Update(Call::Put(60, 1000))));
+    Ok(())
+}
+
+/// What one caller's script of three items is told: four keys, and then these.
+const TOLD: [Told; 8] = [
+    LineResult::Update(Updated::Done(Reply::NoPrior, 0)),
+    LineResult::Update(Updated::Done(Reply::NoPrior, 1)),
+    LineResult::Update(Updated::Done(Reply::NoPrior, 2)),
+    LineResult::Update(Updated::Done(Reply::NoPrior, 3)),
+    LineResult::Update(Updated::Done(Reply::Queued, 4)),
+    LineResult::Update(Updated::Done(Reply::Head(227), 5)),
+    LineResult::Update(Updated::Done(Reply::Moved, 6)),
+    LineResult::Read(Answer::Total(4000), 7),
+];
+
+const FIVE_LINES: &[u8] =
+    b"drill 1 callers 1 calls 3\nenqueued 227 dequeued 227\nqueue 0 set 0 map 4\ntotal 4000\ncount 7\n";
+
+#[test]
+fn a_drill_has_five_lines(rt: HostRuntime) -> Result<(), Fail> {
+    let alloc = rt.alloc();
+    let scripts = drill_scripts(alloc, 1, 1, 3)?;
+    let results = [TOLD.to_vec(alloc)?];
+    let drilled = Summary {
+        start: 1,
+        callers: 1,
+        calls: 3,
+        enqueued: sum_enqueued(&scripts, &results),
+        dequeued: sum_dequeued(&results),
+        sizes: Answer::Sizes {
+            queue: 0,
+            set: 0,
+            map: 4,
+        },
+        total: Answer::Total(4000),
+        count: 7,
+    };
+    for room in 0..=FIVE_LINES.len() {
+        let mut out = Collect::with_room(alloc, room as u64, 7)?;
+        let printed = print_drill(&mut out, &drilled);
+        let wanted = if room < FIVE_LINES.len() {
+            Err(IoFailed)
+        } else {
+            Ok(())
+        };
+        assert_eq!(rt; printed, wanted, "with room for {room}");
+        assert!(rt; out.bytes() == &FIVE_LINES[..room], "with room for {room}");
+    }
+    Ok(())
+}
+
+const MOST: u64 = 18446744073709551615;
+
+#[test]
+fn replies_of_all_callers_are_summed(rt: HostRuntime) -> Result<(), Fail> {
+    let alloc = rt.alloc();
+    let lines = [
+        Line::Update(Call::Enq(MOST)),
+        Line::Update(Call::Enq(3)),
+        Line::Update(Call::Enq(5)),
+        Line::Update(Call::Deq),
+        Line::Ask(Query::Peek),
+        Line::Update(Call::Put(1, 9)),
+    ];
+    let results = [
+        LineResult::Update(Updated::Done(Reply::Queued, 1)),
+        LineResult::Update(Updated::Done(Reply::Full, 2)),
+        LineResult::Update(Updated::Doubt),
+        LineResult::Update(Updated::Done(Reply::Head(MOST), 4)),
+        LineResult::Read(Answer::Head(11), 5),
+        LineResult::Update(Updated::Done(Reply::Was(13), 5)),
+    ];
+    let scripts = [lines.to_vec(alloc)?, lines.to_vec(alloc)?];
+    let all = [results.to_vec(alloc)?, results.to_vec(alloc)?];
+    let twice = 36893488147419103230;
+    let sums = (sum_enqueued(&scripts, &all), sum_dequeued(&all));
+    assert_eq!(rt; sums, (twice, twice));
+    Ok(())
+}

@@ -1,0 +1,309 @@
+//! The object by its words: the worked regions, the inspection's answers, and loads and stores counted.
+ghost use Rattle.std.specs.Prelude.{◌<◌, ◌≤◌, ℕ, length, IfOk};
+ghost use Rattle.rom_model.specs.VecSpace.{words_of};
+ghost use Rattle.rom_model.specs.History.{LAST_COUNT};
+ghost use Rattle.rom_model.specs.State.{State, empty};
+ghost use Rattle.rom_model.specs.Region.{Contents};
+ghost use Rattle.rom_counted.specs.Counted.{Begins};
+
+use crate::regions::{BROKEN, FRESH, QUEUED, region};
+use rom_counted::Counted;
+use rom_heap::Trio;
+use rom_model::{Answer, Args, Back, Call, Object, Query, Reply, Unfit, VecSpace, new_region};
+use std::alloc::Global;
+use std::marker::Brand;
+use std::sync::ledger::{Blank, Ledger};
+use std::test::Fail;
+
+/// With fifteen numbers the heap is full.
+const FIFTEEN: [Call; 15] = [
+    Call::Add(1),
+    Call::Add(2),
+    Call::Add(3),
+    Call::Add(4),
+    Call::Add(5),
+    Call::Add(6),
+    Call::Add(7),
+    Call::Add(8),
+    Call::Add(9),
+    Call::Add(10),
+    Call::Add(11),
+    Call::Add(12),
+    Call::Add(13),
+    Call::Add(14),
+    Call::Add(15),
+];
+
+/// Updates on a new heap of order 4, one more and what it is told, and the words that are then others
+/// than in a new region.
+const UPDATES: [(&[Call], Call, Reply, Option<&[(usize, u64)]>); 13] = [
+    (&[], Call::Enq(9), Reply::Queued, Some(&QUEUED)),
+    (
+        &[Call::Enq(9)],
+        Call::Deq,
+        Reply::Head(9),
+        Some(&[(2, 2), (52, 9)]),
+    ),
+    // The second node is linked to the first, and is the tail.
+    (
+        &[Call::Enq(9)],
+        Call::Enq(8),
+        Reply::Queued,
+        Some(&[
+            (2, 2),
+            (3, 52),
+            (4, 56),
+            (5, 2),
+            (20, 1),
+            (24, 0),
+            (25, 1),
+            (33, 0),
+            (34, 0),
+            (52, 9),
+            (53, 56),
+            (56, 8),
+        ]),
+    ),
+    (
+        &[],
+        Call::Put(5, 7),
+        Reply::NoPrior,
+        Some(&[(2, 1), (9, 1), (24, 0), (33, 0), (48, 52), (52, 5), (53, 7)]),
+    ),
+    // Two keys of one bucket, of which the one that came last is the first.
+    (
+        &[Call::Put(0, 1)],
+        Call::Put(5, 2),
+        Reply::NoPrior,
+        Some(&[
+            (2, 2),
+            (9, 2),
+            (20, 1),
+            (24, 0),
+            (25, 1),
+            (33, 0),
+            (34, 0),
+            (48, 56),
+            (53, 1),
+            (56, 5),
+            (57, 2),
+            (58, 52),
+        ]),
+    ),
+    // The words of a block that was given back stay.
+    (
+        &[Call::Put(0, 1), Call::Put(5, 2)],
+        Call::Del(0),
+        Reply::Was(1),
+        Some(&[
+            (2, 3),
+            (9, 1),
+            (20, 1),
+            (25, 1),
+            (34, 0),
+            (48, 56),
+            (53, 1),
+            (56, 5),
+            (57, 2),
+        ]),
+    ),
+    // Two numbers, of which the smaller one came last.
+    (
+        &[Call::Add(8)],
+        Call::Add(5),
+        Reply::Added,
+        Some(&[
+            (2, 2),
+            (6, 56),
+            (7, 2),
+            (20, 1),
+            (24, 0),
+            (25, 1),
+            (33, 0),
+            (34, 0),
+            (52, 8),
+            (56, 5),
+            (57, 52),
+        ]),
+    ),
+    (
+        &[Call::Add(8), Call::Add(5)],
+        Call::Rem(8),
+        Reply::Removed,
+        Some(&[
+            (2, 3),
+            (6, 56),
+            (7, 1),
+            (20, 1),
+            (25, 1),
+            (34, 0),
+            (52, 8),
+            (56, 5),
+        ]),
+    ),
+    (&FIFTEEN, Call::Add(16), Reply::Full, None),
+    (&FIFTEEN, Call::Add(15), Reply::Present, None),
+    (&FIFTEEN, Call::Put(1, 1), Reply::Full, None),
+    (&FIFTEEN, Call::Enq(1), Reply::Full, None),
+    (&FIFTEEN, Call::Rem(16), Reply::Absent, None),
+];
+
+/// Does updates one after another on a new heap of order 4, and then one more; what that is told.
+fn apply_all(space: &mut VecSpace, calls: &[Call], last: &Call) -> Reply
+    requires few { length calls.now ≤ 15 }
+    requires region { Contents 4 (words_of space.old) empty 0 }
+{
+    for call in calls {
+        Trio::apply(space, 4, call);
+    }
+    Trio::apply(space, 4, last)
+}
+
+#[test]
+fn updates_word_for_word(rt: HostRuntime) -> Result<(), Fail> {
+    for (calls, last, reply, changes) in UPDATES {
+        let mut space = new_region::<Trio>(rt.alloc(), 4)?;
+        assert!(rt; calls.len() <= 15);
+        assert_eq!(rt; apply_all(&mut space, calls, &last), reply, "at {last:?}");
+        if let Some(changes) = changes {
+            let words = region(false, changes);
+            assert!(rt; space.words() == words.as_slice(), "at {last:?}");
+        }
+    }
+    Ok(())
+}
+
+#[test]
+fn a_new_region_over_other_words(rt: HostRuntime) -> Result<(), Fail> {
+    let mut space = VecSpace::of(vec![in rt.alloc(); 7u64; 112]?);
+    Trio::format(&mut space, 4);
+    // The words of free blocks, which begin behind the bucket table, stay.
+    let mut words = [7; 112];
+    words[..52].copy_from_slice(&FRESH[..52]);
+    assert!(rt; space.words() == words.as_slice());
+    Ok(())
+}
+
+#[test]
+fn words_of_calls_and_replies(rt: HostRuntime) {
+    let words = Trio::call_words(&Call::Move(1, 2, 3));
+    assert!(rt; words.as_slice() == [7, 1, 2, 3].as_slice());
+    assert_eq!(rt; Trio::words_call(&words), Some(Call::Move(1, 2, 3)));
+    let words = Trio::reply_words(&Reply::Short(40));
+    assert!(rt; words.as_slice() == [12, 40].as_slice());
+    assert_eq!(rt; Trio::words_reply(&words), Some(Reply::Short(40)));
+    // A tag of the other table, a number too many, a tag of no row, no words.
+    assert_eq!(rt; Trio::words_call(&Args::of(&[12, 40])), None);
+    assert_eq!(rt; Trio::words_call(&Args::of(&[2, 0])), None);
+    assert_eq!(rt; Trio::words_reply(&Back::of(&[14])), None);
+    assert_eq!(rt; Trio::words_reply(&Back::new()), None);
+}
+
+#[test]
+fn regions_of_order_4_are_inspected(rt: HostRuntime) {
+    // Whether 9 is in the queue, and words that are changed. Those of free blocks may be anything.
+    let regions: [(bool, &[(usize, u64)]); 4] = [
+        (false, &[]),
+        (true, &[]),
+        (
+            false,
+            &[(2, 1), (9, 1), (24, 0), (33, 0), (48, 52), (52, 5), (53, 7)],
+        ),
+        (true, &[(56, 7), (111, 9)]),
+    ];
+    for (queued, changes) in regions {
+        let words = region(queued, changes);
+        assert_eq!(rt; Trio::inspect(rt.alloc(), &words, 4), Ok(()));
+    }
+    for (queued, changes, offset, rule) in BROKEN {
+        let words = region(queued, changes);
+        let want = Err(Unfit::Malformed { offset, rule });
+        assert_eq!(rt; Trio::inspect(rt.alloc(), &words, 4), want);
+    }
+}
+
+/// How many elements a heap of order 16 has room for.
+const CAP: u64 = 61440;
+
+/// A heap of order 16 whose free blocks hold 7 in each word, after this update and so many new keys.
+fn filled(alloc: Global, first: Call, keys: u64) -> Result<VecSpace, Fail>
+    ensures region { IfOk result (λ space. (s : State) × (k : ℕ)
+        × Contents 16 (words_of space) s k × (k < LAST_COUNT)) }
+{
+    let mut space = VecSpace::of(vec![in alloc; 7u64; 393232]?);
+    Trio::format(&mut space, 16);
+    Trio::apply(&mut space, 16, &first);
+    for key in 0..keys.min(CAP) {
+        Trio::apply(&mut space, 16, &Call::Put(key, 1));
+    }
+    Ok(space)
+}
+
+/// What an update is told in such a heap, and how many stores it makes.
+fn told_and_stores<L: Ledger>(blank: Blank, space: VecSpace, call: Call) -> (Reply, u64)
+    requires blank { Begins L.name L.parts blank.name blank.parts }
+    requires region { (s : State) × (k : ℕ) × Contents 16 (words_of space) s k × (k < LAST_COUNT) }
+{
+    let mut space: Counted<L> = Counted::begin(space, Trio::STORES, blank);
+    let reply = Trio::apply(&mut space, 16, &call);
+    (reply, space.stores())
+}
+
+#[test]
+fn the_most_stores_of_each_update(rt: HostRuntime) -> Result<(), Fail> {
+    // An update and a number of keys before; then an update with its reply and its stores.
+    let rows = [
+        (Call::Enq(1), CAP - 2, Call::Enq(9), Reply::Queued, 25),
+        (Call::Enq(1), CAP - 1, Call::Deq, Reply::Head(1), 21),
+        (Call::Deq, CAP - 1, Call::Add(5), Reply::Added, 24),
+        (Call::Add(5), CAP - 1, Call::Rem(5), Reply::Removed, 20),
+        (Call::Deq, CAP - 1, Call::Put(70000, 9), Reply::NoPrior, 24),
+        (Call::Deq, CAP, Call::Put(1000, 9), Reply::Was(1), 2),
+        (Call::Deq, CAP, Call::Del(1000), Reply::Was(1), 20),
+        (Call::Deq, CAP, Call::Move(1000, 2000, 1), Reply::Moved, 3),
+        (Call::Deq, CAP, Call::Add(5), Reply::Full, 1),
+    ];
+    for (first, keys, call, reply, stores) in rows {
+        let space = filled(rt.alloc(), first, keys)?;
+        let told = told_and_stores::<Brand>(Blank::new(1), space, call);
+        assert_eq!(rt; told, (reply, stores));
+    }
+    Ok(())
+}
+
+/// What a query is told in such a heap, and how many loads it makes.
+fn answer_and_loads<L: Ledger>(blank: Blank, space: VecSpace, query: Query) -> (Answer, u64)
+    requires blank { Begins L.name L.parts blank.name blank.parts }
+    requires region { (s : State) × (k : ℕ) × Contents 16 (words_of space) s k × (k < LAST_COUNT) }
+{
+    let mut space: Counted<L> = Counted::begin(space, 0, blank);
+    let answer = Trio::answer(&mut space, 16, &query);
+    (answer, space.loads())
+}
+
+#[test]
+fn loads_of_each_query(rt: HostRuntime) -> Result<(), Fail> {
+    let sizes = Answer::Sizes {
+        queue: 1,
+        set: 0,
+        map: 3,
+    };
+    // The update before, the query on a heap with three keys more, its answer, and the loads that are
+    // made: a bucket is empty or has one key here.
+    let rows = [
+        (Call::Add(5), Query::Has(5), Answer::Yes, 2),
+        (Call::Add(5), Query::Has(9), Answer::No, 3),
+        (Call::Deq, Query::Get(1), Answer::Value(1), 3),
+        (Call::Deq, Query::Get(3), Answer::Missing, 1),
+        (Call::Enq(7), Query::Peek, Answer::Head(7), 2),
+        (Call::Deq, Query::Peek, Answer::Empty, 1),
+        (Call::Enq(7), Query::Len, sizes, 3),
+        (Call::Deq, Query::Total, Answer::Total(3), 16384 + 2 * 3),
+    ];
+    for (first, query, answer, loads) in rows {
+        let space = filled(rt.alloc(), first, 3)?;
+        let told = answer_and_loads::<Brand>(Blank::new(1), space, query);
+        assert_eq!(rt; told, (answer, loads));
+    }
+    Ok(())
+}

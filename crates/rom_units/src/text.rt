@@ -1,0 +1,286 @@
+//! What lines were told, as it is printed, to the byte.
+ghost use Rattle.std.specs.Prelude.{◌<◌, None};
+
+use crate::files::path;
+use rom_model::{Answer, LineResult, Reply, Updated};
+use rom_script::{
+    Adapted, Collect, IoFailed, ReadRefused, Sink, Source, print_answer, print_number,
+    print_pieces, print_run, print_text, print_update, read_bytes, read_script,
+};
+use std::alloc::{AllocError, Global};
+use std::fs::File;
+use std::process::Abort;
+use std::test::Fail;
+use std::{env, fs};
+
+const UPDATES: [(Updated<Reply>, &str); 16] = [
+    (Updated::Done(Reply::Queued, 0), "queued @0"),
+    (Updated::Done(Reply::Full, 10), "full @10"),
+    (Updated::Done(Reply::Head(9), 1), "head 9 @1"),
+    (Updated::Done(Reply::Empty, 2), "empty @2"),
+    (Updated::Done(Reply::Added, 3), "added @3"),
+    (Updated::Done(Reply::Present, 4), "present @4"),
+    (Updated::Done(Reply::Removed, 5), "removed @5"),
+    (Updated::Done(Reply::Absent, 6), "absent @6"),
+    (Updated::Done(Reply::NoPrior, 7), "none @7"),
+    (Updated::Done(Reply::Was(0), 8), "was 0 @8"),
+    (Updated::Done(Reply::Moved, 9), "moved @9"),
+    (Updated::Done(Reply::Short(40), 3), "short 40 @3"),
+    (
+        Updated::Done(Reply::Over, u64::MAX),
+        "over @18446744073709551615",
+    ),
+    (Updated::Spent, "spent"),
+    (Updated::Failed, "fault"),
+    (Updated::Doubt, "doubt"),
+];
+
+const ANSWERS: [(Answer, u64, &str); 9] = [
+    (Answer::Yes, 1, "yes #1"),
+    (Answer::No, 4, "no #4"),
+    (Answer::Value(7), 1, "value 7 #1"),
+    (Answer::Missing, 3, "none #3"),
+    (Answer::Head(u64::MAX), 10, "head 18446744073709551615 #10"),
+    (Answer::Empty, 0, "empty #0"),
+    (
+        Answer::Sizes {
+            queue: 1,
+            set: 20,
+            map: 0,
+        },
+        5,
+        "queue 1 set 20 map 0 #5",
+    ),
+    (
+        Answer::Total(36893488147419103230),
+        2,
+        "total 36893488147419103230 #2",
+    ),
+    (Answer::Yes, u64::MAX, "yes #18446744073709551615"),
+];
+
+#[test]
+fn updates_have_their_texts(rt: HostRuntime) -> Result<(), Fail> {
+    for (updated, text) in UPDATES {
+        let mut out = Collect::with_room(rt.alloc(), 1000, 2)?;
+        print_update(&mut out, &updated)?;
+        assert!(rt; out.bytes() == text.as_bytes(), "at {text}");
+    }
+    Ok(())
+}
+
+#[test]
+fn answers_have_their_texts(rt: HostRuntime) -> Result<(), Fail> {
+    for (answer, front, text) in ANSWERS {
+        let mut out = Collect::with_room(rt.alloc(), 1000, 2)?;
+        print_answer(&mut out, &answer, front)?;
+        assert!(rt; out.bytes() == text.as_bytes(), "at {text}");
+    }
+    Ok(())
+}
+
+#[test]
+fn numbers_and_pieces_have_their_texts(rt: HostRuntime) -> Result<(), Fail> {
+    let mut out = Collect::with_room(rt.alloc(), 1000, 2)?;
+    print_text(&mut out, "")?;
+    print_number(&mut out, 0)?;
+    print_text(&mut out, " ")?;
+    print_number(&mut out, u128::MAX)?;
+    print_pieces(&mut out, &[" ", "", "a", "bc"])?;
+    assert!(rt; out.bytes() == b"0 340282366920938463463374607431768211455 abc".as_slice());
+    Ok(())
+}
+
+type Told = LineResult<Reply, Answer>;
+
+const UNREAD: Told = LineResult::Unread;
+
+/// A queue of fifteen that is filled.
+const FILLED: &[Told] = &[
+    LineResult::Update(Updated::Done(Reply::Queued, 0)),
+    LineResult::Update(Updated::Done(Reply::Queued, 1)),
+    LineResult::Update(Updated::Done(Reply::Queued, 2)),
+    LineResult::Update(Updated::Done(Reply::Queued, 3)),
+    LineResult::Update(Updated::Done(Reply::Queued, 4)),
+    LineResult::Update(Updated::Done(Reply::Queued, 5)),
+    LineResult::Update(Updated::Done(Reply::Queued, 6)),
+    LineResult::Update(Updated::Done(Reply::Queued, 7)),
+    LineResult::Update(Updated::Done(Reply::Queued, 8)),
+    LineResult::Update(Updated::Done(Reply::Queued, 9)),
+    LineResult::Update(Updated::Done(Reply::Queued, 10)),
+    LineResult::Update(Updated::Done(Reply::Queued, 11)),
+    LineResult::Update(Updated::Done(Reply::Queued, 12)),
+    LineResult::Update(Updated::Done(Reply::Queued, 13)),
+    LineResult::Update(Updated::Done(Reply::Queued, 14)),
+    LineResult::Update(Updated::Done(Reply::Full, 15)),
+    LineResult::Update(Updated::Done(Reply::Head(1), 16)),
+    LineResult::Update(Updated::Done(Reply::Queued, 17)),
+];
+
+const FILLED_TEXT: &str =
+    "caller 1\nqueued @0\nqueued @1\nqueued @2\nqueued @3\nqueued @4\nqueued @5\nqueued @6\nqueued @7\nqueued @8\nqueued @9\nqueued @10\nqueued @11\nqueued @12\nqueued @13\nqueued @14\nfull @15\nhead 1 @16\nqueued @17\ncount 18\n";
+
+/// What each caller was told, the count, and the text.
+const RUNS: [(&[&[Told]], u64, &str); 3] = [
+    (&[FILLED], 18, FILLED_TEXT),
+    (
+        &[
+            &[LineResult::Update(Updated::Done(Reply::Queued, 1)), UNREAD],
+            &[],
+            &[
+                LineResult::Read(Answer::Empty, 0),
+                LineResult::Update(Updated::Done(Reply::Added, 0)),
+            ],
+        ],
+        2,
+        "caller 1\nqueued @1\nunread\ncaller 2\ncaller 3\nempty #0\nadded @0\ncount 2\n",
+    ),
+    (&[], 7, "count 7\n"),
+];
+
+fn results_of(alloc: Global, callers: &[&[Told]]) -> Result<Vec<Vec<Told>>, AllocError> {
+    let mut results = Vec::new(alloc);
+    for told in callers {
+        results.push(told.to_vec(alloc)?)?;
+    }
+    Ok(results)
+}
+
+/// Prints a run to sinks with room for each number of the text's bytes.
+fn prints_the_front<R: Abort + AllocGlobal>(
+    rt: &R,
+    results: &[Vec<Told>],
+    count: u64,
+    text: &[u8],
+    piece: u64,
+) -> Result<(), Fail>
+    requires { 0 < piece }
+{
+    for room in 0..=text.len() {
+        let mut out = Collect::with_room(rt.alloc(), room as u64, piece)?;
+        assert!(rt; out.bytes().is_empty());
+        let done = print_run(&mut out, results, count);
+        let wanted = if room < text.len() {
+            Err(IoFailed)
+        } else {
+            Ok(())
+        };
+        assert_eq!(rt; done, wanted, "with room for {room}");
+        assert!(rt; out.bytes() == &text[..room], "with room for {room}");
+        // With no room left it fails again, and keeps what it has.
+        assert_eq!(rt; print_text(&mut out, "x"), Err(IoFailed));
+        assert!(rt; out.bytes() == &text[..room], "with room for {room}");
+    }
+    Ok(())
+}
+
+#[test]
+fn a_sink_without_room_has_the_front_of_the_text(rt: HostRuntime) -> Result<(), Fail> {
+    let alloc = rt.alloc();
+    for (callers, count, text) in RUNS {
+        let results = results_of(alloc, callers)?;
+        for piece in [1, 5, 7, 4096] {
+            prints_the_front(&rt, &results, count, text.as_bytes(), piece)?;
+        }
+    }
+    assert!(rt; Collect::with_room(alloc, u64::MAX, 1).is_err());
+    Ok(())
+}
+
+/// A sink that takes all it is given, and keeps how many bytes came by each write.
+#[derive(Drop)]
+struct Widths {
+    widths: Vec<u64>,
+    faults: u64,
+    failing: bool,
+}
+
+impl Sink for Widths {
+    ghost shown = { record {
+      taken = λ _. None;
+      faults = λ w. w.faults;
+      failing = λ w. w.failing;
+      Rest = Unit {0};
+      rest = λ _. tt;
+    } };
+
+    fn write(&mut self, piece: &[u8]) -> Result<u64, IoFailed> {
+        match self.widths.push(piece.len() as u64) {
+            Ok(()) => {
+                self.failing = false;
+                Ok(piece.len() as u64)
+            }
+            Err(_) => {
+                self.failing = true;
+                self.faults = self.faults.saturating_add(1);
+                Err(IoFailed)
+            }
+        }
+    }
+}
+
+#[test]
+fn texts_of_runs_leave_in_whole_blocks(rt: HostRuntime) -> Result<(), Fail> {
+    let alloc = rt.alloc();
+    // `caller 1`, so many lines `unread`, and `count 5`, with an LF after each.
+    let runs: [(usize, &[u64]); 4] = [
+        (0, &[17]),
+        (1753, &[4096, 4096, 4096]),
+        (1754, &[4096, 4096, 4096, 7]),
+        (2000, &[4096, 4096, 4096, 1729]),
+    ];
+    for (lines, widths) in runs {
+        let unread = vec![in alloc; UNREAD; lines]?;
+        let mut out = Widths {
+            widths: Vec::new(alloc),
+            faults: 0,
+            failing: false,
+        };
+        print_run(&mut out, &results_of(alloc, &[unread.as_slice()])?, 5)?;
+        assert!(rt; out.widths.as_slice() == widths, "at {lines} lines");
+    }
+
+    let mut results = vec![in alloc; UNREAD; 2000]?;
+    results.push(LineResult::Read(Answer::Empty, 0))?;
+    let mut text = String::from_str(alloc, "caller 1\n")?;
+    for _ in 0..2000 {
+        text.push_str("unread\n")?;
+    }
+    text.push_str("empty #0\ncount 0\n")?;
+    let mut out = Collect::with_room(alloc, 100_000, 1000)?;
+    print_run(&mut out, &results_of(alloc, &[results.as_slice()])?, 0)?;
+    assert!(rt; out.bytes() == text.as_bytes());
+    Ok(())
+}
+
+#[test]
+fn files_are_sources_and_sinks(rt: HostRuntime) -> Result<(), Fail> {
+    let alloc = rt.alloc();
+    let path = path(&rt, "script")?;
+    let mut out = Adapted::new(fs::create(&rt, &path)?);
+    print_run(&mut out, &results_of(alloc, &[FILLED])?, 18)?;
+    let mut source = Adapted::new(fs::open(&rt, &path)?);
+    let bytes = read_bytes(alloc, &mut source)?;
+    fs::remove_file(&rt, &path)?;
+    assert!(rt; bytes.as_slice() == FILLED_TEXT.as_bytes());
+
+    // The file is open for reading alone.
+    assert_eq!(rt; print_text(&mut source, "x"), Err(IoFailed));
+    Ok(())
+}
+
+#[test]
+fn a_folder_and_what_is_missing_fail(rt: HostRuntime) -> Result<(), Fail> {
+    let mut folder = Adapted::new(fs::open(&rt, env::temp_dir(&rt)?)?);
+    let bytes = read_bytes(rt.alloc(), &mut folder);
+    assert!(rt; matches!(bytes, Err(ReadRefused::Failed)));
+    let mut missing = Adapted::<File>::missing();
+    for _ in 0..2 {
+        assert_eq!(rt; missing.read(&mut [0; 4]), Err(IoFailed));
+        let script = read_script(rt.alloc(), &mut missing);
+        assert!(rt; matches!(script, Err(ReadRefused::Failed)));
+        assert_eq!(rt; missing.write(b"x"), Err(IoFailed));
+        assert_eq!(rt; print_text(&mut missing, "x"), Err(IoFailed));
+    }
+    Ok(())
+}

@@ -1,0 +1,9 @@
+use Rattle.std.proofs.Common.{rules}
+use Rattle.rom_words.proofs.Saying.{number_found, number_outside}
+use Rattle.rom_words.proofs.words.read_within.Goals as goal
+
+pub returns-then-contains-clause-number : goal.returns-then-contains-clause-number
+returns-then-contains-clause-number c = number_found c.args.least c.args.most c.args.word.now c.in_ok-number.number (search rules) (search rules) (search rules) (search rules)
+
+pub returns-else-contains-clause-number : goal.returns-else-contains-clause-number
+returns-else-contains-clause-number c = number_outside c.args.least c.args.most c.args.word.now c.in_ok-number.number (search rules) (search rules) (search rules)

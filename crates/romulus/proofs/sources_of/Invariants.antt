@@ -1,6 +1,0 @@
-use Rattle.std.proofs.Common.{◌≡◌, length}
-use Rattle.romulus.proofs.sources_of.Given as goal
-
--- a source for each name so far
-abbrev pub invariant-loop-i : goal.invariant-loop-i
-invariant-loop-i l = length l.sources.items ≡ l.i
