@@ -1,7 +1,8 @@
 #!/bin/sh
-# Runs `rt ci --anew` and tells where its time went: the processor seconds of each crate's proof, of its
-# tests and of its edits, those of all compilers together, the memory of the largest check, and the minutes
-# by the clock. It looks at the processes once a second, so each figure is low by up to that much a process.
+# Runs `rt ci --anew` and tells where its time went: for each crate the processor seconds of its proof, of its
+# tests and of its edits, and the minutes by the clock at which its first check began and its last ended; then
+# those of all compilers together, the memory of the largest check, and the whole. It looks at the processes
+# once a second, so each figure is low by up to that much a process.
 # It ends with the status of `rt ci`, whose own lines it keeps in a file and names.
 # Usage, from any folder: bench/gate.sh
 # It needs Linux's /proc.
@@ -23,22 +24,24 @@ stands_below() {
     return 1
 }
 
-# A line for each check and compiler below the process: its number, what it works on, its ticks, its memory.
+# A line for each check and compiler below the process: its number, what it works on, its ticks, its memory,
+# and the seconds since the start.
 look() {
-    for process in $(pgrep -x 'rattle|antt-kernel|clang|clang-[0-9]+|llc|opt|rattle-link|rattle-test'); do
+    for process in $(pgrep -x rattle) $(pgrep -x antt-kernel) $(pgrep -x clang) $(pgrep -x rattle-link) $(pgrep -x rattle-test); do
         stands_below "$process" "$1" || continue
         words=$(tr '\0' ' ' <"/proc/$process/cmdline" 2>/dev/null)
         name=$(echo "$words" | sed -n 's/.* --crate-name \([^ ]*\) .*/\1/p')
         where=$(readlink "/proc/$process/cwd" 2>/dev/null)
         case "$where $words" in
             */rt-edit-*) part=edits ;;
-            *" check "*" --test "*) part=tests ;;
-            *" check "*) part=proof ;;
+            *" --crate-checked "*) part=compilers name=all ;;
+            *" --crate-name "*" --test"*) part=tests ;;
+            *" --crate-name "*) part=proof ;;
             *) part=compilers name=all ;;
         esac
         used=$(sed 's/.*) //' "/proc/$process/stat" 2>/dev/null | awk '{ print $12 + $13 }')
         most=$(sed -n 's/^VmHWM:[[:space:]]*\([0-9]*\).*/\1/p' "/proc/$process/status" 2>/dev/null)
-        [ -n "$used" ] && echo "$process ${name:-unknown} $part $used ${most:-0}"
+        [ -n "$used" ] && echo "$process ${name:-unknown} $part $used ${most:-0} $(($(date +%s) - began))"
     done
 }
 
@@ -53,7 +56,13 @@ status=$?
 
 awk -v ticks="$ticks" -v clock="$(($(date +%s) - began))" '
     # A number of a process may be given again, to one that works on something else.
-    { key = $1 " " $2 " " $3; if ($4 > used[key]) used[key] = $4; if ($5 > memory) { memory = $5; largest = $2 } }
+    {
+        key = $1 " " $2 " " $3
+        if ($4 > used[key]) used[key] = $4
+        if ($5 > memory) { memory = $5; largest = $2 }
+        if (!($2 in first)) first[$2] = $6
+        last[$2] = $6
+    }
     END {
         for (key in used) {
             split(key, words, " ")
@@ -61,9 +70,10 @@ awk -v ticks="$ticks" -v clock="$(($(date +%s) - began))" '
             if (words[3] != "compilers") crates[words[2]] = 1
             all += used[key] / ticks
         }
-        print "crate proof tests edits"
+        print "crate proof tests edits from to"
         for (name in crates)
-            printf "%s %d %d %d\n", name, seconds[name " proof"], seconds[name " tests"], seconds[name " edits"] | "sort"
+            printf "%s %d %d %d %d %d\n", name, seconds[name " proof"], seconds[name " tests"], seconds[name " edits"],
+                first[name] / 60, last[name] / 60 | "sort"
         close("sort")
         printf "compilers %d\n", seconds["all compilers"]
         printf "all: %.0f processor minutes, %.0f minutes by the clock; the largest check, of %s, took %.1f GB\n", all / 60, clock / 60, largest, memory / 1048576
