@@ -24,7 +24,8 @@ pub fn ram(alloc: Global) -> Result<Ram, AllocError> {
 /// was made.
 pub fn twin_of(alloc: Global, region: &VecSpace) -> Result<Option<Twin<Ram>>, AllocError>
     requires sized { length (words_of region.now) ≡ region_len 4 }
-    ensures made { IfOk result (λ made. IfSome made (λ twin. (twin.phase ≡ Phase.Clean) × (twin.order ≡ 4))) }
+    ensures made { IfOk result (λ made. IfSome made (λ twin. (twin.phase ≡ Phase.Clean)
+        × (twin.order ≡ 4))) }
 {
     let mut device = ram(alloc)?;
     let Ok(()) = write_new(&mut device, ORDER, region.words()) else {

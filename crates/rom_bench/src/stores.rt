@@ -127,7 +127,8 @@ fn work_on<D: Device + Drop, N: Label, R: Wait>(
     requires labelled { IsLabelled D.shown N.table N.base N.size N.words N.clock N.since opening }
     requires many { length opening.passes ≡ 1 }
     requires callers { (base_of opening.key).callers ≡ 1 }
-    requires new { Indexed (IsNewCaller Contents opening.table_id (base_of opening.key)) opening.passes }
+    requires new { Indexed
+        (IsNewCaller Contents opening.table_id (base_of opening.key)) opening.passes }
 {
     let (store, mut passes) = opening.start::<N>();
     let mut pass = alone::<N>(&mut passes);
@@ -139,14 +140,16 @@ fn work_on<D: Device + Drop, N: Label, R: Wait>(
 fn work_in<D: Device + Drop, R: Wait>(rt: &R, opening: Opening<D, Trio>, work: Work) -> u64
     requires many { length opening.passes ≡ 1 }
     requires callers { (base_of opening.key).callers ≡ 1 }
-    requires new { Indexed (IsNewCaller Contents opening.table_id (base_of opening.key)) opening.passes }
+    requires new { Indexed
+        (IsNewCaller Contents opening.table_id (base_of opening.key)) opening.passes }
 {
     work_on::<D, Brand, R>(rt, opening, work)
 }
 
 /// A new heap in memory, opened for one caller.
 fn opened(alloc: Global) -> Result<Option<Opening<Ram, Trio>>, AllocError>
-    ensures many { IfOk result (λ r. IfSome r (λ o. (length o.passes ≡ 1) × ((base_of o.key).callers ≡ 1))) }
+    ensures many { IfOk result (λ r. IfSome r (λ o. (length o.passes ≡ 1)
+        × ((base_of o.key).callers ≡ 1))) }
     ensures new { IfOk result (λ r. IfSome r (λ o.
         Indexed (IsNewCaller Contents o.table_id (base_of o.key)) o.passes)) }
 {

@@ -30,10 +30,12 @@ pub struct Cached<M: Medium> {
     ghost sure: { IsFalse sync_failed → IsFalse (M.doubtful medium) },
     ghost inside: { pending.first + pending.count ≤ len },
     ghost agree: { Agrees pending windows },
-    ghost alone: { IsTrue apart → IsFalse (M.missing medium) × (0 < pending.count) × IsApart pending windows },
+    ghost alone: { IsTrue apart → IsFalse (M.missing medium) × (0 < pending.count)
+        × IsApart pending windows },
     ghost none_read: { IsTrue (M.missing medium) → (b : ℕ) → word_in windows b ≡ None },
     ghost long: { IsTrue M.shown.tells_words → length (M.shown.words medium) ≡ len },
-    ghost told: { IsTrue M.shown.tells_words → Knows windows (with_run pending (M.shown.words medium)) },
+    ghost told: { IsTrue M.shown.tells_words →
+        Knows windows (with_run pending (M.shown.words medium)) },
 }
 
 impl<M: Medium> Cached<M> {
@@ -129,7 +131,8 @@ impl<M: Medium> Cached<M> {
     // Hands over what waits, if any of it has one of the 512 places from that one on. Words that wait
     // elsewhere may go on waiting, and so fill their page. `false` says that they still wait.
     fn make_way(&mut self, at: u64) -> bool
-        ensures clear { OnTrue result ((b : ℕ) → at ≤ b → b < at + 512 → word_of self.new.pending b ≡ None) }
+        ensures clear { OnTrue result ((b : ℕ) → at ≤ b → b < at + 512 →
+            word_of self.new.pending b ≡ None) }
         ensures pending { HandedOver self.old.pending self.new.pending }
         ensures windows { self.new.windows ≡ self.old.windows }
         ensures only { OnlyReads (shown_by_cached M.shown) self.old self.new }
@@ -148,7 +151,8 @@ impl<M: Medium> Cached<M> {
     fn fetch(&mut self, at: u64) -> Option<u64>
         requires inside { at < self.old.len }
         requires missed { IsMissed self.old.windows at }
-        ensures waits { IsFalse (M.missing self.old.medium) → Gives (word_of self.old.pending at) result }
+        ensures waits { IsFalse (M.missing self.old.medium) →
+            Gives (word_of self.old.pending at) result }
         ensures word { IsTrue M.shown.tells_words → IfSome result (λ word.
             word ≡ slice_index (with_run self.old.pending (M.shown.words self.old.medium)) at) }
         ensures pending { HandedOver self.old.pending self.new.pending }
@@ -175,7 +179,8 @@ impl<M: Medium> Cached<M> {
     #[inline(always)]
     pub fn find(&mut self, at: u64) -> Option<u64>
         requires { at < self.old.len }
-        ensures waits { IsFalse (M.missing self.old.medium) → Gives (word_of self.old.pending at) result }
+        ensures waits { IsFalse (M.missing self.old.medium) →
+            Gives (word_of self.old.pending at) result }
         ensures word { IsTrue M.shown.tells_words → IfSome result (λ word.
             word ≡ slice_index (with_run self.old.pending (M.shown.words self.old.medium)) at) }
         ensures window { Gives (word_in self.old.windows at) result }
@@ -196,7 +201,8 @@ impl<M: Medium> Cached<M> {
     fn copy(&self, at: u64, into: &mut [u64]) -> usize
         ensures most { result ≤ length into.old }
         ensures len { length into.new ≡ length into.old }
-        ensures words { (k : ℕ) → k < result → IsRead self.now.windows (at + k) (slice_index into.new k) }
+        ensures words { (k : ℕ) → k < result →
+            IsRead self.now.windows (at + k) (slice_index into.new k) }
         ensures waits { AsWaiting self.now.pending at result into.new }
         ensures none { IsTrue (M.missing self.now.medium) → result ≡ 0 }
         ensures told { IsTrue M.shown.tells_words → (k : ℕ) → k < result → slice_index into.new k
@@ -262,9 +268,11 @@ impl<M: Medium> Cached<M> {
         ensures missing { M.missing self.new.medium ≡ M.missing self.old.medium }
         ensures none { IsTrue (M.missing self.old.medium) → IsFalse result }
         ensures failed { IsTrue (has_failed_sync self.old) → IsFalse result }
-        ensures stays_failed { IsTrue (has_failed_sync self.old) → IsTrue (has_failed_sync self.new) }
+        ensures stays_failed { IsTrue (has_failed_sync self.old) →
+            IsTrue (has_failed_sync self.new) }
         ensures synced { OnTrue result (IsFalse (has_failed_sync self.new)) }
-        ensures noted { OnFalse result ((0 < self.new.pending.count) ⊎ IsTrue (has_failed_sync self.new)) }
+        ensures noted { OnFalse result ((0 < self.new.pending.count)
+            ⊎ IsTrue (has_failed_sync self.new)) }
     {
         if self.sync_failed || !self.flush() {
             return false;

@@ -71,7 +71,8 @@ impl<M: Medium> CachedDevice<M> {
     #[cold]
     #[inline(never)]
     fn fault(&mut self) -> Failed
-        ensures last { FailedLast (fault_count_of self.old) (fault_count_of self.new) (is_failing self.new) }
+        ensures last { FailedLast (fault_count_of self.old) (fault_count_of self.new)
+            (is_failing self.new) }
         ensures words { self.new.words ≡ self.old.words }
         ensures reads { self.new.reads ≡ self.old.reads }
         ensures writes { self.new.writes ≡ self.old.writes }
@@ -123,8 +124,10 @@ impl<M: Medium> Device for CachedDevice<M> {
         ensures read { IsTrue M.shown.tells_words → (k : ℕ) → k < result → slice_index into.new k
             ≡ slice_index ((shown_by_device M.shown).words self.old) (at + k) }
         ensures only { OnlyReads (shown_by_device M.shown) self.old self.new }
-        ensures counts { ReadsUpTo (shown_by_device M.shown) result (length into.old) self.old self.new }
-        ensures failing { 0 < length into.old → is_failing self.new ≡ nat_lt result (length into.old) }
+        ensures counts { ReadsUpTo (shown_by_device M.shown) result
+            (length into.old) self.old self.new }
+        ensures failing { 0 < length into.old →
+            is_failing self.new ≡ nat_lt result (length into.old) }
         ensures none { length into.old ≡ 0 → self.new ≡ self.old }
         ensures keeps { Keeps M.missing (result ≡ 0) self.old self.new }
     {
@@ -145,7 +148,8 @@ impl<M: Medium> Device for CachedDevice<M> {
     #[inline(always)]
     fn write(&mut self, at: u64, value: u64) -> Result<(), Failed>
         requires { at < length_of self.old }
-        ensures written { IsTrue M.shown.tells_words → OnOk result ((shown_by_device M.shown).words self.new
+        ensures written { IsTrue M.shown.tells_words →
+            OnOk result ((shown_by_device M.shown).words self.new
             ≡ slice_set ((shown_by_device M.shown).words self.old) at value) }
         ensures does { Does (shown_by_device M.shown) (Writes at value) self.old self.new }
         ensures counts { Counts (shown_by_device M.shown) 0 1 0 self.old self.new result }
@@ -163,10 +167,13 @@ impl<M: Medium> Device for CachedDevice<M> {
     fn write_words(&mut self, at: u64, values: &[u64]) -> Result<(), Failed>
         requires { at + length values.now ≤ length_of self.old }
         ensures written { IsTrue M.shown.tells_words → OnOk result ((k : ℕ) → k < length values.now
-            → slice_index ((shown_by_device M.shown).words self.new) (at + k) ≡ slice_index values.now k) }
-        ensures failed { OnErr result (WritingFailed (shown_by_device M.shown) at values.now self.old self.new) }
+            → slice_index ((shown_by_device M.shown).words self.new) (at + k)
+            ≡ slice_index values.now k) }
+        ensures failed { OnErr result (WritingFailed (shown_by_device M.shown) at
+            values.now self.old self.new) }
         ensures does { Does (shown_by_device M.shown) (WritesMany at values.now) self.old self.new }
-        ensures makes { Makes (shown_by_device M.shown) 0 (length values.now) 0 self.old self.new result }
+        ensures makes { Makes (shown_by_device M.shown) 0 (length values.now) 0
+            self.old self.new result }
         ensures failing { 0 < length values.now → is_failing self.new ≡ is_err result }
         ensures none { length values.now ≡ 0 → self.new ≡ self.old }
         ensures keeps { Keeps M.missing (0 < length values.now → IsErr result) self.old self.new }
@@ -191,7 +198,8 @@ impl<M: Medium> Device for CachedDevice<M> {
         ensures medium { M.missing (medium_of self.new) ≡ M.missing (medium_of self.old) }
         ensures missing { IsTrue (M.missing (medium_of self.old)) → IsErr result }
         ensures failed_sync { IsTrue (has_failed_sync self.old) → IsErr result }
-        ensures stays_failed { IsTrue (has_failed_sync self.old) → IsTrue (has_failed_sync self.new) }
+        ensures stays_failed { IsTrue (has_failed_sync self.old) →
+            IsTrue (has_failed_sync self.new) }
         ensures synced { OnOk result (IsFalse (has_failed_sync self.new)) }
         ensures noted { OnErr result (IsUncertain self.new) }
     {
@@ -207,15 +215,22 @@ impl<M: Medium> Device for CachedDevice<M> {
 
     ghost tells_both = { M.tells_both };
 
-    ghost reads_image = { λ d told. reads_as_image M.shown d.words.pending d.words.medium (Prim.omega (arith, d.words.inside, d.words.long (M.tells_both told))) (M.reads_image d.words.medium told) };
+    ghost reads_image = { λ d told. reads_as_image M.shown d.words.pending d.words.medium
+        (Prim.omega (arith, d.words.inside, d.words.long (M.tells_both told)))
+        (M.reads_image d.words.medium told) };
 
-    ghost words_fit = { λ d told. length_over d.words.pending (M.shown.words d.words.medium) (d.words.long told) };
+    ghost words_fit = { λ d told. length_over d.words.pending (M.shown.words d.words.medium)
+        (d.words.long told) };
 
-    ghost images_fit = { λ d i told left. images_as_long M.shown d.words.pending d.words.medium i (λ j has. Prim.omega (arith, M.images_fit d.words.medium j told has, d.words.long (M.tells_both told))) left };
+    ghost images_fit = { λ d i told left. images_as_long M.shown d.words.pending d.words.medium i
+        (λ j has. Prim.omega (arith, M.images_fit d.words.medium j told has, d.words.long
+        (M.tells_both told))) left };
 
-    ghost counts_now = { λ d t i _ _ left. is_since M.shown d.words.pending d.words.medium t i left };
+    ghost counts_now = { λ d t i _ _ left. is_since M.shown d.words.pending
+        d.words.medium t i left };
 
-    ghost only_now = { λ d i told since. is_now M.shown d.words.pending d.words.medium i (λ past. M.only_now d.words.medium i told past) since };
+    ghost only_now = { λ d i told since. is_now M.shown d.words.pending d.words.medium i
+        (λ past. M.only_now d.words.medium i told past) since };
 
     ghost size_fits = { λ d. Prim.omega (arith, d.words.small) };
 

@@ -91,7 +91,8 @@ pub trait Device {
     ghost reads_image: { (d : Self) → IsTrue shown.tells_images → shown.leaves d (shown.words d) };
 
     /// The words are as many as the device has.
-    ghost words_fit: { (d : Self) → IsTrue shown.tells_words → length (shown.words d) ≡ shown.size d };
+    ghost words_fit: { (d : Self) → IsTrue shown.tells_words →
+        length (shown.words d) ≡ shown.size d };
 
     /// So are those that a stop may leave.
     ghost images_fit: { (d : Self) (i : List ℕ) → IsTrue shown.tells_images

@@ -65,7 +65,8 @@ impl<D: Device> Fuse<D> {
         ensures reads { self.new.reads ≡ self.old.reads }
         ensures writes { self.new.writes ≡ self.old.writes }
         ensures syncs { self.new.syncs ≡ self.old.syncs }
-        ensures failed { self.new.failed ≡ (if result then self.old.failed else counted self.old.failed) }
+        ensures failed { self.new.failed ≡ (if result then self.old.failed else
+            counted self.old.failed) }
         ensures failing { OnFalse result (IsTrue self.new.failing) }
     {
         if self.left > 0 {
@@ -117,7 +118,8 @@ impl<D: Device> Device for Fuse<D> {
         ensures read { IsTrue D.shown.tells_words → (k : ℕ) → k < result
             → slice_index into.new k ≡ slice_index (D.shown.words (inner_of self.old)) (at + k) }
         ensures only { OnlyReads (shown_by_fuse D.shown) self.old self.new }
-        ensures counts { ReadsUpTo (shown_by_fuse D.shown) result (length into.old) self.old self.new }
+        ensures counts { ReadsUpTo (shown_by_fuse D.shown) result
+            (length into.old) self.old self.new }
         ensures passes { PassesUpTo (MadeReads D.shown) result (length into.old) self.old self.new }
     {
         for index in 0..into.len() {
@@ -154,7 +156,8 @@ impl<D: Device> Device for Fuse<D> {
         ensures failed { OnErr result
             (WritingFailed (shown_by_fuse D.shown) at values.now self.old self.new) }
         ensures does { Does (shown_by_fuse D.shown) (WritesMany at values.now) self.old self.new }
-        ensures makes { Makes (shown_by_fuse D.shown) 0 (length values.now) 0 self.old self.new result }
+        ensures makes { Makes (shown_by_fuse D.shown) 0 (length values.now) 0
+            self.old self.new result }
         ensures passes { PassesWrites D.shown at values.now self.old self.new result }
     {
         for index in 0..values.len() {

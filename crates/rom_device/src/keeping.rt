@@ -15,7 +15,8 @@ impl<M: Medium> Cached<M> {
     // waits.
     fn make_room(&mut self, at: u64) -> bool
         ensures follows { OnTrue result (Follows self.new.pending at) }
-        ensures others { (b : ℕ) → word_of self.old.pending b ≡ None → word_of self.new.pending b ≡ None }
+        ensures others { (b : ℕ) → word_of self.old.pending b ≡ None →
+            word_of self.new.pending b ≡ None }
         ensures kept { OnFalse result (self.new.pending ≡ self.old.pending) }
         ensures windows { self.new.windows ≡ self.old.windows }
         ensures only { OnlyReads (shown_by_cached M.shown) self.old self.new }
@@ -47,8 +48,10 @@ impl<M: Medium> Cached<M> {
         requires follows { Follows self.old.pending at }
         ensures waits { word_of self.new.pending at ≡ Some value }
         ensures window { IfSome (word_in self.new.windows at) (λ word. word ≡ value) }
-        ensures others { (b : ℕ) → b ≢ at → word_in self.new.windows b ≡ word_in self.old.windows b }
-        ensures written { IsTrue M.shown.tells_words → with_run self.new.pending (M.shown.words self.new.medium)
+        ensures others { (b : ℕ) → b ≢ at →
+            word_in self.new.windows b ≡ word_in self.old.windows b }
+        ensures written { IsTrue M.shown.tells_words →
+            with_run self.new.pending (M.shown.words self.new.medium)
             ≡ slice_set (with_run self.old.pending (M.shown.words self.old.medium)) at value }
         ensures does { Does (shown_by_cached M.shown) (Writes at value) self.old self.new }
         ensures missing { M.missing self.new.medium ≡ M.missing self.old.medium }
@@ -65,8 +68,10 @@ impl<M: Medium> Cached<M> {
     fn keep_anywhere(&mut self, at: u64, value: u64) -> bool
         requires { at < self.old.len }
         ensures waits { OnTrue result (word_of self.new.pending at ≡ Some value) }
-        ensures window { OnTrue result (IfSome (word_in self.new.windows at) (λ word. word ≡ value)) }
-        ensures others { (b : ℕ) → b ≢ at → word_in self.new.windows b ≡ word_in self.old.windows b }
+        ensures window { OnTrue result (IfSome (word_in self.new.windows at)
+            (λ word. word ≡ value)) }
+        ensures others { (b : ℕ) → b ≢ at →
+            word_in self.new.windows b ≡ word_in self.old.windows b }
         ensures written { IsTrue M.shown.tells_words → OnTrue result
             (with_run self.new.pending (M.shown.words self.new.medium)
             ≡ slice_set (with_run self.old.pending (M.shown.words self.old.medium)) at value) }
@@ -94,7 +99,8 @@ impl<M: Medium> Cached<M> {
         ensures waits { word_of self.new.pending at ≡ Some value }
         ensures window { word_in self.new.windows at ≡ None }
         ensures windows { self.new.windows ≡ self.old.windows }
-        ensures written { IsTrue M.shown.tells_words → with_run self.new.pending (M.shown.words self.new.medium)
+        ensures written { IsTrue M.shown.tells_words →
+            with_run self.new.pending (M.shown.words self.new.medium)
             ≡ slice_set (with_run self.old.pending (M.shown.words self.old.medium)) at value }
         ensures does { Does (shown_by_cached M.shown) (Writes at value) self.old self.new }
         ensures missing { M.missing self.new.medium ≡ M.missing self.old.medium }
@@ -109,8 +115,10 @@ impl<M: Medium> Cached<M> {
     pub fn keep(&mut self, at: u64, value: u64) -> bool
         requires { at < self.old.len }
         ensures waits { OnTrue result (word_of self.new.pending at ≡ Some value) }
-        ensures window { OnTrue result (IfSome (word_in self.new.windows at) (λ word. word ≡ value)) }
-        ensures others { (b : ℕ) → b ≢ at → word_in self.new.windows b ≡ word_in self.old.windows b }
+        ensures window { OnTrue result (IfSome (word_in self.new.windows at)
+            (λ word. word ≡ value)) }
+        ensures others { (b : ℕ) → b ≢ at →
+            word_in self.new.windows b ≡ word_in self.old.windows b }
         ensures written { IsTrue M.shown.tells_words → OnTrue result
             (with_run self.new.pending (M.shown.words self.new.medium)
             ≡ slice_set (with_run self.old.pending (M.shown.words self.old.medium)) at value) }
@@ -135,10 +143,13 @@ impl<M: Medium> Cached<M> {
         ensures most { result ≤ length values.now }
         ensures windows { PutsMany at result values.now self.old.windows self.new.windows }
         ensures waits { 0 < result
-            → word_of self.new.pending (at + (result - 1)) ≡ Some (slice_index values.now (result - 1)) }
+            → word_of self.new.pending (at + (result - 1))
+            ≡ Some (slice_index values.now (result - 1)) }
         ensures written { IsTrue M.shown.tells_words → (k : ℕ) → k < result → slice_index
-            (with_run self.new.pending (M.shown.words self.new.medium)) (at + k) ≡ slice_index values.now k }
-        ensures failed_at { IsTrue M.shown.tells_words → result < length values.now → WritesUpTo at result
+            (with_run self.new.pending (M.shown.words self.new.medium))
+            (at + k) ≡ slice_index values.now k }
+        ensures failed_at { IsTrue M.shown.tells_words →
+            result < length values.now → WritesUpTo at result
             values.now (with_run self.old.pending (M.shown.words self.old.medium))
             (with_run self.new.pending (M.shown.words self.new.medium)) }
         ensures does { Does (shown_by_cached M.shown) (WritesMany at values.now) self.old self.new }

@@ -45,7 +45,8 @@ pub trait Medium: Drop {
         requires place { at * 8 < 2 ^ 64 }
         requires whole { length bytes.now % 8 ≡ 0 }
         requires inside { HasPlaces shown at (words_among bytes.now) self.old }
-        ensures hands { HandsOver shown at (word_among bytes.now) (words_among bytes.now) self.old self.new result }
+        ensures hands { HandsOver shown at (word_among bytes.now) (words_among bytes.now)
+            self.old self.new result }
         ensures stays { missing self.new ≡ missing self.old }
         ensures sure { doubtful self.new ≡ doubtful self.old };
 

@@ -28,7 +28,8 @@ pub struct Memory {
     faults: u64,
     failing: bool,
     ghost small: { length start.items < 2 ^ 64 },
-    ghost counts_fit: { (reads < 2 ^ 64) × (writes < 2 ^ 64) × (syncs < 2 ^ 64) × (faults < 2 ^ 64) },
+    ghost counts_fit: { (reads < 2 ^ 64) × (writes < 2 ^ 64) × (syncs < 2 ^ 64)
+        × (faults < 2 ^ 64) },
     ghost as_long: { vec_len words ≡ vec_len start },
     ghost replayed: { words.items ≡ words_after start.items (reverse made.items) },
     ghost within: { vec_len made ≤ room },
@@ -213,7 +214,8 @@ impl Device for Memory {
         requires { at + length values.now ≤ length (start_of self.old) }
         ensures written { OnOk result ((k : ℕ) → k < length values.now
             → slice_index (words_of self.new) (at + k) ≡ slice_index values.now k) }
-        ensures failed { OnErr result (WritingFailed shown_by_memory at values.now self.old self.new) }
+        ensures failed { OnErr result (WritingFailed shown_by_memory at
+            values.now self.old self.new) }
         ensures does { Does shown_by_memory (WritesMany at values.now) self.old self.new }
         ensures makes { Makes shown_by_memory 0 (length values.now) 0 self.old self.new result }
         ensures lists { ListsWrites at values.now self.old self.new result }
@@ -250,7 +252,8 @@ impl Device for Memory {
 
     ghost images_fit = { λ m i _ may. length-MayLeave m.start.items (reverse m.made.items) i may };
 
-    ghost counts_now = { λ m t i _ _ may. since_counts_now m.start.items t (reverse m.made.items) i may };
+    ghost counts_now = { λ m t i _ _ may. since_counts_now m.start.items t
+        (reverse m.made.items) i may };
 
     ghost only_now = { λ m i _ since. since_only_now m.start.items (reverse m.made.items) i since };
 

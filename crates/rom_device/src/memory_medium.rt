@@ -52,9 +52,11 @@ impl Medium for Memory {
 
     ghost reads_image = { λ m _. may_leave_words m.start.items (reverse m.made.items) };
 
-    ghost images_fit = { λ m i _ may. length-MayLeave m.start.items (reverse m.made.items) i may ∙ sym (length-words_after m.start.items (reverse m.made.items)) };
+    ghost images_fit = { λ m i _ may. length-MayLeave m.start.items (reverse m.made.items) i may ∙
+        sym (length-words_after m.start.items (reverse m.made.items)) };
 
-    ghost counts_now = { λ m t i _ _ may. since_counts_now m.start.items t (reverse m.made.items) i may };
+    ghost counts_now = { λ m t i _ _ may. since_counts_now m.start.items t
+        (reverse m.made.items) i may };
 
     ghost only_now = { λ m i _ since. since_only_now m.start.items (reverse m.made.items) i since };
 }

@@ -70,7 +70,8 @@ impl Run {
     pub fn copy(&self, at: u64, into: &mut [u64]) -> usize
         ensures most { result ≤ length into.old }
         ensures len { length into.new ≡ length into.old }
-        ensures words { (k : ℕ) → k < result → word_of self.now (at + k) ≡ Some (slice_index into.new k) }
+        ensures words { (k : ℕ) → k < result →
+            word_of self.now (at + k) ≡ Some (slice_index into.new k) }
     {
         let Some(index) = self.index_of(at) else {
             return 0;

@@ -40,7 +40,8 @@ fn lay_out<D: Device>(device: &mut D, geometry: Geometry, image: &[u64]) -> Resu
     requires image { length image.now ≡ region_len geometry }
     ensures laid { IsTrue D.shown.tells_words →
         OnOk result (IsLaid geometry image.now (D.shown.words device.new)) }
-    ensures does { Does D.shown (ChangesOnly 1 (7 + 2 * region_len geometry)) device.old device.new }
+    ensures does { Does D.shown (ChangesOnly 1 (7 + 2 * region_len geometry))
+        device.old device.new }
     ensures makes { Makes D.shown 0 (7 + 2 * region_len geometry) 0 device.old device.new result }
 {
     device.write_words(geometry.main(), image)?;
@@ -93,7 +94,8 @@ pub fn write_new<D: Device>(device: &mut D, order: u32, image: &[u64]) -> Result
     requires order { IsOrder order }
     requires image { length image.now ≡ region_len order }
 
-    ensures answer { IsTrue D.shown.tells_words → IsFormatAnswer order (D.shown.words device.old) result }
+    ensures answer { IsTrue D.shown.tells_words →
+        IsFormatAnswer order (D.shown.words device.old) result }
     ensures fits { OnOk result (words_needed order ≤ D.shown.size device.old) }
     ensures sizes { IfErr result (HasTooFewFor order (D.shown.size device.old)) }
 
@@ -109,7 +111,8 @@ pub fn write_new<D: Device>(device: &mut D, order: u32, image: &[u64]) -> Result
         IsRefused order (D.shown.words device.old) → Does D.shown Stays device.old device.new }
 
     // No call follows one that failed, and the counts are exact unless one did.
-    ensures makes { Makes D.shown (format_reads result) (format_writes order result) (format_syncs result)
+    ensures makes { Makes D.shown (format_reads result) (format_writes order result)
+        (format_syncs result)
         device.old device.new (format_fault result) }
 {
     let have = device.len();

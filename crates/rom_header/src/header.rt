@@ -100,7 +100,8 @@ fn read_order<D: Device>(device: &mut D) -> Result<Geometry, HeaderRefused>
     ensures answer { IsTrue D.shown.tells_words → IsOrderAnswer (D.shown.words device.old) result }
     ensures sizes { IfErr result (HasTooFew (D.shown.size device.old)) }
     ensures only { OnlyReads D.shown device.old device.new }
-    ensures makes { Makes D.shown (header_reads 3 result) 0 0 device.old device.new (header_fault result) }
+    ensures makes { Makes D.shown (header_reads 3 result) 0 0 device.old device.new
+        (header_fault result) }
 {
     let magic = device.read(0)?;
     if magic != MAGIC {
@@ -124,7 +125,8 @@ pub fn read_header<D: Device>(device: &mut D) -> Result<Header, HeaderRefused>
         result ≡ Err (HeaderRefused.TooSmall 8 (D.shown.size device.old)) }
     ensures sizes { IfErr result (HasTooFew (D.shown.size device.old)) }
     ensures only { OnlyReads D.shown device.old device.new }
-    ensures makes { Makes D.shown (header_reads 4 result) 0 0 device.old device.new (header_fault result) }
+    ensures makes { Makes D.shown (header_reads 4 result) 0 0 device.old device.new
+        (header_fault result) }
 {
     let have = device.len();
     if have < HEADER {

@@ -26,11 +26,13 @@ pub fn find_entry<M: Look>(space: &mut M, order: u32, key: u64) -> Option<Entry>
     requires order { IsOrder order }
     requires region { IsWellFormed order (M.shown.image space.old) }
     ensures is { (p : Chains) (s : State) (k : ℕ) → IsRegion order (M.shown.image space.old) p s k
-        → MatchOption result (map.get s.pairs key ≡ None) (λ entry. (map.get s.pairs key ≡ Some entry.value)
+        → MatchOption result (map.get s.pairs key ≡ None) (λ entry.
+        (map.get s.pairs key ≡ Some entry.value)
         × HasNode order (M.shown.image space.old) p key entry.node) }
     ensures looks { (s : State) (k : ℕ) → Contents order (M.shown.image space.old) s k
         → Looks M.shown (1 + 2 * keys_beside order s.pairs key) space.old space.new }
-    ensures sooner { (p : Chains) (s : State) (k : ℕ) → IsRegion order (M.shown.image space.old) p s k
+    ensures sooner { (p : Chains) (s : State) (k : ℕ) →
+        IsRegion order (M.shown.image space.old) p s k
         → (at : KeyBlock order (M.shown.image space.old) p key)
         → Looks M.shown (3 + 2 * length at.front) space.old space.new }
 {

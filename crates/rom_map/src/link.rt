@@ -19,9 +19,11 @@ pub fn link_first<M: Space>(space: &mut M, order: u32, at: u64, key: u64, value:
     requires most { at + 4 ≤ region_len order }
     requires len { slice_index (M.shown.image space.old) MAP_LEN < 2 ^ 63 }
     requires room { HasRoom M.shown 6 space.old }
-    ensures linked { IsLinked order at key value (M.shown.image space.old) (M.shown.image space.new) }
+    ensures linked { IsLinked order at key value (M.shown.image space.old)
+        (M.shown.image space.new) }
     ensures costs { Costs M.shown 6 6 space.old space.new }
-    ensures sparing { slice_index (M.shown.image space.old) (head_of order (bucket_of order key)) ≢ at
+    ensures sparing { slice_index (M.shown.image space.old)
+        (head_of order (bucket_of order key)) ≢ at
         → IsSparing M.shown space.old space.new }
 {
     let link = head_of(order, key);
@@ -44,7 +46,8 @@ pub fn unlink_node<M: Space>(space: &mut M, place: Place)
     ensures unlinked { IsUnlinked place (M.shown.image space.old) (M.shown.image space.new) }
     ensures costs { Costs M.shown 2 2 space.old space.new }
     ensures sparing { slice_index (M.shown.image space.old) place.link
-        ≢ slice_index (M.shown.image space.old) (place.node + 2) → IsSparing M.shown space.old space.new }
+        ≢ slice_index (M.shown.image space.old) (place.node + 2) →
+        IsSparing M.shown space.old space.new }
 {
     let next = space.load(place.node + 2);
     space.store(place.link, next);

@@ -32,14 +32,18 @@ pub fn map_put<M: Space>(space: &mut M, order: u32, key: u64, value: u64) -> Put
     requires room { HasRoom M.shown 31 space.old }
     ensures contents { (s : State) (k : ℕ) → Contents order (M.shown.image space.old) s k
         → IsPut order s k key value result (M.shown.image space.new) }
-    ensures others { (p : Chains) (s : State) (k : ℕ) → IsRegion order (M.shown.image space.old) p s k
-        → PutLeaves order (M.shown.image space.old) p s k key value result (M.shown.image space.new) }
+    ensures others { (p : Chains) (s : State) (k : ℕ) →
+        IsRegion order (M.shown.image space.old) p s k
+        → PutLeaves order (M.shown.image space.old) p s k key value result
+        (M.shown.image space.new) }
     ensures region { IsWellFormed order (M.shown.image space.new) }
     ensures each { (s : State) (k : ℕ) → Contents order (M.shown.image space.old) s k
         → PutCosts M.shown order (keys_beside order s.pairs key) value result space.old space.new }
     ensures costs { (s : State) (k : ℕ) → Contents order (M.shown.image space.old) s k
-        → Costs M.shown (3 * order + 8 + 2 * keys_beside order s.pairs key) (order + 7) space.old space.new }
-    ensures sooner { (p : Chains) (s : State) (k : ℕ) → IsRegion order (M.shown.image space.old) p s k
+        → Costs M.shown (3 * order + 8 + 2 * keys_beside order s.pairs key) (order + 7)
+        space.old space.new }
+    ensures sooner { (p : Chains) (s : State) (k : ℕ) →
+        IsRegion order (M.shown.image space.old) p s k
         → (at : KeyBlock order (M.shown.image space.old) p key)
         → AgainCosts M.shown (length at.front) value result space.old space.new }
     ensures sparing { IsSparing M.shown space.old space.new }
@@ -65,14 +69,19 @@ pub fn map_del<M: Space>(space: &mut M, order: u32, key: u64) -> Option<u64>
         → result ≡ map.get s.pairs key }
     ensures contents { (s : State) (k : ℕ) → Contents order (M.shown.image space.old) s k
         → Contents order (M.shown.image space.new) (with_pairs s (map.remove s.pairs key)) k }
-    ensures others { (p : Chains) (s : State) (k : ℕ) → IsRegion order (M.shown.image space.old) p s k
-        → IfSome result (λ value. IsDeleted order (M.shown.image space.old) p s k key (M.shown.image space.new)) }
+    ensures others { (p : Chains) (s : State) (k : ℕ) →
+        IsRegion order (M.shown.image space.old) p s k
+        → IfSome result (λ value. IsDeleted order (M.shown.image space.old) p s k key
+        (M.shown.image space.new)) }
     ensures region { IsWellFormed order (M.shown.image space.new) }
     ensures none { (s : State) (k : ℕ) → Contents order (M.shown.image space.old) s k
-        → IfNone result (Looks M.shown (1 + 2 * keys_beside order s.pairs key) space.old space.new) }
+        → IfNone result (Looks M.shown (1 + 2 * keys_beside order s.pairs key)
+        space.old space.new) }
     ensures costs { (s : State) (k : ℕ) → Contents order (M.shown.image space.old) s k
-        → Costs M.shown (2 * order + 3 + 2 * keys_beside order s.pairs key) (order + 3) space.old space.new }
-    ensures sooner { (p : Chains) (s : State) (k : ℕ) → IsRegion order (M.shown.image space.old) p s k
+        → Costs M.shown (2 * order + 3 + 2 * keys_beside order s.pairs key) (order + 3)
+        space.old space.new }
+    ensures sooner { (p : Chains) (s : State) (k : ℕ) →
+        IsRegion order (M.shown.image space.old) p s k
         → (at : KeyBlock order (M.shown.image space.old) p key)
         → Costs M.shown (2 * order + 5 + 2 * length at.front) (order + 3) space.old space.new }
     ensures sparing { IsSparing M.shown space.old space.new }
@@ -95,7 +104,8 @@ pub fn map_get<M: Look>(space: &mut M, order: u32, key: u64) -> Option<u64>
         → result ≡ map.get s.pairs key }
     ensures looks { (s : State) (k : ℕ) → Contents order (M.shown.image space.old) s k
         → Looks M.shown (1 + 2 * keys_beside order s.pairs key) space.old space.new }
-    ensures sooner { (p : Chains) (s : State) (k : ℕ) → IsRegion order (M.shown.image space.old) p s k
+    ensures sooner { (p : Chains) (s : State) (k : ℕ) →
+        IsRegion order (M.shown.image space.old) p s k
         → (at : KeyBlock order (M.shown.image space.old) p key)
         → Looks M.shown (3 + 2 * length at.front) space.old space.new }
 {

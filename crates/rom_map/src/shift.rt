@@ -45,7 +45,8 @@ fn plan_move<M: Look>(space: &mut M, order: u32, from: u64, to: u64, amount: u64
         space.old space.new }
     ensures alone { from ≡ to → (s : State) (k : ℕ) → Contents order (M.shown.image space.old) s k
         → Looks M.shown (1 + 2 * keys_beside order s.pairs from) space.old space.new }
-    ensures sooner { (p : Chains) (s : State) (k : ℕ) → IsRegion order (M.shown.image space.old) p s k
+    ensures sooner { (p : Chains) (s : State) (k : ℕ) →
+        IsRegion order (M.shown.image space.old) p s k
         → (a : KeyBlock order (M.shown.image space.old) p from)
         → (b : KeyBlock order (M.shown.image space.old) p to)
         → Looks M.shown (6 + 2 * length a.front + 2 * length b.front) space.old space.new }
@@ -91,7 +92,8 @@ fn replace_both<M: Space>(space: &mut M, source: Entry, target: Entry)
     requires small { length (M.shown.image space.old) < 2 ^ 63 }
     requires room { HasRoom M.shown 2 space.old }
     ensures image { M.shown.image space.new ≡ slice_set
-        (slice_set (M.shown.image space.old) (source.node + 1) source.value) (target.node + 1) target.value }
+        (slice_set (M.shown.image space.old) (source.node + 1) source.value)
+        (target.node + 1) target.value }
     ensures costs { Costs M.shown 2 2 space.old space.new }
     ensures kept { slice_index (M.shown.image space.old) (source.node + 1) ≡ source.value
         → slice_index (M.shown.image space.old) (target.node + 1) ≡ target.value
@@ -111,14 +113,18 @@ pub fn map_move<M: Space>(space: &mut M, order: u32, from: u64, to: u64, amount:
     ensures contents { (s : State) (k : ℕ) → Contents order (M.shown.image space.old) s k
         → IsMoved order s k from to amount result (M.shown.image space.new) }
     ensures region { IsWellFormed order (M.shown.image space.new) }
-    ensures others { (p : Chains) (s : State) (k : ℕ) → IsRegion order (M.shown.image space.old) p s k
-        → MoveLeaves order (M.shown.image space.old) p s k from to amount result (M.shown.image space.new) }
+    ensures others { (p : Chains) (s : State) (k : ℕ) →
+        IsRegion order (M.shown.image space.old) p s k
+        → MoveLeaves order (M.shown.image space.old) p s k from to amount result
+        (M.shown.image space.new) }
     ensures costs { (s : State) (k : ℕ) → Contents order (M.shown.image space.old) s k
-        → Costs M.shown (4 + 2 * keys_beside order s.pairs from + 2 * keys_beside order s.pairs to) 2
+        → Costs M.shown (4 + 2 * keys_beside order s.pairs from
+        + 2 * keys_beside order s.pairs to) 2
         space.old space.new }
     ensures alone { from ≡ to → (s : State) (k : ℕ) → Contents order (M.shown.image space.old) s k
         → Looks M.shown (1 + 2 * keys_beside order s.pairs from) space.old space.new }
-    ensures sooner { (p : Chains) (s : State) (k : ℕ) → IsRegion order (M.shown.image space.old) p s k
+    ensures sooner { (p : Chains) (s : State) (k : ℕ) →
+        IsRegion order (M.shown.image space.old) p s k
         → (a : KeyBlock order (M.shown.image space.old) p from)
         → (b : KeyBlock order (M.shown.image space.old) p to)
         → Costs M.shown (8 + 2 * length a.front + 2 * length b.front) 2 space.old space.new }
@@ -127,7 +133,8 @@ pub fn map_move<M: Space>(space: &mut M, order: u32, from: u64, to: u64, amount:
         → (at : KeyBlock order (M.shown.image space.old) p from)
         → Looks M.shown (3 + 2 * length at.front) space.old space.new }
     ensures kept { (s : State) (k : ℕ) → Contents order (M.shown.image space.old) s k
-        → KeepsUnlessMoved M.shown (4 + 2 * keys_beside order s.pairs from + 2 * keys_beside order s.pairs to)
+        → KeepsUnlessMoved M.shown (4 + 2 * keys_beside order s.pairs from
+        + 2 * keys_beside order s.pairs to)
         amount result space.old space.new }
     ensures sparing { IsSparing M.shown space.old space.new }
 {

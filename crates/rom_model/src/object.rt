@@ -84,7 +84,8 @@ pub trait Object {
     /// Does an update, and counts it.
     fn apply<M: Space>(space: &mut M, order: u32, call: &Self::Call) -> Self::Reply
         requires order { IsOrder order }
-        requires region { (s : State) × (k : ℕ) × Contents order (M.shown.image space.old) s k × (k < LAST_COUNT) }
+        requires region { (s : State) × (k : ℕ)
+            × Contents order (M.shown.image space.old) s k × (k < LAST_COUNT) }
         requires room { HasRoom M.shown STORES space.old }
         ensures done { (s : State) (k : ℕ) → Contents order (M.shown.image space.old) s k
             → let after = machine.step order s k call.now in
@@ -107,26 +108,36 @@ pub trait Object {
         requires order { IsOrder order }
         requires sized { length region.now ≡ region_len order }
         ensures fit { OnOk result ((s : State) × (k : ℕ) × Contents order region.now s k) }
-        ensures first { (e : Break) → result ≡ Err (Malformed e.offset e.rule) → FirstBreak order region.now e }
-        ensures refused { (e : Break) → FirstBreak order region.now e → (s : State) (k : ℕ) → Contents order region.now s k → ⊥ }
-        ensures one { (e d : Break) → FirstBreak order region.now e → FirstBreak order region.now d → e ≡ d };
+        ensures first { (e : Break) → result ≡ Err (Malformed e.offset e.rule) →
+            FirstBreak order region.now e }
+        ensures refused { (e : Break) → FirstBreak order region.now e → (s : State) (k : ℕ) →
+            Contents order region.now s k → ⊥ }
+        ensures one { (e d : Break) → FirstBreak order region.now e →
+            FirstBreak order region.now d → e ≡ d };
 
     /// The words of a call stand for it alone.
-    ghost call_back: { (call : Self.Call) → machine.words_call (machine.call_words call) ≡ Some call };
+    ghost call_back: { (call : Self.Call) →
+        machine.words_call (machine.call_words call) ≡ Some call };
 
-    ghost call_only: { (words : List ℕ) (call : Self.Call) → machine.words_call words ≡ Some call → machine.call_words call ≡ words };
+    ghost call_only: { (words : List ℕ) (call : Self.Call) → machine.words_call words ≡ Some call →
+        machine.call_words call ≡ words };
 
     /// The words of a reply stand for it alone.
-    ghost reply_back: { (reply : Self.Reply) → machine.words_reply (machine.reply_words reply) ≡ Some reply };
+    ghost reply_back: { (reply : Self.Reply) →
+        machine.words_reply (machine.reply_words reply) ≡ Some reply };
 
-    ghost reply_only: { (words : List ℕ) (reply : Self.Reply) → machine.words_reply words ≡ Some reply → machine.reply_words reply ≡ words };
+    ghost reply_only: { (words : List ℕ) (reply : Self.Reply) →
+        machine.words_reply words ≡ Some reply → machine.reply_words reply ≡ words };
 
     /// A region stands for one state and one count.
-    ghost one_contents: { (order : ℕ) (words : List ℕ) (s t : State) (j k : ℕ) → Contents order words s j → Contents order words t k → (s ≡ t) × (j ≡ k) };
+    ghost one_contents: { (order : ℕ) (words : List ℕ) (s t : State) (j k : ℕ) →
+        Contents order words s j → Contents order words t k → (s ≡ t) × (j ≡ k) };
 
     /// It has the words of its order, the count is its word 2 and within the limit, and its word 0 is
     /// the number of the kind.
-    ghost contents_within: { (order : ℕ) (words : List ℕ) (s : State) (k : ℕ) → Contents order words s k → (length words ≡ region_len order) × (slice_index words 2 ≡ k) × (k ≤ LAST_COUNT) × (slice_index words 0 ≡ KIND) };
+    ghost contents_within: { (order : ℕ) (words : List ℕ) (s : State) (k : ℕ) →
+        Contents order words s k → (length words ≡ region_len order) × (slice_index words 2 ≡ k)
+        × (k ≤ LAST_COUNT) × (slice_index words 0 ≡ KIND) };
 }
 
 /// The words of a new region of that order in memory. There is no other error than want of memory.

@@ -57,15 +57,18 @@ fn accept<D: Device, O: Object>(alloc: Global, device: &mut D) -> Result<Accepte
         IfErr result (IsRefusal O.Contents O.FirstBreak (D.shown.words device.old)) }
     ensures fit { IfOk result (λ accepted.
         (s : O.State) × (k : ℕ) × O.Contents accepted.geometry accepted.image.items s k) }
-    ensures sized { IfOk result (λ accepted. length accepted.image.items ≡ region_len accepted.geometry) }
-    ensures fits { IfOk result (λ accepted. words_needed accepted.geometry ≤ D.shown.size device.old) }
+    ensures sized { IfOk result (λ accepted.
+        length accepted.image.items ≡ region_len accepted.geometry) }
+    ensures fits { IfOk result (λ accepted.
+        words_needed accepted.geometry ≤ D.shown.size device.old) }
     ensures too_small { D.shown.size device.old < 8 →
         result ≡ Err (TooSmall 8 (D.shown.size device.old)) }
     ensures sizes { IfErr result (NamesTooFew (D.shown.size device.old)) }
     ensures rest { IsTrue D.shown.tells_words → IfOk result (λ accepted.
         IsAtRest accepted.geometry accepted.image.items (D.shown.words device.new)) }
     ensures recovered { IsTrue D.shown.tells_words → IsTrue (is_recovered result) →
-        IsDone (named_order (D.shown.words device.old)) (D.shown.words device.old) (D.shown.words device.new) }
+        IsDone (named_order (D.shown.words device.old)) (D.shown.words device.old)
+        (D.shown.words device.new) }
     ensures certain { IsTrue (is_recovered result) → IsSynced D.shown device.new }
     ensures left { Alters D.shown MendsNamed device.old device.new }
     ensures images { IsTrue D.shown.tells_images →
@@ -110,12 +113,15 @@ pub fn open_device<D: Device, O: Object>(alloc: Global, device: D) -> Result<Ope
     ensures one { HoldsOne O.Contents }
 
     // The device is recovered, and after `Ok` it is that of the image.
-    ensures fits { IfOk result (λ opened. words_needed opened.geometry ≤ D.shown.size opened.device) }
+    ensures fits { IfOk result (λ opened.
+        words_needed opened.geometry ≤ D.shown.size opened.device) }
     ensures rest { IsTrue D.shown.tells_words → IfOk result (λ opened.
         IsAtRest opened.geometry opened.image.items (D.shown.words opened.device)) }
     ensures recovered { IsTrue D.shown.tells_words → IsTrue (is_recovered (refusal_of result)) →
-        IsDone (named_order (D.shown.words device)) (D.shown.words device) (D.shown.words (device_of result)) }
-    ensures certain { IsTrue (is_recovered (refusal_of result)) → IsSynced D.shown (device_of result) }
+        IsDone (named_order (D.shown.words device)) (D.shown.words device)
+        (D.shown.words (device_of result)) }
+    ensures certain { IsTrue (is_recovered (refusal_of result)) →
+        IsSynced D.shown (device_of result) }
 
     // Whatever the answer, the region that counts stays, and under IDLE every word does. So what the
     // device held stays wherever a stop is.
@@ -131,7 +137,8 @@ pub fn open_device<D: Device, O: Object>(alloc: Global, device: D) -> Result<Ope
 
     // No call follows one that failed.
     ensures faults { HasFaults (refusal_of result)
-        (D.shown.faults device) (D.shown.faults (device_of result)) (D.shown.failing (device_of result)) }
+        (D.shown.faults device) (D.shown.faults (device_of result))
+        (D.shown.failing (device_of result)) }
     ensures calls { IsTrue D.shown.tells_words →
         Calls D.shown (D.shown.words device) device (device_of result) (refusal_of result) }
 {

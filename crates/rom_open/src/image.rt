@@ -26,8 +26,10 @@ pub fn read_image<D: Device>(
         IfOk result (λ image. image.items ≡ main_of geometry (D.shown.words device.old)) }
     ensures refused { IfErr result IsUnread }
     ensures only { OnlyReads D.shown device.old device.new }
-    ensures reads { OnOk result (Adds (region_len geometry) (D.shown.reads device.old) (D.shown.reads device.new)) }
-    ensures most { AtMost (region_len geometry) (D.shown.reads device.old) (D.shown.reads device.new) }
+    ensures reads { OnOk result (Adds (region_len geometry) (D.shown.reads device.old)
+        (D.shown.reads device.new)) }
+    ensures most { AtMost (region_len geometry) (D.shown.reads device.old)
+        (D.shown.reads device.new) }
     ensures faults { HasFaults result
         (D.shown.faults device.old) (D.shown.faults device.new) (D.shown.failing device.new) }
 {

@@ -84,7 +84,8 @@ pub fn write_heap<D: Device, O: Object>(
         IsRefused order (D.shown.words device.old) → Does D.shown Stays device.old device.new }
 
     // No call follows one that failed, and the counts are exact unless one did.
-    ensures makes { Makes D.shown (format_reads result) (format_writes order result) (format_syncs result)
+    ensures makes { Makes D.shown (format_reads result) (format_writes order result)
+        (format_syncs result)
         device.old device.new (format_fault result) }
 {
     write_new(device, order, region.words())

@@ -20,11 +20,13 @@ use rom_recover::recover;
 pub fn make_ready<D: Device>(device: &mut D) -> Result<Geometry, Why>
     ensures fits { IfOk result (λ geometry. words_needed geometry ≤ D.shown.size device.old) }
     ensures done { IsTrue D.shown.tells_words →
-        IfOk result (λ geometry. IsDone geometry (D.shown.words device.old) (D.shown.words device.new)) }
+        IfOk result (λ geometry. IsDone geometry (D.shown.words device.old)
+        (D.shown.words device.new)) }
     ensures heap { IsTrue D.shown.tells_words →
         IfOk result (λ geometry. IsHeap geometry (D.shown.words device.old)) }
     ensures certain { OnOk result (IsSynced D.shown device.new) }
-    ensures refused { IsTrue D.shown.tells_words → IfErr result (IsUnready (D.shown.words device.old)) }
+    ensures refused { IsTrue D.shown.tells_words →
+        IfErr result (IsUnready (D.shown.words device.old)) }
     ensures too_small { D.shown.size device.old < 8 →
         result ≡ Err (TooSmall 8 (D.shown.size device.old)) }
     ensures sizes { IfErr result (NamesTooFew (D.shown.size device.old)) }

@@ -60,7 +60,8 @@ fn hold_alone(ranges: &mut Vec<Range>, i: usize, at: u64)
     requires within { i ≤ vec_len ranges.old }
     requires room { vec_len ranges.old < vec_capacity ranges.old }
     requires small { at < 2 ^ 63 }
-    ensures items { ranges.new.items ≡ insert ranges.old.items i record { start = at; end = at + 1 } }
+    ensures items { ranges.new.items
+        ≡ insert ranges.old.items i record { start = at; end = at + 1 } }
     ensures capacity { vec_capacity ranges.old ≤ vec_capacity ranges.new }
 {
     // There is room, so it takes no memory and cannot fail.

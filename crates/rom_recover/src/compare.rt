@@ -23,10 +23,12 @@ struct Pieces {
 fn first_difference(main: &[u64; PIECE], back: &[u64; PIECE], count: usize) -> Option<usize>
     requires { count ≤ 64 }
     ensures within { IfSome result (λ index. index < count) }
-    ensures differ { IfSome result (λ index. slice_index main.now index ≢ slice_index back.now index) }
+    ensures differ { IfSome result (λ index.
+        slice_index main.now index ≢ slice_index back.now index) }
     ensures first { IfSome result (λ index.
         (k : ℕ) → k < index → slice_index main.now k ≡ slice_index back.now k) }
-    ensures none { IfNone result ((k : ℕ) → k < count → slice_index main.now k ≡ slice_index back.now k) }
+    ensures none { IfNone result ((k : ℕ) → k < count →
+        slice_index main.now k ≡ slice_index back.now k) }
 {
     for index in 0..count {
         if main[index] != back[index] {
@@ -50,10 +52,12 @@ fn compare_piece<D: Device>(
     requires within { from + count ≤ region_len geometry }
     requires room { count ≤ 64 }
     requires idle { IsTrue D.shown.tells_words → IsIdle (D.shown.words device.old) }
-    requires so_far { IsTrue D.shown.tells_words → AreTwins geometry from (D.shown.words device.old) }
+    requires so_far { IsTrue D.shown.tells_words →
+        AreTwins geometry from (D.shown.words device.old) }
     ensures same { IsTrue D.shown.tells_words →
         OnOk result (AreTwins geometry (from + count) (D.shown.words device.old)) }
-    ensures twins { IsTrue D.shown.tells_words → IfErr result (IsFirst geometry (D.shown.words device.old)) }
+    ensures twins { IsTrue D.shown.tells_words →
+        IfErr result (IsFirst geometry (D.shown.words device.old)) }
     ensures stands { IfErr result (StandsFrom from) }
     ensures compares { Compares D.shown (2 * count) device.old device.new result }
 {
@@ -81,7 +85,8 @@ pub fn compare<D: Device>(device: &mut D, geometry: Geometry) -> Result<(), Reco
     requires idle { IsTrue D.shown.tells_words → IsIdle (D.shown.words device.old) }
     ensures same { IsTrue D.shown.tells_words →
         OnOk result (AreTwins geometry (region_len geometry) (D.shown.words device.old)) }
-    ensures twins { IsTrue D.shown.tells_words → IfErr result (IsFirst geometry (D.shown.words device.old)) }
+    ensures twins { IsTrue D.shown.tells_words →
+        IfErr result (IsFirst geometry (D.shown.words device.old)) }
     ensures compares { Compares D.shown (2 * region_len geometry) device.old device.new result }
 {
     let len = geometry.region();

@@ -20,7 +20,8 @@ fn copy_piece<D: Device>(
     requires room { count ≤ 64 }
     ensures copied { IsTrue D.shown.tells_words →
         OnOk result (Copied from to count (D.shown.words device.old) (D.shown.words device.new)) }
-    ensures does { Does D.shown (CopiesSome (D.shown.words device.old) from to count) device.old device.new }
+    ensures does { Does D.shown (CopiesSome (D.shown.words device.old) from to count)
+        device.old device.new }
     ensures makes { Makes D.shown count count 0 device.old device.new result }
 {
     if device.read_words(from, &mut words[..count]) < count {
@@ -36,7 +37,8 @@ pub fn copy_words<D: Device>(device: &mut D, from: u64, to: u64, len: u64) -> Re
     requires apart { (from + len ≤ to) ⊎ (to + len ≤ from) }
     ensures copied { IsTrue D.shown.tells_words →
         OnOk result (Copied from to len (D.shown.words device.old) (D.shown.words device.new)) }
-    ensures does { Does D.shown (CopiesSome (D.shown.words device.old) from to len) device.old device.new }
+    ensures does { Does D.shown (CopiesSome (D.shown.words device.old) from to len)
+        device.old device.new }
     ensures makes { Makes D.shown len len 0 device.old device.new result }
 {
     let mut words = [0; PIECE];

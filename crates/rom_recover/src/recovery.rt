@@ -71,7 +71,8 @@ pub fn recover<D: Device>(device: &mut D, geometry: Geometry) -> Result<Recovere
     ensures certain { OnOk result (IsSynced D.shown device.new) }
 
     // Refused only at the first difference of the regions, or where the device failed.
-    ensures twins { IsTrue D.shown.tells_words → IfErr result (IsFirst geometry (D.shown.words device.old)) }
+    ensures twins { IsTrue D.shown.tells_words →
+        IfErr result (IsFirst geometry (D.shown.words device.old)) }
     ensures calls { Calls D.shown geometry device.old device.new result }
 
     // Whatever the answer, only the state and the regions change, each word of a region to its

@@ -189,7 +189,8 @@ fn read_beside_update<D: Device + Send + Drop, N: Label + Send + Sync, R: Thread
     requires labelled { IsLabelled D.shown N.table N.base N.size N.words N.clock N.since opening }
     requires many { length opening.passes ≡ 2 }
     requires callers { (base_of opening.key).callers ≡ 2 }
-    requires new { Indexed (IsNewCaller Contents opening.table_id (base_of opening.key)) opening.passes }
+    requires new { Indexed
+        (IsNewCaller Contents opening.table_id (base_of opening.key)) opening.passes }
 {
     let beside = Beside {
         entered: AtomicU64::new(0),
@@ -222,7 +223,8 @@ fn tell_beside_update<D: Device + Send + Drop, R: Threads + Wait + Sync>(
 ) -> Told
     requires many { length opening.passes ≡ 2 }
     requires callers { (base_of opening.key).callers ≡ 2 }
-    requires new { Indexed (IsNewCaller Contents opening.table_id (base_of opening.key)) opening.passes }
+    requires new { Indexed
+        (IsNewCaller Contents opening.table_id (base_of opening.key)) opening.passes }
 {
     read_beside_update::<D, Brand, R>(rt, opening)
 }
@@ -230,7 +232,8 @@ fn tell_beside_update<D: Device + Send + Drop, R: Threads + Wait + Sync>(
 /// A heap of order 4 in memory, which is opened for two callers.
 fn opened(alloc: Global) -> Result<Opening<Ram, Trio>, Fail>
     ensures many { IfOk result (λ o. (length o.passes ≡ 2) × ((base_of o.key).callers ≡ 2)) }
-    ensures new { IfOk result (λ o. Indexed (IsNewCaller Contents o.table_id (base_of o.key)) o.passes) }
+    ensures new { IfOk result (λ o. Indexed
+        (IsNewCaller Contents o.table_id (base_of o.key)) o.passes) }
 {
     match open_store::<Ram, Trio>(alloc, new_heap(alloc)?, 2) {
         Ok(opening) => Ok(opening),
@@ -292,7 +295,8 @@ fn read_after_a_note<D: Device + Drop, N: Label, R: Wait>(
     requires labelled { IsLabelled D.shown N.table N.base N.size N.words N.clock N.since opening }
     requires many { length opening.passes ≡ 2 }
     requires callers { (base_of opening.key).callers ≡ 2 }
-    requires new { Indexed (IsNewCaller Contents opening.table_id (base_of opening.key)) opening.passes }
+    requires new { Indexed
+        (IsNewCaller Contents opening.table_id (base_of opening.key)) opening.passes }
 {
     let (store, mut passes) = opening.start::<N>();
     let (mut one, mut two) = parted::<N>(&mut passes);
@@ -310,7 +314,8 @@ fn tell_after_a_note<D: Device + Drop, R: Wait>(
 ) -> (Updated<Reply>, (Answer, u64), u64)
     requires many { length opening.passes ≡ 2 }
     requires callers { (base_of opening.key).callers ≡ 2 }
-    requires new { Indexed (IsNewCaller Contents opening.table_id (base_of opening.key)) opening.passes }
+    requires new { Indexed
+        (IsNewCaller Contents opening.table_id (base_of opening.key)) opening.passes }
 {
     read_after_a_note::<D, Brand, R>(rt, opening)
 }

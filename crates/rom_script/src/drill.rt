@@ -66,7 +66,8 @@ fn query(callers: u64, q: u64) -> Query
 /// Writes the lines of the item that a number makes. There are two at most.
 fn push_item(script: &mut Vec<Line>, callers: u64, caller: u64, x: u64) -> Result<(), AllocError>
     requires caller { (1 ≤ caller) × (caller ≤ callers) × (callers ≤ 16) }
-    ensures lines { OnOk result (script.new.items ≡ script.old.items ++ numbered.item callers caller x) }
+    ensures lines { OnOk result (script.new.items
+        ≡ script.old.items ++ numbered.item callers caller x) }
     ensures few { OnOk result (length script.new.items ≤ length script.old.items + 2) }
 {
     let r = x / 65536;

@@ -106,8 +106,9 @@ pub struct Summary {
 /// Prints what was asked, and the sums.
 fn print_sums<O: Sink>(out: &mut O, told: &Summary) -> Result<(), IoFailed>
     ensures prints { Prints O.shown out.old out.new result
-        (line_text (codes "drill " ++ decimal told.now.start ++ codes " callers " ++ decimal told.now.callers
-        ++ codes " calls " ++ decimal told.now.calls) ++ line_text (codes "enqueued " ++ decimal told.now.enqueued
+        (line_text (codes "drill " ++ decimal told.now.start ++ codes " callers "
+        ++ decimal told.now.callers ++ codes " calls " ++ decimal told.now.calls)
+        ++ line_text (codes "enqueued " ++ decimal told.now.enqueued
         ++ codes " dequeued " ++ decimal told.now.dequeued)) }
 {
     let mut of_start = Buffer::new();
@@ -157,7 +158,8 @@ fn print_closing<O: Sink>(out: &mut O, told: &Summary) -> Result<(), IoFailed>
 /// Prints the five lines, piece by piece.
 fn print_lines<O: Sink>(out: &mut O, told: &Summary) -> Result<(), IoFailed>
     ensures prints { Prints O.shown out.old out.new result
-        (drill_lines told.now.start told.now.callers told.now.calls told.now.enqueued told.now.dequeued
+        (drill_lines told.now.start told.now.callers told.now.calls
+        told.now.enqueued told.now.dequeued
         told.now.sizes told.now.total told.now.count) }
 {
     print_sums(out, told)?;
@@ -178,7 +180,8 @@ impl Report for Summary {
 /// call. It takes no memory. After `IoFailed` the sink has taken some of them, from the front.
 pub fn print_drill<O: Sink>(out: &mut O, told: &Summary) -> Result<(), IoFailed>
     ensures prints { Prints O.shown out.old out.new result
-        (drill_lines told.now.start told.now.callers told.now.calls told.now.enqueued told.now.dequeued
+        (drill_lines told.now.start told.now.callers told.now.calls
+        told.now.enqueued told.now.dequeued
         told.now.sizes told.now.total told.now.count) }
 {
     print_gathered(out, told)

@@ -32,13 +32,16 @@ pub fn set_insert<M: Space>(space: &mut M, order: u32, key: u64) -> Inserted
     requires room { HasRoom M.shown 31 space.old }
     ensures contents { (s : State) (k : ℕ) → Contents order (M.shown.image space.old) s k
         → IsInserted order s k key result (M.shown.image space.new) }
-    ensures others { (p : Chains) (s : State) (k : ℕ) → IsRegion order (M.shown.image space.old) p s k
-        → OnNew result (IsAdded order (M.shown.image space.old) p s k key (M.shown.image space.new)) }
+    ensures others { (p : Chains) (s : State) (k : ℕ) →
+        IsRegion order (M.shown.image space.old) p s k
+        → OnNew result (IsAdded order (M.shown.image space.old) p s k key
+        (M.shown.image space.new)) }
     ensures region { IsWellFormed order (M.shown.image space.new) }
     ensures kept { (s : State) (k : ℕ) → Contents order (M.shown.image space.old) s k
         → KeepsUnlessNew M.shown order (keys_below s.members key) result space.old space.new }
     ensures costs { (s : State) (k : ℕ) → Contents order (M.shown.image space.old) s k
-        → Costs M.shown (3 * order + 8 + 2 * keys_below s.members key) (order + 7) space.old space.new }
+        → Costs M.shown (3 * order + 8 + 2 * keys_below s.members key) (order + 7)
+        space.old space.new }
     ensures sparing { IsSparing M.shown space.old space.new }
 {
     let place = find(space, order, key);
@@ -58,17 +61,21 @@ pub fn set_remove<M: Space>(space: &mut M, order: u32, key: u64) -> bool
     requires order { IsOrder order }
     requires region { IsWellFormed order (M.shown.image space.old) }
     requires room { HasRoom M.shown 31 space.old }
-    ensures contents { (s : State) (k : ℕ) → Contents order (M.shown.image space.old) s k → MatchBool result
+    ensures contents { (s : State) (k : ℕ) →
+        Contents order (M.shown.image space.old) s k → MatchBool result
         ((set.contains s.members key ≡ true)
         × Contents order (M.shown.image space.new) (with_members s (set.remove s.members key)) k)
         (set.contains s.members key ≡ false) }
-    ensures others { (p : Chains) (s : State) (k : ℕ) → IsRegion order (M.shown.image space.old) p s k
-        → OnTrue result (IsRemoved order (M.shown.image space.old) p s k key (M.shown.image space.new)) }
+    ensures others { (p : Chains) (s : State) (k : ℕ) →
+        IsRegion order (M.shown.image space.old) p s k
+        → OnTrue result (IsRemoved order (M.shown.image space.old) p s k key
+        (M.shown.image space.new)) }
     ensures region { IsWellFormed order (M.shown.image space.new) }
     ensures kept { (s : State) (k : ℕ) → Contents order (M.shown.image space.old) s k
         → OnFalse result (Looks M.shown (2 + 2 * keys_below s.members key) space.old space.new) }
     ensures costs { (s : State) (k : ℕ) → Contents order (M.shown.image space.old) s k
-        → Costs M.shown (2 * order + 4 + 2 * keys_below s.members key) (order + 3) space.old space.new }
+        → Costs M.shown (2 * order + 4 + 2 * keys_below s.members key) (order + 3)
+        space.old space.new }
     ensures sparing { IsSparing M.shown space.old space.new }
 {
     let place = find(space, order, key);

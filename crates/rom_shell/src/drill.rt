@@ -43,7 +43,8 @@ fn tell_drill<O: Sink>(
     results: &[Vec<LineResult<Reply, Answer>>],
 ) -> Status
     ensures printed { IsDrillText O.shown (drill_lines told.now.start told.now.callers
-        told.now.calls told.now.enqueued told.now.dequeued told.now.sizes told.now.total told.now.count)
+        told.now.calls told.now.enqueued told.now.dequeued told.now.sizes
+        told.now.total told.now.count)
         (map (λ v. v.items) results.now) out.old out.new (number_of result) }
     ensures statuses { (result ≡ Status.Done) ⊎ (result ≡ Status.SinkFailed)
         ⊎ (result ≡ Status.DeviceFailed) }

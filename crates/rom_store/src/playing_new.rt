@@ -131,7 +131,8 @@ where
         IsFormatAnswer order (D.shown.words device) (Ok tt)) }
 
     // What a stop leaves now and since the call began, and what the device counts.
-    ensures now { IsTrue D.shown.tells_images → IfOk result (λ played. EachStory O.machine O.Contents
+    ensures now { IsTrue D.shown.tells_images →
+        IfOk result (λ played. EachStory O.machine O.Contents
         played.closed.session (λ story. (i : List ℕ) → D.shown.leaves played.closed.device i →
         ImageNow O.Contents (on_words O.machine) story i)) }
     ensures since { IsTrue D.shown.tells_images → IfOk result (λ played. EachStory O.machine

@@ -24,7 +24,8 @@ struct Gathered<'a, O: Sink> {
     // Whether the last write failed, and then that of the sink behind did.
     failing: bool,
     ghost within: { handed ≤ array_vec_len block },
-    ghost grown: { Grown (O.shown.taken opened.value) (O.shown.taken out.now) } by { Grown-prop (O.shown.taken opened.value) (O.shown.taken out.now) },
+    ghost grown: { Grown (O.shown.taken opened.value) (O.shown.taken out.now) } by
+        { Grown-prop (O.shown.taken opened.value) (O.shown.taken out.now) },
     ghost failed: { IsTrue failing → IsTrue (O.shown.failing out.now) },
 }
 
@@ -52,7 +53,8 @@ impl<'a, O: Sink> Gathered<'a, O> {
     fn hand_some(&mut self) -> Result<(), IoFailed>
         requires { self.old.handed < array_vec_len self.old.block }
         ensures hands { Hands O.shown self.old.out.now self.new.out.now
-            (drop self.old.handed self.old.block.items) (drop self.new.handed self.new.block.items) result }
+            (drop self.old.handed self.old.block.items)
+            (drop self.new.handed self.new.block.items) result }
         ensures block { self.new.block ≡ self.old.block }
         ensures on { OnOk result (self.old.handed < self.new.handed) }
         ensures failing { self.new.failing ≡ is_err result }
@@ -78,7 +80,8 @@ impl<'a, O: Sink> Gathered<'a, O> {
     #[inline(never)]
     fn hand_over(&mut self) -> Result<(), IoFailed>
         ensures hands { Hands O.shown self.old.out.now self.new.out.now
-            (drop self.old.handed self.old.block.items) (drop self.new.handed self.new.block.items) result }
+            (drop self.old.handed self.old.block.items)
+            (drop self.new.handed self.new.block.items) result }
         ensures emptied { OnOk result (self.new.block.items ≡ []) }
         ensures none_waits { OnOk result (drop self.new.handed self.new.block.items ≡ []) }
         ensures failing { self.new.failing ≡ is_err result }

@@ -59,9 +59,11 @@ fn first_word(line: &[u8]) -> (&[u8], &[u8])
 /// The words of a line, or `None` where one behind the first is no number or there are more than
 /// three of these.
 pub fn read_phrase(line: &[u8]) -> Option<Phrase<'_>>
-    ensures words { IfSome result (λ p. line_words line.now ≡ phrase_words p.name.now p.numbers.items) }
+    ensures words { IfSome result (λ p.
+        line_words line.now ≡ phrase_words p.name.now p.numbers.items) }
     ensures fit { IfSome result (λ p. NumbersFit p.numbers.items) }
-    ensures none { IfNone result ((name numbers : List ℕ) → length numbers ≤ MAX_NUMBERS → NumbersFit numbers
+    ensures none { IfNone result ((name numbers : List ℕ) →
+        length numbers ≤ MAX_NUMBERS → NumbersFit numbers
         → line_words line.now ≢ phrase_words name numbers) }
 {
     let (name, mut rest) = first_word(line);

@@ -37,7 +37,8 @@ pub fn print_number<O: Sink>(out: &mut O, n: u128) -> Result<(), IoFailed>
 
 /// Prints texts one after another.
 pub fn print_pieces<O: Sink>(out: &mut O, pieces: &[&str]) -> Result<(), IoFailed>
-    ensures prints { Prints O.shown out.old out.new result (flat_map (λ piece. piece.now) pieces.now) }
+    ensures prints { Prints O.shown out.old out.new result
+        (flat_map (λ piece. piece.now) pieces.now) }
 {
     for piece in pieces {
         print_text(out, piece)?;
@@ -63,7 +64,8 @@ pub fn print_update<R: Told, O: Sink>(out: &mut O, updated: &Updated<R>) -> Resu
 
 /// Prints what a query was told, with the front that it read.
 pub fn print_answer<A: Told, O: Sink>(out: &mut O, answer: &A, front: u64) -> Result<(), IoFailed>
-    ensures prints { Prints O.shown out.old out.new result (read_text A.shown.text answer.now front) }
+    ensures prints { Prints O.shown out.old out.new result
+        (read_text A.shown.text answer.now front) }
     ensures fits { OnOk result (A.shown.Fits answer.now) }
 {
     answer.print(out)?;

@@ -52,7 +52,8 @@ fn print_results<R: Told, A: Told, O: Sink>(
 ) -> Result<(), IoFailed>
     ensures prints { Prints O.shown out.old out.new result
         (results_text (texts_of R.shown A.shown) results.now) }
-    ensures of_type { OnOk result (AllByRecursion (ResultFits (texts_of R.shown A.shown)) results.now) }
+    ensures of_type { OnOk result
+        (AllByRecursion (ResultFits (texts_of R.shown A.shown)) results.now) }
 {
     for told in results {
         print_line(out, told)?;
@@ -67,8 +68,10 @@ fn print_caller<R: Told, A: Told, O: Sink>(
     results: &[LineResult<R, A>],
 ) -> Result<(), IoFailed>
     ensures prints { Prints O.shown out.old out.new result
-        (line_text (codes "caller " ++ decimal caller) ++ results_text (texts_of R.shown A.shown) results.now) }
-    ensures of_type { OnOk result (AllByRecursion (ResultFits (texts_of R.shown A.shown)) results.now) }
+        (line_text (codes "caller " ++ decimal caller)
+        ++ results_text (texts_of R.shown A.shown) results.now) }
+    ensures of_type { OnOk result
+        (AllByRecursion (ResultFits (texts_of R.shown A.shown)) results.now) }
 {
     print_pieces(out, &["caller ", Buffer::new().format(caller), "\n"])?;
     print_results(out, results)
@@ -81,7 +84,8 @@ fn print_callers<R: Told, A: Told, O: Sink>(
 ) -> Result<(), IoFailed>
     ensures prints { Prints O.shown out.old out.new result
         (callers_text (texts_of R.shown A.shown) 1 (map (λ v. v.items) results.now)) }
-    ensures of_type { OnOk result (AreOfType (texts_of R.shown A.shown) (map (λ v. v.items) results.now)) }
+    ensures of_type { OnOk result (AreOfType (texts_of R.shown A.shown)
+        (map (λ v. v.items) results.now)) }
 {
     for (i, own) in results.iter().enumerate() {
         print_caller(out, i as u64 + 1, own)?;
@@ -97,7 +101,8 @@ fn print_whole<R: Told, A: Told, O: Sink>(
 ) -> Result<(), IoFailed>
     ensures prints { Prints O.shown out.old out.new result
         (text (texts_of R.shown A.shown) (map (λ v. v.items) results.now) count) }
-    ensures of_type { OnOk result (AreOfType (texts_of R.shown A.shown) (map (λ v. v.items) results.now)) }
+    ensures of_type { OnOk result (AreOfType (texts_of R.shown A.shown)
+        (map (λ v. v.items) results.now)) }
 {
     print_callers(out, results)?;
     print_pieces(out, &["count ", Buffer::new().format(count), "\n"])
@@ -131,7 +136,8 @@ pub fn print_run<R: Told, A: Told, O: Sink>(
 ) -> Result<(), IoFailed>
     ensures prints { Prints O.shown out.old out.new result
         (text (texts_of R.shown A.shown) (map (λ v. v.items) results.now) count) }
-    ensures of_type { OnOk result (AreOfType (texts_of R.shown A.shown) (map (λ v. v.items) results.now)) }
+    ensures of_type { OnOk result (AreOfType (texts_of R.shown A.shown)
+        (map (λ v. v.items) results.now)) }
 {
     print_gathered(out, &RunText { results, count })
 }

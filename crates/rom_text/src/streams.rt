@@ -33,6 +33,7 @@ pub trait Sink {
     fn write(&mut self, piece: &[u8]) -> Result<u64, IoFailed>
         requires { 0 < length piece.now }
         ensures some { IfOk result (λ n. (0 < n) × (n ≤ length piece.now)) }
-        ensures bytes { WriteAppends (shown.taken self.old) (shown.taken self.new) result piece.now }
+        ensures bytes { WriteAppends (shown.taken self.old)
+            (shown.taken self.new) result piece.now }
         ensures counts { CountsWrite shown self.old self.new result };
 }

@@ -40,8 +40,10 @@ fn write_piece<D: Device, M: Look>(
     requires room { count ≤ 64 }
     ensures looks { Looks M.shown count image.old image.new }
     ensures written { IsTrue D.shown.tells_words → OnOk result ((k : ℕ) → k < count →
-        slice_index (D.shown.words device.new) (base + from + k) ≡ slice_index (M.shown.image image.old) (from + k)) }
-    ensures does { Does D.shown (WritesPart base from count (M.shown.image image.old)) device.old device.new }
+        slice_index (D.shown.words device.new) (base + from + k)
+        ≡ slice_index (M.shown.image image.old) (from + k)) }
+    ensures does { Does D.shown (WritesPart base from count (M.shown.image image.old))
+        device.old device.new }
     ensures makes { Makes D.shown 0 count 0 device.old device.new result }
 {
     load_piece(image, from, &mut piece[..count]);
@@ -59,9 +61,12 @@ fn write_range<D: Device, M: Look>(
     requires fits { base + length (M.shown.image image.old) ≤ D.shown.size device.old }
     requires within { range.end ≤ length (M.shown.image image.old) }
     ensures looks { Looks M.shown (range.end - range.start) image.old image.new }
-    ensures written { IsTrue D.shown.tells_words → OnOk result ((k : ℕ) → range.start ≤ k → k < range.end →
-        slice_index (D.shown.words device.new) (base + k) ≡ slice_index (M.shown.image image.old) k) }
-    ensures does { Does D.shown (WritesPart base range.start (range.end - range.start) (M.shown.image image.old))
+    ensures written { IsTrue D.shown.tells_words →
+        OnOk result ((k : ℕ) → range.start ≤ k → k < range.end →
+        slice_index (D.shown.words device.new) (base + k)
+        ≡ slice_index (M.shown.image image.old) k) }
+    ensures does { Does D.shown (WritesPart base range.start (range.end - range.start)
+        (M.shown.image image.old))
         device.old device.new }
     ensures makes { Makes D.shown 0 (range.end - range.start) 0 device.old device.new result }
 {
@@ -87,7 +92,8 @@ fn write_ranges<D: Device, M: Look>(
     ensures written { IsTrue D.shown.tells_words →
         IsBut ranges.now base (M.shown.image image.old) (D.shown.words device.old) →
         OnOk result (IsBut [] base (M.shown.image image.old) (D.shown.words device.new)) }
-    ensures does { Does D.shown (WritesRanges ranges.now base (M.shown.image image.old)) device.old device.new }
+    ensures does { Does D.shown (WritesRanges ranges.now base (M.shown.image image.old))
+        device.old device.new }
     ensures makes { Makes D.shown 0 (held_count ranges.now) 0 device.old device.new result }
 {
     let mut piece = [0; PIECE];
@@ -112,7 +118,8 @@ pub fn put_ranges<D: Device, M: Look>(
         IsBut ranges.now base (M.shown.image image.old) (D.shown.words device.old) →
         OnOk result (IsBut [] base (M.shown.image image.old) (D.shown.words device.new)) }
     ensures certain { OnOk result (IsSynced D.shown device.new) }
-    ensures does { Does D.shown (WritesRanges ranges.now base (M.shown.image image.old)) device.old device.new }
+    ensures does { Does D.shown (WritesRanges ranges.now base (M.shown.image image.old))
+        device.old device.new }
     ensures makes { Makes D.shown 0 (held_count ranges.now) 1 device.old device.new result }
 {
     write_ranges(device, image, base, ranges)?;

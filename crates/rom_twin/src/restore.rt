@@ -38,10 +38,13 @@ fn restore_main<D: Device, M: Look>(
     requires image { length (M.shown.image image.old) ≡ region_len geometry }
     ensures looks { Looks M.shown (region_len geometry) image.old image.new }
     ensures now { IsTrue D.shown.tells_images →
-        ((i : List ℕ) → D.shown.leaves device.old i → KeepsBack geometry (M.shown.image image.old) i) →
-        OnOk result ((i : List ℕ) → D.shown.leaves device.new i → Twins geometry (M.shown.image image.old) i) }
+        ((i : List ℕ) → D.shown.leaves device.old i →
+        KeepsBack geometry (M.shown.image image.old) i) →
+        OnOk result ((i : List ℕ) → D.shown.leaves device.new i →
+        Twins geometry (M.shown.image image.old) i) }
     ensures since { IsTrue D.shown.tells_images →
-        ((i : List ℕ) → D.shown.leaves device.old i → KeepsBack geometry (M.shown.image image.old) i) →
+        ((i : List ℕ) → D.shown.leaves device.old i →
+        KeepsBack geometry (M.shown.image image.old) i) →
         Runs D.shown (Becomes (HasBack geometry (M.shown.image image.old))) device.old device.new }
     ensures does { Does D.shown (StateOrWithin MAIN (region_len geometry)) device.old device.new }
     ensures makes { Makes D.shown 0 (region_len geometry + 1) 2 device.old device.new result }
@@ -61,12 +64,16 @@ fn restore_back<D: Device, M: Look>(
     requires image { length (M.shown.image image.old) ≡ region_len geometry }
     ensures looks { Looks M.shown (region_len geometry) image.old image.new }
     ensures now { IsTrue D.shown.tells_images →
-        ((i : List ℕ) → D.shown.leaves device.old i → HasMain geometry (M.shown.image image.old) i) →
-        OnOk result ((i : List ℕ) → D.shown.leaves device.new i → Twins geometry (M.shown.image image.old) i) }
+        ((i : List ℕ) → D.shown.leaves device.old i →
+        HasMain geometry (M.shown.image image.old) i) →
+        OnOk result ((i : List ℕ) → D.shown.leaves device.new i →
+        Twins geometry (M.shown.image image.old) i) }
     ensures since { IsTrue D.shown.tells_images →
-        ((i : List ℕ) → D.shown.leaves device.old i → HasMain geometry (M.shown.image image.old) i) →
+        ((i : List ℕ) → D.shown.leaves device.old i →
+        HasMain geometry (M.shown.image image.old) i) →
         Runs D.shown (Becomes (HasMain geometry (M.shown.image image.old))) device.old device.new }
-    ensures does { Does D.shown (StateOrWithin (back_at geometry) (region_len geometry)) device.old device.new }
+    ensures does { Does D.shown (StateOrWithin (back_at geometry) (region_len geometry))
+        device.old device.new }
     ensures makes { Makes D.shown 0 (region_len geometry) 1 device.old device.new result }
 {
     let ranges = [whole(geometry)];
@@ -84,13 +91,19 @@ pub fn restore<D: Device, M: Look>(
     requires image { length (M.shown.image image.old) ≡ region_len geometry }
     ensures looks { Looks M.shown (region_len geometry) image.old image.new }
     ensures now { IsTrue D.shown.tells_images →
-        ((i : List ℕ) → D.shown.leaves device.old i → Repairable phase geometry (M.shown.image image.old) i) →
-        OnOk result ((i : List ℕ) → D.shown.leaves device.new i → Twins geometry (M.shown.image image.old) i) }
+        ((i : List ℕ) → D.shown.leaves device.old i →
+        Repairable phase geometry (M.shown.image image.old) i) →
+        OnOk result ((i : List ℕ) → D.shown.leaves device.new i →
+        Twins geometry (M.shown.image image.old) i) }
     ensures since { IsTrue D.shown.tells_images →
-        ((i : List ℕ) → D.shown.leaves device.old i → Repairable phase geometry (M.shown.image image.old) i) →
-        Runs D.shown (Becomes (Rewriting phase geometry (M.shown.image image.old))) device.old device.new }
-    ensures does { Does D.shown (StateOrWithin (rewritten_at phase geometry) (region_len geometry)) device.old device.new }
-    ensures makes { Makes D.shown 0 (rewriting_writes phase geometry) (repair_syncs phase) device.old device.new result }
+        ((i : List ℕ) → D.shown.leaves device.old i →
+        Repairable phase geometry (M.shown.image image.old) i) →
+        Runs D.shown (Becomes (Rewriting phase geometry (M.shown.image image.old)))
+        device.old device.new }
+    ensures does { Does D.shown (StateOrWithin (rewritten_at phase geometry) (region_len geometry))
+        device.old device.new }
+    ensures makes { Makes D.shown 0 (rewriting_writes phase geometry) (repair_syncs phase)
+        device.old device.new result }
 {
     match phase {
         Phase::Redo => restore_back(device, geometry, image),

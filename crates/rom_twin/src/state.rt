@@ -12,7 +12,8 @@ use rom_header::{STATE, State};
 pub fn write_state<D: Device>(device: &mut D, state: State) -> Result<(), Failed>
     requires { STATE < D.shown.size device.old }
     ensures written { IsTrue D.shown.tells_words →
-        OnOk result (D.shown.words device.new ≡ slice_set (D.shown.words device.old) STATE (state_word state)) }
+        OnOk result (D.shown.words device.new
+        ≡ slice_set (D.shown.words device.old) STATE (state_word state)) }
     ensures does { Does D.shown (Writes STATE (state_word state)) device.old device.new }
     ensures counts { Counts D.shown 0 1 0 device.old device.new result }
 {
@@ -23,7 +24,8 @@ pub fn write_state<D: Device>(device: &mut D, state: State) -> Result<(), Failed
 pub fn set_state<D: Device>(device: &mut D, state: State) -> Result<(), Failed>
     requires { STATE < D.shown.size device.old }
     ensures written { IsTrue D.shown.tells_words →
-        OnOk result (D.shown.words device.new ≡ slice_set (D.shown.words device.old) STATE (state_word state)) }
+        OnOk result (D.shown.words device.new
+        ≡ slice_set (D.shown.words device.old) STATE (state_word state)) }
     ensures certain { OnOk result (IsSynced D.shown device.new) }
     ensures does { Does D.shown (Writes STATE (state_word state)) device.old device.new }
     ensures writes { Adds 1 (D.shown.writes device.old) (D.shown.writes device.new) }

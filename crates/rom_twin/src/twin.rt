@@ -45,7 +45,11 @@ impl<D: Device> Model for Twin<D> {
     ghost view = { λ t. record { device = t.device; order = t.geometry; phase = t.phase } };
 
     // Where images are told, each that a stop may leave is of the phase.
-    ghost invariant = { λ t. IsTwin D.shown record { device = t.device; order = t.geometry; phase = t.phase } };
+    ghost invariant = { λ t. IsTwin D.shown record {
+      device = t.device;
+      order = t.geometry;
+      phase = t.phase;
+    } };
 }
 
 impl<D: Device> Twin<D> {
@@ -109,12 +113,15 @@ impl<D: Device> Twin<D> {
         ensures ok { OnOk result (self.new.phase ≡ Phase.Begun) }
         ensures failed { OnErr result (self.new.phase ≡ Phase.Undo) }
         ensures order { self.new.order ≡ self.old.order }
-        ensures committed { IsTrue D.shown.tells_images → committed D.shown self.new ≡ committed D.shown self.old }
+        ensures committed { IsTrue D.shown.tells_images →
+            committed D.shown self.new ≡ committed D.shown self.old }
         ensures images { IsTrue D.shown.tells_images → InPhase D.shown self.new }
         ensures since { IsTrue D.shown.tells_images →
-            Runs D.shown (Becomes (Twins self.old.order (committed D.shown self.old))) self.old.device self.new.device }
+            Runs D.shown (Becomes (Twins self.old.order (committed D.shown self.old)))
+            self.old.device self.new.device }
         ensures size { D.shown.size self.new.device ≡ D.shown.size self.old.device }
-        ensures does { Does D.shown (Writes STATE (state_word State.Mutating)) self.old.device self.new.device }
+        ensures does { Does D.shown (Writes STATE (state_word State.Mutating))
+            self.old.device self.new.device }
         ensures writes { D.shown.writes self.new.device ≡ counted (D.shown.writes self.old.device) }
         ensures makes { Makes D.shown 0 1 1 self.old.device self.new.device result }
     {
@@ -135,17 +142,20 @@ impl<D: Device> Twin<D> {
         ensures ok { OnOk result (self.new.phase ≡ Phase.Persisted) }
         ensures failed { OnErr result (self.new.phase ≡ Phase.Undo) }
         ensures order { self.new.order ≡ self.old.order }
-        ensures committed { IsTrue D.shown.tells_images → committed D.shown self.new ≡ committed D.shown self.old }
+        ensures committed { IsTrue D.shown.tells_images →
+            committed D.shown self.new ≡ committed D.shown self.old }
         ensures main { IsTrue D.shown.tells_images →
             OnOk result (main_now D.shown self.new ≡ M.shown.image image.old) }
         ensures images { IsTrue D.shown.tells_images → InPhase D.shown self.new }
         ensures since { IsTrue D.shown.tells_images →
-            Runs D.shown (Becomes (HasBack self.old.order (committed D.shown self.old))) self.old.device self.new.device }
+            Runs D.shown (Becomes (HasBack self.old.order (committed D.shown self.old)))
+            self.old.device self.new.device }
         ensures looks { Looks M.shown (held_count ranges.now) image.old image.new }
         ensures size { D.shown.size self.new.device ≡ D.shown.size self.old.device }
         ensures does { Does D.shown (WritesRanges ranges.now MAIN (M.shown.image image.old))
             self.old.device self.new.device }
-        ensures makes { Makes D.shown 0 (held_count ranges.now) 1 self.old.device self.new.device result }
+        ensures makes { Makes D.shown 0 (held_count ranges.now) 1
+            self.old.device self.new.device result }
     {
         self.phase = Phase::Undo;
         put_ranges(&mut self.device, image, self.geometry.main(), ranges)?;
@@ -160,14 +170,18 @@ impl<D: Device> Twin<D> {
         ensures ok { OnOk result (self.new.phase ≡ Phase.Committed) }
         ensures failed { OnErr result (self.new.phase ≡ Phase.Doubt) }
         ensures order { self.new.order ≡ self.old.order }
-        ensures committed { IsTrue D.shown.tells_images → committed D.shown self.new ≡ committed D.shown self.old }
-        ensures main { IsTrue D.shown.tells_images → main_now D.shown self.new ≡ main_now D.shown self.old }
+        ensures committed { IsTrue D.shown.tells_images →
+            committed D.shown self.new ≡ committed D.shown self.old }
+        ensures main { IsTrue D.shown.tells_images →
+            main_now D.shown self.new ≡ main_now D.shown self.old }
         ensures images { IsTrue D.shown.tells_images → InPhase D.shown self.new }
         ensures since { IsTrue D.shown.tells_images →
-            Runs D.shown (Becomes (Committing self.old.order (committed D.shown self.old) (main_now D.shown self.old)))
+            Runs D.shown (Becomes (Committing self.old.order (committed D.shown self.old)
+            (main_now D.shown self.old)))
             self.old.device self.new.device }
         ensures size { D.shown.size self.new.device ≡ D.shown.size self.old.device }
-        ensures does { Does D.shown (Writes STATE (state_word State.Copying)) self.old.device self.new.device }
+        ensures does { Does D.shown (Writes STATE (state_word State.Copying))
+            self.old.device self.new.device }
         ensures writes { D.shown.writes self.new.device ≡ counted (D.shown.writes self.old.device) }
         ensures makes { Makes D.shown 0 1 1 self.old.device self.new.device result }
     {
@@ -184,21 +198,26 @@ impl<D: Device> Twin<D> {
         requires phase { self.old.phase ≡ Phase.Committed }
         requires image { length (M.shown.image image.old) ≡ region_len self.old.order }
         requires within { AreWithin (region_len self.old.order) ranges.now }
-        requires main { IsTrue D.shown.tells_images → main_now D.shown self.old ≡ M.shown.image image.old }
+        requires main { IsTrue D.shown.tells_images →
+            main_now D.shown self.old ≡ M.shown.image image.old }
         requires but { IsTrue D.shown.tells_images →
             SameBut ranges.now (committed D.shown self.old) (M.shown.image image.old) }
         ensures ok { OnOk result (self.new.phase ≡ Phase.Copied) }
         ensures failed { OnErr result (self.new.phase ≡ Phase.Redo) }
         ensures order { self.new.order ≡ self.old.order }
-        ensures committed { IsTrue D.shown.tells_images → committed D.shown self.new ≡ M.shown.image image.old }
+        ensures committed { IsTrue D.shown.tells_images →
+            committed D.shown self.new ≡ M.shown.image image.old }
         ensures images { IsTrue D.shown.tells_images → InPhase D.shown self.new }
         ensures since { IsTrue D.shown.tells_images →
-            Runs D.shown (Becomes (HasMain self.old.order (M.shown.image image.old))) self.old.device self.new.device }
+            Runs D.shown (Becomes (HasMain self.old.order (M.shown.image image.old)))
+            self.old.device self.new.device }
         ensures looks { Looks M.shown (held_count ranges.now) image.old image.new }
         ensures size { D.shown.size self.new.device ≡ D.shown.size self.old.device }
-        ensures does { Does D.shown (WritesRanges ranges.now (back_at self.old.order) (M.shown.image image.old))
+        ensures does { Does D.shown (WritesRanges ranges.now (back_at self.old.order)
+            (M.shown.image image.old))
             self.old.device self.new.device }
-        ensures makes { Makes D.shown 0 (held_count ranges.now) 1 self.old.device self.new.device result }
+        ensures makes { Makes D.shown 0 (held_count ranges.now) 1
+            self.old.device self.new.device result }
     {
         self.phase = Phase::Redo;
         put_ranges(&mut self.device, image, self.geometry.back(), ranges)?;
@@ -212,12 +231,15 @@ impl<D: Device> Twin<D> {
         requires phase { self.old.phase ≡ Phase.Copied }
         ensures phase { self.new.phase ≡ Phase.Clean }
         ensures order { self.new.order ≡ self.old.order }
-        ensures committed { IsTrue D.shown.tells_images → committed D.shown self.new ≡ committed D.shown self.old }
+        ensures committed { IsTrue D.shown.tells_images →
+            committed D.shown self.new ≡ committed D.shown self.old }
         ensures images { IsTrue D.shown.tells_images → InPhase D.shown self.new }
         ensures since { IsTrue D.shown.tells_images →
-            Runs D.shown (Becomes (Twins self.old.order (committed D.shown self.old))) self.old.device self.new.device }
+            Runs D.shown (Becomes (Twins self.old.order (committed D.shown self.old)))
+            self.old.device self.new.device }
         ensures size { D.shown.size self.new.device ≡ D.shown.size self.old.device }
-        ensures does { Does D.shown (Writes STATE (state_word State.Idle)) self.old.device self.new.device }
+        ensures does { Does D.shown (Writes STATE (state_word State.Idle))
+            self.old.device self.new.device }
         ensures counts { Counts D.shown 0 1 0 self.old.device self.new.device result }
     {
         self.phase = Phase::Clean;
@@ -230,18 +252,22 @@ impl<D: Device> Twin<D> {
     pub fn repair<M: Look>(&mut self, image: &mut M) -> Result<(), Failed>
         requires phase { NeedsRepair self.old.phase }
         requires image { length (M.shown.image image.old) ≡ region_len self.old.order }
-        requires committed { IsTrue D.shown.tells_images → committed D.shown self.old ≡ M.shown.image image.old }
+        requires committed { IsTrue D.shown.tells_images →
+            committed D.shown self.old ≡ M.shown.image image.old }
         ensures ok { OnOk result (self.new.phase ≡ Phase.Clean) }
         ensures failed { OnErr result (self.new.phase ≡ self.old.phase) }
         ensures order { self.new.order ≡ self.old.order }
-        ensures committed { IsTrue D.shown.tells_images → committed D.shown self.new ≡ committed D.shown self.old }
+        ensures committed { IsTrue D.shown.tells_images →
+            committed D.shown self.new ≡ committed D.shown self.old }
         ensures images { IsTrue D.shown.tells_images → InPhase D.shown self.new }
         ensures since { IsTrue D.shown.tells_images →
-            Runs D.shown (Becomes (Repairing self.old.phase self.old.order (committed D.shown self.old)))
+            Runs D.shown (Becomes (Repairing self.old.phase self.old.order
+            (committed D.shown self.old)))
             self.old.device self.new.device }
         ensures looks { Looks M.shown (region_len self.old.order) image.old image.new }
         ensures size { D.shown.size self.new.device ≡ D.shown.size self.old.device }
-        ensures does { Does D.shown (StateOrWithin (rewritten_at self.old.phase self.old.order) (region_len self.old.order))
+        ensures does { Does D.shown (StateOrWithin (rewritten_at self.old.phase self.old.order)
+            (region_len self.old.order))
             self.old.device self.new.device }
         ensures reads { D.shown.reads self.new.device ≡ D.shown.reads self.old.device }
         ensures writes { OnOk result (Adds (repair_writes self.old.phase self.old.order)
@@ -256,9 +282,11 @@ impl<D: Device> Twin<D> {
         // Where it fails, it did so before its last write.
         ensures before_last { OnErr result (AtMost (rewriting_writes self.old.phase self.old.order)
             (D.shown.writes self.old.device) (D.shown.writes self.new.device)) }
-        ensures cause { OnErr result (FailedLast (D.shown.faults self.old.device) (D.shown.faults self.new.device)
+        ensures cause { OnErr result (FailedLast (D.shown.faults self.old.device)
+            (D.shown.faults self.new.device)
             (D.shown.failing self.new.device)) }
-        ensures mended { OnOk result (StopsAtFault (D.shown.faults self.old.device) (D.shown.faults self.new.device)
+        ensures mended { OnOk result (StopsAtFault (D.shown.faults self.old.device)
+            (D.shown.faults self.new.device)
             (D.shown.failing self.new.device)) }
     {
         restore(&mut self.device, self.geometry, self.phase, image)?;

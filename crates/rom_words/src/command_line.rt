@@ -39,7 +39,8 @@ fn try_command<'a>(alloc: Global) -> Result<Command<'a>, AllocError>
 }
 
 fn run_command<'a>(alloc: Global) -> Result<Command<'a>, AllocError>
-    ensures shape { IfOk result (λ c. app_of c ≡ with_rule (with_rule (new_app (codes "run")) (plain_rule (codes "FILE"))) scripts_rule) }
+    ensures shape { IfOk result (λ c. app_of c ≡ with_rule (with_rule (new_app (codes "run"))
+        (plain_rule (codes "FILE"))) scripts_rule) }
     ensures local { IfOk result (λ c. (out-Command c).has_globals ≡ false) }
 {
     let file = Arg::new(alloc, "FILE");
@@ -47,7 +48,8 @@ fn run_command<'a>(alloc: Global) -> Result<Command<'a>, AllocError>
 }
 
 fn format_command<'a>(alloc: Global) -> Result<Command<'a>, AllocError>
-    ensures shape { IfOk result (λ c. app_of c ≡ with_rule (with_rule (new_app (codes "format")) (plain_rule (codes "FILE"))) (option_rule (codes "order"))) }
+    ensures shape { IfOk result (λ c. app_of c ≡ with_rule (with_rule (new_app (codes "format"))
+        (plain_rule (codes "FILE"))) (option_rule (codes "order"))) }
     ensures local { IfOk result (λ c. (out-Command c).has_globals ≡ false) }
 {
     let file = Arg::new(alloc, "FILE");
@@ -57,14 +59,17 @@ fn format_command<'a>(alloc: Global) -> Result<Command<'a>, AllocError>
 }
 
 fn stat_command<'a>(alloc: Global) -> Result<Command<'a>, AllocError>
-    ensures shape { IfOk result (λ c. app_of c ≡ with_rule (new_app (codes "stat")) (plain_rule (codes "FILE"))) }
+    ensures shape { IfOk result (λ c. app_of c ≡ with_rule (new_app (codes "stat"))
+        (plain_rule (codes "FILE"))) }
     ensures local { IfOk result (λ c. (out-Command c).has_globals ≡ false) }
 {
     Command::new(alloc, "stat").arg(Arg::new(alloc, "FILE"))
 }
 
 fn drill_command<'a>(alloc: Global) -> Result<Command<'a>, AllocError>
-    ensures shape { IfOk result (λ c. app_of c ≡ with_rule (with_rule (with_rule (new_app (codes "drill")) (plain_rule (codes "START"))) (option_rule (codes "callers"))) (option_rule (codes "calls"))) }
+    ensures shape { IfOk result (λ c. app_of c ≡ with_rule (with_rule
+        (with_rule (new_app (codes "drill")) (plain_rule (codes "START")))
+        (option_rule (codes "callers"))) (option_rule (codes "calls"))) }
     ensures local { IfOk result (λ c. (out-Command c).has_globals ≡ false) }
 {
     let start = Arg::new(alloc, "START");
@@ -100,7 +105,8 @@ fn command_line<'a>(alloc: Global) -> Result<Command<'a>, AllocError>
 /// The matches of words that are a command. An `Err` is want of memory.
 pub(crate) fn matches_of<'a>(alloc: Global, words: &'a [&'a str]) -> Result<ArgMatches<'a>, Error>
     requires { IsSome (command (texts words.now)) }
-    ensures ok { IfOk result (λ m. (c : Asks) → command (texts words.now) ≡ Some c → MatchesHave c (option_map (λ p. p.1) (subcommand_rows_of m))) }
+    ensures ok { IfOk result (λ m. (c : Asks) → command (texts words.now) ≡ Some c →
+        MatchesHave c (option_map (λ p. p.1) (subcommand_rows_of m))) }
     ensures err { IfErr result (λ e. kind_of e ≡ ErrorKind.OutOfMemory) }
 {
     command_line(alloc)?.try_get_matches_from(words)
@@ -109,7 +115,8 @@ pub(crate) fn matches_of<'a>(alloc: Global, words: &'a [&'a str]) -> Result<ArgM
 /// The matches of the command's own arguments.
 pub(crate) fn found_in<'m, 'a>(matches: &'m ArgMatches<'a>) -> &'m ArgMatches<'a>
     requires { IsSome (subcommand_rows_of matches.now) }
-    ensures { option_map (λ p. p.1) (subcommand_rows_of matches.now) ≡ Some (rows_of (found_of result.now)) }
+    ensures { option_map (λ p. p.1) (subcommand_rows_of matches.now)
+        ≡ Some (rows_of (found_of result.now)) }
 {
     matches.subcommand().unwrap().1
 }

@@ -50,7 +50,8 @@ impl<'a> Said<'a> {
 
     /// Adds a plain word, where there is room.
     fn add_plain(&mut self, word: &'a str) -> Option<()>
-        ensures some { IsSome result → self.new.plain.items ≡ self.old.plain.items ++ word.entry ∷ [] }
+        ensures some { IsSome result → self.new.plain.items
+            ≡ self.old.plain.items ++ word.entry ∷ [] }
         ensures none { IsNone result → length self.old.plain.items ≡ MOST_PLAIN }
         ensures options { self.new.options ≡ self.old.options }
     {
@@ -59,7 +60,8 @@ impl<'a> Said<'a> {
 
     /// Adds an option, where there is room.
     fn add_option(&mut self, name: &'a str, value: &'a str) -> Option<()>
-        ensures some { IsSome result → self.new.options.items ≡ self.old.options.items ++ (name.entry, value.entry) ∷ [] }
+        ensures some { IsSome result → self.new.options.items
+            ≡ self.old.options.items ++ (name.entry, value.entry) ∷ [] }
         ensures none { IsNone result → length self.old.options.items ≡ MOST_OPTIONS }
         ensures plain { self.new.plain ≡ self.old.plain }
     {
@@ -104,7 +106,8 @@ fn read_sort(ended: bool, word: &str) -> Sort<'_>
 /// has.
 pub fn read_said(words: &[Name]) -> Option<Said<'_>>
     ensures some { IfSome result (λ s. said words.now None ≡ Some (told s)) }
-    ensures none { IfNone result ((s : spec.Said) → said words.now None ≡ Some s → (17 < length s.plain) ⊎ (2 < length s.options)) }
+    ensures none { IfNone result ((s : spec.Said) → said words.now None ≡ Some s →
+        (17 < length s.plain) ⊎ (2 < length s.options)) }
 {
     let mut said = Said::new();
     let mut ended = false;

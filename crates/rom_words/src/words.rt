@@ -141,7 +141,8 @@ fn read_both<'a>(
     other: &str,
     options: &[(&'a str, &'a str)],
 ) -> Option<(&'a str, &'a str)>
-    ensures { option_map (λ v. (v.0.now, v.1.now)) result ≡ both_of one.now other.now (map (λ o. (o.0.now, o.1.now)) options.now) }
+    ensures { option_map (λ v. (v.0.now, v.1.now)) result ≡ both_of one.now other.now
+        (map (λ o. (o.0.now, o.1.now)) options.now) }
 {
     let [first, second] = options else {
         return None;
@@ -192,8 +193,10 @@ pub fn read_command(words: &Names) -> Option<Asked<'_>>
 
 /// The number that is an argument's one value.
 fn number_at(found: &ArgMatches<'_>, id: &str, least: u64, most: u64) -> u64
-    requires { IsSome (option_and_then (number_within least most) (first_value (found_of found.now) id.now)) }
-    ensures number { option_and_then (number_within least most) (first_value (found_of found.now) id.now) ≡ Some result }
+    requires { IsSome (option_and_then (number_within least most)
+        (first_value (found_of found.now) id.now)) }
+    ensures number { option_and_then (number_within least most)
+        (first_value (found_of found.now) id.now) ≡ Some result }
     ensures within { (least ≤ result) × (result ≤ most) }
 {
     read_within(text_at(found, id), least, most).unwrap()
