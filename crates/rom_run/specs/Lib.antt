@@ -7,4 +7,6 @@ pub mod Keeping
 pub mod Played
 pub mod Working
 pub mod Asked
+pub mod Plain
+pub mod Named
 pub mod Promise

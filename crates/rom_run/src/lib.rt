@@ -7,12 +7,13 @@
 //! device at any moment, and of each refusal the cause and the line. The record has more uses, for
 //! programs with commands of their own (scripts that are drawn, a heap that is shown). So what
 //! `run_asked` does in between is public too: each such function names its clauses, and the record
-//! holds the same.
+//! holds the same. A program that takes plain words alone is one call of `run_plain`.
 #![tactic(auto)]
 
 mod ended;
 mod format;
 mod heap;
+mod plain;
 mod play;
 mod program;
 mod refusals;
@@ -27,6 +28,7 @@ mod worked;
 pub use ended::Ended;
 pub use format::make_heap;
 pub use heap::Heap;
+pub use plain::{Plain, plain_files, read_plain, run_plain};
 pub use play::{end_of, end_without_memory, play_heap, play_lines};
 pub use program::{Asked, run_asked};
 pub use results::any_faulted;

@@ -21,7 +21,7 @@ decimal_is_plain bs (suc n) lt is =
     subst IsPlain (sym is) (omega (arith, first), λ zero. absurd (omega (arith, first, zero)))
 
 -- what a test of digits and their value is
-numerals : IsNumeralModel (AllDigits 10) (digits_value 10)
+pub numerals : IsNumeralModel (AllDigits 10) (digits_value 10)
 numerals = numerals_by_value (AllDigits 10) tells_digits
 
 -- plain digits are read as the number that they spell, and nothing else is

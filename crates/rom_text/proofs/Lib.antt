@@ -2,6 +2,7 @@
 pub mod Prints
 pub mod Taking
 pub mod Digits
+pub mod Numbers
 pub mod Pieces
 pub mod Handing
 pub mod Steps

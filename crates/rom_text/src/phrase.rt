@@ -1,6 +1,6 @@
 //! The words of a line: its name, and the numbers behind it.
 ghost use Rattle.std.specs.Prelude.{◌≡◌, ◌≢◌, ◌↔◌, ℕ, ◌^◌, ◌<◌, ◌≤◌, List, ◌∷◌, length, slice_index, decimal, IsTrue, IfSome, IfNone};
-ghost use Rattle.rom_text.specs.Phrases.{NumbersFit, IsPlain, line_words, phrase_words, words_behind};
+ghost use Rattle.rom_text.specs.Phrases.{NumbersFit, IsPlain, line_words, number_within, phrase_words, words_behind};
 
 use arrayvec::ArrayVec;
 use memchr::memchr;
@@ -46,6 +46,19 @@ pub fn read_number(digits: &[u8]) -> Option<u64>
         return None;
     };
     text.parse().ok()
+}
+
+/// The number from `least` to `most` that a word spells, without sign and without leading zero.
+pub fn read_within(word: &str, least: u64, most: u64) -> Option<u64>
+    ensures number { result ≡ number_within least most word.now }
+    ensures within { IfSome result (λ n. (least ≤ n) × (n ≤ most)) }
+{
+    let number = read_number(word.as_bytes())?;
+    if (least..=most).contains(&number) {
+        Some(number)
+    } else {
+        None
+    }
 }
 
 /// The first word of a line, and what stands behind it.

@@ -1,16 +1,13 @@
--- Lemmas on plain words, options and numbers.
-use Rattle.std.proofs.Common.{◌≡◌, ◌⊎◌, codes, cond, inl, inr, ℕ, ◌<◌, ◌≤◌, ◌^◌, List, [], ◌∷◌, ◌++◌, map, length, get_or, Bool, true, false, Bor, Option, Some, None, option_map, decimal, refl, sym, ap, ◌∙◌, arith}
-use Rattle.std.specs.Prelude.{option_and_then, nat_le, nat_lt, ◌&&◌}
+-- Lemmas on plain words and options.
+use Rattle.std.proofs.Common.{◌≡◌, ◌⊎◌, codes, cond, inl, inr, ℕ, ◌<◌, ◌≤◌, List, [], ◌∷◌, ◌++◌, map, length, get_or, Bool, true, false, Bor, Option, Some, None, option_map, refl, sym, ap, ◌∙◌, arith}
+use Rattle.std.specs.Prelude.{option_and_then, nat_lt, ◌&&◌}
 use Rattle.std.specs.List.{list_all}
 use Rattle.std.specs.Str.{bytes_eq}
-use Rattle.std.specs.Str.Parse.{AllDigits, digits_value}
 use Rattle.std.proofs.lemmas.List.{append_assoc, length-append, length-map, map-append}
 use Rattle.std.proofs.lemmas.List.Folds.{list_all-map}
-use Rattle.std.proofs.lemmas.Bool.{le-leb, lt-ltb}
+use Rattle.std.proofs.lemmas.Bool.{lt-ltb}
 use Rattle.std.proofs.lemmas.Bool.Decides.{nat_tests}
 use Rattle.std.proofs.lemmas.Slice.Eq.{bytes_eq-Decides}
-use Rattle.std.proofs.lemmas.Str.Parse.{IsNumeralModel, numerals_by_value, tells_digits}
-use Rattle.std.proofs.lemmas.Fmt.{digits_value-decimal}
 use Rattle.rom_words.specs.declared.said.Said.{Said}
 use Rattle.rom_words.specs.Wanted.{sort_at, texts, told}
 use Rattle.rom_words.specs.Words.{begins_with_dash, said, said_by, with_plain, with_option, Command, Run, Drill, are_scripts, both_of, command, command_of, drill_from, drill_of, format_of, is_full, number_within, run_of, stat_of, try_of}
@@ -124,35 +121,6 @@ stands_full X old ended rest w ws i r k many = go (rest_said ended ws None) (i �
     go (Some t) i s x =
         let same : length s.plain ≡ length ((told old).plain ++ w ∷ t.plain) = ap (λ o. (parts_len o).0) (sym x ∙ i) in
         inl (omega (arith, same, many, length-append (told old).plain (w ∷ t.plain), length-map old.plain.items (λ (s : Bor (List ℕ)). s.now)))
-
--- ---- numbers
-
-digits : IsNumeralModel (AllDigits 10) (digits_value 10)
-digits = numerals_by_value (AllDigits 10) tells_digits
-
-value_of : (word : List ℕ) (n : ℕ) → n < 2 ^ 64 → word ≡ decimal n → digits_value 10 word ≡ n
-value_of word n small e = ap (digits_value 10) e ∙ digits_value-decimal digits n small
-
--- the test of a number, and what it says
-abbrev tested : ℕ → ℕ → List ℕ → ℕ → Bool
-tested least most word n = bytes_eq word (decimal n) && nat_le least n && nat_le n most
-
-by_test : (least most : ℕ) (word : List ℕ) (n : ℕ) (b : Bool) → digits_value 10 word ≡ n → tested least most word n ≡ b →
-    number_within least most word ≡ cond b (Some n) None
-by_test least most word n b v t = ap (λ n. cond (tested least most word n) (Some n) None) v ∙ ap (λ b. cond b (Some n) None) t
-
--- digits of a number within the bounds are read as it
-pub number_found : (least most : ℕ) (word : List ℕ) (n : ℕ) → n < 2 ^ 64 → word ≡ decimal n → least ≤ n → n ≤ most → Some n ≡ number_within least most word
-number_found least most word n small e l m =
-    sym (by_test least most word n true (value_of word n small e) (rw ((bytes_eq-Decides word (decimal n)).1 e, le-leb least n l, le-leb n most m)))
-
--- and of one outside them as none
-pub number_outside : (least most : ℕ) (word : List ℕ) (n : ℕ) → n < 2 ^ 64 → word ≡ decimal n → ((least ≤ n) × (n ≤ most) → ⊥) → None ≡ number_within least most word
-number_outside least most word n small e out = go (tested least most word n) refl
-  where
-    go : (b : Bool) → tested least most word n ≡ b → None ≡ number_within least most word
-    go false t = sym (by_test least most word n false (value_of word n small e) t)
-    go true t = absurd (out (grind (arith, nat_tests)))
 
 -- ---- commands
 

@@ -54,27 +54,35 @@ given (matched.Drill start callers calls) = Drill start callers calls
 
 -- an order that was found is one that there is
 abbrev pub GivesOrder : Matched → Type 0
+GivesOrder (matched.Try scripts) = Unit {0}
+GivesOrder (matched.Run file scripts) = Unit {0}
 GivesOrder (matched.Format file order) = IsOrder order
-GivesOrder other = Unit {0}
+GivesOrder (matched.Stat file) = Unit {0}
+GivesOrder (matched.Drill start callers calls) = Unit {0}
 
 -- where scripts or callers were found, there are 1 to 16, and each caller has 1 to 10,000 calls
 abbrev pub GivesFew : Matched → Type 0
 GivesFew (matched.Try scripts) = (0 < length scripts) × (length scripts ≤ 16)
 GivesFew (matched.Run file scripts) = (0 < length scripts) × (length scripts ≤ 16)
+GivesFew (matched.Format file order) = Unit {0}
+GivesFew (matched.Stat file) = Unit {0}
 GivesFew (matched.Drill start callers calls) = (0 < callers) × (callers ≤ 16) × (0 < calls) × (calls ≤ 10000)
-GivesFew other = Unit {0}
 
 -- an order that is asked for is one that there is
 abbrev pub AsksForOrder : Asked → Type 0
+AsksForOrder (asked.Try scripts) = Unit {0}
+AsksForOrder (asked.Run file scripts) = Unit {0}
 AsksForOrder (asked.Format file order) = IsOrder order
-AsksForOrder other = Unit {0}
+AsksForOrder (asked.Stat file) = Unit {0}
+AsksForOrder (asked.Drill start callers calls) = Unit {0}
 
 -- where scripts or callers are asked for, there are 1 to 16, and each caller has 1 to 10,000 calls
 abbrev pub AsksForFew : Asked → Type 0
 AsksForFew (asked.Try scripts) = (0 < length (texts scripts.items)) × (length (texts scripts.items) ≤ 16)
 AsksForFew (asked.Run file scripts) = (0 < length (texts scripts.items)) × (length (texts scripts.items) ≤ 16)
+AsksForFew (asked.Format file order) = Unit {0}
+AsksForFew (asked.Stat file) = Unit {0}
 AsksForFew (asked.Drill start callers calls) = (0 < callers) × (callers ≤ 16) × (0 < calls) × (calls ≤ 10000)
-AsksForFew other = Unit {0}
 
 -- `try` asks for the words of a heap of order 4, `drill` for those of order 12, `format` for a file that is lengthened to those of its order, and `run` and `stat` for a file that is there
 abbrev pub IsWanted : Option Command → DeviceWant → Type 0

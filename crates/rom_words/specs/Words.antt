@@ -1,8 +1,8 @@
 -- The words of the command line.
-use Rattle.std.specs.Prelude.{ℕ, ◌+◌, ◌==◌, ◌&&◌, nat_lt, nat_le, Bool, false, List, [], ◌∷◌, length, codes, decimal, Option, Some, None, option_map, option_and_then, if◌then◌else◌}
+use Rattle.std.specs.Prelude.{ℕ, ◌+◌, ◌==◌, ◌&&◌, nat_lt, Bool, false, List, [], ◌∷◌, length, codes, Option, Some, None, option_map, option_and_then, if◌then◌else◌}
 use Rattle.std.specs.List.{list_all, position_or_len, before_first, after_first}
 use Rattle.std.specs.Str.{bytes_eq}
-use Rattle.std.specs.Str.Parse.{digits_value}
+pub use Rattle.rom_text.specs.Phrases.{number_within}
 
 -- what the words ask for
 pub data Command : Type 0 where
@@ -83,12 +83,6 @@ said (word ∷ words) None = said_by (sort_of word) word words (said words)
 said (word ∷ words) (Some name) = if begins_with_dash word then None else with_option name word (said words None)
 
 -- ---- commands
-
--- the number from least to most that the word spells in decimal digits, without sign and without leading zero
-abbrev pub number_within : ℕ → ℕ → List ℕ → Option ℕ
-number_within least most word =
-    let n = digits_value 10 word in
-    if bytes_eq word (decimal n) && nat_le least n && nat_le n most then Some n else None
 
 abbrev pub is_full : List ℕ → Bool
 is_full word = nat_lt 0 (length word)

@@ -14,7 +14,7 @@ use crate::command_line::{found_in, matches_of, name_at, names_at, text_at, text
 use crate::said::{Plain, Said, read_said};
 use clap::ArgMatches;
 use rom_header::Geometry;
-use rom_text::{DeviceWant, Name, Names, Wanted, read_number};
+use rom_text::{DeviceWant, Name, Names, Wanted, read_within};
 use std::alloc::{AllocError, Global};
 
 /// The order of the heap that `try` makes.
@@ -50,19 +50,6 @@ pub enum Asked<'a> {
         callers: u64,
         calls: u64,
     },
-}
-
-/// The number from `least` to `most` that a word spells.
-fn read_within(word: &str, least: u64, most: u64) -> Option<u64>
-    ensures number { result ≡ number_within least most word.now }
-    ensures within { IfSome result (λ n. (least ≤ n) × (n ≤ most)) }
-{
-    let number = read_number(word.as_bytes())?;
-    if (least..=most).contains(&number) {
-        Some(number)
-    } else {
-        None
-    }
 }
 
 fn are_full(words: &[&str]) -> bool

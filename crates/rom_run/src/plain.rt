@@ -1,0 +1,219 @@
+//! A program whose commands are plain words: `try` with scripts, `run` with a file and scripts, and
+//! `format` with a file and an order.
+ghost use Rattle.std.specs.Prelude.{◌≡◌, ◌<◌, ◌≤◌, length, IfOk, IfSome, IsTrue};
+ghost use Rattle.rom_model.specs.Blocks.{IsOrder};
+ghost use Rattle.rom_text.specs.Lines.{AreScripts};
+ghost use Rattle.rom_text.specs.Text.{texts_of};
+ghost use Rattle.rom_run.specs.Asked.{HasSources, IsAskedOf};
+ghost use Rattle.rom_run.specs.Asked as asked;
+ghost use Rattle.rom_run.specs.Named.{AsksForFew, AsksForOrder, named};
+ghost use Rattle.rom_run.specs.Plain.{IsWanted, command, scripts_of, use_of};
+ghost use Rattle.rom_run.specs.Plain as plain;
+ghost use Rattle.rom_run.specs.Played.{IsText};
+ghost use Rattle.rom_run.specs.Promise.{Promise};
+
+use crate::ended::Ended;
+use crate::heap::Heap;
+use crate::program::{Asked, run_asked};
+use rom_device::Device;
+use rom_header::Geometry;
+use rom_model::Object;
+use rom_store::Gate;
+use rom_text::{DeviceWant, Lines, Name, Names, Sink, Source, Told, Wanted, read_within};
+use std::alloc::{AllocError, Global};
+use std::sync::Wait;
+use std::thread::Threads;
+
+/// The order of the heap that `try` makes.
+const TRY_ORDER: u32 = 4;
+
+/// The most scripts that a command takes. Each has a caller of its own.
+const MOST_SCRIPTS: usize = 16;
+
+/// What plain words ask for. No name is empty or begins with a dash, there are 1 to 16 scripts, and
+/// an order is 4 to 16.
+#[derive(Clone, Copy, Debug)]
+pub enum Plain<'a> {
+    /// To run these scripts on a new heap.
+    Try(&'a [Name]),
+    /// To run these scripts on the heap in this file.
+    Run {
+        file: &'a Name,
+        scripts: &'a [Name],
+    },
+    /// To make a new heap of this order in this file.
+    Format { file: &'a Name, order: u32 },
+}
+
+fn is_name(word: &Name) -> bool
+    ensures { result ≡ plain.is_name word.now }
+{
+    !matches!(word.as_str().as_bytes(), [] | [b'-', ..])
+}
+
+fn are_names(words: &[Name]) -> bool
+    ensures { result ≡ plain.are_names words.now }
+{
+    words.iter().all(|word| is_name(word))
+}
+
+/// Whether words name scripts: there are 1 to 16.
+fn are_scripts(words: &[Name]) -> bool
+    ensures named { result ≡ plain.are_scripts words.now }
+    ensures few { IsTrue result → (0 < length words.now) × (length words.now ≤ 16) }
+{
+    (1..=MOST_SCRIPTS).contains(&words.len()) && are_names(words)
+}
+
+/// Scripts.
+fn read_try(words: &[Name]) -> Option<Plain<'_>>
+    ensures named { named result ≡ plain.try_of words.now }
+    ensures order { IfSome result AsksForOrder }
+    ensures few { IfSome result AsksForFew }
+{
+    if are_scripts(words) {
+        Some(Plain::Try(words))
+    } else {
+        None
+    }
+}
+
+/// A file, and then the scripts to run on its heap.
+fn read_run(words: &[Name]) -> Option<Plain<'_>>
+    ensures named { named result ≡ plain.run_of words.now }
+    ensures order { IfSome result AsksForOrder }
+    ensures few { IfSome result AsksForFew }
+{
+    let (file, scripts) = words.split_first()?;
+    if is_name(file) && are_scripts(scripts) {
+        Some(Plain::Run { file, scripts })
+    } else {
+        None
+    }
+}
+
+/// A file, and the order of the heap that is made there.
+fn read_format(words: &[Name]) -> Option<Plain<'_>>
+    ensures named { named result ≡ plain.format_of words.now }
+    ensures order { IfSome result AsksForOrder }
+    ensures few { IfSome result AsksForFew }
+{
+    let [file, order] = words else {
+        return None;
+    };
+    if !is_name(file) {
+        return None;
+    }
+    let order = read_within(order.as_str(), 4, 16)? as u32;
+    Some(Plain::Format { file, order })
+}
+
+/// The command that the words are. It takes no memory.
+pub fn read_plain(words: &Names) -> Option<Plain<'_>>
+    ensures named { named result ≡ command words.now }
+    ensures order { IfSome result AsksForOrder }
+    ensures few { IfSome result AsksForFew }
+{
+    let (name, words) = words.as_slice().split_first()?;
+    match name.as_str() {
+        "try" => read_try(words),
+        "run" => read_run(words),
+        "format" => read_format(words),
+        _ => None,
+    }
+}
+
+fn copy_of(alloc: Global, names: &[Name]) -> Result<Names, AllocError>
+    ensures { IfOk result (λ copy. copy ≡ names.now) }
+{
+    let mut copy = Names::new(alloc);
+    for name in names {
+        copy.push(alloc, name.as_str())?;
+    }
+    Ok(copy)
+}
+
+/// What plain words ask `main` to hand to `run_plain`: a device, and the scripts in order.
+pub fn plain_files(alloc: Global, words: &Names) -> Result<Wanted, AllocError>
+    ensures device { IfOk result (λ wanted. IsWanted (command words.now) wanted.device) }
+    ensures scripts { IfOk result (λ wanted. wanted.scripts ≡ scripts_of (command words.now)) }
+{
+    let none = Names::new(alloc);
+    let Some(plain) = read_plain(words) else {
+        return Ok(Wanted {
+            device: DeviceWant::Nothing,
+            scripts: none,
+        });
+    };
+    let (device, scripts) = match plain {
+        Plain::Try(scripts) => (
+            DeviceWant::Fresh(Geometry::of_order(TRY_ORDER).need()),
+            copy_of(alloc, scripts)?,
+        ),
+        Plain::Run { file, scripts } => {
+            let file = Name::of(alloc, file.as_str())?;
+            (DeviceWant::Old(file), copy_of(alloc, scripts)?)
+        }
+        Plain::Format { file, order } => {
+            let file = Name::of(alloc, file.as_str())?;
+            (
+                DeviceWant::Made(file, Geometry::of_order(order).need()),
+                none,
+            )
+        }
+    };
+    Ok(Wanted { device, scripts })
+}
+
+/// What the words ask for, as a use of a heap.
+fn asked_by(words: &Names) -> Option<Asked>
+    ensures uses { asked.use_of result ≡ use_of (command words.now) }
+    ensures order { IfSome result IsAskedOf }
+    ensures sources { IfSome result (HasSources (length (scripts_of (command words.now)))) }
+{
+    match read_plain(words)? {
+        Plain::Try(_) => Some(Asked::Play(Heap::New(TRY_ORDER))),
+        Plain::Run { .. } => Some(Asked::Play(Heap::Standing)),
+        Plain::Format { file: _, order } => Some(Asked::Make(order)),
+    }
+}
+
+/// Does all that a program of plain words does: runs the command that the words are on the device
+/// and the scripts that are handed in, and prints to the sink. `main` hands in what `plain_files` of
+/// the same words names. Each script has a caller of its own, in a thread where one can be made; the
+/// gate is told of their lines and of what is published.
+///
+/// All memory is taken before the first update, and scripts are read before the device is called.
+/// Words that are no command, and scripts that can't be read, make no call of it. The device is handed
+/// back whatever comes.
+pub fn run_plain<
+    O: Object + Send + Sync,
+    L: Lines<O>,
+    D: Device + Send,
+    S: Source,
+    K: Sink,
+    R: Threads + Wait + Sync,
+    G: Gate + Sync,
+>(
+    rt: &R,
+    alloc: Global,
+    words: &Names,
+    device: D,
+    scripts: Vec<S>,
+    out: &mut K,
+    gate: &G,
+) -> Ended<D, S>
+where
+    O::Call: Send + Sync,
+    O::Query: Send + Sync,
+    O::Reply: Told + Drop + Send + Sync,
+    O::Answer: Told + Drop + Send + Sync,
+    requires { length scripts.items ≡ length (scripts_of (command words.now)) }
+    ensures promise { Promise O.machine O.Contents O.FirstBreak D.shown S.shown K.shown
+        (AreScripts L.Reads S.shown) (IsText K.shown (texts_of O.Reply.shown O.Answer.shown))
+        (use_of (command words.now)) device result.device scripts result.scripts out.old out.new
+        result.status result.session }
+{
+    let asked = asked_by(words);
+    run_asked::<O, L, D, S, K, R, G>(rt, alloc, asked, device, scripts, out, gate)
+}

@@ -1,0 +1,2 @@
+-- Lemmas on a counter's lines.
+pub mod Reading

@@ -1,0 +1,30 @@
+-- The laws of a counter.
+use Rattle.std.specs.Prelude.{◌≡◌, ℕ, ◌≤◌, List, [], ◌∷◌, length, slice_index, Some}
+use Rattle.rom_model.specs.Blocks.{region_len}
+use Rattle.rom_model.specs.History.{LAST_COUNT}
+use Rattle.rom_trial.specs.Counter.{Contents, words_add, words_sum}
+use Rattle.rom_trial.specs.declared.counter.Add.{Add}
+use Rattle.rom_trial.specs.declared.counter.Sum.{Sum}
+use Rattle.std.proofs.Common.{refl, sym, ◌∙◌}
+
+pub call_back : (call : Add) → words_add (call.amount ∷ []) ≡ Some call
+call_back call = refl
+
+pub call_only : (words : List ℕ) (call : Add) → words_add words ≡ Some call → call.amount ∷ [] ≡ words
+call_only [] call is = cc
+call_only (w ∷ []) call is = cc
+call_only (w ∷ v ∷ ws) call is = cc
+
+pub reply_back : (reply : Sum) → words_sum (reply.value ∷ []) ≡ Some reply
+reply_back reply = refl
+
+pub reply_only : (words : List ℕ) (reply : Sum) → words_sum words ≡ Some reply → reply.value ∷ [] ≡ words
+reply_only [] reply is = cc
+reply_only (w ∷ []) reply is = cc
+reply_only (w ∷ v ∷ ws) reply is = cc
+
+pub one_contents : (n : ℕ) (words : List ℕ) (s t j k : ℕ) → Contents n words s j → Contents n words t k → (s ≡ t) × (j ≡ k)
+one_contents n words s t j k one two = (sym one.sum_is ∙ two.sum_is, sym one.count_is ∙ two.count_is)
+
+pub contents_within : (n : ℕ) (words : List ℕ) (s k : ℕ) → Contents n words s k → (length words ≡ region_len n) × (slice_index words 2 ≡ k) × (k ≤ LAST_COUNT) × (slice_index words 0 ≡ 77)
+contents_within n words s k is = (is.as_long, is.count_is, is.count_fits, is.kind)

@@ -1,0 +1,17 @@
+//! A trial of what every program here stands on: a counter, kept in a heap with the whole promise.
+//!
+//! A counter is an object (`counter`), a language (`language`) and one call (`program`). That call
+//! promises of a counter, in the same record, what the program of queues, sets and maps promises of
+//! these. No crate stands on this one. It shows that nothing below it knows more of an object than
+//! `Object` tells, and what a program of one's own takes.
+#![tactic(auto)]
+
+mod counter;
+mod language;
+mod program;
+#[cfg(test)]
+mod trials;
+
+pub use counter::{Add, Counter, Query, Sum};
+pub use language::CounterLines;
+pub use program::run_counter;
