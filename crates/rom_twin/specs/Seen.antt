@@ -42,3 +42,10 @@ Rests phase = (phase ≡ Clean) ⊎ NeedsRepair phase
 pub record IsTwin {D : Type 0} (shown : ShownDevice D) (twin : Seen D) : Type 0 where
   pub fits : words_needed twin.order ≤ shown.size twin.device
   pub images : IsTrue shown.tells_images → InPhase shown twin
+
+-- What each call of a batch, and a repair, keeps: the heap's sizes and the device's, and that a stop leaves an image of the phase. The committed image is this one then.
+pub record KeepsHeap {D : Type 0} (shown : ShownDevice D) (image : List ℕ) (old new : Seen D) : Type 0 where
+  pub order : new.order ≡ old.order
+  pub size : shown.size new.device ≡ shown.size old.device
+  pub committed_is : IsTrue shown.tells_images → committed shown new ≡ image
+  pub images : IsTrue shown.tells_images → InPhase shown new

@@ -3,7 +3,7 @@ ghost use Rattle.std.specs.Prelude.{◌≡◌, ◌+◌, ◌-◌, ◌<◌, ◌≤
 ghost use Rattle.rom_model.specs.Space.{Looks};
 ghost use Rattle.rom_device.specs.Device.{Does, IsSynced, Makes};
 ghost use Rattle.rom_ranges.specs.Ranges.{AreWithin, held_count};
-ghost use Rattle.rom_twin.specs.Ranges.{IsBut, WritesPart, WritesRanges};
+ghost use Rattle.rom_twin.specs.Ranges.{IsBut, PutsRanges, WritesPart, WritesRanges};
 
 use rom_device::{Device, Failed};
 use rom_model::Look;
@@ -113,14 +113,12 @@ pub fn put_ranges<D: Device, M: Look>(
 ) -> Result<(), Failed>
     requires fits { base + length (M.shown.image image.old) ≤ D.shown.size device.old }
     requires within { AreWithin (length (M.shown.image image.old)) ranges.now }
-    ensures looks { Looks M.shown (held_count ranges.now) image.old image.new }
     ensures written { IsTrue D.shown.tells_words →
         IsBut ranges.now base (M.shown.image image.old) (D.shown.words device.old) →
         OnOk result (IsBut [] base (M.shown.image image.old) (D.shown.words device.new)) }
     ensures certain { OnOk result (IsSynced D.shown device.new) }
-    ensures does { Does D.shown (WritesRanges ranges.now base (M.shown.image image.old))
-        device.old device.new }
-    ensures makes { Makes D.shown 0 (held_count ranges.now) 1 device.old device.new result }
+    ensures puts { PutsRanges D.shown M.shown ranges.now base
+        device.old device.new image.old image.new result }
 {
     write_ranges(device, image, base, ranges)?;
     device.sync()

@@ -1,12 +1,8 @@
 //! A region rewritten whole, where a batch did not come to its end.
-ghost use Rattle.std.specs.Prelude.{◌≡◌, ◌+◌, ◌≤◌, ℕ, List, OnOk, IsTrue, length};
+ghost use Rattle.std.specs.Prelude.{◌≡◌, ◌≤◌, length};
 ghost use Rattle.rom_model.specs.Blocks.{region_len};
-ghost use Rattle.rom_model.specs.Space.{Looks};
-ghost use Rattle.rom_device.specs.Device.{Becomes, Does, Makes, Runs};
-ghost use Rattle.rom_header.specs.Layout.{MAIN, back_at, words_needed};
-ghost use Rattle.rom_header.specs.Writing.{StateOrWithin};
-ghost use Rattle.rom_twin.specs.Calls.{rewritten_at, rewriting_writes, repair_syncs};
-ghost use Rattle.rom_twin.specs.Images.{Twins, HasBack, HasMain, KeepsBack, Rewriting, Repairable};
+ghost use Rattle.rom_header.specs.Layout.{words_needed};
+ghost use Rattle.rom_twin.specs.Calls.{Restores};
 
 use crate::phase::Phase;
 use crate::ranges::put_ranges;
@@ -27,8 +23,9 @@ fn whole(geometry: Geometry) -> Range
     }
 }
 
-/// Makes MUTATING certain, and then rewrites main. Nothing else is written before MUTATING is
-/// certain, since until then a stop may leave COPYING, under which main counts.
+/// Makes MUTATING certain, and then rewrites main, as in each phase but `Redo`. Nothing else is
+/// written before MUTATING is certain, since until then a stop may leave COPYING, under which main
+/// counts.
 fn restore_main<D: Device, M: Look>(
     device: &mut D,
     geometry: Geometry,
@@ -36,18 +33,8 @@ fn restore_main<D: Device, M: Look>(
 ) -> Result<(), Failed>
     requires fits { words_needed geometry ≤ D.shown.size device.old }
     requires image { length (M.shown.image image.old) ≡ region_len geometry }
-    ensures looks { Looks M.shown (region_len geometry) image.old image.new }
-    ensures now { IsTrue D.shown.tells_images →
-        ((i : List ℕ) → D.shown.leaves device.old i →
-        KeepsBack geometry (M.shown.image image.old) i) →
-        OnOk result ((i : List ℕ) → D.shown.leaves device.new i →
-        Twins geometry (M.shown.image image.old) i) }
-    ensures since { IsTrue D.shown.tells_images →
-        ((i : List ℕ) → D.shown.leaves device.old i →
-        KeepsBack geometry (M.shown.image image.old) i) →
-        Runs D.shown (Becomes (HasBack geometry (M.shown.image image.old))) device.old device.new }
-    ensures does { Does D.shown (StateOrWithin MAIN (region_len geometry)) device.old device.new }
-    ensures makes { Makes D.shown 0 (region_len geometry + 1) 2 device.old device.new result }
+    ensures restores { Restores D.shown M.shown geometry Phase.Undo
+        device.old device.new image.old image.new result }
 {
     set_state(device, State::Mutating)?;
     let ranges = [whole(geometry)];
@@ -62,19 +49,8 @@ fn restore_back<D: Device, M: Look>(
 ) -> Result<(), Failed>
     requires fits { words_needed geometry ≤ D.shown.size device.old }
     requires image { length (M.shown.image image.old) ≡ region_len geometry }
-    ensures looks { Looks M.shown (region_len geometry) image.old image.new }
-    ensures now { IsTrue D.shown.tells_images →
-        ((i : List ℕ) → D.shown.leaves device.old i →
-        HasMain geometry (M.shown.image image.old) i) →
-        OnOk result ((i : List ℕ) → D.shown.leaves device.new i →
-        Twins geometry (M.shown.image image.old) i) }
-    ensures since { IsTrue D.shown.tells_images →
-        ((i : List ℕ) → D.shown.leaves device.old i →
-        HasMain geometry (M.shown.image image.old) i) →
-        Runs D.shown (Becomes (HasMain geometry (M.shown.image image.old))) device.old device.new }
-    ensures does { Does D.shown (StateOrWithin (back_at geometry) (region_len geometry))
-        device.old device.new }
-    ensures makes { Makes D.shown 0 (region_len geometry) 1 device.old device.new result }
+    ensures restores { Restores D.shown M.shown geometry Phase.Redo
+        device.old device.new image.old image.new result }
 {
     let ranges = [whole(geometry)];
     put_ranges(device, image, geometry.back(), &ranges)
@@ -89,21 +65,8 @@ pub fn restore<D: Device, M: Look>(
 ) -> Result<(), Failed>
     requires fits { words_needed geometry ≤ D.shown.size device.old }
     requires image { length (M.shown.image image.old) ≡ region_len geometry }
-    ensures looks { Looks M.shown (region_len geometry) image.old image.new }
-    ensures now { IsTrue D.shown.tells_images →
-        ((i : List ℕ) → D.shown.leaves device.old i →
-        Repairable phase geometry (M.shown.image image.old) i) →
-        OnOk result ((i : List ℕ) → D.shown.leaves device.new i →
-        Twins geometry (M.shown.image image.old) i) }
-    ensures since { IsTrue D.shown.tells_images →
-        ((i : List ℕ) → D.shown.leaves device.old i →
-        Repairable phase geometry (M.shown.image image.old) i) →
-        Runs D.shown (Becomes (Rewriting phase geometry (M.shown.image image.old)))
-        device.old device.new }
-    ensures does { Does D.shown (StateOrWithin (rewritten_at phase geometry) (region_len geometry))
-        device.old device.new }
-    ensures makes { Makes D.shown 0 (rewriting_writes phase geometry) (repair_syncs phase)
-        device.old device.new result }
+    ensures restores { Restores D.shown M.shown geometry phase
+        device.old device.new image.old image.new result }
 {
     match phase {
         Phase::Redo => restore_back(device, geometry, image),

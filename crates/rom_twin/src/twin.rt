@@ -9,11 +9,11 @@ ghost use Rattle.rom_header.specs.Layout.{MAIN, STATE, back_at, words_needed, ma
 ghost use Rattle.rom_header.specs.Regions.{IsHeap};
 ghost use Rattle.rom_header.specs.Writing.{StateOrWithin};
 ghost use Rattle.rom_ranges.specs.Changes.{SameBut};
-ghost use Rattle.rom_ranges.specs.Ranges.{AreWithin, held_count};
+ghost use Rattle.rom_ranges.specs.Ranges.{AreWithin};
 ghost use Rattle.rom_twin.specs.Calls.{rewritten_at, rewriting_writes, repair_writes, repair_syncs};
 ghost use Rattle.rom_twin.specs.Images.{Twins, HasBack, HasMain, Committing, Repairing};
-ghost use Rattle.rom_twin.specs.Ranges.{WritesRanges};
-ghost use Rattle.rom_twin.specs.Seen.{InPhase, NeedsRepair, committed, main_now};
+ghost use Rattle.rom_twin.specs.Ranges.{PutsRanges};
+ghost use Rattle.rom_twin.specs.Seen.{InPhase, KeepsHeap, NeedsRepair, committed, main_now};
 
 use crate::phase::Phase;
 use crate::ranges::put_ranges;
@@ -112,14 +112,10 @@ impl<D: Device> Twin<D> {
         requires phase { self.old.phase ≡ Phase.Clean }
         ensures ok { OnOk result (self.new.phase ≡ Phase.Begun) }
         ensures failed { OnErr result (self.new.phase ≡ Phase.Undo) }
-        ensures order { self.new.order ≡ self.old.order }
-        ensures committed { IsTrue D.shown.tells_images →
-            committed D.shown self.new ≡ committed D.shown self.old }
-        ensures images { IsTrue D.shown.tells_images → InPhase D.shown self.new }
+        ensures kept { KeepsHeap D.shown (committed D.shown self.old) self.old self.new }
         ensures since { IsTrue D.shown.tells_images →
             Runs D.shown (Becomes (Twins self.old.order (committed D.shown self.old)))
             self.old.device self.new.device }
-        ensures size { D.shown.size self.new.device ≡ D.shown.size self.old.device }
         ensures does { Does D.shown (Writes STATE (state_word State.Mutating))
             self.old.device self.new.device }
         ensures writes { D.shown.writes self.new.device ≡ counted (D.shown.writes self.old.device) }
@@ -141,21 +137,14 @@ impl<D: Device> Twin<D> {
             SameBut ranges.now (main_now D.shown self.old) (M.shown.image image.old) }
         ensures ok { OnOk result (self.new.phase ≡ Phase.Persisted) }
         ensures failed { OnErr result (self.new.phase ≡ Phase.Undo) }
-        ensures order { self.new.order ≡ self.old.order }
-        ensures committed { IsTrue D.shown.tells_images →
-            committed D.shown self.new ≡ committed D.shown self.old }
+        ensures kept { KeepsHeap D.shown (committed D.shown self.old) self.old self.new }
         ensures main { IsTrue D.shown.tells_images →
             OnOk result (main_now D.shown self.new ≡ M.shown.image image.old) }
-        ensures images { IsTrue D.shown.tells_images → InPhase D.shown self.new }
         ensures since { IsTrue D.shown.tells_images →
             Runs D.shown (Becomes (HasBack self.old.order (committed D.shown self.old)))
             self.old.device self.new.device }
-        ensures looks { Looks M.shown (held_count ranges.now) image.old image.new }
-        ensures size { D.shown.size self.new.device ≡ D.shown.size self.old.device }
-        ensures does { Does D.shown (WritesRanges ranges.now MAIN (M.shown.image image.old))
-            self.old.device self.new.device }
-        ensures makes { Makes D.shown 0 (held_count ranges.now) 1
-            self.old.device self.new.device result }
+        ensures puts { PutsRanges D.shown M.shown ranges.now MAIN
+            self.old.device self.new.device image.old image.new result }
     {
         self.phase = Phase::Undo;
         put_ranges(&mut self.device, image, self.geometry.main(), ranges)?;
@@ -169,17 +158,13 @@ impl<D: Device> Twin<D> {
         requires phase { self.old.phase ≡ Phase.Persisted }
         ensures ok { OnOk result (self.new.phase ≡ Phase.Committed) }
         ensures failed { OnErr result (self.new.phase ≡ Phase.Doubt) }
-        ensures order { self.new.order ≡ self.old.order }
-        ensures committed { IsTrue D.shown.tells_images →
-            committed D.shown self.new ≡ committed D.shown self.old }
+        ensures kept { KeepsHeap D.shown (committed D.shown self.old) self.old self.new }
         ensures main { IsTrue D.shown.tells_images →
             main_now D.shown self.new ≡ main_now D.shown self.old }
-        ensures images { IsTrue D.shown.tells_images → InPhase D.shown self.new }
         ensures since { IsTrue D.shown.tells_images →
             Runs D.shown (Becomes (Committing self.old.order (committed D.shown self.old)
             (main_now D.shown self.old)))
             self.old.device self.new.device }
-        ensures size { D.shown.size self.new.device ≡ D.shown.size self.old.device }
         ensures does { Does D.shown (Writes STATE (state_word State.Copying))
             self.old.device self.new.device }
         ensures writes { D.shown.writes self.new.device ≡ counted (D.shown.writes self.old.device) }
@@ -204,20 +189,12 @@ impl<D: Device> Twin<D> {
             SameBut ranges.now (committed D.shown self.old) (M.shown.image image.old) }
         ensures ok { OnOk result (self.new.phase ≡ Phase.Copied) }
         ensures failed { OnErr result (self.new.phase ≡ Phase.Redo) }
-        ensures order { self.new.order ≡ self.old.order }
-        ensures committed { IsTrue D.shown.tells_images →
-            committed D.shown self.new ≡ M.shown.image image.old }
-        ensures images { IsTrue D.shown.tells_images → InPhase D.shown self.new }
+        ensures kept { KeepsHeap D.shown (M.shown.image image.old) self.old self.new }
         ensures since { IsTrue D.shown.tells_images →
             Runs D.shown (Becomes (HasMain self.old.order (M.shown.image image.old)))
             self.old.device self.new.device }
-        ensures looks { Looks M.shown (held_count ranges.now) image.old image.new }
-        ensures size { D.shown.size self.new.device ≡ D.shown.size self.old.device }
-        ensures does { Does D.shown (WritesRanges ranges.now (back_at self.old.order)
-            (M.shown.image image.old))
-            self.old.device self.new.device }
-        ensures makes { Makes D.shown 0 (held_count ranges.now) 1
-            self.old.device self.new.device result }
+        ensures puts { PutsRanges D.shown M.shown ranges.now (back_at self.old.order)
+            self.old.device self.new.device image.old image.new result }
     {
         self.phase = Phase::Redo;
         put_ranges(&mut self.device, image, self.geometry.back(), ranges)?;
@@ -230,14 +207,10 @@ impl<D: Device> Twin<D> {
     pub fn finish(&mut self) -> Result<(), Failed>
         requires phase { self.old.phase ≡ Phase.Copied }
         ensures phase { self.new.phase ≡ Phase.Clean }
-        ensures order { self.new.order ≡ self.old.order }
-        ensures committed { IsTrue D.shown.tells_images →
-            committed D.shown self.new ≡ committed D.shown self.old }
-        ensures images { IsTrue D.shown.tells_images → InPhase D.shown self.new }
+        ensures kept { KeepsHeap D.shown (committed D.shown self.old) self.old self.new }
         ensures since { IsTrue D.shown.tells_images →
             Runs D.shown (Becomes (Twins self.old.order (committed D.shown self.old)))
             self.old.device self.new.device }
-        ensures size { D.shown.size self.new.device ≡ D.shown.size self.old.device }
         ensures does { Does D.shown (Writes STATE (state_word State.Idle))
             self.old.device self.new.device }
         ensures counts { Counts D.shown 0 1 0 self.old.device self.new.device result }
@@ -256,16 +229,12 @@ impl<D: Device> Twin<D> {
             committed D.shown self.old ≡ M.shown.image image.old }
         ensures ok { OnOk result (self.new.phase ≡ Phase.Clean) }
         ensures failed { OnErr result (self.new.phase ≡ self.old.phase) }
-        ensures order { self.new.order ≡ self.old.order }
-        ensures committed { IsTrue D.shown.tells_images →
-            committed D.shown self.new ≡ committed D.shown self.old }
-        ensures images { IsTrue D.shown.tells_images → InPhase D.shown self.new }
+        ensures kept { KeepsHeap D.shown (committed D.shown self.old) self.old self.new }
         ensures since { IsTrue D.shown.tells_images →
             Runs D.shown (Becomes (Repairing self.old.phase self.old.order
             (committed D.shown self.old)))
             self.old.device self.new.device }
         ensures looks { Looks M.shown (region_len self.old.order) image.old image.new }
-        ensures size { D.shown.size self.new.device ≡ D.shown.size self.old.device }
         ensures does { Does D.shown (StateOrWithin (rewritten_at self.old.phase self.old.order)
             (region_len self.old.order))
             self.old.device self.new.device }

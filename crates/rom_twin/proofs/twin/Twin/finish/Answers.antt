@@ -1,4 +1,4 @@
-use Rattle.std.proofs.Common.{◌∙◌, ap, subst, arith}
+use Rattle.std.proofs.Common.{rules, ◌∙◌, ap, subst, arith}
 use Rattle.rom_device.specs.Device.{Becomes, Does, Runs, Writes}
 use Rattle.rom_header.specs.Headers.{state_word}
 use Rattle.rom_header.specs.Layout.{STATE}
@@ -11,16 +11,18 @@ use Rattle.rom_twin.proofs.twin.Twin.finish.Goals as goal
 pub invariant_of-self : goal.invariant_of-self
 invariant_of-self g c = record { fits = omega (arith, c.self.invariant.fits, c.write_state.ensures.does.size); images = λ told. finish_done g.D.Device.shown g.met.D.Device.reads_image g.met.D.Device.tells_both told _ (c.self.invariant.images told) c.write_state.new.device (ap (λ s. s.phase) c.self.view_is ∙ c.requires.phase) c.write_state.ensures.does }
 
-pub returns-clause-images : goal.returns-clause-images
-returns-clause-images g c told = finish_done g.D.Device.shown g.met.D.Device.reads_image g.met.D.Device.tells_both told _ (c.self.invariant.images told) c.write_state.new.device (ap (λ s. s.phase) c.self.view_is ∙ c.requires.phase) c.write_state.ensures.does
-
 pub returns-clause-since : goal.returns-clause-since
 returns-clause-since g c told =
     subst (λ s. Runs g.D.Device.shown (Becomes (Twins s.order (committed g.D.Device.shown s))) s.device c.write_state.new.device) c.self.view_is
     (finish_since g.D.Device.shown g.met.D.Device.reads_image g.met.D.Device.tells_both told _ (c.self.invariant.images told) c.write_state.new.device (ap (λ s. s.phase) c.self.view_is ∙ c.requires.phase) c.write_state.ensures.does)
 
-pub returns-clause-committed : goal.returns-clause-committed
-returns-clause-committed g c told = finish_kept g.D.Device.shown g.met.D.Device.reads_image g.met.D.Device.tells_both told _ (c.self.invariant.images told) c.write_state.new.device (ap (λ s. s.phase) c.self.view_is ∙ c.requires.phase) c.write_state.ensures.does ∙ ap (committed g.D.Device.shown) c.self.view_is
+pub returns-clause-kept : goal.returns-clause-kept
+returns-clause-kept g c = record {
+  order = search rules;
+  size = search rules;
+  committed_is = λ told. finish_kept g.D.Device.shown g.met.D.Device.reads_image g.met.D.Device.tells_both told _ (c.self.invariant.images told) c.write_state.new.device (ap (λ s. s.phase) c.self.view_is ∙ c.requires.phase) c.write_state.ensures.does ∙ ap (committed g.D.Device.shown) c.self.view_is;
+  images = λ told. finish_done g.D.Device.shown g.met.D.Device.reads_image g.met.D.Device.tells_both told _ (c.self.invariant.images told) c.write_state.new.device (ap (λ s. s.phase) c.self.view_is ∙ c.requires.phase) c.write_state.ensures.does;
+}
 
 pub returns-clause-does : goal.returns-clause-does
 returns-clause-does g c = subst (λ s. Does g.D.Device.shown (Writes STATE (state_word Idle)) s.device c.write_state.new.device) c.self.view_is c.write_state.ensures.does
