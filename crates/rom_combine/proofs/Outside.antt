@@ -1,9 +1,10 @@
 -- What a batch changes of the words: the state and the two regions.
-use Rattle.std.specs.Prelude.{◌≡◌, ℕ, ◌+◌, ◌*◌, ◌≤◌, List, length}
-use Rattle.std.proofs.Common.{refl, arith}
+use Rattle.std.specs.Prelude.{◌≡◌, ℕ, ◌+◌, ◌*◌, ◌^◌, ◌<◌, ◌≤◌, Bool, if◌then◌else◌, is_err, List, Result, length}
+use Rattle.std.proofs.Common.{Ok, Err, refl, ◌∙◌, arith}
 use Rattle.rom_model.specs.Blocks.{region_len}
+use Rattle.rom_model.specs.Faults.{HasCause, counted}
 use Rattle.rom_model.specs.Space.{ChangesOnly}
-use Rattle.rom_device.specs.Device.{ShownDevice, Does, Writes}
+use Rattle.rom_device.specs.Device.{ShownDevice, Counts, Does, Makes, Writes}
 use Rattle.rom_device.proofs.Going.{does_by, does_on, runs_none}
 use Rattle.rom_header.specs.Layout.{MAIN, STATE, back_at}
 use Rattle.rom_header.specs.Writing.{StateOrWithin}
@@ -13,7 +14,7 @@ use Rattle.rom_twin.specs.Ranges.{WritesRanges}
 use Rattle.rom_twin.specs.declared.phase.Phase.{Phase}
 use Rattle.rom_twin.specs.declared.phase.Phase.TheVariants.{Redo}
 use Rattle.rom_twin.proofs.Repairs.{state_or_joins, state_or_writes}
-use Rattle.rom_combine.specs.Costs.{WithinHeap}
+use Rattle.rom_combine.specs.Costs.{WithinHeap, WritesHeap}
 
 -- one region lies within the heap
 region_within : (n at count : ℕ) → MAIN ≤ at → at + count ≤ MAIN + 2 * region_len n → (x y : List ℕ) → ChangesOnly at count x y → WithinHeap n x y
@@ -26,6 +27,15 @@ region_within n at count late ends x y only = record {
 repaired_within : (n : ℕ) (phase : Phase) (x y : List ℕ) → StateOrWithin (rewritten_at phase n) (region_len n) x y → WithinHeap n x y
 repaired_within n Redo x y w = record { as_long = w.as_long; before = λ k h other. w.before k (omega (arith, h)) other; behind = λ k h. w.behind k (omega (arith, h)) }
 repaired_within n other x y w = record { as_long = w.as_long; before = λ k h other. w.before k (omega (arith, h)) other; behind = λ k h. w.behind k (omega (arith, h)) }
+
+-- no fault is taken back
+faults_later : {T E : Type 0} (before now : ℕ) (failing : Bool) (result : Result T E) → before < 2 ^ 64 → HasCause before now failing result → before ≤ now
+faults_later before now failing (Ok value) fits cause = omega (arith, cause.none)
+faults_later before now failing (Err error) fits cause = omega (arith, fits, cause.failed.once)
+
+counted_later : {T E : Type 0} (before now : ℕ) (result : Result T E) → before < 2 ^ 64 → now ≡ (if is_err result then counted before else before) → before ≤ now
+counted_later before now (Ok value) fits e = omega (arith, e)
+counted_later before now (Err error) fits e = omega (arith, fits, e)
 
 module _ {D : Type 0} (shown : ShownDevice D) (n : ℕ) where
   pub within_none : (a : D) → Does shown (WithinHeap n) a a
@@ -49,3 +59,29 @@ module _ {D : Type 0} (shown : ShownDevice D) (n : ℕ) where
 
   pub within_repair : (phase : Phase) (a b : D) → Does shown (StateOrWithin (rewritten_at phase n) (region_len n)) a b → Does shown (WithinHeap n) a b
   within_repair phase a b does = does_by shown (StateOrWithin (rewritten_at phase n) (region_len n)) (WithinHeap n) (repaired_within n phase) a b does
+
+  pub writes_none : (a : D) → WritesHeap shown n a a
+  writes_none a = record { only = record { size = refl; reads = refl }; does = within_none a; later = omega arith }
+
+  pub writes_then : (a b c : D) → WritesHeap shown n a b → WritesHeap shown n b c → WritesHeap shown n a c
+  writes_then a b c first second = record {
+    only = record { size = second.only.size ∙ first.only.size; reads = second.only.reads ∙ first.only.reads };
+    does = within_then a b c first.does second.does;
+    later = omega (arith, first.later, second.later);
+  }
+
+  -- several calls, of which none reads
+  pub writes_makes : {T E : Type 0} (writes syncs : ℕ) (a b : D) (result : Result T E) → shown.faults a < 2 ^ 64 → Does shown (WithinHeap n) a b → Makes shown 0 writes syncs a b result → WritesHeap shown n a b
+  writes_makes writes syncs a b result fits does makes = record {
+    only = record { size = does.size; reads = omega (arith, makes.most_reads.later, makes.most_reads.most) };
+    does = does;
+    later = faults_later (shown.faults a) (shown.faults b) (shown.failing b) result fits makes.cause;
+  }
+
+  -- one call, which reads nothing
+  pub writes_counts : {T E : Type 0} (writes syncs : ℕ) (a b : D) (result : Result T E) → shown.faults a < 2 ^ 64 → Does shown (WithinHeap n) a b → Counts shown 0 writes syncs a b result → WritesHeap shown n a b
+  writes_counts writes syncs a b result fits does counts = record {
+    only = record { size = does.size; reads = omega (arith, counts.reads_made) };
+    does = does;
+    later = counted_later (shown.faults a) (shown.faults b) result fits counts.faults;
+  }

@@ -1,8 +1,8 @@
 -- How many writes and syncs of the device a batch makes.
-use Rattle.std.specs.Prelude.{◌≡◌, ℕ, ◌+◌, ◌*◌, List}
+use Rattle.std.specs.Prelude.{◌≡◌, ℕ, ◌+◌, ◌*◌, ◌≤◌, List}
 use Rattle.rom_model.specs.Blocks.{region_len}
 use Rattle.rom_model.specs.Faults.{Adds, AtMost, Rose}
-use Rattle.rom_device.specs.Device.{ShownDevice}
+use Rattle.rom_device.specs.Device.{ShownDevice, Does}
 use Rattle.rom_header.specs.Layout.{MAIN}
 use Rattle.rom_header.specs.Writing.{StateOrWithin}
 use Rattle.rom_twin.specs.Calls.{repair_writes, repair_syncs}
@@ -60,3 +60,9 @@ module _ {D : Type 0} (shown : ShownDevice D) where
   pub record OnlyWrites (old new : D) : Type 0 where
     pub size : shown.size new ≡ shown.size old
     pub reads : shown.reads new ≡ shown.reads old
+
+  -- What each step of a batch does to the device: nothing is read, only words of a heap of this order are written, and no fault is taken back.
+  pub record WritesHeap (order : ℕ) (old new : D) : Type 0 where
+    pub only : OnlyWrites old new
+    pub does : Does shown (WithinHeap order) old new
+    pub later : shown.faults old ≤ shown.faults new

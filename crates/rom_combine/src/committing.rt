@@ -5,13 +5,13 @@ ghost use Rattle.rom_model.specs.History.{LAST_COUNT, after, batch};
 ghost use Rattle.rom_model.specs.Machine.{on_words};
 ghost use Rattle.rom_model.specs.Passes.{faults_after};
 ghost use Rattle.rom_model.specs.declared.record.Fate.TheVariants as fate;
-ghost use Rattle.rom_device.specs.Device.{Becomes, Does, Runs};
+ghost use Rattle.rom_device.specs.Device.{Becomes, Runs};
 ghost use Rattle.rom_twin.specs.Seen.{InPhase, NeedsRepair, Rests, committed, main_now};
 ghost use Rattle.rom_combine.specs.Answering.{HasGiven, SameCalls};
 ghost use Rattle.rom_combine.specs.Applying.{count_in};
 ghost use Rattle.rom_combine.specs.AtRest.{IsClear};
 ghost use Rattle.rom_combine.specs.Causes.{FailsAtCommit, FailsBeforeCommit};
-ghost use Rattle.rom_combine.specs.Costs.{OnlyWrites, Spends, SpendsAtMost, WithinHeap, syncs_before_commit, writes_before_commit};
+ghost use Rattle.rom_combine.specs.Costs.{Spends, SpendsAtMost, WritesHeap, syncs_before_commit, writes_before_commit};
 ghost use Rattle.rom_combine.specs.Histories.{PassMakes};
 ghost use Rattle.rom_combine.specs.Published.{IsPublished};
 ghost use Rattle.rom_combine.specs.Scanning.{IsUnanswered, posted_of};
@@ -144,9 +144,7 @@ pub(crate) fn publish<D: Device, O: Object>(
         PassMakes O.Contents (on_words O.machine) b s n fate.Doubt p.history more i }
 
     // Who failed, and how many writes and syncs were made.
-    ensures only { OnlyWrites D.shown twin.old.device twin.new.device }
-    ensures does { Does D.shown (WithinHeap twin.old.order) twin.old.device twin.new.device }
-    ensures later { D.shown.faults twin.old.device ≤ D.shown.faults twin.new.device }
+    ensures device { WritesHeap D.shown twin.old.order twin.old.device twin.new.device }
     ensures failed_cause { result ≡ Outcome.Failed →
         FailsBeforeCommit D.shown twin.old.phase twin.old.order (plan seat.old).main
         twin.old.device twin.new.device }

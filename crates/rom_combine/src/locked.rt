@@ -3,12 +3,12 @@ ghost use Rattle.std.specs.Prelude.{Some, ◌≡◌, ◌≢◌, ◌⊎◌, ℕ, 
 ghost use Rattle.rom_model.specs.Blocks.{IsOrder, region_len};
 ghost use Rattle.rom_model.specs.Machine.{on_words};
 ghost use Rattle.rom_model.specs.Passes.{HasFault};
-ghost use Rattle.rom_device.specs.Device.{Becomes, Does, Runs};
+ghost use Rattle.rom_device.specs.Device.{Becomes, Runs};
 ghost use Rattle.rom_lr.specs.Seats.{writer_view};
 ghost use Rattle.rom_twin.specs.Seen.{NeedsRepair, committed};
 ghost use Rattle.rom_combine.specs.AtRest.{IsAtRest, IsCoreOf, IsReady};
 ghost use Rattle.rom_combine.specs.Causes.{FailsAtCommit, FailsBeforeCommit};
-ghost use Rattle.rom_combine.specs.Costs.{IsUnfailed, OnlyWrites, SpendsAtMost, SpendsWithin, WithinHeap, batch_syncs, batch_writes, syncs_before_commit, writes_before_commit};
+ghost use Rattle.rom_combine.specs.Costs.{IsUnfailed, SpendsAtMost, SpendsWithin, WritesHeap, batch_syncs, batch_writes, syncs_before_commit, writes_before_commit};
 ghost use Rattle.rom_combine.specs.Histories.{ImageAt, PassMakes};
 ghost use Rattle.rom_combine.specs.Passing.{IsPass};
 ghost use Rattle.rom_combine.specs.Told.{fate_of};
@@ -163,10 +163,8 @@ impl<D: Device, O: Object> Core<D, O> {
         ensures doubt { result.outcome ≡ Outcome.Doubt → self.new.twin.phase ≡ Phase.Doubt }
 
         // Who failed, and how many writes and syncs were made.
-        ensures only { OnlyWrites D.shown self.old.twin.device self.new.twin.device }
-        ensures does { Does D.shown (WithinHeap self.old.twin.order)
+        ensures device { WritesHeap D.shown self.old.twin.order
             self.old.twin.device self.new.twin.device }
-        ensures later { D.shown.faults self.old.twin.device ≤ D.shown.faults self.new.twin.device }
         ensures cause { HasFault (fate_of result.outcome) (D.shown.faults self.old.twin.device)
             (D.shown.faults self.new.twin.device) }
         ensures failed_cause { result.outcome ≡ Outcome.Failed →
@@ -200,22 +198,23 @@ impl<D: Device, O: Object> Core<D, O> {
             self.old.twin.device self.new.twin.device }
     {
         let before = self.twin.fault_count();
-        scan(shared, &mut self.seat, &mut self.found);
+        let seat = &mut self.seat;
+        scan(shared, seat, &mut self.found);
         if self.found.is_empty() {
             return Passed::of(0, 0, Outcome::Nothing);
         }
         let many = self.found.len() as u32;
-        let place = shared.load_main(&mut self.seat, COUNT);
+        let place = shared.load_main(seat, COUNT);
         if place == LAST_COUNT {
             refuse(self.found.as_slice(), SPENT, &mut self.answers);
             let answers = self.answers.as_slice();
-            answer_all(shared, &mut self.seat, answers, before, before);
+            answer_all(shared, seat, answers, before, before);
             return Passed::of(many, 0, Outcome::Published);
         }
         let outcome = publish(
             &mut self.twin,
             shared,
-            &mut self.seat,
+            seat,
             &mut self.log,
             before,
             place,
@@ -224,20 +223,13 @@ impl<D: Device, O: Object> Core<D, O> {
         );
         let now = self.twin.fault_count();
         if outcome != Outcome::Published {
-            answer_all(shared, &mut self.seat, self.answers.as_slice(), before, now);
+            answer_all(shared, seat, self.answers.as_slice(), before, now);
             return Passed::of(many, 0, outcome);
         }
-        let done = (shared.load_main(&mut self.seat, COUNT) - place) as u32;
+        let done = (shared.load_main(seat, COUNT) - place) as u32;
         gate.published(rt, done);
-        answer_all(shared, &mut self.seat, self.answers.as_slice(), before, now);
-        settle(
-            rt,
-            &mut self.twin,
-            shared,
-            &mut self.seat,
-            &mut self.log,
-            before,
-        );
+        answer_all(shared, seat, self.answers.as_slice(), before, now);
+        settle(rt, &mut self.twin, shared, seat, &mut self.log, before);
         Passed::of(many, done, outcome)
     }
 }

@@ -1,11 +1,11 @@
 //! How a published batch comes to rest.
-ghost use Rattle.std.specs.Prelude.{◌≡◌, ◌⊎◌, ℕ, ◌+◌, ◌≤◌, IsTrue};
+ghost use Rattle.std.specs.Prelude.{◌≡◌, ◌⊎◌, ℕ, ◌+◌, IsTrue};
 ghost use Rattle.rom_model.specs.Faults.{FailedLast};
 ghost use Rattle.rom_model.specs.Machine.{on_words};
-ghost use Rattle.rom_device.specs.Device.{Becomes, Does, Runs};
-ghost use Rattle.rom_twin.specs.Seen.{InPhase, committed, main_now};
+ghost use Rattle.rom_device.specs.Device.{Becomes, Runs};
+ghost use Rattle.rom_twin.specs.Seen.{KeepsHeap, committed, main_now};
 ghost use Rattle.rom_combine.specs.AtRest.{IsClear};
-ghost use Rattle.rom_combine.specs.Costs.{IsUnfailed, OnlyWrites, Spends, SpendsAtMost, WithinHeap};
+ghost use Rattle.rom_combine.specs.Costs.{IsUnfailed, Spends, SpendsAtMost, WritesHeap};
 ghost use Rattle.rom_combine.specs.Images.{Counting};
 ghost use Rattle.rom_combine.specs.Resting.{HasRested};
 ghost use Rattle.rom_lr.specs.Seats.{IsWriterOf, plan, writer_view};
@@ -54,10 +54,7 @@ pub(crate) fn settle<D: Device, O: Object, R: Wait>(
     ensures cleared { IsClear log.new }
     ensures room { log.new.room ≡ log.old.room }
     ensures phase { (twin.new.phase ≡ Phase.Clean) ⊎ (twin.new.phase ≡ Phase.Redo) }
-    ensures order { twin.new.order ≡ twin.old.order }
-    ensures committed { IsTrue D.shown.tells_images →
-        committed D.shown twin.new ≡ (plan seat.old).main }
-    ensures images { IsTrue D.shown.tells_images → InPhase D.shown twin.new }
+    ensures kept { KeepsHeap D.shown (plan seat.old).main twin.old twin.new }
     ensures since { IsTrue D.shown.tells_images →
         Runs D.shown (Becomes (Counting twin.old.order (plan seat.old).main))
         twin.old.device twin.new.device }
@@ -65,9 +62,7 @@ pub(crate) fn settle<D: Device, O: Object, R: Wait>(
         Spends D.shown (held_count log.old.ranges + 1) 1 twin.old.device twin.new.device }
     ensures most { SpendsAtMost D.shown (held_count log.old.ranges + 1) 1
         twin.old.device twin.new.device }
-    ensures only { OnlyWrites D.shown twin.old.device twin.new.device }
-    ensures does { Does D.shown (WithinHeap twin.old.order) twin.old.device twin.new.device }
-    ensures later { D.shown.faults twin.old.device ≤ D.shown.faults twin.new.device }
+    ensures device { WritesHeap D.shown twin.old.order twin.old.device twin.new.device }
     ensures cause { twin.new.phase ≡ Phase.Redo → FailedLast (D.shown.faults twin.old.device)
         (D.shown.faults twin.new.device) (D.shown.failing twin.new.device) }
 {

@@ -1,16 +1,16 @@
 //! The device through a batch, whose images are the two sides of the shared words.
-ghost use Rattle.std.specs.Prelude.{◌≡◌, ◌⊎◌, ◌+◌, ◌≤◌, ℕ, List, OnOk, OnErr, IsTrue, length};
+ghost use Rattle.std.specs.Prelude.{◌≡◌, ◌⊎◌, ◌+◌, ℕ, List, OnOk, OnErr, IsTrue, length};
 ghost use Rattle.rom_model.specs.Blocks.{region_len};
 ghost use Rattle.rom_model.specs.Faults.{FailedLast, Rose};
 ghost use Rattle.rom_model.specs.Space.{Looks};
-ghost use Rattle.rom_device.specs.Device.{Becomes, Does, Makes, Runs};
+ghost use Rattle.rom_device.specs.Device.{Becomes, Makes, Runs};
 ghost use Rattle.rom_lr.specs.Seats.{IsWriterOf, plan, writer_view};
 ghost use Rattle.rom_lr.specs.Writing.{Writes};
 ghost use Rattle.rom_ranges.specs.Changes.{SameBut};
 ghost use Rattle.rom_ranges.specs.Ranges.{AreWithin, held_count};
-ghost use Rattle.rom_twin.specs.Seen.{InPhase, NeedsRepair, Rests, committed, main_now};
+ghost use Rattle.rom_twin.specs.Seen.{KeepsHeap, NeedsRepair, Rests, committed, main_now};
 ghost use Rattle.rom_combine.specs.Causes.{FailsAtCommit, FailsBeforeCommit};
-ghost use Rattle.rom_combine.specs.Costs.{IsUnfailed, OnlyWrites, Spends, SpendsAtMost, WithinHeap, mending_syncs, mending_writes};
+ghost use Rattle.rom_combine.specs.Costs.{IsUnfailed, Spends, SpendsAtMost, WritesHeap, mending_syncs, mending_writes};
 ghost use Rattle.rom_combine.specs.Images.{BeforeCommit, Counting, Committable};
 
 use crate::looking::MainLook;
@@ -29,10 +29,7 @@ fn make_clean<D: Device, M: Look>(twin: &mut Twin<D>, image: &mut M) -> Result<(
         committed D.shown twin.old ≡ M.shown.image image.old }
     ensures ok { OnOk result (twin.new.phase ≡ Phase.Clean) }
     ensures failed { OnErr result ((twin.new.phase ≡ twin.old.phase) × NeedsRepair twin.old.phase) }
-    ensures order { twin.new.order ≡ twin.old.order }
-    ensures committed { IsTrue D.shown.tells_images →
-        committed D.shown twin.new ≡ committed D.shown twin.old }
-    ensures images { IsTrue D.shown.tells_images → InPhase D.shown twin.new }
+    ensures kept { KeepsHeap D.shown (committed D.shown twin.old) twin.old twin.new }
     ensures before { IsTrue D.shown.tells_images →
         Runs D.shown (Becomes (BeforeCommit twin.old.phase twin.old.order
         (committed D.shown twin.old)))
@@ -42,9 +39,7 @@ fn make_clean<D: Device, M: Look>(twin: &mut Twin<D>, image: &mut M) -> Result<(
         (mending_syncs twin.old.phase) twin.old.device twin.new.device) }
     ensures most { SpendsAtMost D.shown (mending_writes twin.old.phase twin.old.order)
         (mending_syncs twin.old.phase) twin.old.device twin.new.device }
-    ensures only { OnlyWrites D.shown twin.old.device twin.new.device }
-    ensures does { Does D.shown (WithinHeap twin.old.order) twin.old.device twin.new.device }
-    ensures later { D.shown.faults twin.old.device ≤ D.shown.faults twin.new.device }
+    ensures device { WritesHeap D.shown twin.old.order twin.old.device twin.new.device }
     ensures cause { OnErr result (Rose (D.shown.faults twin.old.device)
         (D.shown.faults twin.new.device)
         × IsTrue (D.shown.failing twin.new.device)) }
@@ -70,12 +65,9 @@ pub(crate) fn begin_on<D: Device, O: Object>(
     ensures ok { OnOk result (twin.new.phase ≡ Phase.Begun) }
     ensures failed { OnErr result ((twin.new.phase ≡ Phase.Undo)
         ⊎ ((twin.new.phase ≡ twin.old.phase) × NeedsRepair twin.old.phase)) }
-    ensures order { twin.new.order ≡ twin.old.order }
-    ensures committed { IsTrue D.shown.tells_images →
-        committed D.shown twin.new ≡ committed D.shown twin.old }
+    ensures kept { KeepsHeap D.shown (committed D.shown twin.old) twin.old twin.new }
     ensures main { IsTrue D.shown.tells_images →
         OnOk result (main_now D.shown twin.new ≡ committed D.shown twin.old) }
-    ensures images { IsTrue D.shown.tells_images → InPhase D.shown twin.new }
     ensures since { IsTrue D.shown.tells_images →
         Runs D.shown (Becomes (Counting twin.old.order (committed D.shown twin.old)))
         twin.old.device twin.new.device }
@@ -87,9 +79,7 @@ pub(crate) fn begin_on<D: Device, O: Object>(
         (mending_syncs twin.old.phase + 1) twin.old.device twin.new.device) }
     ensures most { SpendsAtMost D.shown (mending_writes twin.old.phase twin.old.order + 1)
         (mending_syncs twin.old.phase + 1) twin.old.device twin.new.device }
-    ensures only { OnlyWrites D.shown twin.old.device twin.new.device }
-    ensures does { Does D.shown (WithinHeap twin.old.order) twin.old.device twin.new.device }
-    ensures later { D.shown.faults twin.old.device ≤ D.shown.faults twin.new.device }
+    ensures device { WritesHeap D.shown twin.old.order twin.old.device twin.new.device }
     ensures cause { OnErr result (FailsBeforeCommit D.shown twin.old.phase twin.old.order
         (committed D.shown twin.old)
         twin.old.device twin.new.device) }
@@ -118,12 +108,9 @@ pub(crate) fn commit_on<D: Device, O: Object>(
     ensures ok { OnOk result (twin.new.phase ≡ Phase.Committed) }
     ensures failed { OnErr result ((twin.new.phase ≡ Phase.Undo)
         ⊎ (twin.new.phase ≡ Phase.Doubt)) }
-    ensures order { twin.new.order ≡ twin.old.order }
-    ensures committed { IsTrue D.shown.tells_images →
-        committed D.shown twin.new ≡ committed D.shown twin.old }
+    ensures kept { KeepsHeap D.shown (committed D.shown twin.old) twin.old twin.new }
     ensures main { IsTrue D.shown.tells_images →
         OnOk result (main_now D.shown twin.new ≡ (plan seat.old).main) }
-    ensures images { IsTrue D.shown.tells_images → InPhase D.shown twin.new }
     ensures now { IsTrue D.shown.tells_images → (i : List ℕ) → D.shown.leaves twin.new.device i →
         Committable twin.new.phase twin.old.order (committed D.shown twin.old)
         (plan seat.old).main i }
@@ -131,9 +118,7 @@ pub(crate) fn commit_on<D: Device, O: Object>(
         Runs D.shown (Becomes (Committable twin.new.phase twin.old.order
         (committed D.shown twin.old) (plan seat.old).main))
         twin.old.device twin.new.device }
-    ensures only { OnlyWrites D.shown twin.old.device twin.new.device }
-    ensures does { Does D.shown (WithinHeap twin.old.order) twin.old.device twin.new.device }
-    ensures later { D.shown.faults twin.old.device ≤ D.shown.faults twin.new.device }
+    ensures device { WritesHeap D.shown twin.old.order twin.old.device twin.new.device }
     ensures makes { Makes D.shown 0 (held_count ranges.now + 1) 2
         twin.old.device twin.new.device result }
     ensures undo { twin.new.phase ≡ Phase.Undo →
@@ -169,10 +154,7 @@ pub(crate) fn finish_on<D: Device, O: Object>(
         SameBut ranges.now (committed D.shown twin.old) (plan seat.old).main }
     ensures same { Writes seat.old seat.new (plan seat.old) }
     ensures phase { (twin.new.phase ≡ Phase.Clean) ⊎ (twin.new.phase ≡ Phase.Redo) }
-    ensures order { twin.new.order ≡ twin.old.order }
-    ensures committed { IsTrue D.shown.tells_images →
-        committed D.shown twin.new ≡ (plan seat.old).main }
-    ensures images { IsTrue D.shown.tells_images → InPhase D.shown twin.new }
+    ensures kept { KeepsHeap D.shown (plan seat.old).main twin.old twin.new }
     ensures since { IsTrue D.shown.tells_images →
         Runs D.shown (Becomes (Counting twin.old.order (plan seat.old).main))
         twin.old.device twin.new.device }
@@ -180,9 +162,7 @@ pub(crate) fn finish_on<D: Device, O: Object>(
         Spends D.shown (held_count ranges.now + 1) 1 twin.old.device twin.new.device }
     ensures most { SpendsAtMost D.shown (held_count ranges.now + 1) 1
         twin.old.device twin.new.device }
-    ensures only { OnlyWrites D.shown twin.old.device twin.new.device }
-    ensures does { Does D.shown (WithinHeap twin.old.order) twin.old.device twin.new.device }
-    ensures later { D.shown.faults twin.old.device ≤ D.shown.faults twin.new.device }
+    ensures device { WritesHeap D.shown twin.old.order twin.old.device twin.new.device }
     ensures cause { twin.new.phase ≡ Phase.Redo → FailedLast (D.shown.faults twin.old.device)
         (D.shown.faults twin.new.device) (D.shown.failing twin.new.device) }
 {

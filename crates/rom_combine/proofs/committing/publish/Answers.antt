@@ -1,17 +1,17 @@
 use Rattle.rom_model.specs.Machine.{on_words}
 use Rattle.std.proofs.Common.{rules, arith, ◌≡◌, inl, inr, ⊎_elim, ℕ, ◌+◌, ◌^◌, ◌≤◌, List, map, take, length, sym, refl, ap, ◌∙◌, subst}
-use Rattle.rom_device.specs.Device.{Does, Runs}
+use Rattle.rom_device.specs.Device.{Runs}
 use Rattle.rom_device.specs.Device.{Becomes}
 use Rattle.rom_twin.specs.declared.phase.Phase.{Phase}
 use Rattle.rom_twin.specs.declared.phase.Phase.TheVariants as phase
 use Rattle.rom_twin.specs.Images.{HasBack}
-use Rattle.rom_combine.specs.Costs.{WithinHeap}
+use Rattle.rom_combine.specs.Costs.{WritesHeap}
 use Rattle.rom_ranges.specs.Changes.{IsLogOf}
 use Rattle.rom_ranges.specs.Log.{Logged}
 use Rattle.rom_ranges.specs.Ranges.{AreWithin, held_count}
 use Rattle.rom_combine.specs.Images.{BeforeCommit, Counting, Committable}
 use Rattle.rom_combine.proofs.Before.{before_on}
-use Rattle.rom_combine.proofs.Outside.{within_then}
+use Rattle.rom_combine.proofs.Outside.{writes_then}
 use Rattle.rom_combine.proofs.Spending.{held_in_region, most_then}
 use Rattle.rom_model.specs.Blocks.{region_len}
 use Rattle.rom_model.specs.History.{after}
@@ -41,7 +41,7 @@ returns-then-is_err-clause-left g c = let u : View = c.args.seat.now.token.me.0 
     let now : ℕ = g.D.Device.shown.faults c.begin_on.new.twin.device in let rose : HasFault fate.Failed c.args.before now = search rules in
     subst (λ (z : Plan). HasGiven g.O.Object.Contents (on_words g.O.Object.machine) b fate.Failed c.args.before now z 0 c.refuse.new.answers.items) (sym one)
     (is_refused g.O.Object.Contents (on_words g.O.Object.machine) b (2 ^ 62 + 1) fate.Failed p c.args.before now c.args.found.now c.refuse.new.answers.items refl refl
-    (may_know g.O.Object.Contents (on_words g.O.Object.machine) b fate.Failed p c.args.before now h.0 h.1 (λ (e : fate.Failed ≡ fate.Published). cc) c.requires.unmade c.requires.fresh c.requires.counts (omega (arith, c.requires.before, c.begin_on.ensures.later)) rose h.2)
+    (may_know g.O.Object.Contents (on_words g.O.Object.machine) b fate.Failed p c.args.before now h.0 h.1 (λ (e : fate.Failed ≡ fate.Published). cc) c.requires.unmade c.requires.fresh c.requires.counts (omega (arith, c.requires.before, c.begin_on.ensures.device.later)) rose h.2)
     c.requires.rising c.requires.fresh c.requires.found c.refuse.ensures)
 
 pub returns-then-is_err-clause-since : goal.returns-then-is_err-clause-since
@@ -68,7 +68,7 @@ switch-requires-clause-can g c = let u : View = c.args.seat.now.token.me.0 in le
     let long : length c.args.found.now ≡ length p.requests = ap length c.requires.found ∙ length_map posted_of p.requests in
     let now : ℕ = g.D.Device.shown.faults c.commit_on.new.twin.device in
     subst (λ (z : Base × Plan × ℕ). CanSwitchToMain g.O.Object.Contents (on_words g.O.Object.machine) z.0 z.1 c.args.before z.2) (λ j. (sym base₃ j, sym three j, sym c.fault_count-now.ensures j))
-    (can_publish g.O.Object.Contents (on_words g.O.Object.machine) b a.0 a.1 p m₂ (length c.args.found.now) c.args.before now c.apply_all.new.answers.items long opened c.requires.unmade c.requires.fresh c.requires.counts (omega (arith, c.requires.before, c.begin_on.ensures.later, c.commit_on.ensures.later)) applied)
+    (can_publish g.O.Object.Contents (on_words g.O.Object.machine) b a.0 a.1 p m₂ (length c.args.found.now) c.args.before now c.apply_all.new.answers.items long opened c.requires.unmade c.requires.fresh c.requires.counts (omega (arith, c.requires.before, c.begin_on.ensures.device.later, c.commit_on.ensures.device.later)) applied)
 
 pub returns-then-is_ok-clause-left : goal.returns-then-is_ok-clause-left
 returns-then-is_ok-clause-left g c = let u : View = c.args.seat.now.token.me.0 in let b : Base = u.base in let p : Plan = plan_of u in let h = c.requires.held in
@@ -101,7 +101,7 @@ returns-then-is_ok-clause-since g c told s n op = let u : View = c.args.seat.now
     let first : Runs g.D.Device.shown (Becomes (Counting o p.main)) x y = subst (λ (z : List ℕ). Runs g.D.Device.shown (Becomes (Counting o z)) x y) (c.requires.committed told) (c.begin_on.ensures.since told) in
     let z = c.commit_on.new.twin.device in let ph : Phase = c.commit_on.new.twin.phase in
     let done = all_held g.O.Object.Contents (on_words g.O.Object.machine) b s n a.0 a.1 p m₂ (length c.args.found.now) c.apply_all.new.answers.items (g.met.O.Object.one_contents b.order b.image s a.0 n a.1 op opened) long applied in
-    let second : Runs g.D.Device.shown (Becomes (Committable ph o p.main m₂)) y z = subst (λ (q : ℕ × List ℕ). Runs g.D.Device.shown (Becomes (Committable ph q.0 q.1 m₂)) y z) (λ i. (c.begin_on.ensures.order i, (c.begin_on.ensures.committed told ∙ c.requires.committed told) i)) (c.commit_on.ensures.since told) in
+    let second : Runs g.D.Device.shown (Becomes (Committable ph o p.main m₂)) y z = subst (λ (q : ℕ × List ℕ). Runs g.D.Device.shown (Becomes (Committable ph q.0 q.1 m₂)) y z) (λ i. (c.begin_on.ensures.kept.order i, (c.begin_on.ensures.kept.committed_is told ∙ c.requires.committed told) i)) (c.commit_on.ensures.since told) in
     list_committed g.O.Object.Contents (on_words g.O.Object.machine) b s n g.D.Device.shown fate.Published ph p.history (batch_now g.O.Object.Contents (on_words g.O.Object.machine) b s n p) o p.main m₂ x y z c.requires.order (λ _. tt) here done first second
 
 pub returns-then-eq-clause-left : goal.returns-then-eq-clause-left
@@ -114,11 +114,11 @@ returns-then-eq-clause-left g c = let u : View = c.args.seat.now.token.me.0 in l
     let applied : IsApplied g.O.Object.Contents (on_words g.O.Object.machine) b a.0 a.1 p m₂ (length c.args.found.now) c.apply_all.new.answers.items = subst (λ (z : Base × Plan). IsApplied g.O.Object.Contents (on_words g.O.Object.machine) z.0 a.0 a.1 z.1 m₂ (length c.args.found.now) c.apply_all.new.answers.items) (λ j. (base₁ j, one j)) a.3 in
     let long : length c.args.found.now ≡ length p.requests = ap length c.requires.found ∙ length_map posted_of p.requests in
     let now : ℕ = g.D.Device.shown.faults c.commit_on.new.twin.device in let doubt : c.commit_on.new.twin.phase ≡ phase.Doubt = search rules in let cause = c.commit_on.ensures.doubt doubt in
-    let rose : HasFault fate.Doubt c.args.before now = omega (arith, c.requires.before, c.begin_on.ensures.later, cause.later, cause.failed.once) in let v₅ : View = c.put_back.new.seat.token.me.0 in
+    let rose : HasFault fate.Doubt c.args.before now = omega (arith, c.requires.before, c.begin_on.ensures.device.later, cause.later, cause.failed.once) in let v₅ : View = c.put_back.new.seat.token.me.0 in
     let five : plan_of v₅ ≡ p = ap plan_of c.put_back.ensures.2 ∙ ((λ j. record (three j) { main = (three j).back }) ∙ ap (λ (l : List ℕ). record p { main = l }) (sym c.requires.same)) in
     subst (λ (z : Plan). HasGiven g.O.Object.Contents (on_words g.O.Object.machine) b fate.Doubt c.args.before now z 0 c.refuse-then-eq.new.answers.items) (sym five)
     (is_refused g.O.Object.Contents (on_words g.O.Object.machine) b (2 ^ 62 + 2) fate.Doubt p c.args.before now c.args.found.now c.refuse-then-eq.new.answers.items refl refl
-    (may_know g.O.Object.Contents (on_words g.O.Object.machine) b fate.Doubt p c.args.before now h.0 h.1 (λ (e : fate.Doubt ≡ fate.Published). cc) c.requires.unmade c.requires.fresh c.requires.counts (omega (arith, c.requires.before, c.begin_on.ensures.later, c.commit_on.ensures.later)) rose h.2)
+    (may_know g.O.Object.Contents (on_words g.O.Object.machine) b fate.Doubt p c.args.before now h.0 h.1 (λ (e : fate.Doubt ≡ fate.Published). cc) c.requires.unmade c.requires.fresh c.requires.counts (omega (arith, c.requires.before, c.begin_on.ensures.device.later, c.commit_on.ensures.device.later)) rose h.2)
     c.requires.rising c.requires.fresh c.requires.found c.refuse-then-eq.ensures)
 
 pub returns-then-eq-clause-since : goal.returns-then-eq-clause-since
@@ -135,7 +135,7 @@ returns-then-eq-clause-since g c told s n op = let u : View = c.args.seat.now.to
     let first : Runs g.D.Device.shown (Becomes (Counting o p.main)) x y = subst (λ (z : List ℕ). Runs g.D.Device.shown (Becomes (Counting o z)) x y) (c.requires.committed told) (c.begin_on.ensures.since told) in
     let z = c.commit_on.new.twin.device in let ph : Phase = c.commit_on.new.twin.phase in
     let done = all_held g.O.Object.Contents (on_words g.O.Object.machine) b s n a.0 a.1 p m₂ (length c.args.found.now) c.apply_all.new.answers.items (g.met.O.Object.one_contents b.order b.image s a.0 n a.1 op opened) long applied in
-    let second : Runs g.D.Device.shown (Becomes (Committable ph o p.main m₂)) y z = subst (λ (q : ℕ × List ℕ). Runs g.D.Device.shown (Becomes (Committable ph q.0 q.1 m₂)) y z) (λ i. (c.begin_on.ensures.order i, (c.begin_on.ensures.committed told ∙ c.requires.committed told) i)) (c.commit_on.ensures.since told) in
+    let second : Runs g.D.Device.shown (Becomes (Committable ph o p.main m₂)) y z = subst (λ (q : ℕ × List ℕ). Runs g.D.Device.shown (Becomes (Committable ph q.0 q.1 m₂)) y z) (λ i. (c.begin_on.ensures.kept.order i, (c.begin_on.ensures.kept.committed_is told ∙ c.requires.committed told) i)) (c.commit_on.ensures.since told) in
     list_committed g.O.Object.Contents (on_words g.O.Object.machine) b s n g.D.Device.shown fate.Doubt ph p.history (batch_now g.O.Object.Contents (on_words g.O.Object.machine) b s n p) o p.main m₂ x y z c.requires.order (λ _. tt) here done first second
 
 pub returns-clause-left : goal.returns-clause-left
@@ -148,11 +148,11 @@ returns-clause-left g c = let u : View = c.args.seat.now.token.me.0 in let b : B
     let applied : IsApplied g.O.Object.Contents (on_words g.O.Object.machine) b a.0 a.1 p m₂ (length c.args.found.now) c.apply_all.new.answers.items = subst (λ (z : Base × Plan). IsApplied g.O.Object.Contents (on_words g.O.Object.machine) z.0 a.0 a.1 z.1 m₂ (length c.args.found.now) c.apply_all.new.answers.items) (λ j. (base₁ j, one j)) a.3 in
     let long : length c.args.found.now ≡ length p.requests = ap length c.requires.found ∙ length_map posted_of p.requests in
     let now : ℕ = g.D.Device.shown.faults c.commit_on.new.twin.device in let undo : c.commit_on.new.twin.phase ≡ phase.Undo = search rules in let cause = (c.commit_on.ensures.undo undo).1 in
-    let rose : HasFault fate.Failed c.args.before now = omega (arith, c.requires.before, c.begin_on.ensures.later, cause.rose) in let v₅ : View = c.put_back.new.seat.token.me.0 in
+    let rose : HasFault fate.Failed c.args.before now = omega (arith, c.requires.before, c.begin_on.ensures.device.later, cause.rose) in let v₅ : View = c.put_back.new.seat.token.me.0 in
     let five : plan_of v₅ ≡ p = ap plan_of c.put_back.ensures.2 ∙ ((λ j. record (three j) { main = (three j).back }) ∙ ap (λ (l : List ℕ). record p { main = l }) (sym c.requires.same)) in
     subst (λ (z : Plan). HasGiven g.O.Object.Contents (on_words g.O.Object.machine) b fate.Failed c.args.before now z 0 c.refuse-2.new.answers.items) (sym five)
     (is_refused g.O.Object.Contents (on_words g.O.Object.machine) b (2 ^ 62 + 1) fate.Failed p c.args.before now c.args.found.now c.refuse-2.new.answers.items refl refl
-    (may_know g.O.Object.Contents (on_words g.O.Object.machine) b fate.Failed p c.args.before now h.0 h.1 (λ (e : fate.Failed ≡ fate.Published). cc) c.requires.unmade c.requires.fresh c.requires.counts (omega (arith, c.requires.before, c.begin_on.ensures.later, c.commit_on.ensures.later)) rose h.2)
+    (may_know g.O.Object.Contents (on_words g.O.Object.machine) b fate.Failed p c.args.before now h.0 h.1 (λ (e : fate.Failed ≡ fate.Published). cc) c.requires.unmade c.requires.fresh c.requires.counts (omega (arith, c.requires.before, c.begin_on.ensures.device.later, c.commit_on.ensures.device.later)) rose h.2)
     c.requires.rising c.requires.fresh c.requires.found c.refuse-2.ensures)
 
 pub returns-clause-since : goal.returns-clause-since
@@ -169,7 +169,7 @@ returns-clause-since g c told s n op = let u : View = c.args.seat.now.token.me.0
     let first : Runs g.D.Device.shown (Becomes (Counting o p.main)) x y = subst (λ (z : List ℕ). Runs g.D.Device.shown (Becomes (Counting o z)) x y) (c.requires.committed told) (c.begin_on.ensures.since told) in
     let z = c.commit_on.new.twin.device in let ph : Phase = c.commit_on.new.twin.phase in
     let done = all_held g.O.Object.Contents (on_words g.O.Object.machine) b s n a.0 a.1 p m₂ (length c.args.found.now) c.apply_all.new.answers.items (g.met.O.Object.one_contents b.order b.image s a.0 n a.1 op opened) long applied in
-    let second : Runs g.D.Device.shown (Becomes (Committable ph o p.main m₂)) y z = subst (λ (q : ℕ × List ℕ). Runs g.D.Device.shown (Becomes (Committable ph q.0 q.1 m₂)) y z) (λ i. (c.begin_on.ensures.order i, (c.begin_on.ensures.committed told ∙ c.requires.committed told) i)) (c.commit_on.ensures.since told) in
+    let second : Runs g.D.Device.shown (Becomes (Committable ph o p.main m₂)) y z = subst (λ (q : ℕ × List ℕ). Runs g.D.Device.shown (Becomes (Committable ph q.0 q.1 m₂)) y z) (λ i. (c.begin_on.ensures.kept.order i, (c.begin_on.ensures.kept.committed_is told ∙ c.requires.committed told) i)) (c.commit_on.ensures.since told) in
     let undo : ph ≡ phase.Undo = search rules in
     list_committed g.O.Object.Contents (on_words g.O.Object.machine) b s n g.D.Device.shown fate.Failed ph p.history (batch_now g.O.Object.Contents (on_words g.O.Object.machine) b s n p) o p.main m₂ x y z c.requires.order (λ other. absurd (other undo)) here done first second
 
@@ -187,8 +187,8 @@ returns-then-eq-clause-doubted g c told is_doubt s n op i left = let u : View = 
     let first : Runs g.D.Device.shown (Becomes (Counting o p.main)) x y = subst (λ (z : List ℕ). Runs g.D.Device.shown (Becomes (Counting o z)) x y) (c.requires.committed told) (c.begin_on.ensures.since told) in
     let z = c.commit_on.new.twin.device in let ph : Phase = c.commit_on.new.twin.phase in
     let done = all_held g.O.Object.Contents (on_words g.O.Object.machine) b s n a.0 a.1 p m₂ (length c.args.found.now) c.apply_all.new.answers.items (g.met.O.Object.one_contents b.order b.image s a.0 n a.1 op opened) long applied in
-    let second : Runs g.D.Device.shown (Becomes (Committable ph o p.main m₂)) y z = subst (λ (q : ℕ × List ℕ). Runs g.D.Device.shown (Becomes (Committable ph q.0 q.1 m₂)) y z) (λ i. (c.begin_on.ensures.order i, (c.begin_on.ensures.committed told ∙ c.requires.committed told) i)) (c.commit_on.ensures.since told) in
-    let now = subst (λ (q : ℕ × List ℕ). Committable ph q.0 q.1 m₂ i) (λ j. ((c.begin_on.ensures.order ∙ c.requires.order) j, (c.begin_on.ensures.committed told ∙ c.requires.committed told) j)) (c.commit_on.ensures.now told i left) in
+    let second : Runs g.D.Device.shown (Becomes (Committable ph o p.main m₂)) y z = subst (λ (q : ℕ × List ℕ). Runs g.D.Device.shown (Becomes (Committable ph q.0 q.1 m₂)) y z) (λ i. (c.begin_on.ensures.kept.order i, (c.begin_on.ensures.kept.committed_is told ∙ c.requires.committed told) i)) (c.commit_on.ensures.since told) in
+    let now = subst (λ (q : ℕ × List ℕ). Committable ph q.0 q.1 m₂ i) (λ j. ((c.begin_on.ensures.kept.order ∙ c.requires.order) j, (c.begin_on.ensures.kept.committed_is told ∙ c.requires.committed told) j)) (c.commit_on.ensures.now told i left) in
     ⊎_elim (λ counts. inl (record { region = p.main; current = counts; contents = here })) (λ both. inr (tt, record { region = m₂; current = both.1; contents = done })) now
 
 pub returns-then-is_err-clause-calls : goal.returns-then-is_err-clause-calls
@@ -224,11 +224,11 @@ returns-clause-failed_cause g c failed_is =
     let b = c.begin_on.new.twin.device in let d = c.commit_on.new.twin.device in
     let undo : c.commit_on.new.twin.phase ≡ phase.Undo = search rules in let cause = (c.commit_on.ensures.undo undo).1 in
     record {
-      rose = omega (arith, cause.rose, c.begin_on.ensures.later);
+      rose = omega (arith, cause.rose, c.begin_on.ensures.device.later);
       last = cause.last;
       images = λ told. before_on shown t.phase n w t.device b d
           (subst (λ (z : List ℕ). Runs shown (Becomes (BeforeCommit t.phase n z)) t.device b) (c.requires.committed told) (c.begin_on.ensures.before told))
-          (subst (λ (z : ℕ × List ℕ). Runs shown (Becomes (HasBack z.0 z.1)) b d) (λ j. (c.begin_on.ensures.order j, (c.begin_on.ensures.committed told ∙ c.requires.committed told) j)) (cause.images told));
+          (subst (λ (z : ℕ × List ℕ). Runs shown (Becomes (HasBack z.0 z.1)) b d) (λ j. (c.begin_on.ensures.kept.order j, (c.begin_on.ensures.kept.committed_is told ∙ c.requires.committed told) j)) (cause.images told));
     }
 
 -- and at it
@@ -239,31 +239,31 @@ returns-then-eq-clause-doubt_cause g c doubt_is =
     let doubt : c.commit_on.new.twin.phase ≡ phase.Doubt = search rules in let cause = c.commit_on.ensures.doubt doubt in
     record {
       at = cause.at;
-      later = omega (arith, cause.later, c.begin_on.ensures.later);
+      later = omega (arith, cause.later, c.begin_on.ensures.device.later);
       before = λ told. before_on shown t.phase n w t.device b cause.at
           (subst (λ (z : List ℕ). Runs shown (Becomes (BeforeCommit t.phase n z)) t.device b) (c.requires.committed told) (c.begin_on.ensures.before told))
-          (subst (λ (z : ℕ × List ℕ). Runs shown (Becomes (HasBack z.0 z.1)) b cause.at) (λ j. (c.begin_on.ensures.order j, (c.begin_on.ensures.committed told ∙ c.requires.committed told) j)) (cause.before told));
-      mutating = λ told i left. subst (λ (z : ℕ × List ℕ). HasBack z.0 z.1 i) (λ j. (c.begin_on.ensures.order j, (c.begin_on.ensures.committed told ∙ c.requires.committed told) j)) (cause.mutating told i left);
+          (subst (λ (z : ℕ × List ℕ). Runs shown (Becomes (HasBack z.0 z.1)) b cause.at) (λ j. (c.begin_on.ensures.kept.order j, (c.begin_on.ensures.kept.committed_is told ∙ c.requires.committed told) j)) (cause.before told));
+      mutating = λ told i left. subst (λ (z : ℕ × List ℕ). HasBack z.0 z.1 i) (λ j. (c.begin_on.ensures.kept.order j, (c.begin_on.ensures.kept.committed_is told ∙ c.requires.committed told) j)) (cause.mutating told i left);
       does = cause.does;
       failed = cause.failed;
       written = cause.written;
       synced = cause.synced;
     }
 
-pub returns-then-is_ok-clause-does : goal.returns-then-is_ok-clause-does
-returns-then-is_ok-clause-does g c =
+pub returns-then-is_ok-clause-device : goal.returns-then-is_ok-clause-device
+returns-then-is_ok-clause-device g c =
     let shown = g.D.Device.shown in let a = c.args.twin.now in let b = c.begin_on.new.twin in let d = c.commit_on.new.twin in
-    within_then shown a.order a.device b.device d.device c.begin_on.ensures.does (subst (λ (n : ℕ). Does shown (WithinHeap n) b.device d.device) c.begin_on.ensures.order c.commit_on.ensures.does)
+    writes_then shown a.order a.device b.device d.device c.begin_on.ensures.device (subst (λ (n : ℕ). WritesHeap shown n b.device d.device) c.begin_on.ensures.kept.order c.commit_on.ensures.device)
 
-pub returns-then-eq-clause-does : goal.returns-then-eq-clause-does
-returns-then-eq-clause-does g c =
+pub returns-then-eq-clause-device : goal.returns-then-eq-clause-device
+returns-then-eq-clause-device g c =
     let shown = g.D.Device.shown in let a = c.args.twin.now in let b = c.begin_on.new.twin in let d = c.commit_on.new.twin in
-    within_then shown a.order a.device b.device d.device c.begin_on.ensures.does (subst (λ (n : ℕ). Does shown (WithinHeap n) b.device d.device) c.begin_on.ensures.order c.commit_on.ensures.does)
+    writes_then shown a.order a.device b.device d.device c.begin_on.ensures.device (subst (λ (n : ℕ). WritesHeap shown n b.device d.device) c.begin_on.ensures.kept.order c.commit_on.ensures.device)
 
-pub returns-clause-does : goal.returns-clause-does
-returns-clause-does g c =
+pub returns-clause-device : goal.returns-clause-device
+returns-clause-device g c =
     let shown = g.D.Device.shown in let a = c.args.twin.now in let b = c.begin_on.new.twin in let d = c.commit_on.new.twin in
-    within_then shown a.order a.device b.device d.device c.begin_on.ensures.does (subst (λ (n : ℕ). Does shown (WithinHeap n) b.device d.device) c.begin_on.ensures.order c.commit_on.ensures.does)
+    writes_then shown a.order a.device b.device d.device c.begin_on.ensures.device (subst (λ (n : ℕ). WritesHeap shown n b.device d.device) c.begin_on.ensures.kept.order c.commit_on.ensures.device)
 
 -- the log holds no more offsets than a region has words
 held_whole : (g : Over) (u v w : View) (order : ℕ) (log : Logged) → v.base ≡ u.base → order ≡ u.base.order → (s : g.O.Object.State) (k : ℕ) → g.O.Object.Contents v.base.order (plan_of w).main s k

@@ -6,15 +6,15 @@ use Rattle.rom_combine.proofs.Since.{becomes_none}
 use Rattle.rom_combine.proofs.Counting.{after_region}
 use Rattle.rom_twin.specs.Seen.{committed}
 use Rattle.rom_header.specs.Regions.{IsCurrentRegion}
-use Rattle.rom_device.specs.Device.{Does, Runs}
+use Rattle.rom_device.specs.Device.{Runs}
 use Rattle.rom_device.specs.Device.{Becomes}
 use Rattle.std.proofs.Math.Nat.{mul-le-mul_left}
-use Rattle.rom_combine.specs.Costs.{SpendsAtMost, WithinHeap, batch_syncs, batch_writes, syncs_before_commit, writes_before_commit}
+use Rattle.rom_combine.specs.Costs.{SpendsAtMost, WritesHeap, batch_syncs, batch_writes, syncs_before_commit, writes_before_commit}
 use Rattle.rom_ranges.specs.Changes.{IsLogOf}
 use Rattle.rom_ranges.specs.Ranges.{held_count}
 use Rattle.rom_combine.specs.Images.{MayPublish}
 use Rattle.rom_combine.specs.Told.{fate_of}
-use Rattle.rom_combine.proofs.Outside.{within_then}
+use Rattle.rom_combine.proofs.Outside.{writes_then}
 use Rattle.rom_combine.proofs.Spending.{most_then}
 use Rattle.rom_combine.specs.declared.passed.Outcome.TheVariants as outcome
 use Rattle.rom_combine.specs.declared.passed.Passed.{Passed}
@@ -365,11 +365,11 @@ invariant_of-self-2 g c = let v : View = c.self.inside.seat.token.me.0 in let w 
     let t = c.settle.new.twin in let end : ℕ = g.D.Device.shown.faults t.device in let z : View = c.settle.new.seat.token.me.0 in
     let settled : plan_of z ≡ rested end c.settle.ensures.rested.version c.settle.ensures.rested.clear (plan_of u) = ap plan_of c.settle.ensures.rested.writes.2 in let base_z : z.base ≡ x.base = ap (λ (r : View). r.base) c.settle.ensures.rested.writes.2 ∙ base_u in
     let kept : but_requests (plan_of z) ≡ but_requests (rested end c.settle.ensures.rested.version c.settle.ensures.rested.clear (plan_of y)) = ap but_requests settled ∙ ap (λ (r : Plan). but_requests (rested end c.settle.ensures.rested.version c.settle.ensures.rested.clear r)) given in
-    let order : t.order ≡ z.base.order = c.settle.ensures.order ∙ (c.publish-outcome.ensures.order ∙ (inv.order_is ∙ ap (λ (r : Base). r.order) (sym (base_z ∙ base_x)))) in
+    let order : t.order ≡ z.base.order = c.settle.ensures.kept.order ∙ (c.publish-outcome.ensures.order ∙ (inv.order_is ∙ ap (λ (r : Base). r.order) (sym (base_z ∙ base_x)))) in
     let main_z : (plan_of z).main ≡ (plan_of y).main = ap (λ (r : Plan). r.main) kept in
     let held : rule.Held g.O.Object.Contents (on_words g.O.Object.machine) z.base ph.0 ph.1 (plan_of z).main (plan_of z).history = subst (λ (r : Base × List ℕ × List Entry). rule.Held g.O.Object.Contents (on_words g.O.Object.machine) r.0 ph.0 ph.1 r.1 r.2) (λ j. (sym base_z j, sym main_z j, sym (ap (λ (r : Plan). r.history) kept) j)) ph.3 in
-    let committed_is : IsTrue g.D.Device.shown.tells_images → committed g.D.Device.shown t ≡ (plan_of z).main = λ told. c.settle.ensures.committed told ∙ (main ∙ sym main_z) in
-    let order_t : t.order ≡ c.self.inside.twin.order = c.settle.ensures.order ∙ c.publish-outcome.ensures.order in
+    let committed_is : IsTrue g.D.Device.shown.tells_images → committed g.D.Device.shown t ≡ (plan_of z).main = λ told. c.settle.ensures.kept.committed_is told ∙ (main ∙ sym main_z) in
+    let order_t : t.order ≡ c.self.inside.twin.order = c.settle.ensures.kept.order ∙ c.publish-outcome.ensures.order in
     let now : IsAtRest g.D.Device.shown g.O.Object.Contents (on_words g.O.Object.machine) t z = record {
       order_is = order;
       order_fits = subst IsOrder (sym order_t) inv.order_fits;
@@ -382,7 +382,7 @@ invariant_of-self-2 g c = let v : View = c.self.inside.seat.token.me.0 in let w 
       held = held;
       rests = ⊎_elim (λ e. inl e) (λ e. inr (inr (inr e))) c.settle.ensures.phase;
       committed_is = committed_is;
-      images = λ told i left. let counts = after_region g.D.Device.shown t c.settle.ensures.phase (g.met.D.Device.reads_image t.device told) (c.settle.ensures.images told) i left in
+      images = λ told i left. let counts = after_region g.D.Device.shown t c.settle.ensures.phase (g.met.D.Device.reads_image t.device told) (c.settle.ensures.kept.images told) i left in
           inl (record { region = (plan_of z).main; current = subst (λ (r : ℕ × List ℕ). IsCurrentRegion r.0 i r.1) (λ j. (order j, committed_is told j)) counts; contents = held });
       failed = λ needs. ⊎_elim (λ e. absurd (clean_needs_none t.phase e needs)) (λ e. (c.settle.ensures.cause e).last) c.settle.ensures.phase;
       answered = subst (λ (r : Plan). Each (λ _ f. f.answered ≡ true) r.requests) (sym settled) c.answer_all-2.ensures.answered;
@@ -500,12 +500,12 @@ returns-clause-spent g c published none = let done : c.of-2.result.done ≡ c.lo
 pub returns-clause-unwaited : goal.returns-clause-unwaited
 returns-clause-unwaited g c none = let done : c.of-2.result.done ≡ c.load_main.result - c.load_main-place.result = ap (λ (r : Passed). r.done) c.of-2.ensures.is in absurd (omega (arith, none, done, some_done g c))
 
-pub returns-clause-does : goal.returns-clause-does
-returns-clause-does g c =
+pub returns-clause-device : goal.returns-clause-device
+returns-clause-device g c =
     let shown = g.D.Device.shown in let old = c.args.self.now.twin in let mid = c.publish-outcome.new.twin in
-    let first : Does shown (WithinHeap old.order) old.device mid.device = search rules in
+    let first : WritesHeap shown old.order old.device mid.device = search rules in
     let order_is : mid.order ≡ old.order = search rules in
-    within_then shown old.order old.device mid.device c.settle.new.twin.device first (subst (λ (n : ℕ). Does shown (WithinHeap n) mid.device c.settle.new.twin.device) order_is c.settle.ensures.does)
+    writes_then shown old.order old.device mid.device c.settle.new.twin.device first (subst (λ (n : ℕ). WritesHeap shown n mid.device c.settle.new.twin.device) order_is c.settle.ensures.device)
 
 pub returns-then-is_empty-clause-kept : goal.returns-then-is_empty-clause-kept
 returns-then-is_empty-clause-kept g c = let v : View = c.self.inside.seat.token.me.0 in let w : View = c.scan.new.seat.token.me.0 in
