@@ -14,4 +14,5 @@ pub mod Published
 pub mod Resting
 pub mod Histories
 pub mod AtRest
+pub mod Publishing
 pub mod Passing

@@ -1,12 +1,11 @@
 //! A batch from the found calls to the store of `side` that publishes it.
-ghost use Rattle.std.specs.Prelude.{◌≡◌, ◌≢◌, ◌⊎◌, ℕ, ◌+◌, ◌-◌, ◌*◌, ◌<◌, ◌≤◌, List, [], map, length, IsTrue};
-ghost use Rattle.rom_model.specs.Blocks.{IsOrder, region_len};
-ghost use Rattle.rom_model.specs.History.{LAST_COUNT, after, batch};
+ghost use Rattle.std.specs.Prelude.{◌≡◌, ◌≢◌, ◌⊎◌, ℕ, ◌+◌, ◌-◌, ◌*◌, ◌<◌, ◌≤◌, List, map, length, IsTrue};
+ghost use Rattle.rom_model.specs.Blocks.{region_len};
+ghost use Rattle.rom_model.specs.History.{after, batch};
 ghost use Rattle.rom_model.specs.Machine.{on_words};
-ghost use Rattle.rom_model.specs.Passes.{faults_after};
 ghost use Rattle.rom_model.specs.declared.record.Fate.TheVariants as fate;
 ghost use Rattle.rom_device.specs.Device.{Becomes, Runs};
-ghost use Rattle.rom_twin.specs.Seen.{InPhase, NeedsRepair, Rests, committed, main_now};
+ghost use Rattle.rom_twin.specs.Seen.{InPhase, NeedsRepair, committed, main_now};
 ghost use Rattle.rom_combine.specs.Answering.{HasGiven, SameCalls};
 ghost use Rattle.rom_combine.specs.Applying.{count_in};
 ghost use Rattle.rom_combine.specs.AtRest.{IsClear};
@@ -14,17 +13,16 @@ ghost use Rattle.rom_combine.specs.Causes.{FailsAtCommit, FailsBeforeCommit};
 ghost use Rattle.rom_combine.specs.Costs.{Spends, SpendsAtMost, WritesHeap, syncs_before_commit, writes_before_commit};
 ghost use Rattle.rom_combine.specs.Histories.{PassMakes};
 ghost use Rattle.rom_combine.specs.Published.{IsPublished};
-ghost use Rattle.rom_combine.specs.Scanning.{IsUnanswered, posted_of};
+ghost use Rattle.rom_combine.specs.Publishing.{IsReadyToPublish};
+ghost use Rattle.rom_combine.specs.Scanning.{posted_of};
 ghost use Rattle.rom_combine.specs.Told.{fate_of};
 ghost use Rattle.rom_lr.specs.Seats.{IsWriterOf, plan, writer_view};
-ghost use Rattle.rom_lr.specs.Writing.{NobodyReads, Writes};
-ghost use Rattle.rom_lr.specs.declared.side.Side.TheVariants.{Main};
+ghost use Rattle.rom_lr.specs.Writing.{Writes};
 ghost use Rattle.rom_ranges.specs.Changes.{IsLogOf};
 ghost use Rattle.rom_ranges.specs.Ranges.{held_count};
-ghost use Rattle.rom_rule.specs.Calls.{AreScanned, caller_in, found_of};
+ghost use Rattle.rom_rule.specs.Calls.{found_of};
 ghost use Rattle.rom_rule.specs.Readers.{Held};
-ghost use Rattle.rom_rule.specs.Records.{IsCall};
-ghost use Rattle.rom_rule.specs.Views.{Each, plan_of};
+ghost use Rattle.rom_rule.specs.Views.{plan_of};
 
 use crate::answering::{CallAnswer, refuse};
 use crate::applying::apply_all;
@@ -54,35 +52,13 @@ pub(crate) fn publish<D: Device, O: Object>(
     found: &[Posted],
     answers: &mut PerCaller<CallAnswer>,
 ) -> Outcome
-    // The table and the device at rest.
     requires of { IsWriterOf shared.now seat.old }
-    requires unread { NobodyReads seat.old Main }
-    requires order { twin.old.order ≡ (writer_view seat.old).base.order }
-    requires order_fits { IsOrder twin.old.order }
-    requires same { (plan seat.old).main ≡ (plan seat.old).back }
-    requires rests { Rests twin.old.phase }
-    requires committed { IsTrue D.shown.tells_images →
-        committed D.shown twin.old ≡ (plan seat.old).main }
-    requires held { let b = (writer_view seat.old).base in let p = plan seat.old in
-        (s : O.State) × (n : ℕ) × O.Contents b.order b.image s n
-        × Held O.Contents (on_words O.machine) b s n p.main p.history
-        × (place ≡ n + length p.history) }
-    requires clear { IsClear log.old }
-
-    // What the scan found.
+    requires ready { IsReadyToPublish D.shown O.Contents (on_words O.machine)
+        twin.old seat.old log.old before place }
     requires found { found.now ≡ map posted_of (plan seat.old).requests }
     requires few { length found.now ≤ 16 }
-    requires room { O.STORES * length found.now ≤ log.old.room }
     requires some { 0 < length found.now }
-    requires below { place < LAST_COUNT }
-    requires rising { let v = writer_view seat.old in
-        AreScanned 0 v.base.callers (map caller_in (plan_of v).requests) }
-    requires fresh { let v = writer_view seat.old in
-        Each (λ _. IsUnanswered (IsCall (on_words O.machine) v.base)) (plan_of v).requests }
-    requires unmade { (plan seat.old).mine ≡ [] }
-    requires before { before ≡ D.shown.faults twin.old.device }
-    requires counts { let v = writer_view seat.old in
-        faults_after v.base.faults (plan_of v).records ≤ before }
+    requires room { O.STORES * length found.now ≤ log.old.room }
 
     // Published: the batch is committed on the device before readers are sent to main.
     ensures some { result ≢ Outcome.Nothing }

@@ -102,11 +102,26 @@ answer_all-requires-clause-left g c = let v : View = c.self.inside.seat.token.me
           (subst (λ (k : ℕ). AreScanned 0 k (Rattle.std.proofs.Common.map caller_in q.requests)) callers sc.rising) fresh (c.as_slice.ensures.value ∙ sc.items_are) c.refuse.ensures),
     )
 
-pub publish-outcome-requires-clause-fresh : goal.publish-outcome-requires-clause-fresh
-publish-outcome-requires-clause-fresh g c = let v : View = c.self.inside.seat.token.me.0 in let w : View = c.scan.new.seat.token.me.0 in let inv = c.self.invariant.0 in let sc = c.scan.ensures.scanned in
+pub publish-outcome-requires-clause-ready : goal.publish-outcome-requires-clause-ready
+publish-outcome-requires-clause-ready g c = let v : View = c.self.inside.seat.token.me.0 in let w : View = c.scan.new.seat.token.me.0 in let inv = c.self.invariant.0 in let sc = c.scan.ensures.scanned in
     let base : w.base ≡ v.base = ap (λ (z : View). z.base) c.scan.ensures.same.2 in
     let x : View = c.load_main-place.new.seat.token.me.0 in let plan_x : plan_of x ≡ plan_of w = ap plan_of c.load_main-place.ensures.still.2 in let base_x : x.base ≡ v.base = ap (λ (z : View). z.base) c.load_main-place.ensures.still.2 ∙ base in
-    subst (λ (z : Base × Plan). Each (λ _ f. IsUnanswered (IsCall (on_words g.O.Object.machine) z.0) f) z.1.requests) (λ j. (sym base_x j, sym plan_x j)) (λ j f e. (sc.fresh j f e).1)
+    record {
+      unread = search rules;
+      order_is = search rules;
+      order_fits = search rules;
+      same = search rules;
+      rests = search rules;
+      committed_is = search rules;
+      held = search rules;
+      below = search rules;
+      clear = search rules;
+      rising = search rules;
+      fresh = subst (λ (z : Base × Plan). Each (λ _ f. IsUnanswered (IsCall (on_words g.O.Object.machine) z.0) f) z.1.requests) (λ j. (sym base_x j, sym plan_x j)) (λ j f e. (sc.fresh j f e).1);
+      unmade = search rules;
+      before_is = search rules;
+      counts = search rules;
+    }
 
 pub invariant_of-self-then-place-eq-LAST_COUNT : goal.invariant_of-self-then-place-eq-LAST_COUNT
 invariant_of-self-then-place-eq-LAST_COUNT g c = let v : View = c.self.inside.seat.token.me.0 in let w : View = c.scan.new.seat.token.me.0 in let inv = c.self.invariant.0 in let sc = c.scan.ensures.scanned in
