@@ -17,7 +17,7 @@ use Rattle.rom_rule.specs.Views.{Each}
 use Rattle.rom_combine.specs.AtRest.{IsClear}
 use Rattle.rom_combine.specs.Scanning.{IsUnanswered}
 
--- `before` is the device's count of faults, and `place` the count of updates.
+-- What holds as a pass publishes what it found. `before` is the device's count of faults then, and `place` the count of updates.
 pub record IsReadyToPublish {D S : Type 0} (shown : ShownDevice D) (Contents : ℕ → List ℕ → S → ℕ → Type 0) (step : ℕ → S → ℕ → List ℕ → Option (S × List ℕ)) (twin : Seen D) (seat : WriterSeat) (log : Logged) (before place : ℕ) : Type 0 where
   -- The table and the device are at rest, and the log is clear.
   pub unread : NobodyReads seat Main

@@ -1,5 +1,5 @@
 use Rattle.rom_model.specs.Machine.{on_words}
-use Rattle.std.proofs.Common.{rules, arith, ◌≡◌, inl, inr, ⊎_elim, ℕ, ◌+◌, ◌^◌, ◌≤◌, List, map, take, length, sym, refl, ap, ◌∙◌, subst}
+use Rattle.std.proofs.Common.{Some, rules, arith, ◌≡◌, ◌≢◌, inl, inr, ⊎_elim, ℕ, ◌+◌, ◌^◌, ◌≤◌, List, map, take, length, sym, refl, ap, ◌∙◌, subst}
 use Rattle.rom_device.specs.Device.{Runs}
 use Rattle.rom_device.specs.Device.{Becomes}
 use Rattle.rom_twin.specs.declared.phase.Phase.{Phase}
@@ -9,7 +9,11 @@ use Rattle.rom_combine.specs.Costs.{WritesHeap}
 use Rattle.rom_ranges.specs.Changes.{IsLogOf}
 use Rattle.rom_ranges.specs.Log.{Logged}
 use Rattle.rom_ranges.specs.Ranges.{AreWithin, held_count}
-use Rattle.rom_combine.specs.Images.{BeforeCommit, Counting, Committable}
+use Rattle.rom_combine.specs.Images.{BeforeCommit, Counting, Committable, MayPublish}
+use Rattle.rom_combine.specs.Histories.{PassMakes}
+use Rattle.rom_twin.specs.Seen.{Seen, committed}
+use Rattle.rom_rule.specs.Readers.{Held}
+use Rattle.rom_model.specs.declared.record.Fate.{Fate}
 use Rattle.rom_combine.proofs.Before.{before_on}
 use Rattle.rom_combine.proofs.Outside.{writes_then}
 use Rattle.rom_combine.proofs.Spending.{held_in_region, most_then}
@@ -26,6 +30,8 @@ use Rattle.rom_rule.specs.Records.{IsCall}
 use Rattle.rom_rule.specs.Kinds.{CanSwitchToMain, IsBatch, TellsEach, making, switched}
 use Rattle.rom_rule.proofs.Told.{length_map}
 use Rattle.rom_combine.specs.Scanning.{posted_of, IsUnanswered}
+use Rattle.rom_combine.specs.declared.scanning.Posted.{Posted}
+use Rattle.rom_combine.specs.declared.answering.CallAnswer.{CallAnswer}
 use Rattle.rom_combine.specs.Answering.{HasGiven}
 use Rattle.rom_combine.specs.Applying.{IsApplied}
 use Rattle.rom_combine.proofs.Limits.{batch_fits}
@@ -34,6 +40,63 @@ use Rattle.rom_combine.proofs.Bridge.{batch_now, all_held, same_held, list_befor
 use Rattle.rom_combine.proofs.Refusing.{is_refused, may_know}
 use Rattle.rom_combine.proofs.committing.publish.Given.{Over}
 use Rattle.rom_combine.proofs.committing.publish.Goals as goal
+
+-- The writer's view as the device has begun, as the calls are applied, and as they are committed: the plan has changed in main alone, to what the calls make of it.
+record Taken (g : Over) (u v₁ v₂ v₃ : View) (found : List Posted) (items : List CallAnswer) : Type 0 where
+  pub one : plan_of v₁ ≡ plan_of u
+  pub base₁ : v₁.base ≡ u.base
+  pub two : plan_of v₂ ≡ record (plan_of u) { main = (plan_of v₂).main }
+  pub base₂ : v₂.base ≡ u.base
+  pub three : plan_of v₃ ≡ record (plan_of u) { main = (plan_of v₂).main }
+  pub base₃ : v₃.base ≡ u.base
+  pub start : g.O.Object.State
+  pub count : ℕ
+  pub opened : g.O.Object.Contents u.base.order u.base.image start count
+  pub applied : IsApplied g.O.Object.Contents (on_words g.O.Object.machine) u.base start count (plan_of u) (plan_of v₂).main (length found) items
+  pub long : length found ≡ length (plan_of u).requests
+
+taken : (g : Over) (u v₁ v₂ v₃ : View) (found : List Posted) (items : List CallAnswer) → v₁ ≡ record u { plan = Some (plan_of u); steps = v₁.steps }
+    → v₂ ≡ record v₁ { plan = Some (record (plan_of v₁) { main = (plan_of v₂).main }); steps = v₂.steps } → v₃ ≡ record v₂ { plan = Some (plan_of v₂); steps = v₃.steps }
+    → found ≡ map posted_of (plan_of u).requests
+    → (s : g.O.Object.State) × (k : ℕ) × g.O.Object.Contents v₁.base.order v₁.base.image s k × IsApplied g.O.Object.Contents (on_words g.O.Object.machine) v₁.base s k (plan_of v₁) (plan_of v₂).main (length found) items
+    → Taken g u v₁ v₂ v₃ found items
+taken g u v₁ v₂ v₃ found items first second third requests a =
+    let m₂ : List ℕ = (plan_of v₂).main in
+    let one : plan_of v₁ ≡ plan_of u = ap plan_of first in
+    let two : plan_of v₂ ≡ record (plan_of u) { main = m₂ } = ap plan_of second ∙ ap (λ (z : Plan). record z { main = m₂ }) one in
+    let base₁ : v₁.base ≡ u.base = ap (λ (z : View). z.base) first in
+    let base₂ : v₂.base ≡ u.base = ap (λ (z : View). z.base) second ∙ base₁ in
+    record {
+      one = one;
+      base₁ = base₁;
+      two = two;
+      base₂ = base₂;
+      three = ap plan_of third ∙ two;
+      base₃ = ap (λ (z : View). z.base) third ∙ base₂;
+      start = a.0;
+      count = a.1;
+      opened = subst (λ (z : Base). g.O.Object.Contents z.order z.image a.0 a.1) base₁ a.2;
+      applied = subst (λ (z : Base × Plan). IsApplied g.O.Object.Contents (on_words g.O.Object.machine) z.0 a.0 a.1 z.1 m₂ (length found) items) (λ j. (base₁ j, one j)) a.3;
+      long = ap length requests ∙ length_map posted_of (plan_of u).requests;
+    }
+
+-- Whatever came of the commit, each image that was made is one from before, or one that a pass with this fate makes.
+since_committed : (g : Over) (u : View) {v₁ v₂ v₃ : View} {found : List Posted} {items : List CallAnswer} → Taken g u v₁ v₂ v₃ found items → (f : Fate) (t t₁ t₂ : Seen g.row.D.Denot) (place : ℕ)
+    → (s : g.O.Object.State) × (n : ℕ) × g.O.Object.Contents u.base.order u.base.image s n
+    × Held g.O.Object.Contents (on_words g.O.Object.machine) u.base s n (plan_of u).main (plan_of u).history × (place ≡ n + length (plan_of u).history)
+    → t.order ≡ u.base.order → committed g.D.Device.shown t ≡ (plan_of u).main → t₁.order ≡ t.order → committed g.D.Device.shown t₁ ≡ committed g.D.Device.shown t → (t₂.phase ≢ phase.Undo → MayPublish f)
+    → Runs g.D.Device.shown (Becomes (Counting t.order (committed g.D.Device.shown t))) t.device t₁.device
+    → Runs g.D.Device.shown (Becomes (Committable t₂.phase t₁.order (committed g.D.Device.shown t₁) (plan_of v₂).main)) t₁.device t₂.device
+    → (s : g.O.Object.State) (n : ℕ) → g.O.Object.Contents u.base.order u.base.image s n
+    → Runs g.D.Device.shown (Becomes (PassMakes g.O.Object.Contents (on_words g.O.Object.machine) u.base s n f (plan_of u).history (batch_now g.O.Object.Contents (on_words g.O.Object.machine) u.base s n (plan_of u)))) t.device t₂.device
+since_committed g u {v₁} {v₂} {v₃} {found} {items} it f t t₁ t₂ place h order_is committed_is order₁ committed₁ may first second s n op =
+    let b : Base = u.base in let p : Plan = plan_of u in let m₂ : List ℕ = (plan_of v₂).main in
+    let here = same_held g.O.Object.Contents (on_words g.O.Object.machine) b s n h.0 h.1 p.history p.main (g.met.O.Object.one_contents b.order b.image s h.0 n h.1 op h.2) h.3 in
+    let done = all_held g.O.Object.Contents (on_words g.O.Object.machine) b s n it.start it.count p m₂ (length found) items (g.met.O.Object.one_contents b.order b.image s it.start n it.count op it.opened) it.long it.applied in
+    let one : Runs g.D.Device.shown (Becomes (Counting t.order p.main)) t.device t₁.device = subst (λ (z : List ℕ). Runs g.D.Device.shown (Becomes (Counting t.order z)) t.device t₁.device) committed_is first in
+    let two : Runs g.D.Device.shown (Becomes (Committable t₂.phase t.order p.main m₂)) t₁.device t₂.device
+    = subst (λ (q : ℕ × List ℕ). Runs g.D.Device.shown (Becomes (Committable t₂.phase q.0 q.1 m₂)) t₁.device t₂.device) (λ i. (order₁ i, (committed₁ ∙ committed_is) i)) second in
+    list_committed g.O.Object.Contents (on_words g.O.Object.machine) b s n g.D.Device.shown f t₂.phase p.history (batch_now g.O.Object.Contents (on_words g.O.Object.machine) b s n p) t.order p.main m₂ t.device t₁.device t₂.device order_is may here done one two
 
 pub returns-then-is_err-clause-left : goal.returns-then-is_err-clause-left
 returns-then-is_err-clause-left g c = let u : View = c.args.seat.now.token.me.0 in let b : Base = u.base in let p : Plan = plan_of u in let h = c.requires.ready.held in
@@ -59,134 +122,79 @@ apply_all-requires-clause-fresh g c = let u : View = c.args.seat.now.token.me.0 
 
 pub switch-requires-clause-can : goal.switch-requires-clause-can
 switch-requires-clause-can g c = let u : View = c.args.seat.now.token.me.0 in let b : Base = u.base in let p : Plan = plan_of u in let h = c.requires.ready.held in
-    let v₁ : View = c.begin_on.new.seat.token.me.0 in let one : plan_of v₁ ≡ p = ap plan_of c.begin_on.ensures.same.2 in let base₁ : v₁.base ≡ b = ap (λ (z : View). z.base) c.begin_on.ensures.same.2 in
-    let v₂ : View = c.apply_all.new.seat.token.me.0 in let m₂ : List ℕ = (plan_of v₂).main in let kept = c.apply_all.ensures.kept in let a = c.apply_all.ensures.applied in let v₃ : View = c.commit_on.new.seat.token.me.0 in
-    let two : plan_of v₂ ≡ record p { main = m₂ } = ap plan_of kept.2 ∙ ap (λ (z : Plan). record z { main = m₂ }) one in let three : plan_of v₃ ≡ record p { main = m₂ } = ap plan_of c.commit_on.ensures.same.2 ∙ two in
-    let base₂ : v₂.base ≡ b = ap (λ (z : View). z.base) kept.2 ∙ base₁ in let base₃ : v₃.base ≡ b = ap (λ (z : View). z.base) c.commit_on.ensures.same.2 ∙ base₂ in
-    let opened : g.O.Object.Contents b.order b.image a.0 a.1 = subst (λ (z : Base). g.O.Object.Contents z.order z.image a.0 a.1) base₁ a.2 in
-    let applied : IsApplied g.O.Object.Contents (on_words g.O.Object.machine) b a.0 a.1 p m₂ (length c.args.found.now) c.apply_all.new.answers.items = subst (λ (z : Base × Plan). IsApplied g.O.Object.Contents (on_words g.O.Object.machine) z.0 a.0 a.1 z.1 m₂ (length c.args.found.now) c.apply_all.new.answers.items) (λ j. (base₁ j, one j)) a.3 in
-    let long : length c.args.found.now ≡ length p.requests = ap length c.requires.found ∙ length_map posted_of p.requests in
+    let m₂ : List ℕ = (plan_of c.apply_all.new.seat.token.me.0).main in
+    let it = taken g u c.begin_on.new.seat.token.me.0 c.apply_all.new.seat.token.me.0 c.commit_on.new.seat.token.me.0 c.args.found.now c.apply_all.new.answers.items c.begin_on.ensures.same.2 c.apply_all.ensures.kept.2 c.commit_on.ensures.same.2 c.requires.found c.apply_all.ensures.applied in
     let now : ℕ = g.D.Device.shown.faults c.commit_on.new.twin.device in
-    subst (λ (z : Base × Plan × ℕ). CanSwitchToMain g.O.Object.Contents (on_words g.O.Object.machine) z.0 z.1 c.args.before z.2) (λ j. (sym base₃ j, sym three j, sym c.fault_count-now.ensures j))
-    (can_publish g.O.Object.Contents (on_words g.O.Object.machine) b a.0 a.1 p m₂ (length c.args.found.now) c.args.before now c.apply_all.new.answers.items long opened c.requires.ready.unmade c.requires.ready.fresh c.requires.ready.counts (omega (arith, c.requires.ready.before_is, c.begin_on.ensures.device.later, c.commit_on.ensures.device.later)) applied)
+    subst (λ (z : Base × Plan × ℕ). CanSwitchToMain g.O.Object.Contents (on_words g.O.Object.machine) z.0 z.1 c.args.before z.2) (λ j. (sym it.base₃ j, sym it.three j, sym c.fault_count-now.ensures j))
+    (can_publish g.O.Object.Contents (on_words g.O.Object.machine) b it.start it.count p m₂ (length c.args.found.now) c.args.before now c.apply_all.new.answers.items it.long it.opened c.requires.ready.unmade c.requires.ready.fresh c.requires.ready.counts (omega (arith, c.requires.ready.before_is, c.begin_on.ensures.device.later, c.commit_on.ensures.device.later)) it.applied)
 
 pub returns-then-is_ok-clause-left : goal.returns-then-is_ok-clause-left
 returns-then-is_ok-clause-left g c = let u : View = c.args.seat.now.token.me.0 in let b : Base = u.base in let p : Plan = plan_of u in let h = c.requires.ready.held in
-    let v₁ : View = c.begin_on.new.seat.token.me.0 in let one : plan_of v₁ ≡ p = ap plan_of c.begin_on.ensures.same.2 in let base₁ : v₁.base ≡ b = ap (λ (z : View). z.base) c.begin_on.ensures.same.2 in
-    let v₂ : View = c.apply_all.new.seat.token.me.0 in let m₂ : List ℕ = (plan_of v₂).main in let kept = c.apply_all.ensures.kept in let a = c.apply_all.ensures.applied in let v₃ : View = c.commit_on.new.seat.token.me.0 in
-    let two : plan_of v₂ ≡ record p { main = m₂ } = ap plan_of kept.2 ∙ ap (λ (z : Plan). record z { main = m₂ }) one in let three : plan_of v₃ ≡ record p { main = m₂ } = ap plan_of c.commit_on.ensures.same.2 ∙ two in
-    let base₂ : v₂.base ≡ b = ap (λ (z : View). z.base) kept.2 ∙ base₁ in let base₃ : v₃.base ≡ b = ap (λ (z : View). z.base) c.commit_on.ensures.same.2 ∙ base₂ in
-    let opened : g.O.Object.Contents b.order b.image a.0 a.1 = subst (λ (z : Base). g.O.Object.Contents z.order z.image a.0 a.1) base₁ a.2 in
-    let applied : IsApplied g.O.Object.Contents (on_words g.O.Object.machine) b a.0 a.1 p m₂ (length c.args.found.now) c.apply_all.new.answers.items = subst (λ (z : Base × Plan). IsApplied g.O.Object.Contents (on_words g.O.Object.machine) z.0 a.0 a.1 z.1 m₂ (length c.args.found.now) c.apply_all.new.answers.items) (λ j. (base₁ j, one j)) a.3 in
-    let long : length c.args.found.now ≡ length p.requests = ap length c.requires.found ∙ length_map posted_of p.requests in
+    let m₂ : List ℕ = (plan_of c.apply_all.new.seat.token.me.0).main in
+    let it = taken g u c.begin_on.new.seat.token.me.0 c.apply_all.new.seat.token.me.0 c.commit_on.new.seat.token.me.0 c.args.found.now c.apply_all.new.answers.items c.begin_on.ensures.same.2 c.apply_all.ensures.kept.2 c.commit_on.ensures.same.2 c.requires.found c.apply_all.ensures.applied in
     let now : ℕ = g.D.Device.shown.faults c.commit_on.new.twin.device in let now_is : c.fault_count-now.result ≡ now = c.fault_count-now.ensures in let sw = c.switch.ensures.switched in let v₄ : View = c.switch.new.seat.token.me.0 in
-    let same = g.met.O.Object.one_contents b.order b.image h.0 a.0 h.1 a.1 h.2 opened in let counts = same.1 in let place = h.4 in let below = c.requires.ready.below in
-    let four : plan_of v₄ ≡ switched 0 (making fate.Published c.args.before now sw.0 sw.1 (record p { main = m₂ })) = ap plan_of sw.4.2 ∙ (λ j. switched 0 (making fate.Published c.args.before (now_is j) sw.0 sw.1 (three j))) in
+    let same = g.met.O.Object.one_contents b.order b.image h.0 it.start h.1 it.count h.2 it.opened in let counts = same.1 in let place = h.4 in let below = c.requires.ready.below in
+    let four : plan_of v₄ ≡ switched 0 (making fate.Published c.args.before now sw.0 sw.1 (record p { main = m₂ })) = ap plan_of sw.4.2 ∙ (λ j. switched 0 (making fate.Published c.args.before (now_is j) sw.0 sw.1 (it.three j))) in
     subst (λ (z : Plan). HasGiven g.O.Object.Contents (on_words g.O.Object.machine) b fate.Published c.args.before now z 0 c.apply_all.new.answers.items) (sym four)
-    (is_left g.O.Object.Contents (on_words g.O.Object.machine) b a.0 a.1 p m₂ (length c.args.found.now) c.args.before now sw.0 sw.1 c.apply_all.new.answers.items long opened c.requires.ready.rising c.requires.ready.fresh applied
-    (batch_fits (on_words g.O.Object.machine) b.order (after (on_words g.O.Object.machine) b.order a.0 a.1 p.history) (a.1 + length p.history) (take (length c.args.found.now) (map found_of p.requests)) (omega (arith, counts, place, below)))
-    (subst (λ (z : Base × Plan). IsBatch g.O.Object.Contents (on_words g.O.Object.machine) z.0 z.1 sw.0 sw.1) (λ j. (base₃ j, three j)) sw.2) (subst (TellsEach fate.Published sw.0 sw.1) three sw.3))
+    (is_left g.O.Object.Contents (on_words g.O.Object.machine) b it.start it.count p m₂ (length c.args.found.now) c.args.before now sw.0 sw.1 c.apply_all.new.answers.items it.long it.opened c.requires.ready.rising c.requires.ready.fresh it.applied
+    (batch_fits (on_words g.O.Object.machine) b.order (after (on_words g.O.Object.machine) b.order it.start it.count p.history) (it.count + length p.history) (take (length c.args.found.now) (map found_of p.requests)) (omega (arith, counts, place, below)))
+    (subst (λ (z : Base × Plan). IsBatch g.O.Object.Contents (on_words g.O.Object.machine) z.0 z.1 sw.0 sw.1) (λ j. (it.base₃ j, it.three j)) sw.2) (subst (TellsEach fate.Published sw.0 sw.1) it.three sw.3))
 
 pub returns-then-is_ok-clause-since : goal.returns-then-is_ok-clause-since
-returns-then-is_ok-clause-since g c told s n op = let u : View = c.args.seat.now.token.me.0 in let b : Base = u.base in let p : Plan = plan_of u in let h = c.requires.ready.held in
-    let v₁ : View = c.begin_on.new.seat.token.me.0 in let one : plan_of v₁ ≡ p = ap plan_of c.begin_on.ensures.same.2 in let base₁ : v₁.base ≡ b = ap (λ (z : View). z.base) c.begin_on.ensures.same.2 in
-    let v₂ : View = c.apply_all.new.seat.token.me.0 in let m₂ : List ℕ = (plan_of v₂).main in let kept = c.apply_all.ensures.kept in let a = c.apply_all.ensures.applied in let v₃ : View = c.commit_on.new.seat.token.me.0 in
-    let two : plan_of v₂ ≡ record p { main = m₂ } = ap plan_of kept.2 ∙ ap (λ (z : Plan). record z { main = m₂ }) one in let three : plan_of v₃ ≡ record p { main = m₂ } = ap plan_of c.commit_on.ensures.same.2 ∙ two in
-    let base₂ : v₂.base ≡ b = ap (λ (z : View). z.base) kept.2 ∙ base₁ in let base₃ : v₃.base ≡ b = ap (λ (z : View). z.base) c.commit_on.ensures.same.2 ∙ base₂ in
-    let opened : g.O.Object.Contents b.order b.image a.0 a.1 = subst (λ (z : Base). g.O.Object.Contents z.order z.image a.0 a.1) base₁ a.2 in
-    let applied : IsApplied g.O.Object.Contents (on_words g.O.Object.machine) b a.0 a.1 p m₂ (length c.args.found.now) c.apply_all.new.answers.items = subst (λ (z : Base × Plan). IsApplied g.O.Object.Contents (on_words g.O.Object.machine) z.0 a.0 a.1 z.1 m₂ (length c.args.found.now) c.apply_all.new.answers.items) (λ j. (base₁ j, one j)) a.3 in
-    let long : length c.args.found.now ≡ length p.requests = ap length c.requires.found ∙ length_map posted_of p.requests in
-    let o : ℕ = c.args.twin.now.order in let x = c.args.twin.now.device in let y = c.begin_on.new.twin.device in let same = g.met.O.Object.one_contents b.order b.image s h.0 n h.1 op h.2 in
-    let here = same_held g.O.Object.Contents (on_words g.O.Object.machine) b s n h.0 h.1 p.history p.main same h.3 in
-    let first : Runs g.D.Device.shown (Becomes (Counting o p.main)) x y = subst (λ (z : List ℕ). Runs g.D.Device.shown (Becomes (Counting o z)) x y) (c.requires.ready.committed_is told) (c.begin_on.ensures.since told) in
-    let z = c.commit_on.new.twin.device in let ph : Phase = c.commit_on.new.twin.phase in
-    let done = all_held g.O.Object.Contents (on_words g.O.Object.machine) b s n a.0 a.1 p m₂ (length c.args.found.now) c.apply_all.new.answers.items (g.met.O.Object.one_contents b.order b.image s a.0 n a.1 op opened) long applied in
-    let second : Runs g.D.Device.shown (Becomes (Committable ph o p.main m₂)) y z = subst (λ (q : ℕ × List ℕ). Runs g.D.Device.shown (Becomes (Committable ph q.0 q.1 m₂)) y z) (λ i. (c.begin_on.ensures.kept.order i, (c.begin_on.ensures.kept.committed_is told ∙ c.requires.ready.committed_is told) i)) (c.commit_on.ensures.since told) in
-    list_committed g.O.Object.Contents (on_words g.O.Object.machine) b s n g.D.Device.shown fate.Published ph p.history (batch_now g.O.Object.Contents (on_words g.O.Object.machine) b s n p) o p.main m₂ x y z c.requires.ready.order_is (λ _. tt) here done first second
+returns-then-is_ok-clause-since g c told s n op =
+    let u : View = c.args.seat.now.token.me.0 in
+    since_committed g u (taken g u c.begin_on.new.seat.token.me.0 c.apply_all.new.seat.token.me.0 c.commit_on.new.seat.token.me.0 c.args.found.now c.apply_all.new.answers.items c.begin_on.ensures.same.2 c.apply_all.ensures.kept.2 c.commit_on.ensures.same.2 c.requires.found c.apply_all.ensures.applied)
+    fate.Published c.args.twin.now c.begin_on.new.twin c.commit_on.new.twin c.args.place c.requires.ready.held c.requires.ready.order_is (c.requires.ready.committed_is told)
+    c.begin_on.ensures.kept.order (c.begin_on.ensures.kept.committed_is told) (λ _. tt) (c.begin_on.ensures.since told) (c.commit_on.ensures.since told) s n op
 
 pub returns-then-eq-clause-left : goal.returns-then-eq-clause-left
 returns-then-eq-clause-left g c = let u : View = c.args.seat.now.token.me.0 in let b : Base = u.base in let p : Plan = plan_of u in let h = c.requires.ready.held in
-    let v₁ : View = c.begin_on.new.seat.token.me.0 in let one : plan_of v₁ ≡ p = ap plan_of c.begin_on.ensures.same.2 in let base₁ : v₁.base ≡ b = ap (λ (z : View). z.base) c.begin_on.ensures.same.2 in
-    let v₂ : View = c.apply_all.new.seat.token.me.0 in let m₂ : List ℕ = (plan_of v₂).main in let kept = c.apply_all.ensures.kept in let a = c.apply_all.ensures.applied in let v₃ : View = c.commit_on.new.seat.token.me.0 in
-    let two : plan_of v₂ ≡ record p { main = m₂ } = ap plan_of kept.2 ∙ ap (λ (z : Plan). record z { main = m₂ }) one in let three : plan_of v₃ ≡ record p { main = m₂ } = ap plan_of c.commit_on.ensures.same.2 ∙ two in
-    let base₂ : v₂.base ≡ b = ap (λ (z : View). z.base) kept.2 ∙ base₁ in let base₃ : v₃.base ≡ b = ap (λ (z : View). z.base) c.commit_on.ensures.same.2 ∙ base₂ in
-    let opened : g.O.Object.Contents b.order b.image a.0 a.1 = subst (λ (z : Base). g.O.Object.Contents z.order z.image a.0 a.1) base₁ a.2 in
-    let applied : IsApplied g.O.Object.Contents (on_words g.O.Object.machine) b a.0 a.1 p m₂ (length c.args.found.now) c.apply_all.new.answers.items = subst (λ (z : Base × Plan). IsApplied g.O.Object.Contents (on_words g.O.Object.machine) z.0 a.0 a.1 z.1 m₂ (length c.args.found.now) c.apply_all.new.answers.items) (λ j. (base₁ j, one j)) a.3 in
-    let long : length c.args.found.now ≡ length p.requests = ap length c.requires.found ∙ length_map posted_of p.requests in
+    let m₂ : List ℕ = (plan_of c.apply_all.new.seat.token.me.0).main in
+    let it = taken g u c.begin_on.new.seat.token.me.0 c.apply_all.new.seat.token.me.0 c.commit_on.new.seat.token.me.0 c.args.found.now c.apply_all.new.answers.items c.begin_on.ensures.same.2 c.apply_all.ensures.kept.2 c.commit_on.ensures.same.2 c.requires.found c.apply_all.ensures.applied in
     let now : ℕ = g.D.Device.shown.faults c.commit_on.new.twin.device in let doubt : c.commit_on.new.twin.phase ≡ phase.Doubt = search rules in let cause = c.commit_on.ensures.doubt doubt in
     let rose : HasFault fate.Doubt c.args.before now = omega (arith, c.requires.ready.before_is, c.begin_on.ensures.device.later, cause.later, cause.failed.once) in let v₅ : View = c.put_back.new.seat.token.me.0 in
-    let five : plan_of v₅ ≡ p = ap plan_of c.put_back.ensures.2 ∙ ((λ j. record (three j) { main = (three j).back }) ∙ ap (λ (l : List ℕ). record p { main = l }) (sym c.requires.ready.same)) in
+    let five : plan_of v₅ ≡ p = ap plan_of c.put_back.ensures.2 ∙ ((λ j. record (it.three j) { main = (it.three j).back }) ∙ ap (λ (l : List ℕ). record p { main = l }) (sym c.requires.ready.same)) in
     subst (λ (z : Plan). HasGiven g.O.Object.Contents (on_words g.O.Object.machine) b fate.Doubt c.args.before now z 0 c.refuse-then-eq.new.answers.items) (sym five)
     (is_refused g.O.Object.Contents (on_words g.O.Object.machine) b (2 ^ 62 + 2) fate.Doubt p c.args.before now c.args.found.now c.refuse-then-eq.new.answers.items refl refl
     (may_know g.O.Object.Contents (on_words g.O.Object.machine) b fate.Doubt p c.args.before now h.0 h.1 (λ (e : fate.Doubt ≡ fate.Published). cc) c.requires.ready.unmade c.requires.ready.fresh c.requires.ready.counts (omega (arith, c.requires.ready.before_is, c.begin_on.ensures.device.later, c.commit_on.ensures.device.later)) rose h.2)
     c.requires.ready.rising c.requires.ready.fresh c.requires.found c.refuse-then-eq.ensures)
 
 pub returns-then-eq-clause-since : goal.returns-then-eq-clause-since
-returns-then-eq-clause-since g c told s n op = let u : View = c.args.seat.now.token.me.0 in let b : Base = u.base in let p : Plan = plan_of u in let h = c.requires.ready.held in
-    let v₁ : View = c.begin_on.new.seat.token.me.0 in let one : plan_of v₁ ≡ p = ap plan_of c.begin_on.ensures.same.2 in let base₁ : v₁.base ≡ b = ap (λ (z : View). z.base) c.begin_on.ensures.same.2 in
-    let v₂ : View = c.apply_all.new.seat.token.me.0 in let m₂ : List ℕ = (plan_of v₂).main in let kept = c.apply_all.ensures.kept in let a = c.apply_all.ensures.applied in let v₃ : View = c.commit_on.new.seat.token.me.0 in
-    let two : plan_of v₂ ≡ record p { main = m₂ } = ap plan_of kept.2 ∙ ap (λ (z : Plan). record z { main = m₂ }) one in let three : plan_of v₃ ≡ record p { main = m₂ } = ap plan_of c.commit_on.ensures.same.2 ∙ two in
-    let base₂ : v₂.base ≡ b = ap (λ (z : View). z.base) kept.2 ∙ base₁ in let base₃ : v₃.base ≡ b = ap (λ (z : View). z.base) c.commit_on.ensures.same.2 ∙ base₂ in
-    let opened : g.O.Object.Contents b.order b.image a.0 a.1 = subst (λ (z : Base). g.O.Object.Contents z.order z.image a.0 a.1) base₁ a.2 in
-    let applied : IsApplied g.O.Object.Contents (on_words g.O.Object.machine) b a.0 a.1 p m₂ (length c.args.found.now) c.apply_all.new.answers.items = subst (λ (z : Base × Plan). IsApplied g.O.Object.Contents (on_words g.O.Object.machine) z.0 a.0 a.1 z.1 m₂ (length c.args.found.now) c.apply_all.new.answers.items) (λ j. (base₁ j, one j)) a.3 in
-    let long : length c.args.found.now ≡ length p.requests = ap length c.requires.found ∙ length_map posted_of p.requests in
-    let o : ℕ = c.args.twin.now.order in let x = c.args.twin.now.device in let y = c.begin_on.new.twin.device in let same = g.met.O.Object.one_contents b.order b.image s h.0 n h.1 op h.2 in
-    let here = same_held g.O.Object.Contents (on_words g.O.Object.machine) b s n h.0 h.1 p.history p.main same h.3 in
-    let first : Runs g.D.Device.shown (Becomes (Counting o p.main)) x y = subst (λ (z : List ℕ). Runs g.D.Device.shown (Becomes (Counting o z)) x y) (c.requires.ready.committed_is told) (c.begin_on.ensures.since told) in
-    let z = c.commit_on.new.twin.device in let ph : Phase = c.commit_on.new.twin.phase in
-    let done = all_held g.O.Object.Contents (on_words g.O.Object.machine) b s n a.0 a.1 p m₂ (length c.args.found.now) c.apply_all.new.answers.items (g.met.O.Object.one_contents b.order b.image s a.0 n a.1 op opened) long applied in
-    let second : Runs g.D.Device.shown (Becomes (Committable ph o p.main m₂)) y z = subst (λ (q : ℕ × List ℕ). Runs g.D.Device.shown (Becomes (Committable ph q.0 q.1 m₂)) y z) (λ i. (c.begin_on.ensures.kept.order i, (c.begin_on.ensures.kept.committed_is told ∙ c.requires.ready.committed_is told) i)) (c.commit_on.ensures.since told) in
-    list_committed g.O.Object.Contents (on_words g.O.Object.machine) b s n g.D.Device.shown fate.Doubt ph p.history (batch_now g.O.Object.Contents (on_words g.O.Object.machine) b s n p) o p.main m₂ x y z c.requires.ready.order_is (λ _. tt) here done first second
+returns-then-eq-clause-since g c told s n op =
+    let u : View = c.args.seat.now.token.me.0 in
+    since_committed g u (taken g u c.begin_on.new.seat.token.me.0 c.apply_all.new.seat.token.me.0 c.commit_on.new.seat.token.me.0 c.args.found.now c.apply_all.new.answers.items c.begin_on.ensures.same.2 c.apply_all.ensures.kept.2 c.commit_on.ensures.same.2 c.requires.found c.apply_all.ensures.applied)
+    fate.Doubt c.args.twin.now c.begin_on.new.twin c.commit_on.new.twin c.args.place c.requires.ready.held c.requires.ready.order_is (c.requires.ready.committed_is told)
+    c.begin_on.ensures.kept.order (c.begin_on.ensures.kept.committed_is told) (λ _. tt) (c.begin_on.ensures.since told) (c.commit_on.ensures.since told) s n op
 
 pub returns-clause-left : goal.returns-clause-left
 returns-clause-left g c = let u : View = c.args.seat.now.token.me.0 in let b : Base = u.base in let p : Plan = plan_of u in let h = c.requires.ready.held in
-    let v₁ : View = c.begin_on.new.seat.token.me.0 in let one : plan_of v₁ ≡ p = ap plan_of c.begin_on.ensures.same.2 in let base₁ : v₁.base ≡ b = ap (λ (z : View). z.base) c.begin_on.ensures.same.2 in
-    let v₂ : View = c.apply_all.new.seat.token.me.0 in let m₂ : List ℕ = (plan_of v₂).main in let kept = c.apply_all.ensures.kept in let a = c.apply_all.ensures.applied in let v₃ : View = c.commit_on.new.seat.token.me.0 in
-    let two : plan_of v₂ ≡ record p { main = m₂ } = ap plan_of kept.2 ∙ ap (λ (z : Plan). record z { main = m₂ }) one in let three : plan_of v₃ ≡ record p { main = m₂ } = ap plan_of c.commit_on.ensures.same.2 ∙ two in
-    let base₂ : v₂.base ≡ b = ap (λ (z : View). z.base) kept.2 ∙ base₁ in let base₃ : v₃.base ≡ b = ap (λ (z : View). z.base) c.commit_on.ensures.same.2 ∙ base₂ in
-    let opened : g.O.Object.Contents b.order b.image a.0 a.1 = subst (λ (z : Base). g.O.Object.Contents z.order z.image a.0 a.1) base₁ a.2 in
-    let applied : IsApplied g.O.Object.Contents (on_words g.O.Object.machine) b a.0 a.1 p m₂ (length c.args.found.now) c.apply_all.new.answers.items = subst (λ (z : Base × Plan). IsApplied g.O.Object.Contents (on_words g.O.Object.machine) z.0 a.0 a.1 z.1 m₂ (length c.args.found.now) c.apply_all.new.answers.items) (λ j. (base₁ j, one j)) a.3 in
-    let long : length c.args.found.now ≡ length p.requests = ap length c.requires.found ∙ length_map posted_of p.requests in
+    let m₂ : List ℕ = (plan_of c.apply_all.new.seat.token.me.0).main in
+    let it = taken g u c.begin_on.new.seat.token.me.0 c.apply_all.new.seat.token.me.0 c.commit_on.new.seat.token.me.0 c.args.found.now c.apply_all.new.answers.items c.begin_on.ensures.same.2 c.apply_all.ensures.kept.2 c.commit_on.ensures.same.2 c.requires.found c.apply_all.ensures.applied in
     let now : ℕ = g.D.Device.shown.faults c.commit_on.new.twin.device in let undo : c.commit_on.new.twin.phase ≡ phase.Undo = search rules in let cause = (c.commit_on.ensures.undo undo).1 in
     let rose : HasFault fate.Failed c.args.before now = omega (arith, c.requires.ready.before_is, c.begin_on.ensures.device.later, cause.rose) in let v₅ : View = c.put_back.new.seat.token.me.0 in
-    let five : plan_of v₅ ≡ p = ap plan_of c.put_back.ensures.2 ∙ ((λ j. record (three j) { main = (three j).back }) ∙ ap (λ (l : List ℕ). record p { main = l }) (sym c.requires.ready.same)) in
+    let five : plan_of v₅ ≡ p = ap plan_of c.put_back.ensures.2 ∙ ((λ j. record (it.three j) { main = (it.three j).back }) ∙ ap (λ (l : List ℕ). record p { main = l }) (sym c.requires.ready.same)) in
     subst (λ (z : Plan). HasGiven g.O.Object.Contents (on_words g.O.Object.machine) b fate.Failed c.args.before now z 0 c.refuse-2.new.answers.items) (sym five)
     (is_refused g.O.Object.Contents (on_words g.O.Object.machine) b (2 ^ 62 + 1) fate.Failed p c.args.before now c.args.found.now c.refuse-2.new.answers.items refl refl
     (may_know g.O.Object.Contents (on_words g.O.Object.machine) b fate.Failed p c.args.before now h.0 h.1 (λ (e : fate.Failed ≡ fate.Published). cc) c.requires.ready.unmade c.requires.ready.fresh c.requires.ready.counts (omega (arith, c.requires.ready.before_is, c.begin_on.ensures.device.later, c.commit_on.ensures.device.later)) rose h.2)
     c.requires.ready.rising c.requires.ready.fresh c.requires.found c.refuse-2.ensures)
 
 pub returns-clause-since : goal.returns-clause-since
-returns-clause-since g c told s n op = let u : View = c.args.seat.now.token.me.0 in let b : Base = u.base in let p : Plan = plan_of u in let h = c.requires.ready.held in
-    let v₁ : View = c.begin_on.new.seat.token.me.0 in let one : plan_of v₁ ≡ p = ap plan_of c.begin_on.ensures.same.2 in let base₁ : v₁.base ≡ b = ap (λ (z : View). z.base) c.begin_on.ensures.same.2 in
-    let v₂ : View = c.apply_all.new.seat.token.me.0 in let m₂ : List ℕ = (plan_of v₂).main in let kept = c.apply_all.ensures.kept in let a = c.apply_all.ensures.applied in let v₃ : View = c.commit_on.new.seat.token.me.0 in
-    let two : plan_of v₂ ≡ record p { main = m₂ } = ap plan_of kept.2 ∙ ap (λ (z : Plan). record z { main = m₂ }) one in let three : plan_of v₃ ≡ record p { main = m₂ } = ap plan_of c.commit_on.ensures.same.2 ∙ two in
-    let base₂ : v₂.base ≡ b = ap (λ (z : View). z.base) kept.2 ∙ base₁ in let base₃ : v₃.base ≡ b = ap (λ (z : View). z.base) c.commit_on.ensures.same.2 ∙ base₂ in
-    let opened : g.O.Object.Contents b.order b.image a.0 a.1 = subst (λ (z : Base). g.O.Object.Contents z.order z.image a.0 a.1) base₁ a.2 in
-    let applied : IsApplied g.O.Object.Contents (on_words g.O.Object.machine) b a.0 a.1 p m₂ (length c.args.found.now) c.apply_all.new.answers.items = subst (λ (z : Base × Plan). IsApplied g.O.Object.Contents (on_words g.O.Object.machine) z.0 a.0 a.1 z.1 m₂ (length c.args.found.now) c.apply_all.new.answers.items) (λ j. (base₁ j, one j)) a.3 in
-    let long : length c.args.found.now ≡ length p.requests = ap length c.requires.found ∙ length_map posted_of p.requests in
-    let o : ℕ = c.args.twin.now.order in let x = c.args.twin.now.device in let y = c.begin_on.new.twin.device in let same = g.met.O.Object.one_contents b.order b.image s h.0 n h.1 op h.2 in
-    let here = same_held g.O.Object.Contents (on_words g.O.Object.machine) b s n h.0 h.1 p.history p.main same h.3 in
-    let first : Runs g.D.Device.shown (Becomes (Counting o p.main)) x y = subst (λ (z : List ℕ). Runs g.D.Device.shown (Becomes (Counting o z)) x y) (c.requires.ready.committed_is told) (c.begin_on.ensures.since told) in
-    let z = c.commit_on.new.twin.device in let ph : Phase = c.commit_on.new.twin.phase in
-    let done = all_held g.O.Object.Contents (on_words g.O.Object.machine) b s n a.0 a.1 p m₂ (length c.args.found.now) c.apply_all.new.answers.items (g.met.O.Object.one_contents b.order b.image s a.0 n a.1 op opened) long applied in
-    let second : Runs g.D.Device.shown (Becomes (Committable ph o p.main m₂)) y z = subst (λ (q : ℕ × List ℕ). Runs g.D.Device.shown (Becomes (Committable ph q.0 q.1 m₂)) y z) (λ i. (c.begin_on.ensures.kept.order i, (c.begin_on.ensures.kept.committed_is told ∙ c.requires.ready.committed_is told) i)) (c.commit_on.ensures.since told) in
-    let undo : ph ≡ phase.Undo = search rules in
-    list_committed g.O.Object.Contents (on_words g.O.Object.machine) b s n g.D.Device.shown fate.Failed ph p.history (batch_now g.O.Object.Contents (on_words g.O.Object.machine) b s n p) o p.main m₂ x y z c.requires.ready.order_is (λ other. absurd (other undo)) here done first second
+returns-clause-since g c told s n op =
+    let u : View = c.args.seat.now.token.me.0 in
+    let undo : c.commit_on.new.twin.phase ≡ phase.Undo = search rules in
+    since_committed g u (taken g u c.begin_on.new.seat.token.me.0 c.apply_all.new.seat.token.me.0 c.commit_on.new.seat.token.me.0 c.args.found.now c.apply_all.new.answers.items c.begin_on.ensures.same.2 c.apply_all.ensures.kept.2 c.commit_on.ensures.same.2 c.requires.found c.apply_all.ensures.applied)
+    fate.Failed c.args.twin.now c.begin_on.new.twin c.commit_on.new.twin c.args.place c.requires.ready.held c.requires.ready.order_is (c.requires.ready.committed_is told)
+    c.begin_on.ensures.kept.order (c.begin_on.ensures.kept.committed_is told) (λ other. absurd (other undo)) (c.begin_on.ensures.since told) (c.commit_on.ensures.since told) s n op
 
 pub returns-then-eq-clause-doubted : goal.returns-then-eq-clause-doubted
 returns-then-eq-clause-doubted g c told is_doubt s n op i left = let u : View = c.args.seat.now.token.me.0 in let b : Base = u.base in let p : Plan = plan_of u in let h = c.requires.ready.held in
-    let v₁ : View = c.begin_on.new.seat.token.me.0 in let one : plan_of v₁ ≡ p = ap plan_of c.begin_on.ensures.same.2 in let base₁ : v₁.base ≡ b = ap (λ (z : View). z.base) c.begin_on.ensures.same.2 in
-    let v₂ : View = c.apply_all.new.seat.token.me.0 in let m₂ : List ℕ = (plan_of v₂).main in let kept = c.apply_all.ensures.kept in let a = c.apply_all.ensures.applied in let v₃ : View = c.commit_on.new.seat.token.me.0 in
-    let two : plan_of v₂ ≡ record p { main = m₂ } = ap plan_of kept.2 ∙ ap (λ (z : Plan). record z { main = m₂ }) one in let three : plan_of v₃ ≡ record p { main = m₂ } = ap plan_of c.commit_on.ensures.same.2 ∙ two in
-    let base₂ : v₂.base ≡ b = ap (λ (z : View). z.base) kept.2 ∙ base₁ in let base₃ : v₃.base ≡ b = ap (λ (z : View). z.base) c.commit_on.ensures.same.2 ∙ base₂ in
-    let opened : g.O.Object.Contents b.order b.image a.0 a.1 = subst (λ (z : Base). g.O.Object.Contents z.order z.image a.0 a.1) base₁ a.2 in
-    let applied : IsApplied g.O.Object.Contents (on_words g.O.Object.machine) b a.0 a.1 p m₂ (length c.args.found.now) c.apply_all.new.answers.items = subst (λ (z : Base × Plan). IsApplied g.O.Object.Contents (on_words g.O.Object.machine) z.0 a.0 a.1 z.1 m₂ (length c.args.found.now) c.apply_all.new.answers.items) (λ j. (base₁ j, one j)) a.3 in
-    let long : length c.args.found.now ≡ length p.requests = ap length c.requires.found ∙ length_map posted_of p.requests in
+    let m₂ : List ℕ = (plan_of c.apply_all.new.seat.token.me.0).main in
+    let it = taken g u c.begin_on.new.seat.token.me.0 c.apply_all.new.seat.token.me.0 c.commit_on.new.seat.token.me.0 c.args.found.now c.apply_all.new.answers.items c.begin_on.ensures.same.2 c.apply_all.ensures.kept.2 c.commit_on.ensures.same.2 c.requires.found c.apply_all.ensures.applied in
     let o : ℕ = c.args.twin.now.order in let x = c.args.twin.now.device in let y = c.begin_on.new.twin.device in let same = g.met.O.Object.one_contents b.order b.image s h.0 n h.1 op h.2 in
     let here = same_held g.O.Object.Contents (on_words g.O.Object.machine) b s n h.0 h.1 p.history p.main same h.3 in
     let first : Runs g.D.Device.shown (Becomes (Counting o p.main)) x y = subst (λ (z : List ℕ). Runs g.D.Device.shown (Becomes (Counting o z)) x y) (c.requires.ready.committed_is told) (c.begin_on.ensures.since told) in
     let z = c.commit_on.new.twin.device in let ph : Phase = c.commit_on.new.twin.phase in
-    let done = all_held g.O.Object.Contents (on_words g.O.Object.machine) b s n a.0 a.1 p m₂ (length c.args.found.now) c.apply_all.new.answers.items (g.met.O.Object.one_contents b.order b.image s a.0 n a.1 op opened) long applied in
+    let done = all_held g.O.Object.Contents (on_words g.O.Object.machine) b s n it.start it.count p m₂ (length c.args.found.now) c.apply_all.new.answers.items (g.met.O.Object.one_contents b.order b.image s it.start n it.count op it.opened) it.long it.applied in
     let second : Runs g.D.Device.shown (Becomes (Committable ph o p.main m₂)) y z = subst (λ (q : ℕ × List ℕ). Runs g.D.Device.shown (Becomes (Committable ph q.0 q.1 m₂)) y z) (λ i. (c.begin_on.ensures.kept.order i, (c.begin_on.ensures.kept.committed_is told ∙ c.requires.ready.committed_is told) i)) (c.commit_on.ensures.since told) in
     let now = subst (λ (q : ℕ × List ℕ). Committable ph q.0 q.1 m₂ i) (λ j. ((c.begin_on.ensures.kept.order ∙ c.requires.ready.order_is) j, (c.begin_on.ensures.kept.committed_is told ∙ c.requires.ready.committed_is told) j)) (c.commit_on.ensures.now told i left) in
     ⊎_elim (λ counts. inl (record { region = p.main; current = counts; contents = here })) (λ both. inr (tt, record { region = m₂; current = both.1; contents = done })) now
