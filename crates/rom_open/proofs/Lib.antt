@@ -1,3 +1,4 @@
--- What words hold is one, and what an inspection tells of them.
+-- What words hold is one, what an inspection tells of them, and how many calls an opening and a making come to.
 pub mod Holding
 pub mod Inspected
+pub mod Within

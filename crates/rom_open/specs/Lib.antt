@@ -4,3 +4,4 @@ pub mod Calls
 pub mod AtRest
 pub mod Opening
 pub mod Making
+pub mod Within

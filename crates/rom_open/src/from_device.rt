@@ -12,6 +12,7 @@ ghost use Rattle.rom_header.specs.Held.{Holds, HoldsOne};
 ghost use Rattle.rom_open.specs.AtRest.{IsAtRest};
 ghost use Rattle.rom_open.specs.Opening.{IsOpeningAnswer, MendsNamed, device_of, refusal_of};
 ghost use Rattle.rom_open.specs.Refusals.{IsRefusal, NamesTooFew, named_order};
+ghost use Rattle.rom_open.specs.Within.{WithinOpening};
 ghost use Rattle.rom_open.specs.declared.reasons.Why.TheVariants.{TooSmall};
 
 use crate::image::{inspect_image, read_image};
@@ -141,6 +142,7 @@ pub fn open_device<D: Device, O: Object>(alloc: Global, device: D) -> Result<Ope
         (D.shown.failing (device_of result)) }
     ensures calls { IsTrue D.shown.tells_words →
         Calls D.shown (D.shown.words device) device (device_of result) (refusal_of result) }
+    ensures within { WithinOpening D.shown device (device_of result) }
 {
     let mut device = device;
     match accept::<D, O>(alloc, &mut device) {

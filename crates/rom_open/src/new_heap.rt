@@ -10,6 +10,7 @@ ghost use Rattle.rom_header.specs.Layout.{words_needed};
 ghost use Rattle.rom_header.specs.Writing.{Alters};
 ghost use Rattle.rom_header.specs.Held.{Holds};
 ghost use Rattle.rom_open.specs.Making.{IfMade, IsNewWith, NamesTooFewFor, NoneOrHolds};
+ghost use Rattle.rom_open.specs.Within.{WithinMaking};
 ghost use Rattle.rom_open.specs.declared.new_heap.NotFormatted.TheVariants.{OutOfMemory};
 
 use rom_device::Device;
@@ -87,6 +88,7 @@ pub fn write_heap<D: Device, O: Object>(
     ensures makes { Makes D.shown (format_reads result) (format_writes order result)
         (format_syncs result)
         device.old device.new (format_fault result) }
+    ensures within { WithinMaking D.shown order device.old device.new }
 {
     write_new(device, order, region.words())
 }

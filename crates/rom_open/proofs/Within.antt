@@ -1,0 +1,128 @@
+-- The calls of an opening and of a making, counted by their answers, are no more than any makes.
+use Rattle.std.specs.Prelude.{◌≡◌, ℕ, ◌+◌, ◌*◌, ◌==◌, ◌≤◌, min, Bool, true, false, if◌then◌else◌, Result, Ok, Err, IsTrue}
+use Rattle.std.proofs.Common.{arith, inl, inr}
+use Rattle.rom_model.specs.Blocks.{region_len}
+use Rattle.rom_model.specs.Faults.{Adds, AtMost, StopsAtFault}
+use Rattle.rom_device.specs.Device.{ShownDevice, Does, Makes, Stays}
+use Rattle.rom_header.specs.Calls.{format_fault, format_reads, format_syncs, format_writes}
+use Rattle.rom_header.specs.Headers.{IsIdle}
+use Rattle.rom_header.specs.declared.fresh.FormatRefused.{FormatRefused}
+use Rattle.rom_header.specs.declared.fresh.FormatRefused.TheVariants as format
+use Rattle.rom_open.specs.Calls.{AreReads, AreSyncs, AreWrites, Calls, HasFaults, opening_reads, opening_syncs, opening_writes}
+use Rattle.rom_open.specs.Within.{WithinMaking, WithinOpening}
+use Rattle.rom_open.specs.declared.reasons.Why.{Why}
+use Rattle.rom_open.specs.declared.reasons.Why.TheVariants.{NotAHeap, BadVersion, BadOrder, BadState, TooSmall, Twins, Malformed, Device, OutOfMemory}
+
+-- exactly so many are at most as many as that and more
+adds_most : (k n before now : ℕ) → k ≤ n → Adds k before now → AtMost n before now
+adds_most k n before now le adds = record { later = omega (arith, adds); most = omega (arith, le, adds) }
+
+none_most : (n before now : ℕ) → now ≡ before → AtMost n before now
+none_most n before now is = record { later = omega (arith, is); most = omega (arith, is) }
+
+most_most : (k n before now : ℕ) → k ≤ n → AtMost k before now → AtMost n before now
+most_most k n before now le most = record { later = most.later; most = omega (arith, le, most.most) }
+
+-- an opening reads the header and the state, and a region twice
+reads_header : (k order state : ℕ) → k ≤ 5 → k ≤ opening_reads order state
+reads_header k order state le = omega (arith, le)
+
+reads_regions : (k r : ℕ) (idle : Bool) → k ≤ 2 * r → 5 + k ≤ 5 + (if idle then 2 else 1) * r + r
+reads_regions k r true le = omega (arith, le)
+reads_regions k r false le = omega (arith, le)
+
+one_sync : (idle : Bool) → 1 ≤ (if idle then 1 else 3)
+one_sync true = omega arith
+one_sync false = omega arith
+
+have_reads : (few : Bool) → (if few then 0 else 3) ≤ 5
+have_reads true = omega arith
+have_reads false = omega arith
+
+same_most : (n : ℕ) → n ≤ n
+same_most n = omega arith
+
+most_reads : {T : Type 0} (order state : ℕ) (result : Result T Why) (before now : ℕ) → AreReads order state result before now → AtMost (opening_reads order state) before now
+most_reads order state (Ok opened) before now reads = adds_most _ _ before now (same_most _) reads
+most_reads order state (Err (Malformed offset rule)) before now reads = adds_most _ _ before now (same_most _) reads
+most_reads order state (Err Device) before now reads = reads
+most_reads order state (Err OutOfMemory) before now reads = reads
+most_reads order state (Err (Twins offset main back)) before now reads =
+    let r = region_len order in
+    most_most _ _ before now (reads_regions (min (2 * r) (2 * (offset + 64))) r (state == 0) (omega arith)) reads
+most_reads order state (Err (TooSmall need have)) before now reads = adds_most _ _ before now (reads_header _ order state (have_reads _)) reads
+most_reads order state (Err NotAHeap) before now reads = adds_most _ _ before now (reads_header 1 order state (omega arith)) reads
+most_reads order state (Err (BadVersion version)) before now reads = adds_most _ _ before now (reads_header 2 order state (omega arith)) reads
+most_reads order state (Err (BadOrder n)) before now reads = adds_most _ _ before now (reads_header 3 order state (omega arith)) reads
+most_reads order state (Err (BadState word)) before now reads = adds_most _ _ before now (reads_header 4 order state (omega arith)) reads
+
+most_writes : {T : Type 0} (order state : ℕ) (result : Result T Why) (before now : ℕ) → AreWrites order state result before now → AtMost (opening_writes order state) before now
+most_writes order state (Ok opened) before now writes = adds_most _ _ before now (same_most _) writes
+most_writes order state (Err (Malformed offset rule)) before now writes = adds_most _ _ before now (same_most _) writes
+most_writes order state (Err OutOfMemory) before now writes = adds_most _ _ before now (same_most _) writes
+most_writes order state (Err Device) before now writes = writes
+most_writes order state (Err (Twins offset main back)) before now writes = none_most _ before now writes
+most_writes order state (Err (TooSmall need have)) before now writes = none_most _ before now writes
+most_writes order state (Err NotAHeap) before now writes = none_most _ before now writes
+most_writes order state (Err (BadVersion version)) before now writes = none_most _ before now writes
+most_writes order state (Err (BadOrder n)) before now writes = none_most _ before now writes
+most_writes order state (Err (BadState word)) before now writes = none_most _ before now writes
+
+most_syncs : {T : Type 0} (state : ℕ) (result : Result T Why) (before now : ℕ) → AreSyncs state result before now → AtMost (opening_syncs state) before now
+most_syncs state (Ok opened) before now syncs = adds_most _ _ before now (same_most _) syncs
+most_syncs state (Err (Malformed offset rule)) before now syncs = adds_most _ _ before now (same_most _) syncs
+most_syncs state (Err OutOfMemory) before now syncs = adds_most _ _ before now (same_most _) syncs
+most_syncs state (Err Device) before now syncs = syncs
+most_syncs state (Err (Twins offset main back)) before now syncs = adds_most 1 _ before now (one_sync (state == 0)) syncs
+most_syncs state (Err (TooSmall need have)) before now syncs = none_most _ before now syncs
+most_syncs state (Err NotAHeap) before now syncs = none_most _ before now syncs
+most_syncs state (Err (BadVersion version)) before now syncs = none_most _ before now syncs
+most_syncs state (Err (BadOrder n)) before now syncs = none_most _ before now syncs
+most_syncs state (Err (BadState word)) before now syncs = none_most _ before now syncs
+
+stops_opening : {T : Type 0} (result : Result T Why) (before now : ℕ) (failing : Bool) → HasFaults result before now failing → StopsAtFault before now failing
+stops_opening (Ok opened) before now failing same = inl same
+stops_opening (Err (Twins offset main back)) before now failing stops = stops
+stops_opening (Err Device) before now failing failed = inr failed
+stops_opening (Err NotAHeap) before now failing same = inl same
+stops_opening (Err (BadVersion version)) before now failing same = inl same
+stops_opening (Err (BadOrder n)) before now failing same = inl same
+stops_opening (Err (BadState word)) before now failing same = inl same
+stops_opening (Err (TooSmall need have)) before now failing same = inl same
+stops_opening (Err (Malformed offset rule)) before now failing same = inl same
+stops_opening (Err OutOfMemory) before now failing same = inl same
+
+pub within_opening : {D T : Type 0} (shown : ShownDevice D) (was now : D) (result : Result T Why) → (IsTrue shown.tells_words → Calls shown (shown.words was) was now result)
+    → (IsTrue shown.tells_words → IsIdle (shown.words was) → Does shown Stays was now) → HasFaults result (shown.faults was) (shown.faults now) (shown.failing now) → WithinOpening shown was now
+within_opening shown was now result calls idle faults = record {
+  reads = λ told. most_reads _ _ result _ _ (calls told).reads;
+  writes = λ told. most_writes _ _ result _ _ (calls told).writes;
+  syncs = λ told. most_syncs _ result _ _ (calls told).syncs;
+  idle = idle;
+  stops = stops_opening result _ _ _ faults;
+}
+
+pub within_making : {D : Type 0} (shown : ShownDevice D) (order : ℕ) (was now : D) (result : Result (Unit {0}) FormatRefused)
+    → Makes shown (format_reads result) (format_writes order result) (format_syncs result) was now (format_fault result) → WithinMaking shown order was now
+within_making shown order was now (Ok done) makes = record { reads = makes.most_reads; writes = makes.most_writes; syncs = makes.most_syncs; stops = inl makes.cause.none }
+within_making shown order was now (Err format.Device) makes = record { reads = makes.most_reads; writes = makes.most_writes; syncs = makes.most_syncs; stops = inr makes.cause.failed }
+within_making shown order was now (Err format.AlreadyAHeap) makes = record {
+  reads = makes.most_reads;
+  writes = most_most 0 _ _ _ (omega arith) makes.most_writes;
+  syncs = most_most 1 _ _ _ (omega arith) makes.most_syncs;
+  stops = inl makes.cause.none;
+}
+within_making shown order was now (Err (format.TooSmall need have)) makes = record {
+  reads = most_most _ 1 _ _ (few_calls (have == 0)) makes.most_reads;
+  writes = most_most 0 _ _ _ (omega arith) makes.most_writes;
+  syncs = most_most _ 3 _ _ (few_syncs (have == 0)) makes.most_syncs;
+  stops = inl makes.cause.none;
+}
+  where
+    few_calls : (none : Bool) → (if none then 0 else 1) ≤ 1
+    few_calls true = omega arith
+    few_calls false = omega arith
+
+    few_syncs : (none : Bool) → (if none then 0 else 1) ≤ 3
+    few_syncs true = omega arith
+    few_syncs false = omega arith
