@@ -1,9 +1,16 @@
--- What contracts see of a heap that is opened for callers.
-use Rattle.std.specs.Prelude.{◌≡◌, ℕ, ◌≤◌, List, [], IsTrue}
+-- What contracts see of a heap that is opened for callers, and what is left of one that is not.
+use Rattle.std.specs.Prelude.{◌≡◌, ℕ, ◌≤◌, List, [], Err, IsTrue}
 use Rattle.atomic_table.specs.Seated.{TableId}
 use Rattle.rom_model.specs.VecSpace.{words_of}
-use Rattle.rom_device.specs.Device.{ShownDevice}
+use Rattle.rom_model.specs.declared.unfit.Break.{Break}
+use Rattle.rom_device.specs.Device.{IsSynced, Leaves, ShownDevice}
 use Rattle.rom_header.specs.Regions.{IsCurrentRegion}
+use Rattle.rom_recover.specs.Recovered.{IsDone, Mended}
+use Rattle.rom_open.specs.Calls.{Calls, HasFaults, is_late}
+use Rattle.rom_open.specs.Refusals.{IsRefusal, NamesTooFew, named_order}
+use Rattle.rom_open.specs.Within.{WithinOpening}
+use Rattle.rom_open.specs.declared.reasons.Why.{Why}
+use Rattle.rom_combine.specs.Costs.{WithinHeap}
 use Rattle.rom_twin.specs.declared.phase.Phase.TheVariants.{Clean}
 use Rattle.rom_combine.specs.AtRest.{Locked}
 use Rattle.rom_rule.specs.Views.{base_of, opening_plan, plan_of}
@@ -31,3 +38,20 @@ pub record IsOpening {D S : Type 0} (shown : ShownDevice D) (Contents : ℕ → 
   pub image_is : words_of begun.image.value ≡ (base_of key).image
   pub faults_is : begun.faults ≡ (base_of key).faults
   pub faults_by : begun.faults ≤ shown.faults c.twin.device
+
+-- The heap on a device was not opened, for this reason, and the device is handed back.
+pub record HasBeenRefused {D S : Type 0} (shown : ShownDevice D) (Contents : ℕ → List ℕ → S → ℕ → Type 0) (FirstBreak : ℕ → List ℕ → Break → Type 0) (was now : D) (why : Why) : Type 0 where
+  -- it is the first test that fails, and too few words are told by their number
+  pub refused : IsTrue shown.tells_words → IsRefusal Contents FirstBreak (shown.words was) why
+  pub sizes : NamesTooFew (shown.size was) why
+  -- the device has its length, of its words only the state and the two regions differ, and the same region counts wherever a stop is
+  pub size : shown.size now ≡ shown.size was
+  pub outside : IsTrue shown.tells_words → WithinHeap (named_order (shown.words was)) (shown.words was) (shown.words now)
+  pub images : IsTrue shown.tells_images → Leaves shown (Mended (named_order (shown.words was)) (shown.words was)) was now
+  -- after a malformed region, or for want of memory, it has been recovered
+  pub recovered : IsTrue shown.tells_words → IsTrue (is_late why) → IsDone (named_order (shown.words was)) (shown.words was) (shown.words now)
+  pub certain : IsTrue (is_late why) → IsSynced shown now
+  -- it was called as often as an opening calls it that ends so, which is no more than any does, and not after a call that failed
+  pub calls : IsTrue shown.tells_words → Calls {T = Unit {0}} shown (shown.words was) was now (Err why)
+  pub within : WithinOpening shown was now
+  pub faults : HasFaults {T = Unit {0}} (Err why) (shown.faults was) (shown.faults now) (shown.failing now)

@@ -1,5 +1,5 @@
 //! A heap that is opened for callers, whose lock isn't made yet.
-ghost use Rattle.std.specs.Prelude.{◌≡◌, ℕ, ◌≤◌, List, IfErr, IfOk, IsTrue, length};
+ghost use Rattle.std.specs.Prelude.{◌≡◌, ℕ, ◌≤◌, List, IfErr, IfOk, IsTrue, Ok, length};
 ghost use Rattle.rom_model.specs.Blocks.{IsOrder};
 ghost use Rattle.rom_model.specs.VecSpace.{words_of};
 ghost use Rattle.rom_device.specs.Device.{IsSynced, Leaves};
@@ -8,15 +8,18 @@ ghost use Rattle.rom_header.specs.Layout.{back_of, main_of, words_needed};
 ghost use Rattle.rom_header.specs.Regions.{IsHeap};
 ghost use Rattle.rom_lr.specs.Opening.{dealt_view};
 ghost use Rattle.rom_lr.specs.Seats.{IsWriterOf, opened_with, writer_view};
-ghost use Rattle.rom_recover.specs.Recovered.{IsDone, Mended};
-ghost use Rattle.rom_open.specs.Calls.{HasFaults, is_late};
-ghost use Rattle.rom_open.specs.Refusals.{IsRefusal, NamesTooFew, named_order};
+ghost use Rattle.rom_recover.specs.Recovered.{Mended};
+ghost use Rattle.rom_open.specs.AtRest.{IsAtRest};
+ghost use Rattle.rom_open.specs.Calls.{Calls};
+ghost use Rattle.rom_open.specs.Refusals.{named_order};
+ghost use Rattle.rom_open.specs.Within.{WithinOpening};
 ghost use Rattle.rom_combine.specs.AtRest.{IsReady};
 ghost use Rattle.rom_combine.specs.Costs.{WithinHeap};
 ghost use Rattle.rom_rule.specs.Places.{AreCallers};
 ghost use Rattle.rom_rule.specs.Views.{base_of};
 ghost use Rattle.rom_store.specs.Callers.{IsNewCaller};
 ghost use Rattle.rom_store.specs.Indexed.{Indexed};
+ghost use Rattle.rom_store.specs.Openings.{HasBeenRefused};
 
 use crate::begun::Begun;
 use crate::held::Held;
@@ -171,33 +174,23 @@ pub fn open_store<D: Device + Send, O: Object>(
         device o.device) }
     ensures certain { IfOk result (λ o. IsSynced D.shown o.device) }
     ensures size { IfOk result (λ o. D.shown.size o.device ≡ D.shown.size device) }
+    ensures fits { IfOk result (λ o. words_needed (base_of o.key).order ≤ D.shown.size device) }
     ensures outside { IsTrue D.shown.tells_words → IfOk result (λ o.
         WithinHeap (named_order (D.shown.words device)) (D.shown.words device)
         (D.shown.words o.device)) }
     ensures faults { IfOk result (λ o. (D.shown.faults o.device ≡ D.shown.faults device)
         × ((base_of o.key).faults ≡ D.shown.faults device)) }
 
+    // It is at rest, and was called as often as an opening calls it; under IDLE nothing was written.
+    ensures rest { IsTrue D.shown.tells_words → IfOk result (λ o. let b = base_of o.key in
+        IsAtRest b.order b.image (D.shown.words o.device)) }
+    ensures calls { IsTrue D.shown.tells_words → IfOk result (λ o.
+        Calls {T = Unit {0}} D.shown (D.shown.words device) device o.device (Ok tt)) }
+    ensures within { IfOk result (λ o. WithinOpening D.shown device o.device) }
+
     // Else the device is refused by the first test that fails, and handed back.
-    ensures refused { IsTrue D.shown.tells_words → IfErr result (λ refused.
-        IsRefusal O.Contents O.FirstBreak (D.shown.words device) refused.why) }
-    ensures refused_sizes { IfErr result (λ refused.
-        NamesTooFew (D.shown.size device) refused.why) }
-    ensures refused_size { IfErr result (λ refused.
-        D.shown.size refused.device ≡ D.shown.size device) }
-    ensures refused_outside { IsTrue D.shown.tells_words → IfErr result (λ refused.
-        WithinHeap (named_order (D.shown.words device)) (D.shown.words device)
-        (D.shown.words refused.device)) }
-    ensures refused_images { IsTrue D.shown.tells_images → IfErr result (λ refused.
-        Leaves D.shown (Mended (named_order (D.shown.words device)) (D.shown.words device))
-        device refused.device) }
-    ensures refused_recovered { IsTrue D.shown.tells_words → IfErr result (λ refused.
-        IsTrue (is_late refused.why) → IsDone (named_order (D.shown.words device))
-        (D.shown.words device) (D.shown.words refused.device)) }
-    ensures refused_certain { IfErr result (λ refused.
-        IsTrue (is_late refused.why) → IsSynced D.shown refused.device) }
-    ensures refused_faults { IfErr result (λ refused. HasFaults {T = Unit {0}} (Err refused.why)
-        (D.shown.faults device) (D.shown.faults refused.device)
-        (D.shown.failing refused.device)) }
+    ensures refused { IfErr result (λ refused. HasBeenRefused D.shown O.Contents O.FirstBreak device
+        refused.device refused.why) }
 {
     let Opened {
         device,

@@ -1,16 +1,16 @@
 use Rattle.std.proofs.Common.{rules, arith, ◌≡◌, ℕ, List, inr, sym, subst}
-use Rattle.std.specs.Prelude.{Err, IfErr, IsTrue}
+use Rattle.std.specs.Prelude.{Err, IfErr}
 use Rattle.std.proofs.lemmas.Grind.{common_steps}
 use Rattle.rom_combine.specs.Costs.{WithinHeap}
-use Rattle.rom_device.specs.Device.{IsSynced, Leaves}
+use Rattle.rom_device.specs.Device.{Leaves}
 use Rattle.rom_header.specs.Held.{Holds}
 use Rattle.rom_header.specs.Regions.{IsCurrentRegion}
 use Rattle.rom_recover.specs.Recovered.{Mended}
 use Rattle.rom_rule.specs.Views.{base_of}
 use Rattle.rom_rule.specs.declared.views.Base.{Base}
-use Rattle.rom_open.specs.Calls.{is_late}
 use Rattle.rom_open.specs.Refusals.{named_order}
-use Rattle.rom_store.proofs.Mending.{mends_within}
+use Rattle.rom_store.specs.Openings.{HasBeenRefused}
+use Rattle.rom_store.proofs.Mending.{mends_within, most_of_opening}
 use Rattle.rom_store.proofs.opening.open_store.Goals as goal
 
 pub returns-in-Ok-clause-held : goal.returns-in-Ok-clause-held
@@ -65,20 +65,43 @@ returns-in-Ok-clause-outside g c told =
     (mends_within (named_order (words c.args.device)) (words c.args.device) (words c.in_ok-device.field-0.device) (c.in_ok-device.ensures.left.words told))
 
 pub returns-clause-refused : goal.returns-clause-refused
-returns-clause-refused g c told =
+returns-clause-refused g c =
     let opened = c.in_ok-device.field-0 in
-    let words = g.D.Device.shown.words c.args.device in
-    let current = c.in_ok-device.ensures.answer told in
-    let order_is : opened.geometry ≡ named_order words = sym current.heap.header.order_is in
-    inr (opened.image.items, subst (λ (n : ℕ). IsCurrentRegion n words opened.image.items) order_is current, tt)
+    let shown = g.D.Device.shown in
+    let words = shown.words c.args.device in
+    let ensures = c.in_ok-device.ensures in
+    record {
+      refused = λ told.
+          let current = ensures.answer told in
+          let order_is : opened.geometry ≡ named_order words = sym current.heap.header.order_is in
+          inr (opened.image.items, subst (λ (n : ℕ). IsCurrentRegion n words opened.image.items) order_is current, tt);
+      sizes = tt;
+      size = ensures.left.size;
+      outside = λ told. mends_within (named_order words) words (shown.words opened.device) (ensures.left.words told);
+      images = ensures.images;
+      recovered = λ told late. ensures.recovered told late;
+      certain = λ late. ensures.certain late;
+      calls = λ told. most_of_opening shown words c.args.device opened.device (ensures.calls told);
+      within = ensures.within;
+      faults = ensures.faults;
+    }
 
-pub returns-clause-refused_outside : goal.returns-clause-refused_outside
-returns-clause-refused_outside g c told =
-    let words = g.D.Device.shown.words in
-    mends_within (named_order (words c.args.device)) (words c.args.device) (words c.in_ok-device.field-0.device) (c.in_ok-device.ensures.left.words told)
-
-pub returns-in_err-device-clause-refused_certain : goal.returns-in_err-device-clause-refused_certain
-returns-in_err-device-clause-refused_certain g c =
+pub returns-in_err-device-clause-refused : goal.returns-in_err-device-clause-refused
+returns-in_err-device-clause-refused g c =
     let refused = c.in_err-device.field-0.0 in
+    let shown = g.D.Device.shown in
+    let words = shown.words c.args.device in
+    let ensures = c.in_err-device.ensures in
     let is : c.from_residual.result ≡ Err refused = grind (arith, common_steps) in
-    subst (λ r. IfErr r (λ e. IsTrue (is_late e.why) → IsSynced g.D.Device.shown e.device)) (sym is) c.in_err-device.ensures.certain
+    subst (λ r. IfErr r (λ e. HasBeenRefused shown g.O.Object.Contents g.O.Object.FirstBreak c.args.device e.device e.why)) (sym is) record {
+      refused = ensures.answer;
+      sizes = ensures.sizes;
+      size = ensures.left.size;
+      outside = λ told. mends_within (named_order words) words (shown.words refused.device) (ensures.left.words told);
+      images = ensures.images;
+      recovered = ensures.recovered;
+      certain = ensures.certain;
+      calls = ensures.calls;
+      within = ensures.within;
+      faults = ensures.faults;
+    }
