@@ -1,6 +1,6 @@
 -- Why there is no heap, as it is told.
 use Rattle.std.specs.Prelude.{◌≡◌, ◌⊎◌, ℕ, List, IsTrue, codes, Result, Err}
-use Rattle.std.proofs.Common.{refl, arith, inl, inr, ⊎_elim}
+use Rattle.std.proofs.Common.{refl, arith, inl, inr}
 use Rattle.rom_model.specs.Machine.{Machine}
 use Rattle.rom_model.specs.declared.unfit.Break.{Break}
 use Rattle.rom_device.specs.Device.{ShownDevice, Makes}
@@ -101,8 +101,8 @@ module _ {S C Q R A D K : Type 0} (machine : Machine S C Q R A) (Contents : ℕ 
       unremembered (unmade.Refused format.AlreadyAHeap) told six = absurd (omega (arith, six))
       unremembered (unmade.Refused (format.TooSmall need have)) told six = absurd (omega (arith, six))
 
-  -- or none was opened, where want of memory may come before any call
-  pub none_opened : (why : Why) → (IsTrue shown.tells_words → IsRefusal Contents FirstBreak (shown.words was) why ⊎ ((why ≡ OutOfMemory) × (now ≡ was))) → NamesTooFew (shown.size was) why →
+  -- or none was opened
+  pub none_opened : (why : Why) → (IsTrue shown.tells_words → IsRefusal Contents FirstBreak (shown.words was) why) → NamesTooFew (shown.size was) why →
       HasFaults {T = Unit {0}} (Err why) (shown.faults was) (shown.faults now) (shown.failing now) → (IsTrue shown.tells_images → IsLeft machine Contents shown Standing was now) → IsTold sink old new (refusal_line why) →
       HasNone machine Contents shown sink FirstBreak Standing was now old new (number_of (refusal_status why))
   none_opened Device answer sizes faults images told = record {
@@ -121,14 +121,14 @@ module _ {S C Q R A D K : Type 0} (machine : Machine S C Q R A) (Contents : ℕ 
     uncalled = λ six. tt;
     no_memory = λ six. told;
   }
-  none_opened why answer sizes faults images told = by_name why refl refl (λ is. cc) answer sizes faults told images
+  none_opened why answer sizes faults images told = by_name why refl refl answer sizes faults told images
     where
-      by_name : (why : Why) → refusal_status why ≡ HeapRefused → number_of (refusal_status why) ≡ 3 → (why ≡ OutOfMemory → ⊥) → (IsTrue shown.tells_words → IsRefusal Contents FirstBreak (shown.words was) why ⊎ ((why ≡ OutOfMemory) × (now ≡ was))) → NamesTooFew (shown.size was) why →
+      by_name : (why : Why) → refusal_status why ≡ HeapRefused → number_of (refusal_status why) ≡ 3 → (IsTrue shown.tells_words → IsRefusal Contents FirstBreak (shown.words was) why) → NamesTooFew (shown.size was) why →
           HasFaults {T = Unit {0}} (Err why) (shown.faults was) (shown.faults now) (shown.failing now) → IsTold sink old new (refusal_line why) → (IsTrue shown.tells_images → IsLeft machine Contents shown Standing was now) →
           HasNone machine Contents shown sink FirstBreak Standing was now old new (number_of (refusal_status why))
-      by_name why named three memory answer sizes faults told images = record {
+      by_name why named three answer sizes faults told images = record {
         images = images;
-        heap_refused = λ is. record { why = why; by_name = named; refused = λ tells. ⊎_elim (λ r. r) (λ none. absurd (memory none.0)) (answer tells); sizes = sizes; faults = faults; told = told };
+        heap_refused = λ is. record { why = why; by_name = named; refused = answer; sizes = sizes; faults = faults; told = told };
         device_failed = λ seven. absurd (omega (arith, three, seven));
         unfailed = λ six. absurd (omega (arith, three, six));
         uncalled = λ six. tt;

@@ -24,7 +24,7 @@ use crate::worked::Worked;
 use rom_device::Device;
 use rom_model::{Object, Step};
 use rom_open::Refused;
-use rom_store::{Gate, Played, Unmade, play, play_new};
+use rom_store::{Gate, Played, Unmade, Unplayed, play, play_new};
 use rom_text::{Sink, Told};
 use std::alloc::Global;
 use std::sync::Wait;
@@ -171,7 +171,8 @@ where
         },
         Heap::Standing => match play::<D, O, R, G>(rt, alloc, device, scripts, gate) {
             Ok(played) => Ok(played),
-            Err(refused) => Err(end_unopened(refused, out)),
+            Err(Unplayed::NoRoom(device)) => Err(end_without_memory::<O, D, K>(device, out)),
+            Err(Unplayed::Unopened(refused)) => Err(end_unopened(refused, out)),
         },
     }
 }

@@ -7,6 +7,7 @@ use Rattle.rom_model.specs.Lawful.{IsLawful}
 use Rattle.rom_model.specs.Machine.{Machine, on_words}
 use Rattle.rom_model.specs.Passes.{faults_after}
 use Rattle.rom_model.specs.declared.line.LineResult.{LineResult}
+use Rattle.rom_model.specs.declared.unfit.Break.{Break}
 use Rattle.rom_model.specs.declared.line.Step.{Step}
 use Rattle.rom_device.specs.Device.{Leaves, ShownDevice}
 use Rattle.rom_combine.specs.Costs.{WithinHeap}
@@ -15,9 +16,12 @@ use Rattle.rom_rule.specs.declared.views.Base.{Base}
 use Rattle.rom_store.specs.Callers.{Caller, IsNewCaller}
 use Rattle.rom_store.specs.Closing.{ClosedSeen}
 use Rattle.rom_store.specs.Indexed.{Indexed}
+use Rattle.rom_store.specs.Openings.{HasBeenRefused}
 use Rattle.rom_store.specs.Sessions.{EachStory, HasStory}
 use Rattle.rom_store.specs.Traced.{WentThrough}
 use Rattle.rom_store.specs.Working.{IsRoom}
+use Rattle.rom_store.specs.declared.playing.Unplayed.{Unplayed}
+use Rattle.rom_store.specs.declared.playing.Unplayed.TheVariants.{NoRoom, Unopened}
 use Rattle.rom_store.specs.declared.rooms.Rooms.{Rooms}
 
 -- For each script there is an empty list with room for a result of each of its lines, and room for a job.
@@ -33,6 +37,11 @@ pub record CanPlay {S X R A : Type 0} (Contents : ℕ → List ℕ → S → ℕ
   pub as_many : (length passes ≡ length scripts) × (length scripts ≡ base.callers)
   pub room : HasRooms scripts rooms
   pub few : All (λ v. length v.items ≤ LAST_COUNT) scripts
+
+-- Why scripts were not played: there was no memory for what they are told, and the device was not called; or the heap was not opened.
+abbrev pub IsUnplayed : {D S : Type 0} → ShownDevice D → (ℕ → List ℕ → S → ℕ → Type 0) → (ℕ → List ℕ → Break → Type 0) → D → Unplayed D → Type 0
+IsUnplayed shown Contents FirstBreak was (NoRoom device) = device ≡ was
+IsUnplayed shown Contents FirstBreak was (Unopened refused) = HasBeenRefused shown Contents FirstBreak was refused.device refused.why
 
 module _ {D S C Q R A : Type 0} (shown : ShownDevice D) (machine : Machine S C Q R A) (Contents : ℕ → List ℕ → S → ℕ → Type 0) (scripts : List (Vec (Step C Q))) (results : List (Vec (LineResult R A))) where
   -- What every session of scripts is. It has a story, and of each: what the lines were told is lawful; each image that a stop leaves now holds the published history, or that with the batch in doubt; the device went through the passes of the records, which have no more faults than it counts.

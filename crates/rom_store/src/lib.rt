@@ -32,7 +32,7 @@ pub use closed::Closed;
 pub use label::Label;
 pub use opening::{Opening, open_store};
 pub use pass::Pass;
-pub use playing::play;
+pub use playing::{Unplayed, play};
 pub use playing_new::{Unmade, play_new};
 pub use reading::Reading;
 pub use rom_combine::{Gate, NoGate};

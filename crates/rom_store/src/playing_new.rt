@@ -1,10 +1,8 @@
 //! Scripts on a heap that is made for them.
-ghost use Rattle.std.specs.Prelude.{◌≡◌, Err, Ok, ℕ, ◌+◌, ◌<◌, ◌≤◌, List, length, map, All, IfErr, IfOk, IsTrue};
+ghost use Rattle.std.specs.Prelude.{◌≡◌, Err, Ok, ◌<◌, ◌≤◌, length, All, IfErr, IfOk, IsTrue, OnOk};
 ghost use Rattle.rom_model.specs.Blocks.{IsOrder};
 ghost use Rattle.rom_model.specs.History.{LAST_COUNT};
-ghost use Rattle.rom_model.specs.Lawful.{IsLawful};
 ghost use Rattle.rom_model.specs.Machine.{on_words};
-ghost use Rattle.rom_model.specs.Passes.{faults_after};
 ghost use Rattle.rom_model.specs.Space.{ChangesOnly};
 ghost use Rattle.rom_model.specs.VecSpace.{words_of};
 ghost use Rattle.rom_device.specs.Device.{Does, Leaves, Stays};
@@ -12,16 +10,16 @@ ghost use Rattle.rom_header.specs.Fresh.{HasTooFewFor, IsFormatAnswer, IsRefused
 ghost use Rattle.rom_header.specs.Layout.{words_needed};
 ghost use Rattle.rom_header.specs.declared.fresh.FormatRefused.{FormatRefused};
 ghost use Rattle.rom_open.specs.Making.{HasFaultsUnmade, IsMadeThen, NoneOrHolds};
+ghost use Rattle.rom_open.specs.Within.{MakesNone, WithinMaking};
 ghost use Rattle.rom_open.specs.declared.new_heap.NotFormatted.TheVariants as unmade;
 ghost use Rattle.rom_lr.specs.Opening.{dealt_view};
 ghost use Rattle.rom_lr.specs.Seats.{IsWriterOf, opened_with, writer_view};
 ghost use Rattle.rom_combine.specs.AtRest.{IsReady};
-ghost use Rattle.rom_combine.specs.Session.{ImageNow, SessionImage};
+ghost use Rattle.rom_combine.specs.Session.{SessionImage};
 ghost use Rattle.rom_store.specs.Callers.{IsNewCaller};
 ghost use Rattle.rom_store.specs.Indexed.{Indexed};
-ghost use Rattle.rom_store.specs.Playing.{HasRooms};
-ghost use Rattle.rom_store.specs.Sessions.{EachStory, HasStory};
-ghost use Rattle.rom_store.specs.Traced.{WentThrough};
+ghost use Rattle.rom_store.specs.Playing.{HasRooms, IsSession};
+ghost use Rattle.rom_store.specs.Sessions.{EachStory};
 
 use crate::opening::Opening;
 use crate::pace::Pace;
@@ -120,37 +118,28 @@ where
     requires few { All (λ v. length v.items ≤ LAST_COUNT) scripts.now }
 
     // The results are those of one history, from the empty state.
-    ensures story { IfOk result (λ played. HasStory O.machine O.Contents played.closed.session) }
-    ensures lawful { IfOk result (λ played. EachStory O.machine O.Contents played.closed.session
-        (λ story. IsLawful O.machine story (map (λ v. v.items) scripts.now)
-        (map (λ v. v.items) played.results.items))) }
+    ensures session { IfOk result (λ played. IsSession D.shown O.machine O.Contents scripts.now
+        played.results.items played.closed) }
     ensures order { IfOk result (λ played. played.closed.session.order ≡ order) }
     ensures empty { IfOk result (λ played. EachStory O.machine O.Contents played.closed.session
         (λ story. (story.opening ≡ O.machine.empty) × (story.opening_count ≡ 0))) }
     ensures accepted { IsTrue D.shown.tells_words → IfOk result (λ played.
         IsFormatAnswer order (D.shown.words device) (Ok tt)) }
 
-    // What a stop leaves now and since the call began, and what the device counts.
-    ensures now { IsTrue D.shown.tells_images →
-        IfOk result (λ played. EachStory O.machine O.Contents
-        played.closed.session (λ story. (i : List ℕ) → D.shown.leaves played.closed.device i →
-        ImageNow O.Contents (on_words O.machine) story i)) }
-    ensures since { IsTrue D.shown.tells_images → IfOk result (λ played. EachStory O.machine
-        O.Contents played.closed.session (λ story. IsMadeThen D.shown O.Contents order
-        O.machine.empty (SessionImage O.Contents (on_words O.machine) story) device
-        played.closed.device)) }
-    ensures went { IfOk result (λ played. EachStory O.machine O.Contents played.closed.session
-        (λ story. WentThrough D.shown O.Contents (on_words O.machine) story story.opening_faults
-        played.closed.device)) }
+    // It has room there, no call of the making failed, and the device keeps its length and the words
+    // of others; what a stop left since the call began is told by the making and the session.
+    ensures fits { OnOk result (words_needed order ≤ D.shown.size device) }
+    ensures faults { IfOk result (λ played.
+        played.closed.session.faults ≡ D.shown.faults device) }
     ensures size { IfOk result (λ played.
         D.shown.size played.closed.device ≡ D.shown.size device) }
     ensures outside { IsTrue D.shown.tells_words → IfOk result (λ played.
         ChangesOnly 0 (words_needed order) (D.shown.words device)
         (D.shown.words played.closed.device)) }
-    ensures faults { IfOk result (λ played.
-        (D.shown.faults device ≤ played.closed.session.faults)
-        × (faults_after played.closed.session.faults played.closed.session.records
-        ≤ D.shown.faults played.closed.device)) }
+    ensures since { IsTrue D.shown.tells_images → IfOk result (λ played. EachStory O.machine
+        O.Contents played.closed.session (λ story. IsMadeThen D.shown O.Contents order
+        O.machine.empty (SessionImage O.Contents (on_words O.machine) story) device
+        played.closed.device)) }
 
     // Else no heap was made.
     ensures memory { IfErr result (λ failed.
@@ -169,6 +158,10 @@ where
         IfErr result (λ failed. Does D.shown Stays device failed.device) }
     ensures unmade_faults { IfErr result (λ failed. HasFaultsUnmade failed.why
         (D.shown.faults device) (D.shown.faults failed.device) (D.shown.failing failed.device)) }
+    ensures unmade_calls { IfErr result (λ failed.
+        MakesNone D.shown order failed.why device failed.device) }
+    ensures unmade_within { IfErr result (λ failed.
+        WithinMaking D.shown order device failed.device) }
 {
     let Ok(made) = make_ready::<O>(alloc, order, scripts, device.fault_count()) else {
         return Err(Unmade {

@@ -1,3 +1,5 @@
+use Rattle.std.proofs.Common.{rules}
+use Rattle.rom_store.specs.Openings.{HasBeenRefused}
 use Rattle.rom_run.proofs.Showing.{none_made, none_opened, refusal_ends, unmade_ends}
 use Rattle.rom_run.proofs.play.play_heap.Goals as goal
 
@@ -10,17 +12,18 @@ returns-in-Err-clause-none g c =
     (none_made o.machine o.Contents g.D.Device.shown g.K.Sink.shown o.FirstBreak c.args.device c.in-Err.unmade.device c.args.out.now c.end_unmade.new.out c.in-New.order c.in-Err.unmade.why
     failed.refused failed.unmade_sizes failed.unmade_faults failed.unmade_images failed.memory ended.told)
 
-pub returns-in-Err-play-clause-none : goal.returns-in-Err-play-clause-none
-returns-in-Err-play-clause-none g c =
+pub returns-in-Err-Unopened-clause-none : goal.returns-in-Err-Unopened-clause-none
+returns-in-Err-Unopened-clause-none g c =
     let o = g.O.Object in
     let ended = c.end_unopened.ensures in
-    let failed = c.in-Err-play.ensures in
+    let left = c.in-Err-Unopened.refused in
+    let failed : HasBeenRefused g.D.Device.shown o.Contents o.FirstBreak c.args.device left.device left.why = search rules in
     rw (c.in-Standing.is, ended.worked)
-    (none_opened o.machine o.Contents g.D.Device.shown g.K.Sink.shown o.FirstBreak c.args.device c.in-Err-play.refused.device c.args.out.now c.end_unopened.new.out c.in-Err-play.refused.why
-    failed.refused failed.refused_sizes failed.refused_faults failed.refused_images ended.told)
+    (none_opened o.machine o.Contents g.D.Device.shown g.K.Sink.shown o.FirstBreak c.args.device left.device c.args.out.now c.end_unopened.new.out left.why
+    failed.refused failed.sizes failed.faults failed.images ended.told)
 
 pub returns-in-Err-clause-none_statuses : goal.returns-in-Err-clause-none_statuses
 returns-in-Err-clause-none_statuses g c = rw c.end_unmade.ensures.worked (unmade_ends c.in-Err.unmade.why)
 
-pub returns-in-Err-play-clause-none_statuses : goal.returns-in-Err-play-clause-none_statuses
-returns-in-Err-play-clause-none_statuses g c = rw c.end_unopened.ensures.worked (refusal_ends c.in-Err-play.refused.why)
+pub returns-in-Err-Unopened-clause-none_statuses : goal.returns-in-Err-Unopened-clause-none_statuses
+returns-in-Err-Unopened-clause-none_statuses g c = rw c.end_unopened.ensures.worked (refusal_ends c.in-Err-Unopened.refused.why)

@@ -1,4 +1,4 @@
-use Rattle.std.proofs.Common.{◌≡◌, ◌∙◌, ℕ, List, [], None, arith, ap, refl, inl, subst, sym}
+use Rattle.std.proofs.Common.{◌≡◌, ◌∙◌, ℕ, List, [], None, arith, ap, refl, subst, sym}
 use Rattle.rom_header.specs.Held.{Holds}
 use Rattle.rom_model.specs.Machine.{on_words}
 use Rattle.rom_model.specs.Passes.{faults_after}
@@ -91,7 +91,7 @@ returns-in-Err-clause-none g c =
     let failed = c.in-Err.ensures in
     rw ended.worked
     (none_opened o.machine o.Contents g.D.Device.shown g.K.Sink.shown o.FirstBreak c.args.device c.in-Err.refused.device c.args.out.now c.end_unopened.new.out c.in-Err.refused.why
-    (λ told. inl (failed.answer told)) failed.sizes failed.faults failed.images ended.told)
+    failed.answer failed.sizes failed.faults failed.images ended.told)
 
 pub returns-in-Err-clause-none_kept : goal.returns-in-Err-clause-none_kept
 returns-in-Err-clause-none_kept g c =

@@ -1,4 +1,4 @@
-use Rattle.std.proofs.Common.{◌≡◌, ◌∙◌, ℕ, List, arith, subst, sym}
+use Rattle.std.proofs.Common.{◌≡◌, ◌∙◌, ℕ, List, subst, sym}
 use Rattle.rom_combine.specs.Costs.{WithinHeap}
 use Rattle.rom_combine.specs.Session.{SessionImage}
 use Rattle.rom_header.specs.Held.{Holds}
@@ -12,8 +12,8 @@ use Rattle.rom_store.proofs.playing.play.Goals as goal
 
 pub play_on-requires-clause-ready : goal.play_on-requires-clause-ready
 play_on-requires-clause-ready g c = λ κs outlive.
-    let o = c.in_ok-opening.opening in
-    let opened = c.in_ok-opening.ensures in
+    let o = c.in-Ok-open_store.opening in
+    let opened = c.in-Ok-open_store.ensures in
     let ready : CanPlay g.O.Object.Contents o.table_id (base_of o.key) o.passes c.args.scripts.now c.in-Ok.rooms = record {
       opened = opened.formed;
       fresh = opened.passes;
@@ -23,32 +23,23 @@ play_on-requires-clause-ready g c = λ κs outlive.
     } in
     ready
 
-pub returns-clause-story : goal.returns-clause-story
-returns-clause-story g c = c.play_on.ensures.played.session.story
+pub returns-in-Ok-open_store-clause-session : goal.returns-in-Ok-open_store-clause-session
+returns-in-Ok-open_store-clause-session g c = c.play_on.ensures.played.session
 
-pub returns-clause-lawful : goal.returns-clause-lawful
-returns-clause-lawful g c = c.play_on.ensures.played.session.lawful
+pub returns-in-Ok-open_store-clause-order : goal.returns-in-Ok-open_store-clause-order
+returns-in-Ok-open_store-clause-order g c told = c.play_on.ensures.played.order ∙ c.in-Ok-open_store.ensures.order told
 
-pub returns-clause-order : goal.returns-clause-order
-returns-clause-order g c told = c.play_on.ensures.played.order ∙ c.in_ok-opening.ensures.order told
+pub returns-in-Ok-open_store-clause-faults : goal.returns-in-Ok-open_store-clause-faults
+returns-in-Ok-open_store-clause-faults g c = c.play_on.ensures.played.opening_faults ∙ c.in-Ok-open_store.ensures.faults.1
 
-pub returns-clause-now : goal.returns-clause-now
-returns-clause-now g c = c.play_on.ensures.played.session.now
+pub returns-in-Ok-open_store-clause-size : goal.returns-in-Ok-open_store-clause-size
+returns-in-Ok-open_store-clause-size g c = c.play_on.ensures.played.size ∙ c.in-Ok-open_store.ensures.size
 
-pub returns-clause-went : goal.returns-clause-went
-returns-clause-went g c = c.play_on.ensures.played.session.went
-
-pub returns-clause-size : goal.returns-clause-size
-returns-clause-size g c = c.play_on.ensures.played.size ∙ c.in_ok-opening.ensures.size
-
-pub returns-clause-faults : goal.returns-clause-faults
-returns-clause-faults g c = (omega (arith, c.play_on.ensures.played.opening_faults, c.in_ok-opening.ensures.faults.1), c.play_on.ensures.played.session.faults)
-
-pub returns-clause-since : goal.returns-clause-since
-returns-clause-since g c = λ told story is.
+pub returns-in-Ok-open_store-clause-since : goal.returns-in-Ok-open_store-clause-since
+returns-in-Ok-open_store-clause-since g c = λ told story is.
     let Contents = g.O.Object.Contents in
     let step = on_words g.O.Object.machine in
-    let opening = c.in_ok-opening.opening in
+    let opening = c.in-Ok-open_store.opening in
     let closed = c.play_on.result.closed in
     let b : Base = base_of opening.key in
     let order_is : closed.session.order ≡ b.order = c.play_on.ensures.played.order in
@@ -58,29 +49,29 @@ returns-clause-since g c = λ told story is.
     leaves_both g.D.Device.shown (λ i. Holds Contents b.order i story.opening story.opening_count) (SessionImage Contents step story) (SessionImage Contents step story) c.args.device opening.device closed.device
     (λ i held. held_opening Contents step story i (subst (λ (n : ℕ). Holds Contents n i story.opening story.opening_count) (sym same) held))
     (λ i image. image)
-    (c.in_ok-opening.ensures.held_images told story.opening story.opening_count at)
+    (c.in-Ok-open_store.ensures.held_images told story.opening story.opening_count at)
     (c.play_on.ensures.played.since told story is)
 
-pub returns-clause-held : goal.returns-clause-held
-returns-clause-held g c = λ told story is.
+pub returns-in-Ok-open_store-clause-held : goal.returns-in-Ok-open_store-clause-held
+returns-in-Ok-open_store-clause-held g c = λ told story is.
     let Contents = g.O.Object.Contents in
-    let opening = c.in_ok-opening.opening in
+    let opening = c.in-Ok-open_store.opening in
     let closed = c.play_on.result.closed in
     let b : Base = base_of opening.key in
     let order_is : closed.session.order ≡ b.order = c.play_on.ensures.played.order in
     let image_is : closed.session.image ≡ b.image = c.play_on.ensures.played.image in
     let same : story.order ≡ b.order = is.order_is ∙ order_is in
     let at : Contents b.order b.image story.opening story.opening_count = subst (λ (z : ℕ × List ℕ). Contents z.0 z.1 story.opening story.opening_count) (λ j. (order_is j, image_is j)) is.opening in
-    subst (λ (n : ℕ). Holds Contents n (g.D.Device.shown.words c.args.device) story.opening story.opening_count) (sym same) (c.in_ok-opening.ensures.held told story.opening story.opening_count at)
+    subst (λ (n : ℕ). Holds Contents n (g.D.Device.shown.words c.args.device) story.opening story.opening_count) (sym same) (c.in-Ok-open_store.ensures.held told story.opening story.opening_count at)
 
-pub returns-clause-outside : goal.returns-clause-outside
-returns-clause-outside g c told =
+pub returns-in-Ok-open_store-clause-outside : goal.returns-in-Ok-open_store-clause-outside
+returns-in-Ok-open_store-clause-outside g c told =
     let words = g.D.Device.shown.words in
-    let opening = c.in_ok-opening.opening in
+    let opening = c.in-Ok-open_store.opening in
     let closed = c.play_on.result.closed in
     let n : ℕ = named_order (words c.args.device) in
-    let first : WithinHeap n (words c.args.device) (words opening.device) = c.in_ok-opening.ensures.outside told in
-    let second : WithinHeap n (words opening.device) (words closed.device) = subst (λ (m : ℕ). WithinHeap m (words opening.device) (words closed.device)) (c.in_ok-opening.ensures.order told) (c.play_on.ensures.played.outside told) in
+    let first : WithinHeap n (words c.args.device) (words opening.device) = c.in-Ok-open_store.ensures.outside told in
+    let second : WithinHeap n (words opening.device) (words closed.device) = subst (λ (m : ℕ). WithinHeap m (words opening.device) (words closed.device)) (c.in-Ok-open_store.ensures.order told) (c.play_on.ensures.played.outside told) in
     record {
       as_long = second.as_long ∙ first.as_long;
       before = λ k low other. second.before k low other ∙ first.before k low other;

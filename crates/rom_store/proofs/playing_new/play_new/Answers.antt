@@ -29,20 +29,11 @@ play_on-requires-clause-ready g c = λ κs outlive.
       few = c.requires.few;
     })
 
-pub returns-clause-story : goal.returns-clause-story
-returns-clause-story g c = c.play_on.ensures.played.session.story
-
-pub returns-clause-lawful : goal.returns-clause-lawful
-returns-clause-lawful g c = c.play_on.ensures.played.session.lawful
+pub returns-clause-session : goal.returns-clause-session
+returns-clause-session g c = c.play_on.ensures.played.session
 
 pub returns-clause-order : goal.returns-clause-order
 returns-clause-order g c = c.play_on.ensures.played.order ∙ (λ j. (base_of (c.of-opening.ensures.opening j).key).order) ∙ (λ j. (c.in-Ok.ensures.base j).order)
-
-pub returns-clause-now : goal.returns-clause-now
-returns-clause-now g c = c.play_on.ensures.played.session.now
-
-pub returns-clause-went : goal.returns-clause-went
-returns-clause-went g c = c.play_on.ensures.played.session.went
 
 pub returns-clause-size : goal.returns-clause-size
 returns-clause-size g c = c.play_on.ensures.played.size ∙ (λ j. g.D.Device.shown.size (c.of-opening.ensures.opening j).device) ∙ c.write_heap.ensures.alters.size
@@ -64,8 +55,7 @@ returns-clause-outside g c told =
 pub returns-clause-faults : goal.returns-clause-faults
 returns-clause-faults g c =
     let base_is = (λ j. base_of (c.of-opening.ensures.opening j).key) ∙ c.in-Ok.ensures.base in
-    let same : c.play_on.result.closed.session.faults ≡ c.fault_count.result = c.play_on.ensures.played.opening_faults ∙ (λ j. (base_is j).faults) in
-    (omega (arith, same, c.fault_count.ensures), c.play_on.ensures.played.session.faults)
+    c.play_on.ensures.played.opening_faults ∙ (λ j. (base_is j).faults) ∙ c.fault_count.ensures
 
 pub returns-clause-empty : goal.returns-clause-empty
 returns-clause-empty g c = λ story is.
