@@ -9,7 +9,7 @@ use rom_combine::{Gate, NoGate};
 use rom_device::{CallKind, Device, Trip};
 use rom_heap::Trio;
 use rom_model::{Answer, Call, LineResult, Query, Reply, Step, Updated};
-use rom_store::{Closed, Played, Refused, play};
+use rom_store::{Closed, Played, Refused, Unplayed, play};
 use std::alloc::{AllocError, Global};
 use std::sync::Wait;
 use std::test::Fail;
@@ -60,7 +60,8 @@ fn played<D: Device + Send + Drop, R: Threads + Wait + Sync, G: Gate + Sync>(
 {
     match play::<D, Trio, R, G>(rt, alloc, device, scripts, gate) {
         Ok(Played { results, closed }) => Ok((results, closed)),
-        Err(Refused { device: _, why: _ }) => Err("refused".into()),
+        Err(Unplayed::NoRoom(_)) => Err("no room".into()),
+        Err(Unplayed::Unopened(Refused { device: _, why: _ })) => Err("refused".into()),
     }
 }
 
