@@ -1,4 +1,4 @@
--- Lemmas on sources, on what a heap leaves, and on statuses.
+-- Lemmas on sources, on what a heap leaves, on statuses, and on how a command ends where nothing fails.
 pub mod Joined
 pub mod Ending
 pub mod Leaving
@@ -8,3 +8,5 @@ pub mod Lawful
 pub mod Replies
 pub mod Told
 pub mod Uncalled
+pub mod Accepted
+pub mod Completing

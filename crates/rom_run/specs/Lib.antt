@@ -6,6 +6,7 @@ pub mod Reading
 pub mod Keeping
 pub mod Played
 pub mod Working
+pub mod Complete
 pub mod Asked
 pub mod Plain
 pub mod Named

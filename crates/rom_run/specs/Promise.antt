@@ -10,6 +10,7 @@ use Rattle.rom_device.specs.Device.{ShownDevice}
 use Rattle.rom_text.specs.Runs.{AreAskedOnce, AreAtEnd, AreWithin, IsTold, SourceFailed, SourceTooLong}
 use Rattle.rom_text.specs.Streams.{ShownSink, ShownSource, StopsWriting, WriteFailed}
 use Rattle.rom_store.specs.Sessions.{EachStory, SessionSeen}
+use Rattle.rom_run.specs.Complete.{HasFewFaults, IsComplete}
 use Rattle.rom_run.specs.Played.{HasReplies}
 use Rattle.rom_run.specs.Use.{HasNotFailed, HasNotRun, HasRead, HasRun, IsStatus, Use, heap_of}
 use Rattle.rom_run.specs.Working.{HasMade, HasNone, HasSession, IsDeviceKept, IsStill}
@@ -23,9 +24,13 @@ module _ {S C Q R A D X K : Type 0} (machine : Machine S C Q R A) (Contents : �
     pub statuses : IsStatus asked status
     pub ran : HasRun asked status → IsSome session
     pub not_run : HasNotRun asked status → IsNone session
+    -- and which it is where the command can begin and nothing fails
+    pub complete : IsComplete shown source sink was now sources.items left.items old new AreRun Contents asked status
     -- where scripts were run or a heap was shown, the results of one history are printed, and what a stop leaves is told by it
     pub story : IfSome asked (λ does. IfSome session (HasSession machine Contents shown (heap_of does) was now (HasReplies machine AreRun Prints sources.items old new status)))
     pub still : IfSome session (λ s. EachStory machine Contents s (IsStill Contents shown asked was now))
+    -- and no more lines of a caller tell of a fault than the device counted
+    pub few_faults : IfSome session (λ s. EachStory machine Contents s (HasFewFaults machine shown was now))
     -- else what a stop may leave, and why scripts were not run or a heap not shown
     pub none : IfSome asked (λ does. IsNone session → HasNone machine Contents shown sink FirstBreak (heap_of does) was now old new status)
     pub made : status ≡ 0 → HasMade machine Contents shown sink asked was now old new

@@ -1,6 +1,7 @@
--- Lemmas on what is printed of a heap and of a drill, on the words of the command line, and on counting.
+-- Lemmas on what is printed of a heap and of a drill, on the words of the command line, on counting, and on what is printed with which status.
 pub mod Showing
 pub mod Ending
 pub mod Drilling
 pub mod Summing
 pub mod Replies
+pub mod Printed

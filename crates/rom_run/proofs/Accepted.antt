@@ -1,0 +1,102 @@
+-- Words that hold a heap are not refused, nor are words in which one can be made.
+use Rattle.std.specs.Prelude.{◌≡◌, ℕ, ◌+◌, List, IsTrue, Ok, Err, slice_index}
+use Rattle.std.proofs.Common.{refl, sym, ap, ◌∙◌, arith, subst, inl, inr}
+use Rattle.rom_model.specs.Blocks.{region_len}
+use Rattle.rom_model.specs.declared.unfit.Break.{Break}
+use Rattle.rom_device.specs.Device.{ShownDevice}
+use Rattle.rom_header.specs.Fresh.{IsFormatAnswer}
+use Rattle.rom_header.specs.Held.{Holds}
+use Rattle.rom_header.specs.Layout.{MAIN, back_at, back_of, main_of, words_needed}
+use Rattle.rom_header.specs.Regions.{IsCounted, IsCurrentRegion}
+use Rattle.rom_header.specs.declared.fresh.FormatRefused.{FormatRefused}
+use Rattle.rom_header.specs.declared.fresh.FormatRefused.TheVariants as format
+use Rattle.rom_header.proofs.Parts.{get_or-part}
+use Rattle.rom_recover.specs.Recovered.{DifferAt}
+use Rattle.rom_text.specs.Streams.{ShownSink}
+use Rattle.rom_open.proofs.Holding.{holds_one}
+use Rattle.rom_open.specs.Refusals.{IsRefusal, IsUnfit, IsUnready, named_order}
+use Rattle.rom_open.specs.declared.new_heap.NotFormatted.TheVariants.{Refused}
+use Rattle.rom_open.specs.declared.reasons.Why.{Why}
+use Rattle.rom_open.specs.declared.reasons.Why.TheVariants.{NotAHeap, BadVersion, BadOrder, BadState, TooSmall, Twins, Malformed, Device, OutOfMemory}
+use Rattle.rom_run.specs.Complete.{HoldsSome, IsAtHand}
+use Rattle.rom_run.specs.Keeping.{IsHeapRefused, IsUnmade, IsUnopened}
+use Rattle.rom_run.specs.Refusing.{refusal_status, unmade_status}
+use Rattle.rom_run.specs.Statuses.{number_of}
+use Rattle.rom_run.specs.declared.heap.Heap.{Heap}
+use Rattle.rom_run.specs.declared.heap.Heap.TheVariants.{New, Standing}
+use Rattle.rom_run.specs.declared.status.Status.TheVariants.{HeapRefused}
+
+-- one region of the words counts
+one_region : (words : List ℕ) (m n : ℕ) (p q : List ℕ) → IsCurrentRegion m words p → IsCurrentRegion n words q → (m ≡ n) × (p ≡ q)
+one_region words m n p q first second =
+    let both = holds_one {S = List ℕ} (λ order region s k. (region ≡ s) × (k ≡ 0)) (λ order region s t j k a b. (sym a.0 ∙ b.0, a.1 ∙ sym b.1)) words m n p q 0 0
+    record { region = p; current = first; contents = (refl, refl) } record { region = q; current = second; contents = (refl, refl) } in
+    (both.0, both.1)
+
+-- where both regions count, they don't differ
+no_difference : (order : ℕ) (words region : List ℕ) (offset main back : ℕ) → IsCounted order words region → DifferAt order words offset main back → ⊥
+no_difference order words region offset main back (inl idle) differ =
+    let same : main_of order words ≡ back_of order words = idle.1 ∙ sym idle.2 in
+    let in_main : slice_index (main_of order words) offset ≡ slice_index words (MAIN + offset) = get_or-part MAIN (region_len order) words offset differ.within in
+    let in_back : slice_index (back_of order words) offset ≡ slice_index words (back_at order + offset) = get_or-part (back_at order) (region_len order) words offset differ.within in
+    differ.differ (sym differ.main_is ∙ sym in_main ∙ ap (λ (l : List ℕ). slice_index l offset) same ∙ in_back ∙ differ.back_is)
+no_difference order words region offset main back (inr (inl busy)) differ = let idle = differ.idle in absurd (omega (arith, busy.0, idle))
+no_difference order words region offset main back (inr (inr busy)) differ = let idle = differ.idle in absurd (omega (arith, busy.0, idle))
+
+module _ {S : Type 0} (Contents : ℕ → List ℕ → S → ℕ → Type 0) (FirstBreak : ℕ → List ℕ → Break → Type 0) (order : ℕ) (words : List ℕ) (state : S) (count : ℕ) (held : Holds Contents order words state count) where
+  -- neither header nor regions are refused
+  ready : (why : Why) → refusal_status why ≡ HeapRefused → IsUnready words why → ⊥
+  ready NotAHeap name is = is.1 held.current.heap.header.magic
+  ready (BadVersion version) name is = is.3 (is.2 ∙ held.current.heap.header.version)
+  ready (BadOrder n) name (long, magic, version, order_is, inl low) =
+      let header = held.current.heap.header in let at = header.order_is in let least = header.fits.least in absurd (omega (arith, order_is, low, at, least))
+  ready (BadOrder n) name (long, magic, version, order_is, inr high) =
+      let header = held.current.heap.header in let at = header.order_is in let most = header.fits.most in absurd (omega (arith, order_is, high, at, most))
+  ready (BadState word) name is = let low = held.current.heap.state in let at = is.2 in let high = is.3 in absurd (omega (arith, low, at, high))
+  ready (TooSmall need have) name (size, inl short) =
+      let long = held.current.heap.long in absurd (omega (arith, size, short.0, short.1, long))
+  ready (TooSmall need have) name (size, inr short) =
+      let long = held.current.heap.long in
+      let same : words_needed (slice_index words 2) ≡ words_needed order = ap words_needed held.current.heap.header.order_is in
+      let need_is = short.2 in let few = short.3 in absurd (omega (arith, size, need_is, few, same, long))
+  ready (Twins offset main back) name is =
+      no_difference order words held.region offset main back held.current.counts (subst (λ (n : ℕ). DifferAt n words offset main back) held.current.heap.header.order_is is.1)
+  ready (Malformed offset rule) name is = is
+  ready Device name is = let no : 7 ≡ 3 = ap number_of name in absurd (omega (arith, no))
+  ready OutOfMemory name is = is
+
+  -- nor is the region that counts
+  fit : (why : Why) (region : List ℕ) → refusal_status why ≡ HeapRefused → IsCurrentRegion (named_order words) words region → IsUnfit Contents FirstBreak (named_order words) region why → ⊥
+  fit (Malformed offset rule) region name current is =
+      let both = one_region words order (named_order words) held.region region held.current current in
+      is.none state count (subst (λ (l : List ℕ). Contents (named_order words) l state count) both.1 (subst (λ (n : ℕ). Contents n held.region state count) both.0 held.contents))
+  fit OutOfMemory region name current is = let no : 6 ≡ 3 = ap number_of name in absurd (omega (arith, no))
+  fit NotAHeap region name current is = is
+  fit (BadVersion version) region name current is = is
+  fit (BadOrder n) region name current is = is
+  fit (BadState word) region name current is = is
+  fit (TooSmall need have) region name current is = is
+  fit (Twins offset main back) region name current is = is
+  fit Device region name current is = is
+
+  unrefused : (why : Why) → refusal_status why ≡ HeapRefused → IsRefusal Contents FirstBreak words why → ⊥
+  unrefused why name (inl is) = ready why name is
+  unrefused why name (inr is) = fit why is.0 name is.1 is.2
+
+-- where a heap can be made it is not refused
+unspared : (order : ℕ) (words : List ℕ) → IsFormatAnswer order words (Ok tt) → (why : FormatRefused) → unmade_status (Refused why) ≡ HeapRefused → IsFormatAnswer order words (Err why) → ⊥
+unspared order words can format.AlreadyAHeap name is = can.0 is
+unspared order words can (format.TooSmall need have) name is = let long = can.1 in let a = is.1 in let b = is.2 in let c = is.3 in absurd (omega (arith, long, a, b, c))
+unspared order words can format.Device name is = let no : 7 ≡ 3 = ap number_of name in absurd (omega (arith, no))
+
+module _ {S D K : Type 0} (Contents : ℕ → List ℕ → S → ℕ → Type 0) (FirstBreak : ℕ → List ℕ → Break → Type 0) (shown : ShownDevice D) (sink : ShownSink K) (was now : D) (old new : K) (tells : IsTrue shown.tells_words) where
+  opened : HoldsSome Contents (shown.words was) → IsUnopened shown sink Contents FirstBreak was now old new → ⊥
+  opened (order, state, count, held) is = unrefused Contents FirstBreak order (shown.words was) state count held is.why is.by_name (is.refused tells)
+
+  made : (order : ℕ) → IsFormatAnswer order (shown.words was) (Ok tt) → IsUnmade shown sink order was now old new → ⊥
+  made order can is = unspared order (shown.words was) can is.why is.by_name (is.refused tells)
+
+  -- a heap that is at hand is not refused by name
+  pub begins : (heap : Heap) → IsAtHand Contents heap (shown.words was) → IsHeapRefused shown sink Contents FirstBreak heap was now old new → ⊥
+  begins (New order) can is = made order can is
+  begins Standing can is = opened can is

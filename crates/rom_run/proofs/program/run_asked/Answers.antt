@@ -1,0 +1,58 @@
+use Rattle.rom_text.specs.Lines.{AreScripts}
+use Rattle.rom_text.specs.Text.{texts_of}
+use Rattle.rom_run.specs.Asked.{use_of}
+use Rattle.rom_run.specs.Played.{IsText}
+use Rattle.rom_run.proofs.Completing.{complete, few_faults, text_faulted, text_unread}
+use Rattle.rom_run.proofs.program.run_asked.Goals as goal
+
+-- two of the promises follow from the others
+pub returns : goal.returns
+returns g c =
+    let o = g.O.Object in
+    let source = g.S.Source.shown in
+    let sink = g.K.Sink.shown in
+    let texts = texts_of g.O.Reply.Told.shown g.O.Answer.Told.shown in
+    let is = c.run_command.ensures in
+    let ended = c.run_command.result in
+    record {
+      promise = record {
+        statuses = is.statuses;
+        ran = is.ran;
+        not_run = is.not_run;
+        complete = complete o.machine o.Contents o.FirstBreak g.D.Device.shown source sink (AreScripts g.L.Lines.Reads source) (IsText sink texts)
+            c.args.device ended.device c.args.scripts.items ended.scripts.items c.args.out.now c.run_command.new.out (text_faulted sink texts) (text_unread sink texts)
+            (use_of c.args.asked) ended.status ended.session
+            (record {
+              statuses = is.statuses;
+              ran = is.ran;
+              not_run = is.not_run;
+              story = is.story;
+              none = is.none;
+              source_failed = is.source_failed;
+              too_long = is.too_long;
+              sink_failed = is.sink_failed;
+            });
+        story = is.story;
+        still = is.still;
+        few_faults = few_faults o.machine o.Contents g.D.Device.shown c.args.device ended.device _ (use_of c.args.asked) ended.status ended.session is.not_run is.story;
+        none = is.none;
+        made = is.made;
+        kept = is.kept;
+        uncalled = is.uncalled;
+        unfailed = is.unfailed;
+        many = is.many;
+        asked_once = is.asked_once;
+        unread = is.unread;
+        fit = is.fit;
+        read = is.read;
+        source_failed = is.source_failed;
+        none_failed = is.none_failed;
+        too_long = is.too_long;
+        not_a_command = is.not_a_command;
+        not_a_command_told = is.not_a_command_told;
+        no_memory = is.no_memory;
+        sink_failed = is.sink_failed;
+        writing = is.writing;
+        rest = is.rest;
+      };
+    }

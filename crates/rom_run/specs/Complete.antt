@@ -1,0 +1,64 @@
+-- How a command ends where nothing fails, and how many lines of a caller tell of a fault.
+use Rattle.std.specs.Prelude.{◌≡◌, ◌⊎◌, ℕ, Bool, true, false, IsTrue, List, Option, Some, IsSomeAnd, Ok, slice_get}
+use Rattle.std.specs.List.{AllByRecursion, list_any}
+use Rattle.rom_model.specs.Faulted.{RoseBy, faulted_lines}
+use Rattle.rom_model.specs.Faults.{Rose}
+use Rattle.rom_model.specs.Lawful.{IsLawful}
+use Rattle.rom_model.specs.Machine.{Machine}
+use Rattle.rom_model.specs.Story.{Story}
+use Rattle.rom_model.specs.declared.line.Step.{Step}
+use Rattle.rom_model.specs.declared.line.Step.TheVariants as line
+use Rattle.rom_model.specs.declared.line.LineResult.{LineResult}
+use Rattle.rom_device.specs.Device.{ShownDevice}
+use Rattle.rom_header.specs.Fresh.{IsFormatAnswer}
+use Rattle.rom_header.specs.Held.{Holds}
+use Rattle.rom_text.specs.Runs.{SourceTooLong}
+use Rattle.rom_text.specs.Streams.{ShownSink, ShownSource}
+use Rattle.rom_run.specs.Use.{Use, heap_of}
+use Rattle.rom_run.specs.declared.heap.Heap.{Heap}
+use Rattle.rom_run.specs.declared.heap.Heap.TheVariants.{New, Standing}
+
+module _ {S : Type 0} (Contents : ℕ → List ℕ → S → ℕ → Type 0) where
+  -- the words hold some state
+  abbrev pub HoldsSome : List ℕ → Type 0
+  HoldsSome words = (order : ℕ) × (state : S) × (count : ℕ) × Holds Contents order words state count
+
+  -- A heap that is to be made does not stand, and there are words enough for it; one that is to be opened stands.
+  abbrev pub IsAtHand : Heap → List ℕ → Type 0
+  IsAtHand (New order) words = IsFormatAnswer order words (Ok tt)
+  IsAtHand Standing words = HoldsSome words
+
+  -- there is a command, and its heap is at hand in these words of the device
+  abbrev pub CanBegin : Option Use → List ℕ → Type 0
+  CanBegin asked words = IsSomeAnd asked (λ does. IsAtHand (heap_of does) words)
+
+-- the line is none
+abbrev pub is_unread_line : {C Q : Type 0} → Step C Q → Bool
+is_unread_line line.Unread = true
+is_unread_line other = false
+
+-- a line of the scripts that are run is none
+abbrev pub HasUnreadLine : {C Q X : Type 0} → (List X → List (List (Step C Q)) → Type 0) → List X → Type 0
+HasUnreadLine {C} {Q} AreRun sources = (scripts : List (List (Step C Q))) × AreRun sources scripts × IsTrue (list_any (λ lines. list_any is_unread_line lines) scripts)
+
+module _ {D X K : Type 0} (shown : ShownDevice D) (source : ShownSource X) (sink : ShownSink K) (was now : D) (before after : List X) (old new : K) where
+  -- No count of faults rose, nor did one stand at its last value: the device's, the sink's, and that of each source.
+  pub record NoneFailed : Type 0 where
+    pub of_device : Rose (shown.faults was) (shown.faults now) → ⊥
+    pub of_sink : Rose (sink.faults old) (sink.faults new) → ⊥
+    pub of_sources : (i : ℕ) (one other : X) → slice_get before i ≡ Some one → slice_get after i ≡ Some other → Rose (source.faults one) (source.faults other) → ⊥
+
+  module _ {C Q : Type 0} (AreRun : List X → List (List (Step C Q)) → Type 0) where
+    -- All is done, or a line is none, or a script is too long, or there was no memory.
+    abbrev pub EndsWell : ℕ → Type 0
+    EndsWell status = (status ≡ 0) ⊎ ((status ≡ 1) × HasUnreadLine AreRun before) ⊎ ((status ≡ 8) × SourceTooLong source sink before after old new) ⊎ (status ≡ 6)
+
+    -- Where the device tells its words, the command can begin in them, and no count of faults rises, it ends well.
+    abbrev pub IsComplete : {S : Type 0} → (ℕ → List ℕ → S → ℕ → Type 0) → Option Use → ℕ → Type 0
+    IsComplete Contents asked status = IsTrue shown.tells_words → CanBegin Contents asked (shown.words was) → NoneFailed → EndsWell status
+
+module _ {S C Q R A : Type 0} (machine : Machine S C Q R A) {D : Type 0} (shown : ShownDevice D) where
+  -- Of lawful results of the story, whatever they are, each caller's lines that tell of a fault are at most as many as the device's count of faults rose, short of its last value.
+  abbrev pub HasFewFaults : D → D → Story S → Type 0
+  HasFewFaults was now story = (scripts : List (List (Step C Q))) (results : List (List (LineResult R A))) → IsLawful machine story scripts results →
+      AllByRecursion (λ rs. RoseBy (faulted_lines rs) (shown.faults was) (shown.faults now)) results
