@@ -40,4 +40,4 @@ pub use fuse::Fuse;
 pub use medium::Medium;
 pub use memory::Memory;
 pub use ram::Ram;
-pub use trip::Trip;
+pub use trip::{Trip, every_trip};

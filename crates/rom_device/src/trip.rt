@@ -1,5 +1,5 @@
 //! Which calls of a memory device are to fail.
-ghost use Rattle.std.specs.Prelude.{◌≡◌};
+ghost use Rattle.std.specs.Prelude.{◌≡◌, ◌<◌, ℕ, true};
 ghost use Rattle.rom_device.specs.Trips.{covers, fires};
 
 use crate::call::{CallKind, LoggedCall};
@@ -39,5 +39,22 @@ impl Trip {
             .filter(|made| self.covers(made.kind(), made.place()))
             .count();
         self.covers(call, at) && self.nth.checked_sub(1) == Some(before as u64)
+    }
+}
+
+/// The call of this number among all of that kind fails, of whatever word: no word of a device has the
+/// place 2^64 - 1. A write leaves the new value.
+pub fn every_trip(kind: CallKind, number: u64) -> Trip
+    ensures kind { result.call ≡ kind }
+    ensures number { result.nth ≡ number }
+    ensures words { (at : ℕ) → at < 18446744073709551615 → covers result kind at ≡ true }
+    ensures keeps_new { result.keeps_new ≡ true }
+{
+    Trip {
+        call: kind,
+        from: 0,
+        to: u64::MAX,
+        nth: number,
+        keeps_new: true,
     }
 }

@@ -8,7 +8,7 @@ use crate::callers::post_call;
 use crate::cores::{post_three, seated_on, take_three, take_told};
 use crate::heaps::{choice, counted, device};
 use rom_combine::{NoGate, Outcome};
-use rom_device::{CachedDevice, CallKind, Memory, Trip};
+use rom_device::{CachedDevice, CallKind, Memory, Trip, every_trip};
 use rom_heap::Trio;
 use rom_model::{Answer, Call};
 use rom_store::{Opened, Refused, format_device, open_device};
@@ -201,11 +201,8 @@ fn tries<R: Wait + Abort + AllocGlobal>(
 /// The call of that kind and number fails.
 fn trip(call: CallKind, nth: u64, keeps_new: bool) -> Trip {
     Trip {
-        call,
-        from: 0,
-        to: WORDS,
-        nth,
         keeps_new,
+        ..every_trip(call, nth)
     }
 }
 

@@ -4,7 +4,7 @@ use crate::callers::post_call;
 use crate::cores::{post_three, read_count, seated_on, take_three, take_told};
 use crate::heaps::{OPENING, device, left};
 use rom_combine::{NoGate, Outcome, Passed};
-use rom_device::{CallKind, Fuse, Trip};
+use rom_device::{CallKind, Fuse, Trip, every_trip};
 use rom_model::{Answer, Call, Reply, Updated};
 use rom_twin::Phase;
 use std::process::Abort;
@@ -42,7 +42,7 @@ fn trip(call: CallKind, from: u64, to: u64, nth: u64) -> Trip {
 
 /// A sync. The opening makes the first one.
 fn sync(nth: u64) -> Trip {
-    trip(CallKind::Sync, 0, 0, nth)
+    every_trip(CallKind::Sync, nth)
 }
 
 /// A write of the state: of MUTATING, COPYING, IDLE.

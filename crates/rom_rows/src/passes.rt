@@ -6,7 +6,7 @@ use crate::cores::{post_three, read_count, seated_on, take_three, take_told};
 use crate::counting::Counting;
 use crate::heaps::{OPENING, device};
 use rom_combine::{NoGate, Outcome, Passed};
-use rom_device::{CallKind, Device, Trip};
+use rom_device::{CallKind, Device, every_trip};
 use rom_model::{Call, Reply, Updated};
 use rom_twin::Phase;
 use std::test::Fail;
@@ -21,22 +21,14 @@ const FIRST: u64 = 7 + 7 + 3 + 4;
 /// The count at which no update is done any more.
 const LAST: u64 = 4_611_686_018_427_387_904;
 
-/// The call of that number fails, whatever the word.
-fn trip(call: CallKind, nth: u64) -> Trip {
-    Trip {
-        call,
-        from: 0,
-        to: 232,
-        nth,
-        keeps_new: false,
-    }
-}
-
 #[test]
 fn a_pass_does_the_posted_calls_and_answers_each(rt: HostRuntime) -> Result<(), Fail> {
     let alloc = rt.alloc();
     // The opening makes 341 reads and a sync. So a read of a pass would fail, or a fifth sync.
-    let trips = [trip(CallKind::Read, 342), trip(CallKind::Sync, 6)];
+    let trips = [
+        every_trip(CallKind::Read, 342),
+        every_trip(CallKind::Sync, 6),
+    ];
     let (mut core, shared, (mut first, mut second, mut third)) = seated_on(
         alloc,
         device(alloc, 0, &trips)?,

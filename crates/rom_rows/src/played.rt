@@ -6,7 +6,7 @@ use crate::counting::Counting;
 use crate::crowd::new_heap;
 use crate::heaps::{device, left};
 use rom_combine::{Gate, NoGate};
-use rom_device::{CallKind, Device, Trip};
+use rom_device::{CallKind, Device, every_trip};
 use rom_heap::Trio;
 use rom_model::{Answer, Call, LineResult, Query, Reply, Step, Updated};
 use rom_store::{Closed, Played, Refused, Unplayed, play};
@@ -181,17 +181,6 @@ fn fates(results: &[Vec<Told>]) -> (u64, u64, u64) {
     fates
 }
 
-/// A sync of a device that fails: the one of this number.
-fn failing_sync(nth: u64) -> Trip {
-    Trip {
-        call: CallKind::Sync,
-        from: 0,
-        to: 0,
-        nth,
-        keeps_new: false,
-    }
-}
-
 #[test]
 fn sixteen_callers_take_each_place_once(rt: HostRuntime) -> Result<(), Fail> {
     let alloc = rt.alloc();
@@ -253,7 +242,7 @@ fn a_fault_fails_at_most_one_update_of_each_of_sixteen_callers(
     let alloc = rt.alloc();
     let scripts = all_queueing(alloc)?;
     for sync in [6, 8] {
-        let memory = device(alloc, 0, &[failing_sync(sync)])?;
+        let memory = device(alloc, 0, &[every_trip(CallKind::Sync, sync)])?;
         let gate = Counting::new();
         let (results, closed) = played(&rt, alloc, memory, scripts.as_slice(), &gate)?;
         let (done, failed, doubt) = fates(results.as_slice());
@@ -284,7 +273,7 @@ fn run_faulty<R: Threads + Wait + Sync>(
     sync: u64,
     kind: u64,
 ) -> Result<((u64, u64, u64), u64, u64), Fail> {
-    let memory = device(alloc, 0, &[failing_sync(sync)])?;
+    let memory = device(alloc, 0, &[every_trip(CallKind::Sync, sync)])?;
     let scripts = [queueing(alloc, 1)?, queueing(alloc, 2)?];
     let (results, closed) = played(rt, alloc, memory, &scripts, &NoGate)?;
     let count = closed.count();

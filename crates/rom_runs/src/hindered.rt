@@ -3,7 +3,7 @@
 
 use crate::rows::{PLAIN, Row, Text, Words};
 use crate::runner::{Found, ran, scripts_of, shown, try_rows, words_of};
-use rom_device::{CallKind, Device, Memory, Trip};
+use rom_device::{CallKind, Device, Memory, Trip, every_trip};
 use std::process::Abort;
 use std::sync::Wait;
 use std::test::Fail;
@@ -182,11 +182,8 @@ fn try_faults<R: Threads + Wait + Sync + AllocGlobal + Abort>(
         let mut faults = 0;
         for (keeps_new, choice) in [(false, 0), (false, 1), (true, 0), (true, 1)] {
             let trip = Trip {
-                call,
-                from: 0,
-                to: WORDS as u64,
-                nth,
                 keeps_new,
+                ..every_trip(call, nth)
             };
             let found = run_row(
                 rt,
