@@ -57,7 +57,7 @@ const WRITE_OF_BACK: Trip = Trip {
     keeps_new: false,
 };
 
-static HEAPS: [Row; 18] = [
+static HEAPS: [Row; 16] = [
     Row {
         left: Some(Words::Heap(&[])),
         ..FORMAT
@@ -114,16 +114,6 @@ static HEAPS: [Row; 18] = [
         ..REFUSED
     },
     Row {
-        device: Words::Heap(&[(25, 5), (137, 5)]),
-        text: Text::Is("refused: malformed at 17, rule tree\n"),
-        ..REFUSED
-    },
-    Row {
-        device: Words::Heap(&[(11, 48), (123, 48)]),
-        text: Text::Is("refused: malformed at 3, rule link\n"),
-        ..REFUSED
-    },
-    Row {
         device: Words::Zeros(5),
         text: Text::Is("refused: too small, need 8, have 5\n"),
         ..REFUSED
@@ -153,9 +143,144 @@ static HEAPS: [Row; 18] = [
     },
 ];
 
+/// A heap whose regions are refused.
+const BROKEN_HEAP: Row = Row {
+    sink: Sink::Ample,
+    ..REFUSED
+};
+
+/// Regions that are none, of a heap at rest: both alike, new or with 9 in the queue, with some words changed.
+static BROKEN: [Row; 15] = [
+    Row {
+        device: Words::Regions(&[(17, 5)]),
+        text: Text::Is("refused: malformed at 17, rule tree\n"),
+        ..BROKEN_HEAP
+    },
+    Row {
+        device: Words::Regions(&[(0, 2)]),
+        text: Text::Is("refused: malformed at 0, rule root\n"),
+        ..BROKEN_HEAP
+    },
+    Row {
+        device: Words::Regions(&[(2, 4_611_686_018_427_387_905)]),
+        text: Text::Is("refused: malformed at 2, rule root\n"),
+        ..BROKEN_HEAP
+    },
+    // Into the bucket table, to no block, and behind the region.
+    Row {
+        device: Words::Regions(&[(3, 48)]),
+        text: Text::Is("refused: malformed at 3, rule link\n"),
+        ..BROKEN_HEAP
+    },
+    Row {
+        device: Words::Regions(&[(3, 53)]),
+        text: Text::Is("refused: malformed at 3, rule link\n"),
+        ..BROKEN_HEAP
+    },
+    Row {
+        device: Words::Regions(&[(3, 112)]),
+        text: Text::Is("refused: malformed at 3, rule link\n"),
+        ..BROKEN_HEAP
+    },
+    // A cycle, and a node with two owners.
+    Row {
+        device: Words::Regions(&[
+            (2, 1),
+            (3, 52),
+            (4, 52),
+            (5, 1),
+            (24, 0),
+            (33, 0),
+            (52, 9),
+            (53, 52),
+        ]),
+        text: Text::Is("refused: malformed at 53, rule link\n"),
+        ..BROKEN_HEAP
+    },
+    Row {
+        device: Words::Regions(&[
+            (2, 1),
+            (3, 52),
+            (4, 52),
+            (5, 1),
+            (24, 0),
+            (33, 0),
+            (52, 9),
+            (6, 52),
+        ]),
+        text: Text::Is("refused: malformed at 6, rule link\n"),
+        ..BROKEN_HEAP
+    },
+    Row {
+        device: Words::Regions(&[
+            (2, 1),
+            (3, 52),
+            (4, 52),
+            (5, 1),
+            (24, 0),
+            (33, 0),
+            (52, 9),
+            (54, 1),
+        ]),
+        text: Text::Is("refused: malformed at 54, rule pad\n"),
+        ..BROKEN_HEAP
+    },
+    Row {
+        device: Words::Regions(&[
+            (2, 1),
+            (3, 52),
+            (4, 52),
+            (5, 1),
+            (24, 0),
+            (33, 0),
+            (52, 9),
+            (4, 56),
+        ]),
+        text: Text::Is("refused: malformed at 4, rule ends\n"),
+        ..BROKEN_HEAP
+    },
+    Row {
+        device: Words::Regions(&[
+            (2, 1),
+            (3, 52),
+            (4, 52),
+            (5, 1),
+            (24, 0),
+            (33, 0),
+            (52, 9),
+            (5, 3),
+        ]),
+        text: Text::Is("refused: malformed at 5, rule count\n"),
+        ..BROKEN_HEAP
+    },
+    // Two numbers that do not rise, a key in another bucket, and one key twice.
+    Row {
+        device: Words::Regions(&[(6, 52), (52, 5), (53, 56), (56, 5)]),
+        text: Text::Is("refused: malformed at 56, rule order\n"),
+        ..BROKEN_HEAP
+    },
+    Row {
+        device: Words::Regions(&[(48, 52), (52, 1), (53, 7)]),
+        text: Text::Is("refused: malformed at 52, rule bucket\n"),
+        ..BROKEN_HEAP
+    },
+    Row {
+        device: Words::Regions(&[(48, 52), (52, 5), (53, 7), (54, 56), (56, 5), (57, 8)]),
+        text: Text::Is("refused: malformed at 56, rule repeat\n"),
+        ..BROKEN_HEAP
+    },
+    // A block that is taken and that nothing leads to.
+    Row {
+        device: Words::Regions(&[(24, 0), (33, 0)]),
+        text: Text::Is("refused: malformed at 24, rule tree\n"),
+        ..BROKEN_HEAP
+    },
+];
+
 #[test]
 fn a_heap_is_made_shown_and_refused(rt: HostRuntime) -> Result<(), Fail> {
-    try_rows(&rt, &HEAPS)
+    try_rows(&rt, &HEAPS)?;
+    try_rows(&rt, &BROKEN)
 }
 
 static RUNS: [Row; 9] = [

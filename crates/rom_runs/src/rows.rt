@@ -37,8 +37,10 @@ pub enum Words {
     Zeros(u64),
     /// A new heap of order 4, with other words at these places.
     Heap(&'static [(usize, u64)]),
-    /// The same, with the words of one region all 77: those from the first place to the one before the
-    /// second.
+    /// A new heap of order 4, with other words at these offsets of both its regions.
+    Regions(&'static [(usize, u64)]),
+    /// The same as `Heap`, with the words of one region all 77: those from the first place to the one
+    /// before the second.
     Torn(usize, usize, &'static [(usize, u64)]),
     /// Those that the row before left.
     Kept,

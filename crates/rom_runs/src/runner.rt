@@ -66,6 +66,14 @@ pub fn words_of(alloc: Global, device: &Words, kept: &[u64]) -> Result<Vec<u64>,
     match device {
         Words::Zeros(many) => vec![in alloc; 0u64; *many as usize],
         Words::Heap(changes) => heap(alloc, changes),
+        Words::Regions(changes) => {
+            let mut twice = Vec::new(alloc);
+            for (offset, word) in *changes {
+                twice.push((offset.saturating_add(8), *word))?;
+                twice.push((offset.saturating_add(120), *word))?;
+            }
+            heap(alloc, twice.as_slice())
+        }
         Words::Torn(from, to, changes) => {
             let mut words = heap(alloc, changes)?;
             for word in words.iter_mut().take(*to).skip(*from) {

@@ -104,15 +104,32 @@ static SCRIPTS: [Row; 12] = [
     },
 ];
 
-/// Five reads give the fourteen bytes of this script, and the sixth tells their end.
+/// Twelve reads give the 34 bytes of this script, and the thirteenth tells their end.
 const READ: Row = Row {
-    scripts: &["enq 9\ndeq\ndeq\n"],
+    scripts: &["put 5 7\nget 5\nput 5 8\ndel 5\nget 5\n"],
     status: 4,
     text: Text::Is("script 1 failed\n"),
     ..TRIED
 };
 
-static ROWS: [Row; 14] = [
+/// The number of each of its reads.
+static READS: [&[u64]; 13] = [
+    &[1],
+    &[2],
+    &[3],
+    &[4],
+    &[5],
+    &[6],
+    &[7],
+    &[8],
+    &[9],
+    &[10],
+    &[11],
+    &[12],
+    &[13],
+];
+
+static ROWS: [Row; 9] = [
     // A lone dash is a script's name.
     Row {
         words: &["try", "-"],
@@ -121,34 +138,16 @@ static ROWS: [Row; 14] = [
         ..PLAIN
     },
     Row {
-        failing: &[1],
-        ..READ
-    },
-    Row {
-        failing: &[2],
-        ..READ
-    },
-    Row {
         failing: &[3],
         sink: Sink::Each,
         ..READ
     },
+    // No read has this number.
     Row {
-        failing: &[4],
-        ..READ
-    },
-    Row {
-        failing: &[5],
-        ..READ
-    },
-    Row {
-        failing: &[6],
-        ..READ
-    },
-    Row {
-        failing: &[7],
+        failing: &[14],
         status: 0,
-        text: Text::Is("caller 1\nqueued @0\nhead 9 @1\nempty @2\ncount 3\n"),
+        text: Text::Is("caller 1\nnone @0\nvalue 7 #1\nwas 7 @1\nwas 8 @2\nnone #3\ncount 3\n"),
+        sink: Sink::Each,
         ..READ
     },
     // The update is done, though its reply is not printed.
@@ -222,5 +221,8 @@ fn scripts_are_told_their_replies(rt: HostRuntime) -> Result<(), Fail> {
 
 #[test]
 fn a_script_that_fails_or_a_full_sink_is_told(rt: HostRuntime) -> Result<(), Fail> {
+    for failing in READS {
+        try_rows(&rt, &[Row { failing, ..READ }])?;
+    }
     try_rows(&rt, &ROWS)
 }
