@@ -24,9 +24,7 @@ cc -O1 -o "$short" "$here/short.c" 2>/dev/null || { echo "no C compiler for Linu
 
 # What was done before, and the updates that are run; so many lines that a script is read by several reads.
 printf 'enq 5\nput 1 10\nadd 4\n' >"$folder/done"
-{
-    printf 'enq 7\nput 1 5\nadd 3\ndeq\nput 2 6\nrem 4\ndel 1\n'
-} >"$script"
+printf 'enq 7\nput 1 5\nadd 3\ndeq\nput 2 6\nrem 4\ndel 1\n' >"$script"
 awk 'BEGIN { for (i = 0; i < 1500; i++) print "unread " i }' >"$folder/many"
 printf 'add 9\n' >"$folder/one"
 
@@ -84,14 +82,11 @@ begin() {
     cp "$folder/$1" "$heap" || exit 1
 }
 "$program" format "$folder/rest" --order 4 >"$text" && "$program" run "$folder/rest" "$folder/done" >"$text" || { cat "$text" >&2; exit 1; }
-put() {
-    printf "$3" | dd of="$folder/$1" bs=1 seek="$2" conv=notrunc 2>/dev/null
-}
 for torn in main back; do
     cp "$folder/rest" "$folder/$torn"
     case $torn in main) from=8 state='\001' ;; back) from=120 state='\002' ;; esac
     awk 'BEGIN { for (i = 0; i < 112; i++) printf "romulus!" }' | dd of="$folder/$torn" bs=8 seek="$from" conv=notrunc 2>/dev/null
-    put "$torn" 24 "$state"
+    printf "$state" | dd of="$folder/$torn" bs=1 seek=24 conv=notrunc 2>/dev/null
 done
 
 # Looks at the run that was made, of that name.

@@ -113,7 +113,7 @@ const READ: Row = Row {
 };
 
 /// The number of each of its reads.
-static READS: [&[u64]; 13] = [
+const READS: [&[u64]; 13] = [
     &[1],
     &[2],
     &[3],
