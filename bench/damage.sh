@@ -8,6 +8,7 @@
 # refused by the rule that its place has. A run that takes longer than 20 seconds or ends by a signal is
 # wrong. With STATE 1 or 2 the heap says that its main, or its back, is to be made again: then no word of
 # that region may matter.
+# It needs the `od` and `timeout` of GNU's coreutils.
 # Usage, from any folder, once the program is built: bench/damage.sh [STATE]
 state=${1:-0}
 built=crates/romulus/out/romulus
@@ -96,6 +97,7 @@ is_wrong() {
     echo "WRONG: $1 with the words at $place and $second being $number: status $status: $(head -c 300 "$folder/text")"
     wrong=1
 }
+[ -s "$folder/changes" ] || { echo "no changes were made" >&2; exit 1; }
 wrong=0
 while read -r place second bytes number; do
     for command in stat run; do

@@ -8,6 +8,7 @@
 #     model in awk that shares no code with the program, or the count is another;
 #   - `stat` shows another state than that which was told, or, where the last update that is not `fault` is
 #     `doubt`, that one and the doubtful one. (Of a file that is cut it may refuse the heap by name too.)
+# It needs strace, and the `stat` and `timeout` of GNU's coreutils.
 # Usage, from any folder, once the program is built: bench/faults.sh
 command -v strace >/dev/null || { echo "strace is not here: skipped"; exit 0; }
 built=crates/romulus/out/romulus
@@ -110,6 +111,7 @@ faulty() {
         look "$1, $6 $nth, $7" "" "$5" "$3"
         nth=$((nth + 1))
     done
+    [ "$looked" -gt 0 ] || { echo "WRONG: $1: no $6 was made"; wrong=1; }
     echo "$1: $6 with $7: $looked runs"
 }
 
@@ -163,6 +165,7 @@ new() {
         [ "$("$program" stat "$heap")" = "$empty" ] || { echo "WRONG: format, $1 $nth, $2: no heap can be made then"; wrong=1; }
         nth=$((nth + 1))
     done
+    [ "$looked" -gt 0 ] || { echo "WRONG: a new heap: no $1 was made"; wrong=1; }
     echo "a new heap: $1 with $2: $looked runs"
 }
 rm -f "$heap"
@@ -181,6 +184,7 @@ halved() {
         begin "$2"
         timeout 20 "$short" "$4" "$5" "$nth" "$nth" "$6" "$program" run "$heap" "$3" >"$text"
         status=$?
+        [ "$status" -ne 98 ] || { echo "bench/short.c cannot trace here" >&2; exit 1; }
         [ "$status" -ne 99 ] || break
         [ "$6" != - ] || [ "$status" -eq 0 ] || { echo "WRONG: $1, $5 $nth is short: status $status"; wrong=1; }
         look "$1, $5 $nth, $6" "${6#-}" "device failed" "$3"
@@ -194,6 +198,7 @@ halved() {
         look "$1, each $5, $6" "" "device failed" "$3"
     }
     case $6 in -) what="does half" ;; *) what="finds $6 bytes in the file" ;; esac
+    [ "$looked" -gt 0 ] || { echo "WRONG: $1: no $5 was made"; wrong=1; }
     echo "$1: each $5 $what: $looked runs"
 }
 if [ "$short" ]; then

@@ -5,7 +5,7 @@
 # once a second, so each figure is low by up to that much a process.
 # It ends with the status of `rt ci`, whose own lines it keeps in a file and names.
 # Usage, from any folder: bench/gate.sh
-# It needs Linux's /proc.
+# It needs Linux's /proc, and `pgrep`.
 cd "$(dirname "$0")/.." || exit 1
 [ -r /proc/self/stat ] || { echo "there is no /proc to look at" >&2; exit 1; }
 folder=$(mktemp -d) || exit 1

@@ -4,8 +4,8 @@
 # long, one without bytes, a folder, none). It fails where a run ends by a signal, or with a status above
 # 8, or in more than a minute; where status 2 does not come exactly for the words that are no command, by
 # a reader in awk that shares no code with the program; where a refused run prints another thing than one
-# line, or one of another status; or where a file was made or touched with status 2, 4 or 8, but by the
-# opening of a `format`.
+# line, or one of another status; or where a file was made or touched with status 2, 4 or 8.
+# It needs the `stat` and `timeout` of GNU's coreutils.
 # Usage, from any folder, once the program is built: bench/lines.sh [LINES [SEED]]
 lines=${1:-1000}
 seed=${2:-1}
@@ -155,6 +155,7 @@ line_of() {
         8) echo '^script [0-9]* too long$' ;;
     esac
 }
+[ -s "$folder/lines" ] || { echo "no lines were drawn" >&2; exit 1; }
 wrong=0
 fresh
 while read -r kind words; do

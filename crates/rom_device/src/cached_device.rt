@@ -223,8 +223,8 @@ impl<M: Medium> Device for CachedDevice<M> {
         (d.words.long told) };
 
     ghost images_fit = { λ d i told left. images_as_long M.shown d.words.pending d.words.medium i
-        (λ j has. Prim.omega (arith, M.images_fit d.words.medium j told has, d.words.long
-        (M.tells_both told))) left };
+        (λ j has. Prim.omega (arith, M.images_fit d.words.medium j told has, d.words.long (M.tells_both told)))
+        left };
 
     ghost counts_now = { λ d t i _ _ left. is_since M.shown d.words.pending
         d.words.medium t i left };

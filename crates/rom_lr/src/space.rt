@@ -23,8 +23,7 @@ struct MainSpace<'a, O: Object> {
     log: &'a mut RangeLog,
     ghost of: { IsWriterOf shared.now seat.now },
     ghost unread: { NobodyReads seat.now Main },
-    ghost logged: { IsLogOf (plan seat.now).back (plan seat.now).main log.now } by
-        { IsLogOf-prop (plan seat.now).back (plan seat.now).main log.now },
+    ghost logged: { IsLogOf (plan seat.now).back (plan seat.now).main log.now } by { IsLogOf-prop (plan seat.now).back (plan seat.now).main log.now },
 }
 
 impl<'a, O: Object> Look for MainSpace<'a, O> {

@@ -10,7 +10,7 @@ use Rattle.rom_open.specs.Refusals.{named_order}
 use Rattle.rom_open.specs.declared.new_heap.NotFormatted.{NotFormatted}
 use Rattle.rom_open.specs.declared.new_heap.NotFormatted.TheVariants.{Refused, OutOfMemory}
 
--- The calls of one opening at most: no more reads, writes and syncs than the words before it ask for, and none after one that failed. Under IDLE there is no write, every word stays, and one sync is called.
+-- The calls of one opening at most: no more reads, writes and syncs than the words before it ask for, and none after one that failed. Under IDLE there is no write, every word stays, and at most one sync is called.
 pub record WithinOpening {D : Type 0} (shown : ShownDevice D) (was now : D) : Type 0 where
   pub reads : IsTrue shown.tells_words → AtMost (opening_reads (named_order (shown.words was)) (slice_index (shown.words was) STATE)) (shown.reads was) (shown.reads now)
   pub writes : IsTrue shown.tells_words → AtMost (opening_writes (named_order (shown.words was)) (slice_index (shown.words was) STATE)) (shown.writes was) (shown.writes now)

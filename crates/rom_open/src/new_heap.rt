@@ -133,6 +133,7 @@ pub fn format_device<D: Device, O: Object>(
     ensures makes { IfMade result (λ made.
         Makes D.shown (format_reads made) (format_writes order made) (format_syncs made)
         device.old device.new (format_fault made)) }
+    ensures within { WithinMaking D.shown order device.old device.new }
 {
     let region = new_region::<O>(alloc, order)?;
     write_heap::<D, O>(device, order, &region)?;

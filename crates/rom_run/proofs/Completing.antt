@@ -105,7 +105,7 @@ module _ {S C Q R A D : Type 0} (machine : Machine S C Q R A) (Contents : ℕ �
 
   -- each caller's lines that tell of a fault are at most as many as it rose
   few : (story : Story S) → CountsFaults machine Contents shown was now story → HasFewFaults machine shown was now story
-  few story counts = λ scripts results lawful. weaker _ _ results counts.before counts.after (faults_bounded machine story scripts results lawful)
+  few story counts = λ scripts results lawful. weaker _ _ results (let same = counts.before in omega (arith, same)) counts.after (faults_bounded machine story scripts results lawful)
 
   -- so where a result tells of a fault, it rose
   faulted_rose : (story : Story S) → CountsFaults machine Contents shown was now story → (scripts : List (List (Step C Q))) (results : List (List (LineResult R A))) → IsLawful machine story scripts results →

@@ -4,19 +4,20 @@ use Rattle.std.proofs.Common.{refl, arith, inl, inr}
 use Rattle.rom_model.specs.Machine.{Machine}
 use Rattle.rom_model.specs.declared.unfit.Break.{Break}
 use Rattle.rom_device.specs.Device.{ShownDevice, Makes}
-use Rattle.rom_header.specs.Calls.{format_fault}
+use Rattle.rom_header.specs.Calls.{format_fault, format_reads, format_syncs, format_writes}
 use Rattle.rom_header.specs.Fresh.{HasTooFewFor, IsFormatAnswer}
 use Rattle.rom_header.specs.declared.fresh.FormatRefused.{FormatRefused}
 use Rattle.rom_header.specs.declared.fresh.FormatRefused.TheVariants as format
 use Rattle.rom_text.specs.Runs.{IsTold}
 use Rattle.rom_text.specs.Streams.{ShownSink}
-use Rattle.rom_open.specs.Calls.{HasFaults}
-use Rattle.rom_open.specs.Making.{HasFaultsUnmade, IfMade}
+use Rattle.rom_open.specs.Calls.{Calls, HasFaults}
+use Rattle.rom_open.specs.Making.{HasFaultsUnmade, IfMade, NamesTooFewFor}
 use Rattle.rom_open.specs.declared.new_heap.NotFormatted.{NotFormatted}
 use Rattle.rom_open.specs.declared.new_heap.NotFormatted.TheVariants as unmade
 use Rattle.rom_open.specs.declared.reasons.Why.{Why}
 use Rattle.rom_open.specs.declared.reasons.Why.TheVariants.{Device, OutOfMemory}
 use Rattle.rom_open.specs.Refusals.{IsRefusal, NamesTooFew}
+use Rattle.rom_open.specs.Within.{MakesNone, WithinMaking, WithinOpening}
 use Rattle.rom_run.specs.Keeping.{HasDeviceFailed, IsLeft, IsUnmade}
 use Rattle.rom_run.specs.Refusing.{refusal_line, refusal_status, unmade_line, unmade_status}
 use Rattle.rom_run.specs.Statuses.{number_of}
@@ -41,18 +42,28 @@ module _ {D O : Type 0} (shown : ShownDevice D) (sink : ShownSink O) (was now : 
   -- a heap that was not made for a script, as it is told
   pub refused_unmade : (why : NotFormatted) (n : ℕ) → n ≡ number_of (unmade_status why) → n ≡ 3 →
       (IsTrue shown.tells_words → (w : FormatRefused) → why ≡ unmade.Refused w → IsFormatAnswer order (shown.words was) (Err w)) → ((w : FormatRefused) → why ≡ unmade.Refused w → HasTooFewFor order (shown.size was) w) →
-      HasFaultsUnmade why (shown.faults was) (shown.faults now) (shown.failing now) → IsTold sink old new (unmade_line why) → IsUnmade shown sink order was now old new
-  refused_unmade (unmade.Refused format.AlreadyAHeap) n is three answer sizes faults told = record { why = format.AlreadyAHeap; by_name = refl; refused = λ tells. answer tells format.AlreadyAHeap refl; sizes = tt; faults = faults; told = told }
-  refused_unmade (unmade.Refused (format.TooSmall need have)) n is three answer sizes faults told = record {
+      MakesNone shown order why was now → HasFaultsUnmade why (shown.faults was) (shown.faults now) (shown.failing now) → IsTold sink old new (unmade_line why) → IsUnmade shown sink order was now old new
+  refused_unmade (unmade.Refused format.AlreadyAHeap) n is three answer sizes calls faults told = record { why = format.AlreadyAHeap; by_name = refl; refused = λ tells. answer tells format.AlreadyAHeap refl; sizes = tt; calls = calls; faults = faults; told = told }
+  refused_unmade (unmade.Refused (format.TooSmall need have)) n is three answer sizes calls faults told = record {
     why = format.TooSmall need have;
     by_name = refl;
     refused = λ tells. answer tells (format.TooSmall need have) refl;
     sizes = sizes (format.TooSmall need have) refl;
+    calls = calls;
     faults = faults;
     told = told;
   }
-  refused_unmade (unmade.Refused format.Device) n is three answer sizes faults told = absurd (omega arith)
-  refused_unmade unmade.OutOfMemory n is three answer sizes faults told = absurd (omega arith)
+  refused_unmade (unmade.Refused format.Device) n is three answer sizes calls faults told = absurd (omega arith)
+  refused_unmade unmade.OutOfMemory n is three answer sizes calls faults told = absurd (omega arith)
+
+  -- or alone
+  pub refused_alone : (why : NotFormatted) (n : ℕ) → n ≡ number_of (unmade_status why) → n ≡ 3 →
+      (IsTrue shown.tells_words → IfMade (Err why) (IsFormatAnswer order (shown.words was))) → IfMade (Err why) (NamesTooFewFor order (shown.size was)) →
+      IfMade (Err why) (λ made. Makes shown (format_reads made) (format_writes order made) (format_syncs made) was now (format_fault made)) → IsTold sink old new (unmade_line why) → IsUnmade shown sink order was now old new
+  refused_alone (unmade.Refused format.AlreadyAHeap) n is three answer sizes makes told = record { why = format.AlreadyAHeap; by_name = refl; refused = answer; sizes = sizes; calls = makes; faults = makes.cause.none; told = told }
+  refused_alone (unmade.Refused (format.TooSmall need have)) n is three answer sizes makes told = record { why = format.TooSmall need have; by_name = refl; refused = answer; sizes = sizes; calls = makes; faults = makes.cause.none; told = told }
+  refused_alone (unmade.Refused format.Device) n is three answer sizes makes told = absurd (omega arith)
+  refused_alone unmade.OutOfMemory n is three answer sizes makes told = absurd (omega arith)
 
   -- or because the device failed
   pub failed_unmade : (why : NotFormatted) (n : ℕ) → n ≡ number_of (unmade_status why) → n ≡ 7 → HasFaultsUnmade why (shown.faults was) (shown.faults now) (shown.failing now) → IsTold sink old new (unmade_line why) → HasDeviceFailed shown sink was now old new
@@ -72,11 +83,12 @@ module _ {S C Q R A D K : Type 0} (machine : Machine S C Q R A) (Contents : ℕ 
   -- there is none, since none was made
   pub none_made : (order : ℕ) (why : NotFormatted) →
       (IsTrue shown.tells_words → (w : FormatRefused) → why ≡ unmade.Refused w → IsFormatAnswer order (shown.words was) (Err w)) → ((w : FormatRefused) → why ≡ unmade.Refused w → HasTooFewFor order (shown.size was) w) →
-      HasFaultsUnmade why (shown.faults was) (shown.faults now) (shown.failing now) → (IsTrue shown.tells_images → IsLeft machine Contents shown (New order) was now) → (why ≡ unmade.OutOfMemory → now ≡ was) → IsTold sink old new (unmade_line why) →
+      MakesNone shown order why was now → HasFaultsUnmade why (shown.faults was) (shown.faults now) (shown.failing now) → (IsTrue shown.tells_images → IsLeft machine Contents shown (New order) was now) → (why ≡ unmade.OutOfMemory → now ≡ was) → WithinMaking shown order was now → IsTold sink old new (unmade_line why) →
       HasNone machine Contents shown sink FirstBreak (New order) was now old new (number_of (unmade_status why))
-  none_made order why answer sizes faults images memory told = record {
+  none_made order why answer sizes calls faults images memory within told = record {
     images = images;
-    heap_refused = λ three. refused_unmade shown sink was now old new order why _ refl three answer sizes faults told;
+    calls = within;
+    heap_refused = λ three. refused_unmade shown sink was now old new order why _ refl three answer sizes calls faults told;
     device_failed = λ seven. failed_unmade shown sink was now old new order why _ refl seven faults told;
     unfailed = unfailed why faults;
     uncalled = λ six. memory (remembered why six);
@@ -103,32 +115,35 @@ module _ {S C Q R A D K : Type 0} (machine : Machine S C Q R A) (Contents : ℕ 
 
   -- or none was opened
   pub none_opened : (why : Why) → (IsTrue shown.tells_words → IsRefusal Contents FirstBreak (shown.words was) why) → NamesTooFew (shown.size was) why →
-      HasFaults {T = Unit {0}} (Err why) (shown.faults was) (shown.faults now) (shown.failing now) → (IsTrue shown.tells_images → IsLeft machine Contents shown Standing was now) → IsTold sink old new (refusal_line why) →
+      HasFaults {T = Unit {0}} (Err why) (shown.faults was) (shown.faults now) (shown.failing now) → (IsTrue shown.tells_images → IsLeft machine Contents shown Standing was now) → (IsTrue shown.tells_words → Calls {T = Unit {0}} shown (shown.words was) was now (Err why)) → WithinOpening shown was now → IsTold sink old new (refusal_line why) →
       HasNone machine Contents shown sink FirstBreak Standing was now old new (number_of (refusal_status why))
-  none_opened Device answer sizes faults images told = record {
+  none_opened Device answer sizes faults images calls within told = record {
     images = images;
+    calls = within;
     heap_refused = λ three. absurd (omega (arith, three));
     device_failed = λ seven. record { failed = faults; told = told };
     unfailed = λ six. absurd (omega (arith, six));
     uncalled = λ six. tt;
     no_memory = λ six. absurd (omega (arith, six));
   }
-  none_opened OutOfMemory answer sizes faults images told = record {
+  none_opened OutOfMemory answer sizes faults images calls within told = record {
     images = images;
+    calls = within;
     heap_refused = λ three. absurd (omega (arith, three));
     device_failed = λ seven. absurd (omega (arith, seven));
     unfailed = λ six. faults;
     uncalled = λ six. tt;
     no_memory = λ six. told;
   }
-  none_opened why answer sizes faults images told = by_name why refl refl answer sizes faults told images
+  none_opened why answer sizes faults images calls within told = by_name why refl refl answer sizes calls faults told images
     where
       by_name : (why : Why) → refusal_status why ≡ HeapRefused → number_of (refusal_status why) ≡ 3 → (IsTrue shown.tells_words → IsRefusal Contents FirstBreak (shown.words was) why) → NamesTooFew (shown.size was) why →
-          HasFaults {T = Unit {0}} (Err why) (shown.faults was) (shown.faults now) (shown.failing now) → IsTold sink old new (refusal_line why) → (IsTrue shown.tells_images → IsLeft machine Contents shown Standing was now) →
+          (IsTrue shown.tells_words → Calls {T = Unit {0}} shown (shown.words was) was now (Err why)) → HasFaults {T = Unit {0}} (Err why) (shown.faults was) (shown.faults now) (shown.failing now) → IsTold sink old new (refusal_line why) → (IsTrue shown.tells_images → IsLeft machine Contents shown Standing was now) →
           HasNone machine Contents shown sink FirstBreak Standing was now old new (number_of (refusal_status why))
-      by_name why named three answer sizes faults told images = record {
+      by_name why named three answer sizes calls faults told images = record {
         images = images;
-        heap_refused = λ is. record { why = why; by_name = named; refused = answer; sizes = sizes; faults = faults; told = told };
+        calls = within;
+        heap_refused = λ is. record { why = why; by_name = named; refused = answer; sizes = sizes; calls = calls; faults = faults; told = told };
         device_failed = λ seven. absurd (omega (arith, three, seven));
         unfailed = λ six. absurd (omega (arith, three, six));
         uncalled = λ six. tt;

@@ -8,6 +8,7 @@ use Rattle.rom_device.proofs.Going.{leaves_none, runs_none}
 use Rattle.rom_text.specs.Runs.{IsTold}
 use Rattle.rom_text.specs.Streams.{ShownSink}
 use Rattle.rom_run.specs.Statuses.{number_of}
+use Rattle.rom_run.specs.Keeping.{IsCalledWithin}
 use Rattle.rom_run.specs.Working.{HasNone, IsDeviceKept}
 use Rattle.rom_run.specs.declared.heap.Heap.{Heap}
 use Rattle.rom_run.specs.declared.heap.Heap.TheVariants.{New, Standing}
@@ -15,6 +16,22 @@ use Rattle.rom_run.specs.declared.status.Status.{Status}
 use Rattle.rom_run.specs.declared.status.Status.TheVariants.{NoMemory, ScriptFailed, ScriptTooLong}
 
 module _ {D : Type 0} (shown : ShownDevice D) (was : D) where
+  -- no call is within those of an opening, or of a making
+  within_uncalled : (heap : Heap) → IsCalledWithin shown heap was was
+  within_uncalled (New order) = record {
+    reads = record { later = omega arith; most = omega arith };
+    writes = record { later = omega arith; most = omega arith };
+    syncs = record { later = omega arith; most = omega arith };
+    stops = inl refl;
+  }
+  within_uncalled Standing = record {
+    reads = λ tells. record { later = omega arith; most = omega arith };
+    writes = λ tells. record { later = omega arith; most = omega arith };
+    syncs = λ tells. record { later = omega arith; most = omega arith };
+    idle = λ tells idle. record { size = refl; words = λ told. refl; images = λ told. runs_none shown _ (λ x. refl) was };
+    stops = inl refl;
+  }
+
   -- the device keeps its words
   pub kept_uncalled : (heap : Heap) → IsDeviceKept shown heap was was
   kept_uncalled (New order) = record {
@@ -33,6 +50,7 @@ module _ {D : Type 0} (shown : ShownDevice D) (was : D) where
       status ≢ 3 → status ≢ 7 → (status ≡ 6 → IsTold sink old new (codes "no memory")) → (heap : Heap) → HasNone machine Contents shown sink FirstBreak heap was was old new status
   none_uncalled machine Contents sink FirstBreak old new status unrefused unfailed told (New order) = record {
     images = λ tells. leaves_none shown _ was;
+    calls = within_uncalled (New order);
     heap_refused = λ three. absurd (unrefused three);
     device_failed = λ seven. absurd (unfailed seven);
     unfailed = λ six. refl;
@@ -41,6 +59,7 @@ module _ {D : Type 0} (shown : ShownDevice D) (was : D) where
   }
   none_uncalled machine Contents sink FirstBreak old new status unrefused unfailed told Standing = record {
     images = λ tells. leaves_none shown _ was;
+    calls = within_uncalled Standing;
     heap_refused = λ three. absurd (unrefused three);
     device_failed = λ seven. absurd (unfailed seven);
     unfailed = λ six. refl;

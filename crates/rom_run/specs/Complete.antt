@@ -35,7 +35,8 @@ module _ {S : Type 0} (Contents : ℕ → List ℕ → S → ℕ → Type 0) whe
 -- the line is none
 abbrev pub is_unread_line : {C Q : Type 0} → Step C Q → Bool
 is_unread_line line.Unread = true
-is_unread_line other = false
+is_unread_line (line.Update call) = false
+is_unread_line (line.Ask query) = false
 
 -- a line of the scripts that are run is none
 abbrev pub HasUnreadLine : {C Q X : Type 0} → (List X → List (List (Step C Q)) → Type 0) → List X → Type 0

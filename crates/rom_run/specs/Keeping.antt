@@ -16,9 +16,10 @@ use Rattle.rom_combine.specs.Costs.{WithinHeap}
 use Rattle.rom_combine.specs.Session.{ImageNow, SessionImage}
 use Rattle.rom_text.specs.Runs.{IsTold}
 use Rattle.rom_text.specs.Streams.{ShownSink}
-use Rattle.rom_open.specs.Calls.{HasFaults}
+use Rattle.rom_open.specs.Calls.{Calls, HasFaults}
 use Rattle.rom_open.specs.Making.{IsMadeThen, NoneOrHolds}
 use Rattle.rom_open.specs.Refusals.{IsRefusal, NamesTooFew, named_order}
+use Rattle.rom_open.specs.Within.{MakesNone, WithinMaking, WithinOpening}
 use Rattle.rom_store.specs.Traced.{WentThrough}
 use Rattle.rom_open.specs.declared.new_heap.NotFormatted.TheVariants.{Refused}
 use Rattle.rom_open.specs.declared.reasons.Why.{Why}
@@ -54,9 +55,9 @@ module _ {S C Q R A : Type 0} (machine : Machine S C Q R A) (Contents : ℕ → 
     abbrev pub IsHeldNow : D → Story S → Type 0
     IsHeldNow now story = (i : List ℕ) → shown.leaves now i → ImageNow Contents (on_words machine) story i
 
-    -- The passes counted the device's faults from its opening on, up to now at most; and the device went through them, one after another, up to now.
+    -- No call of the opening failed, or of the making. The passes counted the device's faults from there on, up to now at most; and the device went through them, one after another, up to now.
     pub record CountsFaults (was now : D) (story : Story S) : Type 0 where
-      pub before : shown.faults was ≤ story.opening_faults
+      pub before : story.opening_faults ≡ shown.faults was
       pub after : faults_after story.opening_faults story.records ≤ shown.faults now
       pub went : WentThrough shown Contents (on_words machine) story story.opening_faults now
 
@@ -66,18 +67,25 @@ module _ {D : Type 0} (shown : ShownDevice D) where
   IsSpared (New order) was now = IsTrue shown.tells_words → IsRefused order (shown.words was) → Does shown Stays was now
   IsSpared Standing was now = Unit {0}
 
+module _ {D : Type 0} (shown : ShownDevice D) where
+  -- The device is called no more often than to make a heap of that order, or to open the one that stands.
+  abbrev pub IsCalledWithin : Heap → D → D → Type 0
+  IsCalledWithin (New order) was now = WithinMaking shown order was now
+  IsCalledWithin Standing was now = WithinOpening shown was now
+
 -- want of memory to make a heap comes before any call of the device
 abbrev pub IsUncalled : {D : Type 0} → Heap → D → D → Type 0
 IsUncalled (New order) was now = now ≡ was
 IsUncalled Standing was now = Unit {0}
 
 module _ {D K : Type 0} (shown : ShownDevice D) (sink : ShownSink K) where
-  -- The heap isn't made, for this reason: the words and the length are refused so, and the line names it.
+  -- The heap isn't made, for this reason: the words and the length are refused so, the device was called just as often as it takes to find it, and the line names it.
   pub record IsUnmade (order : ℕ) (was now : D) (old new : K) : Type 0 where
     pub why : FormatRefused
     pub by_name : unmade_status (Refused why) ≡ HeapRefused
     pub refused : IsTrue shown.tells_words → IsFormatAnswer order (shown.words was) (Err why)
     pub sizes : HasTooFewFor order (shown.size was) why
+    pub calls : MakesNone shown order (Refused why) was now
     pub faults : shown.faults now ≡ shown.faults was
     pub told : IsTold sink old new (unmade_line (Refused why))
 
@@ -101,6 +109,7 @@ module _ {D K : Type 0} (shown : ShownDevice D) (sink : ShownSink K) where
       pub by_name : refusal_status why ≡ HeapRefused
       pub refused : IsTrue shown.tells_words → IsRefusal Contents FirstBreak (shown.words was) why
       pub sizes : NamesTooFew (shown.size was) why
+      pub calls : IsTrue shown.tells_words → Calls {T = Unit {0}} shown (shown.words was) was now (Err why)
       pub faults : HasFaults {T = Unit {0}} (Err why) (shown.faults was) (shown.faults now) (shown.failing now)
       pub told : IsTold sink old new (refusal_line why)
 

@@ -1,16 +1,19 @@
 -- What is promised of a heap that a command works on.
-use Rattle.std.specs.Prelude.{◌≡◌, ℕ, List, IsTrue, codes, Option, Some, None}
+use Rattle.std.specs.Prelude.{◌≡◌, ◌≤◌, ℕ, List, IsTrue, codes, Option, Some, None}
 use Rattle.rom_model.specs.Machine.{Machine}
 use Rattle.rom_model.specs.Story.{Story}
 use Rattle.rom_model.specs.declared.unfit.Break.{Break}
 use Rattle.rom_device.specs.Device.{Leaves, ShownDevice, told_words}
 use Rattle.rom_header.specs.Held.{Holds}
+use Rattle.rom_header.specs.Layout.{words_needed}
 use Rattle.rom_recover.specs.Recovered.{Mended}
 use Rattle.rom_text.specs.Runs.{IsTold}
 use Rattle.rom_text.specs.Streams.{ShownSink}
+use Rattle.rom_open.specs.AtRest.{IsAtRest}
 use Rattle.rom_open.specs.Refusals.{named_order}
+use Rattle.rom_open.specs.Within.{WithinOpening}
 use Rattle.rom_store.specs.Sessions.{EachStory, HasStory, SessionSeen}
-use Rattle.rom_run.specs.Keeping.{CountsFaults, HasDeviceFailed, IsHeapRefused, IsHeldNow, IsKept, IsLeft, IsLeftBySession, IsMade, IsOpening, IsSpared, IsUncalled}
+use Rattle.rom_run.specs.Keeping.{CountsFaults, HasDeviceFailed, IsCalledWithin, IsHeapRefused, IsHeldNow, IsKept, IsLeft, IsLeftBySession, IsMade, IsOpening, IsSpared, IsUncalled}
 use Rattle.rom_run.specs.Use.{Makes, Plays, Shows, Use}
 use Rattle.rom_run.specs.declared.heap.Heap.{Heap}
 
@@ -25,6 +28,7 @@ module _ {S C Q R A : Type 0} (machine : Machine S C Q R A) (Contents : ℕ → 
   -- A session on this heap: how it began, what a stop leaves at the end and at any moment, and that its passes are the device's.
   pub record IsSessionOn (heap : Heap) (was now : D) (story : Story S) : Type 0 where
     pub opening : IsOpening machine Contents heap (told_words shown was) story
+    pub fits : words_needed story.order ≤ shown.size was
     pub at_end : IsTrue shown.tells_images → IsHeldNow machine Contents shown now story
     pub since : IsTrue shown.tells_images → IsLeftBySession machine Contents shown heap was now story
     pub faults : CountsFaults machine Contents shown was now story
@@ -36,19 +40,22 @@ module _ {S C Q R A : Type 0} (machine : Machine S C Q R A) (Contents : ℕ → 
     pub told : EachStory machine Contents session P
 
   module _ {K : Type 0} (sink : ShownSink K) (FirstBreak : ℕ → List ℕ → Break → Type 0) where
-    -- There is no session: what a stop may leave, and by the status why.
+    -- There is no session: what a stop may leave, how often the device was called at most, and by the status why.
     pub record HasNone (heap : Heap) (was now : D) (old new : K) (status : ℕ) : Type 0 where
       pub images : IsTrue shown.tells_images → IsLeft machine Contents shown heap was now
+      pub calls : IsCalledWithin shown heap was now
       pub heap_refused : status ≡ 3 → IsHeapRefused shown sink Contents FirstBreak heap was now old new
       pub device_failed : status ≡ 7 → HasDeviceFailed shown sink was now old new
       pub unfailed : status ≡ 6 → shown.faults now ≡ shown.faults was
       pub uncalled : status ≡ 6 → IsUncalled heap was now
       pub no_memory : status ≡ 6 → IsTold sink old new (codes "no memory")
 
--- A heap that is only shown is as it was: its words hold what the story begins with, and whatever a stop leaves, the same region counts as before.
+-- A heap that is only shown is as it was: its words hold what the story begins with, under IDLE and in both regions; whatever a stop leaves, the same region counts as before; and the device was called no more often than to open it.
 pub record IsAsBefore {S D : Type 0} (Contents : ℕ → List ℕ → S → ℕ → Type 0) (shown : ShownDevice D) (was now : D) (story : Story S) : Type 0 where
   pub held : IsTrue shown.tells_words → Holds Contents story.order (shown.words now) story.opening story.opening_count
+  pub at_rest : IsTrue shown.tells_words → (image : List ℕ) × IsAtRest story.order image (shown.words now)
   pub at_end : IsTrue shown.tells_images → (i : List ℕ) → shown.leaves now i → Holds Contents story.order i story.opening story.opening_count
+  pub calls : WithinOpening shown was now
   pub images : IsTrue shown.tells_images → Leaves shown (Mended (named_order (shown.words was)) (shown.words was)) was now
 
 abbrev pub IsStill : {S D : Type 0} → (ℕ → List ℕ → S → ℕ → Type 0) → ShownDevice D → Option Use → D → D → Story S → Type 0

@@ -3,6 +3,7 @@ ghost use Rattle.std.specs.Prelude.{◌≡◌, ◌≢◌, ◌⊎◌, IsTrue, cod
 ghost use Rattle.rom_model.specs.Blocks.{IsOrder};
 ghost use Rattle.rom_text.specs.Runs.{IsTold};
 ghost use Rattle.rom_text.specs.Streams.{StopsWriting};
+ghost use Rattle.rom_open.specs.Within.{WithinMaking};
 ghost use Rattle.rom_run.specs.Keeping.{HasDeviceFailed, IsLeft, IsMade, IsUnmade};
 ghost use Rattle.rom_run.specs.Statuses.{number_of};
 ghost use Rattle.rom_run.specs.Working.{IsDeviceKept};
@@ -30,6 +31,7 @@ pub fn make_heap<O: Object, D: Device, K: Sink>(
     ensures uncalled { number_of result ≡ 6 → device.new ≡ device.old }
     ensures statuses { (number_of result ≡ 0) ⊎ (number_of result ≡ 3)
         ⊎ (number_of result ≡ 6) ⊎ (number_of result ≡ 7) }
+    ensures calls { WithinMaking D.shown order device.old device.new }
     ensures made { number_of result ≡ 0 → IsMade D.shown K.shown O.Contents O.machine.empty order
         device.old device.new out.old out.new }
     ensures images { IsTrue D.shown.tells_images →

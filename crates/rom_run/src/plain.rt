@@ -37,10 +37,7 @@ pub enum Plain<'a> {
     /// To run these scripts on a new heap.
     Try(&'a [Name]),
     /// To run these scripts on the heap in this file.
-    Run {
-        file: &'a Name,
-        scripts: &'a [Name],
-    },
+    Run { file: &'a Name, scripts: &'a [Name] },
     /// To make a new heap of this order in this file.
     Format { file: &'a Name, order: u32 },
 }

@@ -1,8 +1,9 @@
 //! Runs on devices that are stopped anywhere, or of which any one call fails, and the heap that is opened
 //! then.
 
+use crate::heaps::words_of;
 use crate::rows::{PLAIN, Row, Text, Words};
-use crate::runner::{Found, ran, scripts_of, shown, try_rows, words_of};
+use crate::runner::{Found, ran, scripts_of, shown, try_rows};
 use rom_device::{CallKind, Device, Memory, Trip, every_trip};
 use std::process::Abort;
 use std::sync::Wait;

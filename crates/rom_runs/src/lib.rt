@@ -15,6 +15,8 @@ mod devices;
 #[cfg(test)]
 mod drills;
 #[cfg(test)]
+mod heaps;
+#[cfg(test)]
 mod hindered;
 #[cfg(test)]
 mod lawful;

@@ -1,8 +1,9 @@
 //! Long scripts of two callers on few keys, so that they meet there, the heap gets full, and amounts do not
 //! fit.
 
+use crate::heaps::words_of;
 use crate::rows::{PLAIN, Row, Text};
-use crate::runner::{try_row, words_of};
+use crate::runner::try_row;
 use std::alloc::{AllocError, Global};
 use std::test::Fail;
 

@@ -1,6 +1,7 @@
 //! Runs a row, and looks at all that it is to tell.
 ghost use Rattle.std.specs.Prelude.{◌<◌};
 
+use crate::heaps::words_of;
 use crate::lawful::is_lawful;
 use crate::roll::Roll;
 use crate::rows::{Holding, NEVER, PLAIN, Row, Sink, Text, Words};
@@ -28,14 +29,6 @@ const MOST_CALLS: u64 = 36;
 /// A short script is read, and a short text written, in pieces of few bytes.
 const SHORT: usize = 4096;
 
-const HEADER: [u64; 8] = [0x524F_4D55_4C55_5331, 1, 4, 0, 0, 0, 0, 0];
-
-/// A new region up to its blocks, whose words are 0: the root, and then the tree.
-const ROOT_AND_TREE: [u64; 48] = [
-    1, 1, 0, 0, 0, 0, 0, 0, 48, 0, 0, 0, 0, 0, 0, 0, 0, 4, 3, 4, 2, 3, 3, 3, 1, 2, 2, 2, 2, 2, 2,
-    2, 0, 1, 1, 1, 1, 1, 1, 1, 1, 1, 1, 1, 1, 1, 1, 1,
-];
-
 /// What a run left.
 #[derive(Drop)]
 pub struct Found {
@@ -44,45 +37,6 @@ pub struct Found {
     pub has_session: bool,
     pub device: Memory,
     pub roll: Roll,
-}
-
-/// The words of a new heap of order 4, with these at their places.
-fn heap(alloc: Global, changes: &[(usize, u64)]) -> Result<Vec<u64>, AllocError> {
-    let mut words = HEADER.to_vec(alloc)?;
-    for _ in 0..2 {
-        words.extend_from_slice(&ROOT_AND_TREE)?;
-        words.extend_from_slice(&[0; 64])?;
-    }
-    for (at, word) in changes {
-        if let Some(place) = words.get_mut(*at) {
-            *place = *word;
-        }
-    }
-    Ok(words)
-}
-
-/// The words of a device, before which it had those.
-pub fn words_of(alloc: Global, device: &Words, kept: &[u64]) -> Result<Vec<u64>, AllocError> {
-    match device {
-        Words::Zeros(many) => vec![in alloc; 0u64; *many as usize],
-        Words::Heap(changes) => heap(alloc, changes),
-        Words::Regions(changes) => {
-            let mut twice = Vec::new(alloc);
-            for (offset, word) in *changes {
-                twice.push((offset.saturating_add(8), *word))?;
-                twice.push((offset.saturating_add(120), *word))?;
-            }
-            heap(alloc, twice.as_slice())
-        }
-        Words::Torn(from, to, changes) => {
-            let mut words = heap(alloc, changes)?;
-            for word in words.iter_mut().take(*to).skip(*from) {
-                *word = 77;
-            }
-            Ok(words)
-        }
-        Words::Kept => kept.to_vec(alloc),
-    }
 }
 
 /// A text with each line as often as it says.

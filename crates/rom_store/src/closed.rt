@@ -45,7 +45,8 @@ impl<D: Device, O: Object> Model for Closed<D, O> {
     } };
 
     ghost invariant = { λ c. let table = c.shared.table.shared in
-        IsClosedStore O.Contents (on_words O.machine) table.table_id table.key c.seat c.begun c.count };
+        IsClosedStore O.Contents (on_words O.machine) table.table_id table.key
+        c.seat c.begun c.count };
 }
 
 impl<D: Device, O: Object> Closed<D, O> {

@@ -24,8 +24,7 @@ struct Gathered<'a, O: Sink> {
     // Whether the last write failed, and then that of the sink behind did.
     failing: bool,
     ghost within: { handed ≤ array_vec_len block },
-    ghost grown: { Grown (O.shown.taken opened.value) (O.shown.taken out.now) } by
-        { Grown-prop (O.shown.taken opened.value) (O.shown.taken out.now) },
+    ghost grown: { Grown (O.shown.taken opened.value) (O.shown.taken out.now) } by { Grown-prop (O.shown.taken opened.value) (O.shown.taken out.now) },
     ghost failed: { IsTrue failing → IsTrue (O.shown.failing out.now) },
 }
 

@@ -1,9 +1,10 @@
-//! A trial of what every program here stands on: a counter, kept in a heap with the whole promise.
+//! A trial of what every program here stands on: a counter, kept in a heap with the promise of a
+//! program.
 //!
 //! A counter is an object (`counter`), a language (`language`) and one call (`program`). That call
 //! promises of a counter, in the same record, what the program of queues, sets and maps promises of
 //! these. No crate stands on this one. It shows that nothing below it knows more of an object than
-//! `Object` tells, and what a program of one's own takes.
+//! `Object`, `Lines` and `Told` tell, and what a program of one's own takes but its `main`.
 #![tactic(auto)]
 
 mod counter;

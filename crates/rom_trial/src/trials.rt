@@ -2,9 +2,9 @@
 //! hand.
 
 use crate::program::run_counter;
-use rom_combine::NoGate;
 use rom_device::Memory;
 use rom_run::plain_files;
+use rom_store::NoGate;
 use rom_text::{Bytes, Collect, DeviceWant, Names};
 use std::alloc::{AllocError, Global};
 use std::sync::Wait;
@@ -191,9 +191,9 @@ fn a_counter_is_kept(rt: HostRuntime) -> Result<(), Fail> {
     Ok(())
 }
 
-/// Three callers add at the same time, each a thousand times.
+/// Three callers add in threads, each a thousand times.
 #[test]
-fn callers_add_beside_each_other(rt: HostRuntime) -> Result<(), Fail> {
+fn callers_add_in_threads(rt: HostRuntime) -> Result<(), Fail> {
     let alloc = rt.alloc();
     let mut script = String::new(alloc);
     for _ in 0..1000 {

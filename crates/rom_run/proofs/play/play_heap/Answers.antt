@@ -10,7 +10,7 @@ returns-in-Err-clause-none g c =
     let failed = c.in-Err.ensures in
     rw (c.in-New.is, ended.worked)
     (none_made o.machine o.Contents g.D.Device.shown g.K.Sink.shown o.FirstBreak c.args.device c.in-Err.unmade.device c.args.out.now c.end_unmade.new.out c.in-New.order c.in-Err.unmade.why
-    failed.refused failed.unmade_sizes failed.unmade_faults failed.unmade_images failed.memory ended.told)
+    failed.refused failed.unmade_sizes failed.unmade_calls failed.unmade_faults failed.unmade_images failed.memory failed.unmade_within ended.told)
 
 pub returns-in-Err-Unopened-clause-none : goal.returns-in-Err-Unopened-clause-none
 returns-in-Err-Unopened-clause-none g c =
@@ -20,7 +20,7 @@ returns-in-Err-Unopened-clause-none g c =
     let failed : HasBeenRefused g.D.Device.shown o.Contents o.FirstBreak c.args.device left.device left.why = search rules in
     rw (c.in-Standing.is, ended.worked)
     (none_opened o.machine o.Contents g.D.Device.shown g.K.Sink.shown o.FirstBreak c.args.device left.device c.args.out.now c.end_unopened.new.out left.why
-    failed.refused failed.sizes failed.faults failed.images ended.told)
+    failed.refused failed.sizes failed.faults failed.images failed.calls failed.within ended.told)
 
 pub returns-in-Err-clause-none_statuses : goal.returns-in-Err-clause-none_statuses
 returns-in-Err-clause-none_statuses g c = rw c.end_unmade.ensures.worked (unmade_ends c.in-Err.unmade.why)

@@ -4,6 +4,8 @@ use Rattle.rom_model.specs.Machine.{on_words}
 use Rattle.rom_model.specs.Passes.{faults_after}
 use Rattle.rom_model.specs.Story.{Story}
 use Rattle.rom_combine.specs.Session.{SessionImage}
+use Rattle.rom_header.specs.Layout.{words_needed}
+use Rattle.rom_open.specs.AtRest.{IsAtRest}
 use Rattle.rom_open.specs.Refusals.{named_order}
 use Rattle.rom_store.specs.Sessions.{IsStoryOf, unchanged}
 use Rattle.rom_store.proofs.Tracing.{went_none}
@@ -43,6 +45,7 @@ returns-in-Ok-clause-session g c =
       each = λ story of. record {
         opening = if_told shown.tells_words (shown.words was) (λ words. Holds o.Contents story.order words story.opening story.opening_count)
             (λ told. holds story of (shown.words was) (c.in-Ok.ensures.held told story.opening story.opening_count of.opening));
+        fits = let long : words_needed story.order ≡ words_needed heap.geometry = ap (λ (n : ℕ). words_needed n) of.order_is in omega (arith, long, c.in-Ok.ensures.fits, c.in-Ok.ensures.left.size);
         at_end = λ images i left. held_now o.Contents (on_words o.machine) story i
             (holds story of i (subst (λ words. Holds o.Contents heap.geometry words story.opening story.opening_count) (sym (c.in-Ok.ensures.certain refl images i left))
             (c.in-Ok.ensures.holds (g.met.D.Device.tells_both images) story.opening story.opening_count of.opening))) of.history;
@@ -69,6 +72,8 @@ returns-in-Ok-clause-still g c =
     let session_is = c.unchanged-session.ensures ∙ (λ i. unchanged (c.order-order.ensures.order i) (c.of-space.ensures i) c.fault_count-faults.result) in
     rw session_is (λ story of. record {
       held = λ told. subst (λ (n : ℕ). Holds o.Contents n (shown.words heap.device) story.opening story.opening_count) (sym of.order_is) (c.in-Ok.ensures.holds told story.opening story.opening_count of.opening);
+      at_rest = λ told. (heap.image.items, subst (λ (n : ℕ). IsAtRest n heap.image.items (shown.words heap.device)) (sym of.order_is) (c.in-Ok.ensures.rest told));
+      calls = c.in-Ok.ensures.within;
       at_end = λ images i left. subst (λ (n : ℕ). Holds o.Contents n i story.opening story.opening_count) (sym of.order_is)
           (subst (λ words. Holds o.Contents heap.geometry words story.opening story.opening_count) (sym (c.in-Ok.ensures.certain refl images i left))
           (c.in-Ok.ensures.holds (g.met.D.Device.tells_both images) story.opening story.opening_count of.opening));
@@ -91,7 +96,7 @@ returns-in-Err-clause-none g c =
     let failed = c.in-Err.ensures in
     rw ended.worked
     (none_opened o.machine o.Contents g.D.Device.shown g.K.Sink.shown o.FirstBreak c.args.device c.in-Err.refused.device c.args.out.now c.end_unopened.new.out c.in-Err.refused.why
-    failed.answer failed.sizes failed.faults failed.images ended.told)
+    failed.answer failed.sizes failed.faults failed.images failed.calls failed.within ended.told)
 
 pub returns-in-Err-clause-none_kept : goal.returns-in-Err-clause-none_kept
 returns-in-Err-clause-none_kept g c =

@@ -15,6 +15,16 @@ returns-in-Run-clause-story g c =
     let is : Some (Run c.in-Run.file.now (texts c.in-Run.scripts.items)) ≡ command c.args.words.now = subst (λ a. named (Some a) ≡ command c.args.words.now) c.in-Run.is c.in-Some.ensures.named in
     rw (sym is) c.play_sources-in-Run.ensures.session
 
+pub returns-in-Run-clause-none : goal.returns-in-Run-clause-none
+returns-in-Run-clause-none g c =
+    let is : Some (Run c.in-Run.file.now (texts c.in-Run.scripts.items)) ≡ command c.args.words.now = subst (λ a. named (Some a) ≡ command c.args.words.now) c.in-Run.is c.in-Some.ensures.named in
+    rw (sym is) c.play_sources-in-Run.ensures.none
+
+pub returns-in-Stat-clause-none : goal.returns-in-Stat-clause-none
+returns-in-Stat-clause-none g c =
+    let is : Some (Stat c.in-Stat.field-0.now) ≡ command c.args.words.now = subst (λ a. named (Some a) ≡ command c.args.words.now) c.in-Stat.is c.in-Some.ensures.named in
+    rw (sym is, c.after.ensures) c.show_heap.ensures.none
+
 pub returns-in-Format-clause-none : goal.returns-in-Format-clause-none
 returns-in-Format-clause-none g c =
     let is : Some (Format c.in-Format.file.now c.in-Format.order) ≡ command c.args.words.now = subst (λ a. named (Some a) ≡ command c.args.words.now) c.in-Format.is c.in-Some.ensures.named in
@@ -22,6 +32,7 @@ returns-in-Format-clause-none g c =
     rw (sym is, c.of-in-Format.ensures)
     (λ none. record {
       images = made.images;
+      calls = made.calls;
       heap_refused = made.heap_refused;
       device_failed = made.device_failed;
       unfailed = λ six. made.unfailed (λ seven. omega (arith, six, seven));
