@@ -5,7 +5,7 @@ use crate::program::run_counter;
 use rom_device::Memory;
 use rom_run::plain_files;
 use rom_store::NoGate;
-use rom_text::{Bytes, Collect, DeviceWant, Names};
+use rom_text::{Bytes, Collect, Names};
 use std::alloc::{AllocError, Global};
 use std::sync::Wait;
 use std::test::Fail;
@@ -151,32 +151,43 @@ struct Found {
     text: String,
 }
 
-/// Runs a row on a device of these words.
-fn ran<R: Threads + Wait + Sync + AllocGlobal>(
+/// Runs a command on a device of these words, with room for so many calls of it and bytes of text.
+fn run_on<R: Threads + Wait + Sync + AllocGlobal>(
     rt: &R,
-    row: &Row,
-    words: &[u64],
+    words: &[&str],
+    scripts: &[&str],
+    device: Vec<u64>,
+    room: u64,
 ) -> Result<Found, Fail> {
     let alloc = rt.alloc();
-    let mut words = words.to_vec(alloc)?;
-    for (at, word) in row.changes {
-        if let Some(place) = words.get_mut(*at) {
-            *place = *word;
-        }
-    }
-    let names = names_of(alloc, row.words)?;
-    let sources = sources_of(alloc, row.scripts)?;
+    let names = names_of(alloc, words)?;
+    let sources = sources_of(alloc, scripts)?;
     if plain_files(alloc, &names)?.scripts.len() != sources.len() as u64 {
         return Err("another number of scripts".into());
     }
-    let device = Memory::new(alloc, words, ROOM, Vec::new(alloc))?;
-    let mut out = Collect::with_room(alloc, ROOM, 5)?;
+    let device = Memory::new(alloc, device, room, Vec::new(alloc))?;
+    let mut out = Collect::with_room(alloc, room, 5)?;
     let ended = run_counter(rt, alloc, &names, device, sources, &mut out, &NoGate);
     Ok(Found {
         words: ended.device.words().to_vec(alloc)?,
         status: ended.status,
         text: str::from_utf8(out.bytes())?.to_string(alloc)?,
     })
+}
+
+/// Runs a row on a device of these words.
+fn ran<R: Threads + Wait + Sync + AllocGlobal>(
+    rt: &R,
+    row: &Row,
+    words: &[u64],
+) -> Result<Found, Fail> {
+    let mut words = words.to_vec(rt.alloc())?;
+    for (at, word) in row.changes {
+        if let Some(place) = words.get_mut(*at) {
+            *place = *word;
+        }
+    }
+    run_on(rt, row.words, row.scripts, words, ROOM)
 }
 
 #[test]
@@ -199,48 +210,22 @@ fn callers_add_in_threads(rt: HostRuntime) -> Result<(), Fail> {
     for _ in 0..1000 {
         script.push_str("add 3\n")?;
     }
-    let names = names_of(alloc, &["try", "a", "b", "c"])?;
     let text = script.as_str();
-    let sources = sources_of(alloc, &[text, text, text])?;
-    let device = Memory::new(alloc, vec![in alloc; 0u64; 232]?, 100_000, Vec::new(alloc))?;
-    let mut out = Collect::with_room(alloc, 200_000, 4096)?;
-    let ended = run_counter(&rt, alloc, &names, device, sources, &mut out, &NoGate);
-    let told = str::from_utf8(out.bytes())?;
-    assert_eq!(rt; ended.status, 0);
-    assert!(rt; told.ends_with("\ncount 3000\n"));
-    assert_eq!(rt;
-        told.lines()
-            .filter(|line| *line == "sum 9000 @2999")
-            .count(),
-        1
-    );
-    let found = ran(
-        &rt,
-        &Row {
-            scripts: &["get"],
-            ..RUN
-        },
-        ended.device.words(),
-    )?;
+    let scripts = [text, text, text];
+    let zeros = vec![in alloc; 0u64; 232]?;
+    let found = run_on(&rt, &["try", "a", "b", "c"], &scripts, zeros, 200_000)?;
+    assert_eq!(rt; found.status, 0);
+    assert!(rt; found.text.ends_with("\ncount 3000\n"));
+    let last = found.text.lines().filter(|line| *line == "sum 9000 @2999");
+    assert_eq!(rt; last.count(), 1);
+    let row = Row {
+        scripts: &["get"],
+        ..RUN
+    };
+    let found = ran(&rt, &row, &found.words)?;
     assert_eq!(rt;
         found.text.as_str(),
         "caller 1\nsum 9000 #3000\ncount 3000\n"
     );
-    Ok(())
-}
-
-/// What each command asks `main` for.
-#[test]
-fn plain_words_ask_for_files(rt: HostRuntime) -> Result<(), Fail> {
-    let alloc = rt.alloc();
-    let wanted = plain_files(alloc, &names_of(alloc, &["try", "a", "b"])?)?;
-    assert!(rt; matches!(wanted.device, DeviceWant::Fresh(232)));
-    assert_eq!(rt; wanted.scripts.at(1), Some("b"));
-    let wanted = plain_files(alloc, &names_of(alloc, &["run", "heap", "a"])?)?;
-    assert!(rt; matches!(wanted.device, DeviceWant::Old(name) if name.as_str() == "heap"));
-    let wanted = plain_files(alloc, &names_of(alloc, &["format", "heap", "16"])?)?;
-    assert!(rt; matches!(wanted.device, DeviceWant::Made(_, 786_472)));
-    let wanted = plain_files(alloc, &names_of(alloc, &["run", "heap"])?)?;
-    assert!(rt; matches!(wanted.device, DeviceWant::Nothing));
     Ok(())
 }
