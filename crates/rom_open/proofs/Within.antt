@@ -23,13 +23,9 @@ none_most n before now is = record { later = omega (arith, is); most = omega (ar
 most_most : (k n before now : ℕ) → k ≤ n → AtMost k before now → AtMost n before now
 most_most k n before now le most = record { later = most.later; most = omega (arith, le, most.most) }
 
--- an opening reads the header and the state, and a region twice
+-- an opening reads the header and the state at least
 reads_header : (k order state : ℕ) → k ≤ 5 → k ≤ opening_reads order state
 reads_header k order state le = omega (arith, le)
-
-reads_regions : (k r : ℕ) (idle : Bool) → k ≤ 2 * r → 5 + k ≤ 5 + (if idle then 2 else 1) * r + r
-reads_regions k r true le = omega (arith, le)
-reads_regions k r false le = omega (arith, le)
 
 one_sync : (idle : Bool) → 1 ≤ (if idle then 1 else 3)
 one_sync true = omega arith
@@ -42,14 +38,15 @@ have_reads false = omega arith
 same_most : (n : ℕ) → n ≤ n
 same_most n = omega arith
 
+least_most : (n m : ℕ) → min n m ≤ n
+least_most n m = omega arith
+
 most_reads : {T : Type 0} (order state : ℕ) (result : Result T Why) (before now : ℕ) → AreReads order state result before now → AtMost (opening_reads order state) before now
 most_reads order state (Ok opened) before now reads = adds_most _ _ before now (same_most _) reads
 most_reads order state (Err (Malformed offset rule)) before now reads = adds_most _ _ before now (same_most _) reads
 most_reads order state (Err Device) before now reads = reads
-most_reads order state (Err OutOfMemory) before now reads = reads
-most_reads order state (Err (Twins offset main back)) before now reads =
-    let r = region_len order in
-    most_most _ _ before now (reads_regions (min (2 * r) (2 * (offset + 64))) r (state == 0) (omega arith)) reads
+most_reads order state (Err OutOfMemory) before now reads = adds_most _ _ before now (same_most _) reads
+most_reads order state (Err (Twins offset main back)) before now reads = most_most _ _ before now (least_most _ _) reads
 most_reads order state (Err (TooSmall need have)) before now reads = adds_most _ _ before now (reads_header _ order state (have_reads _)) reads
 most_reads order state (Err NotAHeap) before now reads = adds_most _ _ before now (reads_header 1 order state (omega arith)) reads
 most_reads order state (Err (BadVersion version)) before now reads = adds_most _ _ before now (reads_header 2 order state (omega arith)) reads

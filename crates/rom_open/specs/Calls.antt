@@ -1,5 +1,5 @@
 -- How many calls of the device an opening makes, and which of them may fail.
-use Rattle.std.specs.Prelude.{◌≡◌, ℕ, ◌+◌, ◌*◌, ◌==◌, min, Bool, true, false, if◌then◌else◌, nat_lt, List, slice_index, Result, Ok, Err, OnOk, IfErr}
+use Rattle.std.specs.Prelude.{◌≡◌, ℕ, ◌+◌, ◌*◌, ◌==◌, min, Bool, true, false, if◌then◌else◌, nat_lt, List, slice_index, Result, Ok, Err}
 use Rattle.rom_model.specs.Blocks.{region_len}
 use Rattle.rom_model.specs.Faults.{Adds, AtMost, FailedLast, StopsAtFault}
 use Rattle.rom_device.specs.Device.{ShownDevice}
@@ -38,13 +38,9 @@ HasFaults (Err (Malformed offset rule)) before now failing = now ≡ before
 HasFaults (Err Device) before now failing = FailedLast before now failing
 HasFaults (Err OutOfMemory) before now failing = now ≡ before
 
--- how many words are read of a heap of this order up to its recovery, by the word of the state: the header, the state again and the region that counts, and under IDLE the other one too
-abbrev pub ready_reads : ℕ → ℕ → ℕ
-ready_reads order state = 5 + (if state == 0 then 2 else 1) * region_len order
-
--- and then main
+-- how many words are read of a heap of this order, by the word of the state: the header, the state again and the region that counts, and under IDLE the other one too
 abbrev pub opening_reads : ℕ → ℕ → ℕ
-opening_reads order state = ready_reads order state + region_len order
+opening_reads order state = 5 + (if state == 0 then 2 else 1) * region_len order
 
 -- how many words are written: none under IDLE, else the other region and the state
 abbrev pub opening_writes : ℕ → ℕ → ℕ
@@ -54,13 +50,13 @@ opening_writes order state = if state == 0 then 0 else region_len order + 1
 abbrev pub opening_syncs : ℕ → ℕ
 opening_syncs state = if state == 0 then 1 else 3
 
--- The reads that an opening made, by its answer: a header is read up to the word that is refused, and regions that differ at most up to that place. Where the device failed, or there was no memory, some may be missing.
+-- The reads that an opening made, by its answer: a header is read up to the word that is refused, and regions that differ at most up to that place. Where the device failed some may be missing.
 abbrev pub AreReads : {T : Type 0} → ℕ → ℕ → Result T Why → ℕ → ℕ → Type 0
 AreReads order state (Ok opened) before now = Adds (opening_reads order state) before now
 AreReads order state (Err (Malformed offset rule)) before now = Adds (opening_reads order state) before now
 AreReads order state (Err Device) before now = AtMost (opening_reads order state) before now
-AreReads order state (Err OutOfMemory) before now = AtMost (opening_reads order state) before now
-AreReads order state (Err (Twins offset main back)) before now = AtMost (5 + min (2 * region_len order) (2 * (offset + 64))) before now
+AreReads order state (Err OutOfMemory) before now = Adds (opening_reads order state) before now
+AreReads order state (Err (Twins offset main back)) before now = AtMost (min (opening_reads order state) (5 + 2 * (offset + 64))) before now
 AreReads order state (Err (TooSmall need have)) before now = Adds (if nat_lt have 8 then 0 else 3) before now
 AreReads order state (Err NotAHeap) before now = Adds 1 before now
 AreReads order state (Err (BadVersion version)) before now = Adds 2 before now
@@ -96,12 +92,5 @@ AreSyncs state (Err (BadState word)) before now = now ≡ before
 -- The calls that an opening of a device with these words made.
 pub record Calls {D T : Type 0} (shown : ShownDevice D) (words : List ℕ) (old new : D) (result : Result T Why) : Type 0 where
   pub reads : AreReads (named_order words) (slice_index words STATE) result (shown.reads old) (shown.reads new)
-  pub writes : AreWrites (named_order words) (slice_index words STATE) result (shown.writes old) (shown.writes new)
-  pub syncs : AreSyncs (slice_index words STATE) result (shown.syncs old) (shown.syncs new)
-
--- Those up to its recovery.
-pub record ReadyCalls {D T : Type 0} (shown : ShownDevice D) (words : List ℕ) (old new : D) (result : Result T Why) : Type 0 where
-  pub reads : OnOk result (Adds (ready_reads (named_order words) (slice_index words STATE)) (shown.reads old) (shown.reads new))
-  pub refused : IfErr result (λ why. AreReads {T = T} (named_order words) (slice_index words STATE) (Err why) (shown.reads old) (shown.reads new))
   pub writes : AreWrites (named_order words) (slice_index words STATE) result (shown.writes old) (shown.writes new)
   pub syncs : AreSyncs (slice_index words STATE) result (shown.syncs old) (shown.syncs new)

@@ -46,12 +46,6 @@ IsUnready words (Malformed offset rule) = ⊥
 IsUnready words Device = Unit {0}
 IsUnready words OutOfMemory = ⊥
 
--- what is answered in place of the words of a region that are read: the device failed, or there was no memory
-abbrev pub IsUnread : Why → Type 0
-IsUnread Device = Unit {0}
-IsUnread OutOfMemory = Unit {0}
-IsUnread other = ⊥
-
 -- A refusal for too few words names how many words are needed, and how many the device has, which are fewer.
 abbrev pub NamesTooFew : ℕ → Why → Type 0
 NamesTooFew size (TooSmall need have) = HasTooFew size (header.TooSmall need have)

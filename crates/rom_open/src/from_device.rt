@@ -15,8 +15,8 @@ ghost use Rattle.rom_open.specs.Refusals.{IsRefusal, NamesTooFew, named_order};
 ghost use Rattle.rom_open.specs.Within.{WithinOpening};
 ghost use Rattle.rom_open.specs.declared.reasons.Why.TheVariants.{TooSmall};
 
-use crate::image::{inspect_image, read_image};
-use crate::ready::make_ready;
+use crate::image::inspect_image;
+use crate::ready::{Ready, make_ready};
 use crate::reasons::Why;
 use rom_device::Device;
 use rom_header::Geometry;
@@ -82,8 +82,10 @@ fn accept<D: Device, O: Object>(alloc: Global, device: &mut D) -> Result<Accepte
     ensures calls { IsTrue D.shown.tells_words →
         Calls D.shown (D.shown.words device.old) device.old device.new result }
 {
-    let geometry = make_ready(device)?;
-    let image = read_image(alloc, device, geometry)?;
+    let Ready { geometry, image } = make_ready(alloc, device)?;
+    let Some(image) = image else {
+        return Err(Why::OutOfMemory);
+    };
     inspect_image::<O>(alloc, image.as_slice(), geometry)?;
     Ok(Accepted { geometry, image })
 }

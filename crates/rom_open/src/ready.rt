@@ -1,12 +1,13 @@
-//! A device whose header is accepted and that is recovered.
-ghost use Rattle.std.specs.Prelude.{◌<◌, ◌≡◌, ◌≤◌, IfOk, IfErr, OnOk, IsTrue, Err};
+//! A heap whose header is accepted and that is recovered.
+ghost use Rattle.std.specs.Prelude.{◌<◌, ◌≡◌, ◌≤◌, IfOk, IfErr, IfSome, OnOk, IsTrue, Err, length};
+ghost use Rattle.rom_model.specs.Blocks.{region_len};
 ghost use Rattle.rom_device.specs.Device.{Does, IsSynced, Leaves, Stays};
 ghost use Rattle.rom_header.specs.Headers.{IsIdle};
-ghost use Rattle.rom_header.specs.Layout.{words_needed};
+ghost use Rattle.rom_header.specs.Layout.{main_of, words_needed};
 ghost use Rattle.rom_header.specs.Regions.{IsHeap};
 ghost use Rattle.rom_header.specs.Writing.{Alters};
 ghost use Rattle.rom_recover.specs.Recovered.{IsDone, Mended};
-ghost use Rattle.rom_open.specs.Calls.{HasFaults, ReadyCalls};
+ghost use Rattle.rom_open.specs.Calls.{Calls, HasFaults};
 ghost use Rattle.rom_open.specs.Opening.{MendsNamed};
 ghost use Rattle.rom_open.specs.Refusals.{IsUnready, NamesTooFew, named_order};
 ghost use Rattle.rom_open.specs.declared.reasons.Why.TheVariants.{TooSmall};
@@ -14,16 +15,30 @@ ghost use Rattle.rom_open.specs.declared.reasons.Why.TheVariants.{TooSmall};
 use crate::reasons::Why;
 use rom_device::Device;
 use rom_header::{Geometry, read_header};
-use rom_recover::recover;
+use rom_recover::recover_into;
+use std::alloc::Global;
 
-/// Reads the header and recovers the heap.
-pub fn make_ready<D: Device>(device: &mut D) -> Result<Geometry, Why>
-    ensures fits { IfOk result (λ geometry. words_needed geometry ≤ D.shown.size device.old) }
+/// A heap that was recovered, without its device.
+#[derive(Drop)]
+pub struct Ready {
+    pub geometry: Geometry,
+    /// The words of main, if there was memory for them.
+    pub image: Option<Vec<u64>>,
+}
+
+/// Reads the header and recovers the heap, with or without memory for an image, so that a header or
+/// regions that are refused are told before want of memory.
+pub fn make_ready<D: Device>(alloc: Global, device: &mut D) -> Result<Ready, Why>
+    ensures fits { IfOk result (λ ready. words_needed ready.geometry ≤ D.shown.size device.old) }
     ensures done { IsTrue D.shown.tells_words →
-        IfOk result (λ geometry. IsDone geometry (D.shown.words device.old)
+        IfOk result (λ ready. IsDone ready.geometry (D.shown.words device.old)
         (D.shown.words device.new)) }
     ensures heap { IsTrue D.shown.tells_words →
-        IfOk result (λ geometry. IsHeap geometry (D.shown.words device.old)) }
+        IfOk result (λ ready. IsHeap ready.geometry (D.shown.words device.old)) }
+    ensures sized { IfOk result (λ ready. IfSome ready.image (λ image.
+        length image.items ≡ region_len ready.geometry)) }
+    ensures image { IsTrue D.shown.tells_words → IfOk result (λ ready. IfSome ready.image (λ image.
+        image.items ≡ main_of ready.geometry (D.shown.words device.new))) }
     ensures certain { OnOk result (IsSynced D.shown device.new) }
     ensures refused { IsTrue D.shown.tells_words →
         IfErr result (IsUnready (D.shown.words device.old)) }
@@ -39,9 +54,19 @@ pub fn make_ready<D: Device>(device: &mut D) -> Result<Geometry, Why>
     ensures faults { HasFaults result
         (D.shown.faults device.old) (D.shown.faults device.new) (D.shown.failing device.new) }
     ensures calls { IsTrue D.shown.tells_words →
-        ReadyCalls D.shown (D.shown.words device.old) device.old device.new result }
+        Calls D.shown (D.shown.words device.old) device.old device.new result }
 {
     let geometry = read_header(device)?.geometry;
-    recover(device, geometry)?;
-    Ok(geometry)
+    let Ok(mut image) = vec![in alloc; 0u64; geometry.region() as usize] else {
+        recover_into(device, geometry, &mut [])?;
+        return Ok(Ready {
+            geometry,
+            image: None,
+        });
+    };
+    recover_into(device, geometry, image.as_mut_slice())?;
+    Ok(Ready {
+        geometry,
+        image: Some(image),
+    })
 }

@@ -17,6 +17,10 @@ beside : (from to len k : ℕ) → (from + len ≤ to) ⊎ (to + len ≤ from) �
 beside from to len k (inl below) lt = inl (omega arith)
 beside from to len k (inr above) lt = inr (omega arith)
 
+-- the source of a copy stays
+pub source_stays : (from to len : ℕ) (old mid : List ℕ) → (from + len ≤ to) ⊎ (to + len ≤ from) → ChangesOnly to len old mid → (k : ℕ) → k < len → slice_index mid (from + k) ≡ slice_index old (from + k)
+source_stays from to len old mid apart only k lt = outside to len old mid only (from + k) (beside from to len k apart lt)
+
 pub copied_on : (from to len done count : ℕ) (old mid new : List ℕ) → (from + len ≤ to) ⊎ (to + len ≤ from) → done + count ≤ len
     → ChangesOnly to len old mid → Copied from to done old mid → ChangesOnly (to + done) count mid new → Copied (from + done) (to + done) count mid new
     → Copied from to (done + count) old new
@@ -25,7 +29,7 @@ copied_on from to len done count old mid new apart fits before so_far within cop
   | inr now ↦
       let there : to + done + (k - done) ≡ to + k = omega (arith, now) in
       let here : from + done + (k - done) ≡ from + k = omega (arith, now) in
-      ap (slice_index new) (sym there) ∙ copied (k - done) (omega (arith, lt, now)) ∙ ap (slice_index mid) here ∙ outside to len old mid before (from + k) (beside from to len k apart (omega (arith, lt, fits)))
+      ap (slice_index new) (sym there) ∙ copied (k - done) (omega (arith, lt, now)) ∙ ap (slice_index mid) here ∙ source_stays from to len old mid apart before k (omega (arith, lt, fits))
 ]
 
 pub copies_none : (source : List ℕ) (from to len : ℕ) (x : List ℕ) → CopiesSome source from to len x x
@@ -88,4 +92,4 @@ module _ {D : Type 0} (shown : ShownDevice D) where
     where
       wide : IsTrue shown.tells_words → (x y : List ℕ) → CopiesSome (shown.words b) (from + done) (to + done) count x y → CopiesSome (shown.words a) from to len x y
       wide told = copies_wider (shown.words a) (shown.words b) from to len done count fits
-          (λ k lt. outside to len (shown.words a) (shown.words b) (so_far.words told).only (from + k) (beside from to len k apart lt))
+          (source_stays from to len (shown.words a) (shown.words b) apart (so_far.words told).only)

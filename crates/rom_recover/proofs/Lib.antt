@@ -1,5 +1,6 @@
--- Lemmas on copies, on comparisons and on the region that counts.
+-- Lemmas on copies, on comparisons, on what an image keeps and on the region that counts.
 pub mod CopyBack
+mod Keeping
 mod Restoring
 mod Pieces
 mod Copying

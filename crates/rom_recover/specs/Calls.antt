@@ -1,5 +1,5 @@
 -- How many calls of the device recovery makes, and which of them may fail.
-use Rattle.std.specs.Prelude.{◌≡◌, ℕ, ◌+◌, ◌*◌, min, Bool, Result, Ok, Err, OnOk}
+use Rattle.std.specs.Prelude.{◌≡◌, ℕ, ◌+◌, ◌*◌, ◌==◌, if◌then◌else◌, min, Bool, Result, Ok, Err, OnOk}
 use Rattle.rom_model.specs.Blocks.{region_len}
 use Rattle.rom_model.specs.Faults.{Adds, AtMost, FailedLast, StopsAtFault, counted}
 use Rattle.rom_device.specs.Device.{ShownDevice, Does, OnlyReads, Stays}
@@ -38,6 +38,10 @@ abbrev pub reads_from : ℕ → State → ℕ
 reads_from order Idle = 1 + 2 * region_len order
 reads_from order Mutating = 1 + region_len order
 reads_from order Copying = 1 + region_len order
+
+-- and at most, whatever it answers, by the word of the state
+abbrev pub reads_at_most : ℕ → ℕ → ℕ
+reads_at_most order state = 1 + (if state == 0 then 2 else 1) * region_len order
 
 -- how many it writes: none under IDLE, else the other region and the state
 abbrev pub writes_from : ℕ → State → ℕ

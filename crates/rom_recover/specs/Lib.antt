@@ -1,4 +1,5 @@
 -- What recovery does.
 pub mod Copied
+pub mod Image
 pub mod Recovered
 pub mod Calls

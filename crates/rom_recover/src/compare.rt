@@ -1,12 +1,14 @@
 //! The comparison of both regions.
 ghost use Rattle.std.specs.Prelude.{◌≡◌, ◌≢◌, ◌+◌, ◌*◌, ◌<◌, ◌≤◌, ℕ};
-ghost use Rattle.std.specs.Prelude.{IfErr, IfSome, IfNone, OnOk, IsTrue, slice_index};
+ghost use Rattle.std.specs.Prelude.{IfErr, IfSome, IfNone, OnOk, IsTrue, length, slice_index};
 ghost use Rattle.rom_model.specs.Blocks.{region_len};
 ghost use Rattle.rom_header.specs.Headers.{IsIdle};
-ghost use Rattle.rom_header.specs.Layout.{words_needed};
+ghost use Rattle.rom_header.specs.Layout.{MAIN, words_needed};
 ghost use Rattle.rom_recover.specs.Calls.{Compares};
+ghost use Rattle.rom_recover.specs.Image.{IsEmptyOrFull, IsReadFrom};
 ghost use Rattle.rom_recover.specs.Recovered.{AreTwins, IsFirst, StandsFrom};
 
+use crate::keep::keep;
 use crate::piece::PIECE;
 use crate::recovery::RecoverRefused;
 use rom_device::Device;
@@ -56,6 +58,9 @@ fn compare_piece<D: Device>(
         AreTwins geometry from (D.shown.words device.old) }
     ensures same { IsTrue D.shown.tells_words →
         OnOk result (AreTwins geometry (from + count) (D.shown.words device.old)) }
+    ensures filled { OnOk result (count ≤ length pieces.new.main) }
+    ensures main { IsTrue D.shown.tells_words →
+        OnOk result (IsReadFrom (MAIN + from) count (D.shown.words device.old) pieces.new.main) }
     ensures twins { IsTrue D.shown.tells_words →
         IfErr result (IsFirst geometry (D.shown.words device.old)) }
     ensures stands { IfErr result (StandsFrom from) }
@@ -79,10 +84,18 @@ fn compare_piece<D: Device>(
     Ok(())
 }
 
-/// Compares the regions up to the first difference.
-pub fn compare<D: Device>(device: &mut D, geometry: Geometry) -> Result<(), RecoverRefused>
+/// Compares the regions up to the first difference, and keeps main in the image where that has words.
+pub fn compare<D: Device>(
+    device: &mut D,
+    geometry: Geometry,
+    image: &mut [u64],
+) -> Result<(), RecoverRefused>
     requires fits { words_needed geometry ≤ D.shown.size device.old }
     requires idle { IsTrue D.shown.tells_words → IsIdle (D.shown.words device.old) }
+    requires room { IsEmptyOrFull (region_len geometry) image.old }
+    ensures as_long { length image.new ≡ length image.old }
+    ensures kept { IsTrue D.shown.tells_words →
+        OnOk result (IsReadFrom MAIN (region_len geometry) (D.shown.words device.old) image.new) }
     ensures same { IsTrue D.shown.tells_words →
         OnOk result (AreTwins geometry (region_len geometry) (D.shown.words device.old)) }
     ensures twins { IsTrue D.shown.tells_words →
@@ -98,6 +111,7 @@ pub fn compare<D: Device>(device: &mut D, geometry: Geometry) -> Result<(), Reco
     while from < len {
         let count = (len - from).min(PIECE as u64);
         compare_piece(device, geometry, from, count as usize, &mut pieces)?;
+        keep(image, from, &pieces.main[..count as usize]);
         from += count;
     }
     Ok(())

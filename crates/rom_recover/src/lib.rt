@@ -3,13 +3,15 @@
 //! Under MUTATING back counts and is copied to main; under COPYING main counts and is copied to
 //! back; under IDLE both count, and a difference is refused. The contract of `recover` promises
 //! that it may be stopped at any moment and run again: every image that a stop leaves could be left
-//! before, or has the same region that counts.
+//! before, or has the same region that counts. `recover_into` does the same, and keeps in memory the
+//! region, which is read anyway.
 #![tactic(auto)]
 
 mod compare;
 mod copy;
+mod keep;
 mod piece;
 mod recovery;
 mod restore;
 
-pub use recovery::{RecoverRefused, Recovered, recover};
+pub use recovery::{RecoverRefused, Recovered, recover, recover_into};

@@ -1,11 +1,14 @@
 //! Recovery of a heap on a device.
-ghost use Rattle.std.specs.Prelude.{◌≡◌, ◌<◌, ◌≤◌, IfOk, IfErr, OnOk, IsTrue, slice_index};
+ghost use Rattle.std.specs.Prelude.{◌≡◌, ◌<◌, ◌≤◌, IfOk, IfErr, OnOk, IsTrue, length, slice_index};
+ghost use Rattle.rom_model.specs.Blocks.{region_len};
+ghost use Rattle.rom_model.specs.Faults.{AtMost};
 ghost use Rattle.rom_device.specs.Device.{IsSynced, Leaves, Makes, OnlyReads};
 ghost use Rattle.rom_header.specs.Headers.{IsIdle, state_word};
 ghost use Rattle.rom_header.specs.Layout.{STATE, words_needed};
 ghost use Rattle.rom_header.specs.Regions.{IsHeap};
 ghost use Rattle.rom_header.specs.Writing.{Alters};
-ghost use Rattle.rom_recover.specs.Calls.{Calls, SyncsOnce};
+ghost use Rattle.rom_recover.specs.Calls.{Calls, SyncsOnce, reads_at_most};
+ghost use Rattle.rom_recover.specs.Image.{IsEmptyOrFull, KeepsMain};
 ghost use Rattle.rom_recover.specs.Recovered.{IsDone, IsFirst, IsStateOf, Mended, Mends};
 
 use crate::compare::compare;
@@ -60,9 +63,25 @@ fn read_state<D: Device>(device: &mut D) -> Result<State, Failed>
 /// It may be stopped at any moment and run again: every image that a stop leaves could be left
 /// before, or has the same region that counts; and whatever the answer, the words are as they were
 /// or have the same region that counts. Under IDLE it writes nothing. It takes no memory.
-pub fn recover<D: Device>(device: &mut D, geometry: Geometry) -> Result<Recovered, RecoverRefused>
+///
+/// The image keeps the region where it has words; it is filled by what is read anyway. After a
+/// refusal its words may be anything.
+pub fn recover_into<D: Device>(
+    device: &mut D,
+    geometry: Geometry,
+    image: &mut [u64],
+) -> Result<Recovered, RecoverRefused>
     requires fits { words_needed geometry ≤ D.shown.size device.old }
     requires heap { IsTrue D.shown.tells_words → IsHeap geometry (D.shown.words device.old) }
+    requires room { IsEmptyOrFull (region_len geometry) image.old }
+
+    // An image that has words is main, which then is the region that counted. It costs no read.
+    ensures as_long { length image.new ≡ length image.old }
+    ensures kept { IsTrue D.shown.tells_words →
+        OnOk result (KeepsMain geometry (D.shown.words device.new) image.new) }
+    ensures most { IsTrue D.shown.tells_words →
+        AtMost (reads_at_most geometry (slice_index (D.shown.words device.old) STATE))
+        (D.shown.reads device.old) (D.shown.reads device.new) }
 
     ensures found { IsTrue D.shown.tells_words →
         IfOk result (λ done. slice_index (D.shown.words device.old) STATE ≡ state_word done.found) }
@@ -86,12 +105,39 @@ pub fn recover<D: Device>(device: &mut D, geometry: Geometry) -> Result<Recovere
     device.sync()?;
     match read_state(device)? {
         State::Idle => {
-            compare(device, geometry)?;
+            compare(device, geometry, image)?;
             Ok(Recovered { found: State::Idle })
         }
         found => {
-            redo(device, geometry, found)?;
+            redo(device, geometry, found, image)?;
             Ok(Recovered { found })
         }
     }
+}
+
+/// Recovers as `recover_into` does, and keeps nothing.
+pub fn recover<D: Device>(device: &mut D, geometry: Geometry) -> Result<Recovered, RecoverRefused>
+    requires fits { words_needed geometry ≤ D.shown.size device.old }
+    requires heap { IsTrue D.shown.tells_words → IsHeap geometry (D.shown.words device.old) }
+
+    ensures found { IsTrue D.shown.tells_words →
+        IfOk result (λ done. slice_index (D.shown.words device.old) STATE ≡ state_word done.found) }
+    ensures done { IsTrue D.shown.tells_words →
+        OnOk result (IsDone geometry (D.shown.words device.old) (D.shown.words device.new)) }
+    ensures certain { OnOk result (IsSynced D.shown device.new) }
+
+    // Refused only at the first difference of the regions, or where the device failed.
+    ensures twins { IsTrue D.shown.tells_words →
+        IfErr result (IsFirst geometry (D.shown.words device.old)) }
+    ensures calls { Calls D.shown geometry device.old device.new result }
+
+    // Whatever the answer, only the state and the regions change, each word of a region to its
+    // twin's at most, the region that counts stays, and under IDLE nothing changes.
+    ensures left { Alters D.shown (Mends geometry) device.old device.new }
+    ensures images { IsTrue D.shown.tells_images →
+        Leaves D.shown (Mended geometry (D.shown.words device.old)) device.old device.new }
+    ensures idle { IsTrue D.shown.tells_words →
+        IsIdle (D.shown.words device.old) → SyncsOnce D.shown device.old device.new }
+{
+    recover_into(device, geometry, &mut [])
 }

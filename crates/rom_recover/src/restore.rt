@@ -1,11 +1,12 @@
 //! The copy of the region that counts over the other one.
-ghost use Rattle.std.specs.Prelude.{◌≡◌, ◌≢◌, ◌+◌, ◌≤◌, OnOk, IsTrue, slice_index};
+ghost use Rattle.std.specs.Prelude.{◌≡◌, ◌≢◌, ◌+◌, ◌≤◌, OnOk, IsTrue, length, slice_index};
 ghost use Rattle.rom_model.specs.Blocks.{region_len};
 ghost use Rattle.rom_device.specs.Device.{IsSynced, Leaves, Makes};
 ghost use Rattle.rom_header.specs.Headers.{state_word};
 ghost use Rattle.rom_header.specs.Layout.{STATE, words_needed};
 ghost use Rattle.rom_header.specs.Regions.{IsHeap};
 ghost use Rattle.rom_header.specs.Writing.{Alters};
+ghost use Rattle.rom_recover.specs.Image.{IsEmptyOrFull, KeepsMain};
 ghost use Rattle.rom_recover.specs.Recovered.{IsDone, IsWay, Mended, Mends};
 
 use crate::copy::copy_words;
@@ -24,14 +25,24 @@ fn way(geometry: Geometry, state: State) -> (u64, u64)
 }
 
 /// Copies the region that counts in this state, which is not IDLE, over the other one, and leaves
-/// the state IDLE. Where the copy fails the state is as it was.
-pub fn redo<D: Device>(device: &mut D, geometry: Geometry, state: State) -> Result<(), Failed>
+/// the state IDLE. Where the copy fails the state is as it was. The image keeps the region where it has
+/// words.
+pub fn redo<D: Device>(
+    device: &mut D,
+    geometry: Geometry,
+    state: State,
+    image: &mut [u64],
+) -> Result<(), Failed>
     requires fits { words_needed geometry ≤ D.shown.size device.old }
     requires heap { IsTrue D.shown.tells_words → IsHeap geometry (D.shown.words device.old) }
     requires state { IsTrue D.shown.tells_words →
         slice_index (D.shown.words device.old) STATE ≡ state_word state }
     requires busy { state ≢ State.Idle }
     requires certain { IsSynced D.shown device.old }
+    requires room { IsEmptyOrFull (region_len geometry) image.old }
+    ensures as_long { length image.new ≡ length image.old }
+    ensures kept { IsTrue D.shown.tells_words →
+        OnOk result (KeepsMain geometry (D.shown.words device.new) image.new) }
     ensures done { IsTrue D.shown.tells_words →
         OnOk result (IsDone geometry (D.shown.words device.old) (D.shown.words device.new)) }
     ensures certain { OnOk result (IsSynced D.shown device.new) }
@@ -42,6 +53,6 @@ pub fn redo<D: Device>(device: &mut D, geometry: Geometry, state: State) -> Resu
         device.old device.new result }
 {
     let (from, to) = way(geometry, state);
-    copy_words(device, from, to, geometry.region())?;
+    copy_words(device, from, to, geometry.region(), image)?;
     write_certain(device, STATE, State::Idle.word())
 }

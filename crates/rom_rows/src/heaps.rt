@@ -14,8 +14,8 @@ use std::test::Fail;
 const AMPLE: u64 = 10_000;
 
 /// How many calls it takes to open a heap at rest: 5 reads of the header, a read of each word of
-/// both regions, one more of each word of main, and a sync.
-pub(crate) const OPENING: u64 = 342;
+/// both regions, and a sync.
+pub(crate) const OPENING: u64 = 230;
 
 const HEADER: [u64; 8] = [0x524F_4D55_4C55_5331, 1, 4, 0, 0, 0, 0, 0];
 

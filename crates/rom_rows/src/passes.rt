@@ -24,9 +24,9 @@ const LAST: u64 = 4_611_686_018_427_387_904;
 #[test]
 fn a_pass_does_the_posted_calls_and_answers_each(rt: HostRuntime) -> Result<(), Fail> {
     let alloc = rt.alloc();
-    // The opening makes 341 reads and a sync. So a read of a pass would fail, or a fifth sync.
+    // The opening makes 229 reads and a sync. So a read of a pass would fail, or a fifth sync.
     let trips = [
-        every_trip(CallKind::Read, 342),
+        every_trip(CallKind::Read, 230),
         every_trip(CallKind::Sync, 6),
     ];
     let (mut core, shared, (mut first, mut second, mut third)) = seated_on(

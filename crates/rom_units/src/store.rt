@@ -15,9 +15,9 @@ use std::alloc::Global;
 use std::process::Abort;
 use std::test::Fail;
 
-/// How many calls it takes to open a heap of which a region is copied: four for the header, 229 for
-/// the recovery, and one for each word of the region.
-const CALLS: u64 = 345;
+/// How many calls it takes to open a heap of which a region is copied: four for the header, and 229
+/// for the recovery.
+const CALLS: u64 = 233;
 
 /// The device that comes back, and the image or the refusal.
 fn parts<D>(answer: Result<Opened<D>, Refused<D>>) -> (D, Result<Vec<u64>, Why>) {
@@ -204,12 +204,12 @@ fn a_broken_region_is_refused_once_it_is_recovered(rt: HostRuntime) -> Result<()
 #[test]
 fn a_device_that_fails_is_told_so(rt: HostRuntime) -> Result<(), Fail> {
     let words = heap(rt.alloc(), 0, &FRESH, &FRESH, &[])?;
-    // A word of main is read once by the comparison, and once into memory.
-    for nth in 1..4 {
+    // A word of main is read once, by the comparison.
+    for nth in 1..3 {
         let (memory, why) = refusal(&rt, words.as_slice(), &[(Read, 100, 101, nth, false)])?;
-        let want = if nth < 3 { Some(Why::Device) } else { None };
+        let want = if nth < 2 { Some(Why::Device) } else { None };
         assert_eq!(rt; why, want, "at read {nth}");
-        assert_eq!(rt; memory.fault_count() > 0, nth < 3, "at read {nth}");
+        assert_eq!(rt; memory.fault_count() > 0, nth < 2, "at read {nth}");
     }
     let missing = open_device::<_, Trio>(rt.alloc(), FileDevice::missing());
     assert_eq!(rt; parts(missing).1.err(), Some(Why::Device));

@@ -10,7 +10,7 @@ use Rattle.rom_rule.specs.Views.{base_of}
 use Rattle.rom_rule.specs.declared.views.Base.{Base}
 use Rattle.rom_open.specs.Refusals.{named_order}
 use Rattle.rom_store.specs.Openings.{HasBeenRefused}
-use Rattle.rom_store.proofs.Mending.{mends_within, most_of_opening}
+use Rattle.rom_store.proofs.Mending.{mends_within}
 use Rattle.rom_store.proofs.opening.open_store.Goals as goal
 
 pub returns-in-Ok-clause-held : goal.returns-in-Ok-clause-held
@@ -81,7 +81,9 @@ returns-clause-refused g c =
       images = ensures.images;
       recovered = λ told late. ensures.recovered told late;
       certain = λ late. ensures.certain late;
-      calls = λ told. most_of_opening shown words c.args.device opened.device (ensures.calls told);
+      calls = λ told.
+          let made = ensures.calls told in
+          record { reads = made.reads; writes = made.writes; syncs = made.syncs };
       within = ensures.within;
       faults = ensures.faults;
     }

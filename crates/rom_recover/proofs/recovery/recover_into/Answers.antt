@@ -1,8 +1,10 @@
 use Rattle.std.proofs.Common.{◌≡◌, rules, sym, subst, get_or}
+use Rattle.rom_recover.specs.Image.{KeepsMain}
 use Rattle.rom_recover.specs.Recovered.{IsDone}
 use Rattle.rom_recover.proofs.CopyBack.{equal_done}
+use Rattle.rom_recover.proofs.Keeping.{main_kept}
 use Rattle.rom_recover.proofs.Restoring.{quiet_images, images_from, left_from, done_from}
-use Rattle.rom_recover.proofs.recovery.recover.Goals as goal
+use Rattle.rom_recover.proofs.recovery.recover_into.Goals as goal
 
 pub returns-in_err-found-clause-images : goal.returns-in_err-found-clause-images
 returns-in_err-found-clause-images g c told =
@@ -42,3 +44,18 @@ returns-in_ok-redo-in_default-clause-images g c told =
 pub returns-in_ok-redo-in_default-clause-done : goal.returns-in_ok-redo-in_default-clause-done
 returns-in_ok-redo-in_default-clause-done g c =
     done_from g.D.Device.shown c.args.geometry _ _ (search rules) _ c.in_ok-redo-in_default.ensures.done
+
+pub returns-in_ok-compare-in-Idle-clause-kept : goal.returns-in_ok-compare-in-Idle-clause-kept
+returns-in_ok-compare-in-Idle-clause-kept g c words =
+    let x = g.D.Device.shown.words c.args.device.now in
+    let before : g.D.Device.shown.words c.read_state.new.device ≡ x = search rules in
+    let after : g.D.Device.shown.words c.compare.new.device ≡ x = search rules in
+    subst (λ l. KeepsMain c.args.geometry l c.compare.new.image) (sym after) (main_kept c.args.geometry x c.compare.new.image (c.requires.heap words) (rw before at (c.in_ok-compare-in-Idle.ensures.kept words)))
+
+pub returns-in_err-compare-in-Idle-clause-idle : goal.returns-in_err-compare-in-Idle-clause-idle
+returns-in_err-compare-in-Idle-clause-idle g c told is =
+    record {
+      stays = search rules;
+      writes = search rules;
+      syncs = search rules;
+    }
