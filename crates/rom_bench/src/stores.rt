@@ -124,7 +124,7 @@ fn work_on<D: Device + Drop, N: Label, R: Wait>(
     opening: Opening<D, Trio>,
     wanted: Work,
 ) -> u64
-    requires labelled { IsLabelled D.shown N.table N.base N.size N.words N.clock N.since opening }
+    requires labelled { IsLabelled D.shown N.table N.base N.start N.since opening }
     requires many { length opening.passes ≡ 1 }
     requires callers { (base_of opening.key).callers ≡ 1 }
     requires new { Indexed

@@ -92,27 +92,39 @@ stops_opening (Err OutOfMemory) before now failing same = inl same
 pub within_opening : {D T : Type 0} (shown : ShownDevice D) (was now : D) (result : Result T Why) → (IsTrue shown.tells_words → Calls shown (shown.words was) was now result)
     → (IsTrue shown.tells_words → IsIdle (shown.words was) → Does shown Stays was now) → HasFaults result (shown.faults was) (shown.faults now) (shown.failing now) → WithinOpening shown was now
 within_opening shown was now result calls idle faults = record {
-  reads = λ told. most_reads _ _ result _ _ (calls told).reads;
-  writes = λ told. most_writes _ _ result _ _ (calls told).writes;
-  syncs = λ told. most_syncs _ result _ _ (calls told).syncs;
+  calls = λ told. record {
+    most_reads = most_reads _ _ result _ _ (calls told).reads;
+    most_writes = most_writes _ _ result _ _ (calls told).writes;
+    most_syncs = most_syncs _ result _ _ (calls told).syncs;
+  };
   idle = idle;
   stops = stops_opening result _ _ _ faults;
 }
 
 pub within_making : {D : Type 0} (shown : ShownDevice D) (order : ℕ) (was now : D) (result : Result (Unit {0}) FormatRefused)
     → Makes shown (format_reads result) (format_writes order result) (format_syncs result) was now (format_fault result) → WithinMaking shown order was now
-within_making shown order was now (Ok done) makes = record { reads = makes.most_reads; writes = makes.most_writes; syncs = makes.most_syncs; stops = inl makes.cause.none }
-within_making shown order was now (Err format.Device) makes = record { reads = makes.most_reads; writes = makes.most_writes; syncs = makes.most_syncs; stops = inr makes.cause.failed }
+within_making shown order was now (Ok done) makes = record {
+  calls = record { most_reads = makes.most_reads; most_writes = makes.most_writes; most_syncs = makes.most_syncs };
+  stops = inl makes.cause.none;
+}
+within_making shown order was now (Err format.Device) makes = record {
+  calls = record { most_reads = makes.most_reads; most_writes = makes.most_writes; most_syncs = makes.most_syncs };
+  stops = inr makes.cause.failed;
+}
 within_making shown order was now (Err format.AlreadyAHeap) makes = record {
-  reads = makes.most_reads;
-  writes = most_most 0 _ _ _ (omega arith) makes.most_writes;
-  syncs = most_most 1 _ _ _ (omega arith) makes.most_syncs;
+  calls = record {
+    most_reads = makes.most_reads;
+    most_writes = most_most 0 _ _ _ (omega arith) makes.most_writes;
+    most_syncs = most_most 1 _ _ _ (omega arith) makes.most_syncs;
+  };
   stops = inl makes.cause.none;
 }
 within_making shown order was now (Err (format.TooSmall need have)) makes = record {
-  reads = most_most _ 1 _ _ (few_calls (have == 0)) makes.most_reads;
-  writes = most_most 0 _ _ _ (omega arith) makes.most_writes;
-  syncs = most_most _ 3 _ _ (few_syncs (have == 0)) makes.most_syncs;
+  calls = record {
+    most_reads = most_most _ 1 _ _ (few_calls (have == 0)) makes.most_reads;
+    most_writes = most_most 0 _ _ _ (omega arith) makes.most_writes;
+    most_syncs = most_most _ 3 _ _ (few_syncs (have == 0)) makes.most_syncs;
+  };
   stops = inl makes.cause.none;
 }
   where

@@ -5,12 +5,11 @@ use Rattle.rom_device.specs.Device.{ShownDevice}
 use Rattle.rom_rule.specs.Views.{base_of}
 use Rattle.rom_rule.specs.declared.views.Base.{Base}
 use Rattle.rom_store.specs.Openings.{Started}
+use Rattle.rom_store.specs.Start.{Start, start_of}
 
 -- The parts of a label are those of this opening: its table, the heap as it was opened, and its device with what a stop leaves of it.
-abbrev pub IsLabelled : {D : Type 0} → ShownDevice D → TableId → Base → ℕ → List ℕ → ℕ → (ℕ → List ℕ → Type 0) → Started D → Type 0
-IsLabelled shown table base size words clock since o = (table ≡ o.table_id)
+abbrev pub IsLabelled : {D : Type 0} → ShownDevice D → TableId → Base → Start → (ℕ → List ℕ → Type 0) → Started D → Type 0
+IsLabelled shown table base start since o = (table ≡ o.table_id)
     × (base ≡ base_of o.key)
-    × (size ≡ shown.size o.device)
-    × (IsTrue shown.tells_words → words ≡ shown.words o.device)
-    × (IsTrue shown.tells_images → clock ≡ shown.clock o.device)
+    × (start ≡ start_of shown o.device)
     × (IsTrue shown.tells_images → (t : ℕ) (i : List ℕ) → (since t i → shown.left_since o.device t i) × (shown.left_since o.device t i → since t i))

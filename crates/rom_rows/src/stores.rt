@@ -186,7 +186,7 @@ fn read_beside_update<D: Device + Send + Drop, N: Label + Send + Sync, R: Thread
     rt: &R,
     opening: Opening<D, Trio>,
 ) -> Told
-    requires labelled { IsLabelled D.shown N.table N.base N.size N.words N.clock N.since opening }
+    requires labelled { IsLabelled D.shown N.table N.base N.start N.since opening }
     requires many { length opening.passes ≡ 2 }
     requires callers { (base_of opening.key).callers ≡ 2 }
     requires new { Indexed
@@ -292,7 +292,7 @@ fn read_after_a_note<D: Device + Drop, N: Label, R: Wait>(
     rt: &R,
     opening: Opening<D, Trio>,
 ) -> (Updated<Reply>, (Answer, u64), u64)
-    requires labelled { IsLabelled D.shown N.table N.base N.size N.words N.clock N.since opening }
+    requires labelled { IsLabelled D.shown N.table N.base N.start N.since opening }
     requires many { length opening.passes ≡ 2 }
     requires callers { (base_of opening.key).callers ≡ 2 }
     requires new { Indexed

@@ -24,6 +24,7 @@ use Rattle.rom_run.specs.Complete.{EndsWell, HasFewFaults, HasUnreadLine, IsAtHa
 use Rattle.rom_run.specs.Keeping.{CountsFaults}
 use Rattle.rom_run.specs.Played.{HasReplies, IsText}
 use Rattle.rom_run.specs.Statuses.{is_faulted, is_unread}
+use Rattle.rom_run.specs.declared.heap.Heap.{Heap}
 use Rattle.rom_run.specs.Use.{Drawn, HasNotRun, HasRun, IsStatus, Makes, Plays, Read, Shows, Use, heap_of}
 use Rattle.rom_run.specs.Working.{HasNone, HasSession}
 
@@ -104,19 +105,19 @@ module _ {S C Q R A D : Type 0} (machine : Machine S C Q R A) (Contents : ℕ �
   weaker a b (rs ∷ more) from to all = (let by = all.0 in omega (arith, from, to, by), weaker a b more from to all.1)
 
   -- each caller's lines that tell of a fault are at most as many as it rose
-  few : (story : Story S) → CountsFaults machine Contents shown was now story → HasFewFaults machine shown was now story
-  few story counts = λ scripts results lawful. weaker _ _ results (let same = counts.before in omega (arith, same)) counts.after (faults_bounded machine story scripts results lawful)
+  few : (heap : Heap) (story : Story S) → CountsFaults machine Contents shown heap was now story → HasFewFaults machine shown was now story
+  few heap story counts = λ scripts results lawful. weaker _ _ results (let same = counts.before in omega (arith, same)) counts.after (faults_bounded machine story scripts results lawful)
 
   -- so where a result tells of a fault, it rose
-  faulted_rose : (story : Story S) → CountsFaults machine Contents shown was now story → (scripts : List (List (Step C Q))) (results : List (List (LineResult R A))) → IsLawful machine story scripts results →
+  faulted_rose : (heap : Heap) (story : Story S) → CountsFaults machine Contents shown heap was now story → (scripts : List (List (Step C Q))) (results : List (List (LineResult R A))) → IsLawful machine story scripts results →
       list_any (λ rs. list_any is_faulted rs) results ≡ true → Rose (shown.faults was) (shown.faults now)
-  faulted_rose story counts scripts results lawful is = some_rose _ _ results (few story counts scripts results lawful) is
+  faulted_rose heap story counts scripts results lawful is = some_rose _ _ results (few heap story counts scripts results lawful) is
 
   -- so of each session that a command leaves
   pub few_faults : (P : Story S → Type 0) (asked : Option Use) (status : ℕ) (session : Option SessionSeen) → (HasNotRun asked status → IsNone session) → IfSome asked (λ does. IfSome session (HasSession machine Contents shown (heap_of does) was now P)) →
       IfSome session (λ z. EachStory machine Contents z (HasFewFaults machine shown was now))
   few_faults P asked status None left told = tt
-  few_faults P (Some does) status (Some z) left told = λ story of. few story (told.each story of).faults
+  few_faults P (Some does) status (Some z) left told = λ story of. few (heap_of does) story (told.each story of).faults
   few_faults P None status (Some z) left told = let none : IsNone (Some z) = left tt in absurd (let no : ⊥ = cc in no)
 
 -- ---- each status
@@ -147,7 +148,7 @@ module _ {S C Q R A D X K : Type 0} (machine : Machine S C Q R A) (Contents : �
       seven None told none is = once_rose _ _ ((none refl).device_failed is).failed.once
       seven (Some z) told none is =
           let story = told.story.0 in let of = told.story.1 in let r = told.told story of in
-          faulted_rose machine Contents shown was now story (told.each story of).faults r.scripts r.results r.answered.lawful
+          faulted_rose machine Contents shown was now (heap_of does) story (told.each story of).faults r.scripts r.results r.answered.lawful
           (faulted story r.results old new (subst (λ n. Prints story r.results old new n) is r.printed))
 
       -- with 1 a line is unread

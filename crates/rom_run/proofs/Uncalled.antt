@@ -5,6 +5,8 @@ use Rattle.rom_model.specs.Machine.{Machine}
 use Rattle.rom_model.specs.declared.unfit.Break.{Break}
 use Rattle.rom_device.specs.Device.{ShownDevice}
 use Rattle.rom_device.proofs.Going.{leaves_none, runs_none}
+use Rattle.rom_header.specs.Layout.{words_needed}
+use Rattle.rom_open.specs.Within.{CallsWithin}
 use Rattle.rom_text.specs.Runs.{IsTold}
 use Rattle.rom_text.specs.Streams.{ShownSink}
 use Rattle.rom_run.specs.Statuses.{number_of}
@@ -16,18 +18,22 @@ use Rattle.rom_run.specs.declared.status.Status.{Status}
 use Rattle.rom_run.specs.declared.status.Status.TheVariants.{NoMemory, ScriptFailed, ScriptTooLong}
 
 module _ {D : Type 0} (shown : ShownDevice D) (was : D) where
-  -- no call is within those of an opening, or of a making
+  -- no call is within any number of them
+  uncalled : (reads writes syncs : ℕ) → CallsWithin shown reads writes syncs was was
+  uncalled reads writes syncs = record {
+    most_reads = record { later = omega arith; most = omega arith };
+    most_writes = record { later = omega arith; most = omega arith };
+    most_syncs = record { later = omega arith; most = omega arith };
+  }
+
+  -- so within those of an opening, or of a making
   within_uncalled : (heap : Heap) → IsCalledWithin shown heap was was
   within_uncalled (New order) = record {
-    reads = record { later = omega arith; most = omega arith };
-    writes = record { later = omega arith; most = omega arith };
-    syncs = record { later = omega arith; most = omega arith };
+    calls = uncalled 1 (words_needed order) 3;
     stops = inl refl;
   }
   within_uncalled Standing = record {
-    reads = λ tells. record { later = omega arith; most = omega arith };
-    writes = λ tells. record { later = omega arith; most = omega arith };
-    syncs = λ tells. record { later = omega arith; most = omega arith };
+    calls = λ tells. uncalled _ _ _;
     idle = λ tells idle. record { size = refl; words = λ told. refl; images = λ told. runs_none shown _ (λ x. refl) was };
     stops = inl refl;
   }

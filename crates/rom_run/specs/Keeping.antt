@@ -19,7 +19,7 @@ use Rattle.rom_text.specs.Streams.{ShownSink}
 use Rattle.rom_open.specs.Calls.{Calls, HasFaults}
 use Rattle.rom_open.specs.Making.{IsMadeThen, NoneOrHolds}
 use Rattle.rom_open.specs.Refusals.{IsRefusal, NamesTooFew, named_order}
-use Rattle.rom_open.specs.Within.{MakesNone, WithinMaking, WithinOpening}
+use Rattle.rom_open.specs.Within.{HasMadeHeap, HasOpened, MakesNone, WithinMaking, WithinOpening}
 use Rattle.rom_store.specs.Traced.{WentThrough}
 use Rattle.rom_open.specs.declared.new_heap.NotFormatted.TheVariants.{Refused}
 use Rattle.rom_open.specs.declared.reasons.Why.{Why}
@@ -32,6 +32,17 @@ use Rattle.rom_run.specs.declared.status.Status.TheVariants.{HeapRefused}
 abbrev pub IsKept : Heap → List ℕ → List ℕ → Type 0
 IsKept (New order) was now = ChangesOnly 0 (words_needed order) was now
 IsKept Standing was now = WithinHeap (named_order was) was now
+
+module _ {D : Type 0} (shown : ShownDevice D) where
+  -- The device is called no more often than to make a heap of that order, or to open the one that stands.
+  abbrev pub IsCalledWithin : Heap → D → D → Type 0
+  IsCalledWithin (New order) was now = WithinMaking shown order was now
+  IsCalledWithin Standing was now = WithinOpening shown was now
+
+  -- So, where there is a session, before its first pass; and no call failed.
+  abbrev pub HasBegun : Heap → D → D → Type 0
+  HasBegun (New order) was first = HasMadeHeap shown order was first
+  HasBegun Standing was first = HasOpened shown was first
 
 -- Of an object:
 module _ {S C Q R A : Type 0} (machine : Machine S C Q R A) (Contents : ℕ → List ℕ → S → ℕ → Type 0) where
@@ -55,23 +66,17 @@ module _ {S C Q R A : Type 0} (machine : Machine S C Q R A) (Contents : ℕ → 
     abbrev pub IsHeldNow : D → Story S → Type 0
     IsHeldNow now story = (i : List ℕ) → shown.leaves now i → ImageNow Contents (on_words machine) story i
 
-    -- No call of the opening failed, or of the making. The passes counted the device's faults from there on, up to now at most; and the device went through them, one after another, up to now.
-    pub record CountsFaults (was now : D) (story : Story S) : Type 0 where
+    -- No call of the opening failed, or of the making. The passes counted the device's faults from there on, up to now at most; and the device went through them, one after another, from where the heap was opened or made, once, up to now.
+    pub record CountsFaults (heap : Heap) (was now : D) (story : Story S) : Type 0 where
       pub before : story.opening_faults ≡ shown.faults was
       pub after : faults_after story.opening_faults story.records ≤ shown.faults now
-      pub went : WentThrough shown Contents (on_words machine) story story.opening_faults now
+      pub went : WentThrough shown Contents (on_words machine) story (HasBegun shown heap was) now
 
 module _ {D : Type 0} (shown : ShownDevice D) where
   -- Nothing changes where a heap that is to be made stands already, or there are too few words for it.
   abbrev pub IsSpared : Heap → D → D → Type 0
   IsSpared (New order) was now = IsTrue shown.tells_words → IsRefused order (shown.words was) → Does shown Stays was now
   IsSpared Standing was now = Unit {0}
-
-module _ {D : Type 0} (shown : ShownDevice D) where
-  -- The device is called no more often than to make a heap of that order, or to open the one that stands.
-  abbrev pub IsCalledWithin : Heap → D → D → Type 0
-  IsCalledWithin (New order) was now = WithinMaking shown order was now
-  IsCalledWithin Standing was now = WithinOpening shown was now
 
 -- want of memory to make a heap comes before any call of the device
 abbrev pub IsUncalled : {D : Type 0} → Heap → D → D → Type 0

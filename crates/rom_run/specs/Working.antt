@@ -31,7 +31,7 @@ module _ {S C Q R A : Type 0} (machine : Machine S C Q R A) (Contents : ℕ → 
     pub fits : words_needed story.order ≤ shown.size was
     pub at_end : IsTrue shown.tells_images → IsHeldNow machine Contents shown now story
     pub since : IsTrue shown.tells_images → IsLeftBySession machine Contents shown heap was now story
-    pub faults : CountsFaults machine Contents shown was now story
+    pub faults : CountsFaults machine Contents shown heap was now story
 
   -- It has a story, and each of its stories is such a session and has P.
   pub record HasSession (heap : Heap) (was now : D) (P : Story S → Type 0) (session : SessionSeen) : Type 0 where

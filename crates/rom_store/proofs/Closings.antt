@@ -30,9 +30,10 @@ use Rattle.rom_rule.specs.declared.views.Plan.{Plan}
 use Rattle.rom_rule.specs.declared.views.View.{View}
 use Rattle.rom_store.specs.Callers.{Caller, IsNumbered}
 use Rattle.rom_store.specs.Closing.{HasLeftSince, joined_of, kept_in}
-use Rattle.rom_store.specs.Held.{IsHeld, Start, story_at}
+use Rattle.rom_store.specs.Held.{IsHeld, story_at}
 use Rattle.rom_store.specs.Indexed.{Indexed}
 use Rattle.rom_store.specs.Sessions.{EachStory, HasStory, SessionSeen}
+use Rattle.rom_store.specs.Start.{HasStarted, Start}
 use Rattle.rom_store.specs.Traced.{WentThrough}
 use Rattle.rom_store.proofs.Ending.{image_now, image_of_story, is_closed, is_kept, joined_at}
 use Rattle.rom_store.proofs.Places.{map_at}
@@ -124,11 +125,12 @@ module _ {S C Q R A D : Type 0} (m : Machine S C Q R A) (Contents : ℕ → List
         }))
 
     pub ended_went : (table : TableId) (start : Start) (test : ℕ → List ℕ → Type 0) (c : Locked D) → IsHeld shown Contents (on_words m) table base start test c → t ≡ c.twin → p ≡ plan_of c.view →
-        EachStory m Contents session (λ story. WentThrough shown Contents (on_words m) story story.opening_faults t.device)
-    ended_went table start test c held twin_is plan_is = on_session (λ story. WentThrough shown Contents (on_words m) story story.opening_faults t.device)
-        (each_story m Contents base p t.phase (λ story. WentThrough shown Contents (on_words m) story story.opening_faults t.device) (λ s k doubt op in_doubt.
-        went_doubt shown Contents (on_words m) (story_at base s k p) doubt base.faults t.device
-        (subst (λ (z : Plan × D). WentThrough shown Contents (on_words m) (story_at base s k z.0) base.faults z.1) (λ j. (sym plan_is j, sym (ap (λ (z : Seen D). z.device) twin_is) j)) (held.went s k op))))
+        EachStory m Contents session (λ story. WentThrough shown Contents (on_words m) story (HasStarted shown base.faults start) t.device)
+    ended_went table start test c held twin_is plan_is = let First = HasStarted shown base.faults start in
+        on_session (λ story. WentThrough shown Contents (on_words m) story First t.device)
+        (each_story m Contents base p t.phase (λ story. WentThrough shown Contents (on_words m) story First t.device) (λ s k doubt op in_doubt.
+        went_doubt shown Contents (on_words m) (story_at base s k p) doubt First t.device
+        (subst (λ (z : Plan × D). WentThrough shown Contents (on_words m) (story_at base s k z.0) First z.1) (λ j. (sym plan_is j, sym (ap (λ (z : Seen D). z.device) twin_is) j)) (held.went s k op))))
 
 -- The writer's seat as the lock left it, with the callers taken in, after the look at the records, and after a load: it is of the store's table still, and the plan is the published one.
 pub writer_at_end : {D : Type 0} (table named : TableId) (key : Key) (b : Base) (c : Locked D) (s s' u w : WriterSeat) (ps : List Caller) →

@@ -14,4 +14,5 @@ pub mod Placing
 pub mod Dealing
 pub mod Gathering
 pub mod Spans
+pub mod Starting
 pub mod Sharing

@@ -11,7 +11,7 @@ use Rattle.rom_model.specs.declared.record.Fate.TheVariants as fate
 use Rattle.rom_model.specs.declared.record.Found.{Found}
 use Rattle.rom_model.specs.declared.record.PassRecord.{PassRecord}
 use Rattle.rom_model.proofs.Recorded.{after_append}
-use Rattle.rom_device.specs.Device.{ShownDevice, After, Becomes, Does, Runs}
+use Rattle.rom_device.specs.Device.{ShownDevice, After, Becomes, Runs}
 use Rattle.rom_device.proofs.Going.{becomes_by}
 use Rattle.rom_header.specs.Layout.{MAIN}
 use Rattle.rom_model.specs.Blocks.{region_len}
@@ -21,7 +21,7 @@ use Rattle.rom_twin.specs.declared.phase.Phase.TheVariants as phase
 use Rattle.rom_twin.proofs.Repairs.{state_or_joins}
 use Rattle.rom_combine.proofs.Sessions.{len_more}
 use Rattle.rom_combine.specs.AtRest.{Locked}
-use Rattle.rom_combine.specs.Costs.{WithinHeap}
+use Rattle.rom_combine.specs.Costs.{SpendsAtMost, WithinHeap, WritesHeap, batch_syncs, batch_writes}
 use Rattle.rom_combine.specs.Histories.{Doubted, HoldsHistory, ImageAt, PassMakes}
 use Rattle.rom_combine.specs.Images.{HoldsIn, MayPublish}
 use Rattle.rom_combine.proofs.Sessions.{state_whole}
@@ -41,7 +41,8 @@ use Rattle.rom_rule.specs.declared.views.Base.{Base}
 use Rattle.rom_rule.specs.declared.views.Plan.{Plan}
 use Rattle.rom_rule.specs.declared.views.Request.{Request}
 use Rattle.rom_rule.specs.declared.views.View.{View}
-use Rattle.rom_store.specs.Held.{IsHeld, Start, story_at}
+use Rattle.rom_store.specs.Held.{IsHeld, story_at}
+use Rattle.rom_store.specs.Start.{HasStarted, Start}
 use Rattle.rom_store.specs.Traced.{ArePassesOn, HasCause, IsPassOn, MayMake, PassImage, WentThrough}
 use Rattle.rom_store.proofs.Tracing.{passes_on, passes_stay, state_stays}
 
@@ -288,17 +289,20 @@ module _ {S : Type 0} (Contents : ℕ → List ℕ → S → ℕ → Type 0) (st
 
   -- The pass is one that the device went through.
   pass_on : len_after 0 (records_of p) ≡ length p.history
+      → shown.reads u.device ≡ shown.reads t.device → SpendsAtMost shown (batch_writes t.phase b.order (region_len b.order)) (batch_syncs t.phase) t.device u.device
       → (r.outcome ≡ outcome.Failed → FailsBeforeCommit shown t.phase b.order p.main t.device u.device) → (r.outcome ≡ outcome.Doubt → FailsAtCommit shown t.phase b.order p.main t.device u.device)
       → (IsTrue shown.tells_images → Runs shown (Becomes (PassMakes Contents step b s k (fate_of r.outcome) p.history x.more)) t.device u.device)
       → (0 < r.done → (u.phase ≡ phase.Clean) ⊎ (u.phase ≡ phase.Redo))
       → (IsTrue shown.tells_images → (i : List ℕ) → shown.leaves u.device i → ImageAt Contents step b s k u.phase q i)
       → IsPassOn shown Contents step Story' (len_after 0 (records_of p)) Record t.device u.device
-  pass_on ends failed doubt runs repaired now_is =
+  pass_on ends unread most failed doubt runs repaired now_is =
       let grown : length q.history ≡ length p.history + r.done = ap length x.history ∙ (length-append p.history _ ∙ ap (λ (n : ℕ). length p.history + n) (sym x.done)) in
       record {
         before = refl;
         after = refl;
         cause = cause_by r.outcome refl failed doubt;
+        unread = unread;
+        most = (t.phase, most);
         reached = (omega (arith, ends, grown), omega arith);
         images = λ told. becomes_by shown _ (PassImage shown Contents step Story' (len_after 0 (records_of p)) Record) (λ i made. ⊎_elim
             (λ holds. inl (was_held ends grown i holds))
@@ -317,15 +321,16 @@ module _ {S : Type 0} (Contents : ℕ → List ℕ → S → ℕ → Type 0) (st
           (subst (λ (y : S). HoldsIn Contents b.order y (k + length p.history + 0) i) (state_stays step b s k p q (published (fate_of r.outcome) x.more) x.history (length p.history) (omega arith)) (holds_whole Contents step b s k p i holds))
 
   -- So the device went through one pass more, or through none where no call was found.
-  pub went_on : len_after 0 (records_of p) ≡ length p.history
+  pub went_on : (First : D → Type 0) → len_after 0 (records_of p) ≡ length p.history
+      → shown.reads u.device ≡ shown.reads t.device → SpendsAtMost shown (batch_writes t.phase b.order (region_len b.order)) (batch_syncs t.phase) t.device u.device
       → (r.outcome ≡ outcome.Failed → FailsBeforeCommit shown t.phase b.order p.main t.device u.device) → (r.outcome ≡ outcome.Doubt → FailsAtCommit shown t.phase b.order p.main t.device u.device)
       → (IsTrue shown.tells_images → Runs shown (Becomes (PassMakes Contents step b s k (fate_of r.outcome) p.history x.more)) t.device u.device)
       → (r.outcome ≡ outcome.Nothing → u ≡ t) → (0 < r.done → (u.phase ≡ phase.Clean) ⊎ (u.phase ≡ phase.Redo))
       → (IsTrue shown.tells_images → (i : List ℕ) → shown.leaves u.device i → ImageAt Contents step b s k u.phase q i)
-      → WentThrough shown Contents step (story_at b s k p) b.faults t.device → WentThrough shown Contents step (story_at b s k q) b.faults u.device
-  went_on ends failed doubt runs untouched repaired now_is was = record {
+      → WentThrough shown Contents step (story_at b s k p) First t.device → WentThrough shown Contents step (story_at b s k q) First u.device
+  went_on First ends unread most failed doubt runs untouched repaired now_is was = record {
     first = was.first;
-    faults_by = was.faults_by;
+    begun = was.begun;
     passes = by (founds Contents step b p q callers (shown.faults t.device) (shown.faults u.device) r x) refl;
   }
     where
@@ -343,7 +348,7 @@ module _ {S : Type 0} (Contents : ℕ → List ℕ → S → ℕ → Type 0) (st
       by (f ∷ fs) e =
           let records : records_of p ++ Record ∷ [] ≡ records_of q = sym (x.records ∙ ap (λ (l : List Found). records_of p ++ record_list l Record) e) in
           subst (λ (l : List PassRecord). ArePassesOn shown Contents step Story' 0 l was.first u.device) records
-          (passes_on shown Contents step Story' 0 (records_of p) Record was.first t.device u.device stayed (pass_on ends failed doubt runs repaired now_is))
+          (passes_on shown Contents step Story' 0 (records_of p) Record was.first t.device u.device stayed (pass_on ends unread most failed doubt runs repaired now_is))
 
 module _ {S : Type 0} (Contents : ℕ → List ℕ → S → ℕ → Type 0) (step : ℕ → S → ℕ → List ℕ → Option (S × List ℕ)) {D : Type 0} (shown : ShownDevice D) (start : Start) (test : ℕ → List ℕ → Type 0)
     (c d : Locked D) (callers : ℕ) (r : Passed) where
@@ -356,11 +361,12 @@ module _ {S : Type 0} (Contents : ℕ → List ℕ → S → ℕ → Type 0) (st
       → (r.outcome ≡ outcome.Published → r.done ≡ 0 → d.twin ≡ c.twin) → (r.outcome ≡ outcome.Nothing → d.twin ≡ c.twin) → (0 < r.done → (d.twin.phase ≡ phase.Clean) ⊎ (d.twin.phase ≡ phase.Redo))
       → (r.outcome ≡ outcome.Failed → (d.twin.phase ≡ phase.Undo) ⊎ ((d.twin.phase ≡ c.twin.phase) × NeedsRepair c.twin.phase))
       → (let b = c.view.base in IsTrue shown.tells_images → (s : S) (n : ℕ) → Contents b.order b.image s n → (i : List ℕ) → shown.leaves d.twin.device i → ImageAt Contents step b s n d.twin.phase (plan_of d.view) i)
-      → Does shown (WithinHeap c.twin.order) c.twin.device d.twin.device
+      → WritesHeap shown c.twin.order c.twin.device d.twin.device
+      → SpendsAtMost shown (batch_writes c.twin.phase c.twin.order (region_len c.twin.order)) (batch_syncs c.twin.phase) c.twin.device d.twin.device
       → (r.outcome ≡ outcome.Failed → FailsBeforeCommit shown c.twin.phase c.twin.order (plan_of c.view).main c.twin.device d.twin.device)
       → (r.outcome ≡ outcome.Doubt → FailsAtCommit shown c.twin.phase c.twin.order (plan_of c.view).main c.twin.device d.twin.device)
       → IsHeld shown Contents step c.table_id c.view.base start test d
-  held_on h same kept x runs spent untouched repaired failed now_is does failed_by doubt_by = record {
+  held_on h same kept x runs spent untouched repaired failed now_is writes most failed_by doubt_by = record {
     table_is = same.0;
     base_is = same.2;
     order_is = same.3 ∙ h.order_is;
@@ -369,13 +375,14 @@ module _ {S : Type 0} (Contents : ℕ → List ℕ → S → ℕ → Type 0) (st
     ends = ends_on Contents step b p q callers before now r x h.formed h.ends;
     in_doubt = λ doubt s k op. in_doubt_on Contents step b p q callers before now r x s k op c.twin d.twin spent untouched repaired failed (λ was. h.in_doubt was s k op) doubt;
     now = now_is;
-    size_is = does.size ∙ h.size_is;
+    size_is = writes.does.size ∙ h.size_is;
     outside = λ told. state_or_joins MAIN (2 * region_len b.order) start.words (shown.words c.twin.device) (shown.words d.twin.device) (h.outside told)
-        (subst (λ (n : ℕ). WithinHeap n (shown.words c.twin.device) (shown.words d.twin.device)) h.order_is (does.words told));
-    later = λ told. let on = (does.images told).later in omega (arith, on, h.later told);
-    keeps = λ told t i le was. (does.images told).keeps t i (omega (arith, le, h.later told)) (h.keeps told t i le was);
+        (subst (λ (n : ℕ). WithinHeap n (shown.words c.twin.device) (shown.words d.twin.device)) h.order_is (writes.does.words told));
+    later = λ told. let on = (writes.does.images told).later in omega (arith, on, h.later told);
+    keeps = λ told t i le was. (writes.does.images told).keeps t i (omega (arith, le, h.later told)) (h.keeps told t i le was);
     since = λ told s k op t i left. ⊎_elim (past told s k op t i) (here told s k op t i) ((runs told s k op).nothing_else t i left);
-    went = λ s k op. went_on Contents step shown b p q callers r c.twin d.twin x s k op h.ends
+    went = λ s k op. went_on Contents step shown b p q callers r c.twin d.twin x s k op (HasStarted shown b.faults start) h.ends writes.only.reads
+        (subst (λ (n : ℕ). SpendsAtMost shown (batch_writes c.twin.phase n (region_len n)) (batch_syncs c.twin.phase) c.twin.device d.twin.device) h.order_is most)
         (λ e. subst (λ (n : ℕ). FailsBeforeCommit shown c.twin.phase n p.main c.twin.device d.twin.device) h.order_is (failed_by e))
         (λ e. subst (λ (n : ℕ). FailsAtCommit shown c.twin.phase n p.main c.twin.device d.twin.device) h.order_is (doubt_by e))
         (λ told. runs told s k op) untouched repaired (λ told. now_is told s k op) (h.went s k op);

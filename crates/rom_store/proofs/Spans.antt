@@ -7,7 +7,7 @@ use Rattle.rom_device.specs.Device.{ShownDevice, Leaves}
 use Rattle.rom_header.specs.Held.{Holds}
 use Rattle.rom_combine.specs.Session.{SessionImage}
 use Rattle.rom_store.specs.Closing.{HasLeftSince}
-use Rattle.rom_store.specs.Held.{Start}
+use Rattle.rom_store.specs.Start.{Start}
 
 -- each image of the one and then of the other has R
 pub leaves_both : {D : Type 0} (shown : ShownDevice D) (P Q R : List ℕ → Type 0) (a b c : D) → ((i : List ℕ) → P i → R i) → ((i : List ℕ) → Q i → R i) → Leaves shown P a b → Leaves shown Q b c → Leaves shown R a c

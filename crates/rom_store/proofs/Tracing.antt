@@ -47,6 +47,8 @@ module _ {D S : Type 0} (shown : ShownDevice D) (Contents : ℕ → List ℕ →
         before = of.before;
         after = of.after;
         cause = cause_stays r.fate was now of.cause;
+        unread = of.unread;
+        most = of.most;
         reached = (omega (arith, of.reached.0, long), omega (arith, of.reached.1, long));
         images = λ told. becomes_by shown (PassImage shown Contents step x len r) (PassImage shown Contents step On len r)
             (λ i made. ⊎_elim (λ holds. inl (held_stays len of.reached.0 i holds)) (λ by. inr (made_stays r.fate r of.reached.1 i by)) made) was now (of.images told);
@@ -65,13 +67,17 @@ module _ {D S : Type 0} (shown : ShownDevice D) (Contents : ℕ → List ℕ →
   passes_on story len (x ∷ rs) r was mid now (next, first, on) of = (next, first, passes_on story x.len rs r next mid now on of)
 
   -- none is made before the first record
-  pub went_none : (story : Story S) (faults : ℕ) (now : D) → story.records ≡ [] → faults ≤ shown.faults now → WentThrough shown Contents step story faults now
-  went_none story faults now none by = record { first = now; faults_by = by; passes = subst (λ (rs : List PassRecord). ArePassesOn shown Contents step story 0 rs now now) (sym none) refl }
+  pub went_none : (story : Story S) (First : D → Type 0) (now : D) → story.records ≡ [] → First now → WentThrough shown Contents step story First now
+  went_none story First now none begun = record { first = now; begun = begun; passes = subst (λ (rs : List PassRecord). ArePassesOn shown Contents step story 0 rs now now) (sym none) refl }
 
   -- what is in doubt at the end changes none of them
-  pub went_doubt : (story : Story S) (in_doubt : Option (List Entry)) (faults : ℕ) (now : D) → WentThrough shown Contents step story faults now → WentThrough shown Contents step (record story { in_doubt = in_doubt }) faults now
-  went_doubt story in_doubt faults now was = record {
+  pub went_doubt : (story : Story S) (in_doubt : Option (List Entry)) (First : D → Type 0) (now : D) → WentThrough shown Contents step story First now → WentThrough shown Contents step (record story { in_doubt = in_doubt }) First now
+  went_doubt story in_doubt First now was = record {
     first = was.first;
-    faults_by = was.faults_by;
+    begun = was.begun;
     passes = passes_stay story story.history story.records in_doubt (omega arith) (λ len reached. refl) 0 story.records was.first now was.passes;
   }
+
+  -- what is known of the device before the first of them
+  pub went_since : (story : Story S) (First Second : D → Type 0) (now : D) → ((d : D) → First d → Second d) → WentThrough shown Contents step story First now → WentThrough shown Contents step story Second now
+  went_since story First Second now weaker went = record { first = went.first; begun = weaker went.first went.begun; passes = went.passes }

@@ -10,8 +10,8 @@ use Rattle.rom_rule.specs.Readers.{Held}
 use Rattle.rom_rule.specs.Views.{base_of, kept_of}
 use Rattle.rom_rule.specs.declared.law.Key.{Key}
 use Rattle.rom_store.specs.Callers.{Caller}
-use Rattle.rom_store.specs.Held.{Start}
 use Rattle.rom_store.specs.Sessions.{SessionSeen}
+use Rattle.rom_store.specs.Start.{Start}
 use Rattle.rom_store.specs.declared.begun.Begun.{Begun}
 
 -- the device, and what the session was

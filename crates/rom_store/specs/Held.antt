@@ -12,16 +12,8 @@ use Rattle.rom_combine.specs.Session.{SessionImage}
 use Rattle.rom_rule.specs.Views.{plan_of, records_of}
 use Rattle.rom_rule.specs.declared.views.Base.{Base}
 use Rattle.rom_rule.specs.declared.views.Plan.{Plan}
+use Rattle.rom_store.specs.Start.{HasStarted, Start}
 use Rattle.rom_store.specs.Traced.{WentThrough}
-
--- the device as the store was started: how many words it had, which, and the moment
-pub record Start : Type 0 where
-  pub size : ℕ
-  pub words : List ℕ
-  pub clock : ℕ
-
-abbrev pub start_of : ℕ → List ℕ → ℕ → Start
-start_of size words clock = record { size = size; words = words; clock = clock }
 
 -- the published history as a story, from the state and the count that the opening image stands for
 abbrev pub story_at : {S : Type 0} → Base → S → ℕ → Plan → Story S
@@ -49,5 +41,5 @@ pub record IsHeld {D S : Type 0} (shown : ShownDevice D) (Contents : ℕ → Lis
   pub later : IsTrue shown.tells_images → start.clock ≤ shown.clock c.twin.device
   pub keeps : IsTrue shown.tells_images → (t : ℕ) (i : List ℕ) → t ≤ start.clock → test t i → shown.left_since c.twin.device t i
   pub since : IsTrue shown.tells_images → (s : S) (k : ℕ) → Contents base.order base.image s k → (t : ℕ) (i : List ℕ) → shown.left_since c.twin.device t i → test t i ⊎ SessionImage Contents step (story_at base s k (plan_of c.view)) i
-  -- the device went through the passes of the records, and is left by them so
-  pub went : (s : S) (k : ℕ) → Contents base.order base.image s k → WentThrough shown Contents step (story_at base s k (plan_of c.view)) base.faults c.twin.device
+  -- the device went through the passes of the records, from the one of the start on, and is left by them so
+  pub went : (s : S) (k : ℕ) → Contents base.order base.image s k → WentThrough shown Contents step (story_at base s k (plan_of c.view)) (HasStarted shown base.faults start) c.twin.device

@@ -9,6 +9,7 @@ pub mod Callers
 pub mod Indexed
 pub mod Reading
 pub mod Updating
+pub mod Start
 pub mod Traced
 pub mod Held
 pub mod Openings

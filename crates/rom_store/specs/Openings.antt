@@ -1,5 +1,5 @@
 -- What contracts see of a heap that is opened for callers, and what is left of one that is not.
-use Rattle.std.specs.Prelude.{◌≡◌, ℕ, ◌≤◌, List, [], Err, IsTrue}
+use Rattle.std.specs.Prelude.{◌≡◌, ℕ, List, [], Err, IsTrue}
 use Rattle.atomic_table.specs.Seated.{TableId}
 use Rattle.rom_model.specs.VecSpace.{words_of}
 use Rattle.rom_model.specs.declared.unfit.Break.{Break}
@@ -25,7 +25,7 @@ pub record Started (D : Type 0) : Type 0 where
   pub device : D
   pub passes : List Caller
 
--- The core is of this table, as it was just made: nothing was published and no pass begun, the device needs no repair, and the heap that it began with is the one that the key tells, whose image stands for some state and count and counts in each image that a stop leaves now.
+-- The core is of this table, as it was just made: nothing was published and no pass begun, the device needs no repair and no call of it has failed since, and the heap that it began with is the one that the key tells, whose image stands for some state and count and counts in each image that a stop leaves now.
 pub record IsOpening {D S : Type 0} (shown : ShownDevice D) (Contents : ℕ → List ℕ → S → ℕ → Type 0) (table : TableId) (key : Key) (c : Locked D) (begun : Begun) : Type 0 where
   pub in_table : (c.table_id ≡ table) × (c.view.base ≡ base_of key)
   pub order : c.twin.order ≡ (base_of key).order
@@ -37,7 +37,7 @@ pub record IsOpening {D S : Type 0} (shown : ShownDevice D) (Contents : ℕ → 
   pub order_is : begun.order ≡ (base_of key).order
   pub image_is : words_of begun.image.value ≡ (base_of key).image
   pub faults_is : begun.faults ≡ (base_of key).faults
-  pub faults_by : begun.faults ≤ shown.faults c.twin.device
+  pub faults_now : shown.faults c.twin.device ≡ begun.faults
 
 -- The heap on a device was not opened, for this reason, and the device is handed back.
 pub record HasBeenRefused {D S : Type 0} (shown : ShownDevice D) (Contents : ℕ → List ℕ → S → ℕ → Type 0) (FirstBreak : ℕ → List ℕ → Break → Type 0) (was now : D) (why : Why) : Type 0 where

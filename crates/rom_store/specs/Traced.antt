@@ -1,5 +1,6 @@
 -- The passes of a session, one after another, as its device went through them.
 use Rattle.std.specs.Prelude.{◌≡◌, ◌⊎◌, ℕ, ◌<◌, ◌≤◌, List, [], ◌∷◌, length, Option, IsTrue}
+use Rattle.rom_model.specs.Blocks.{region_len}
 use Rattle.rom_model.specs.Story.{Story, doubted_batch}
 use Rattle.rom_model.specs.declared.record.Fate.{Fate}
 use Rattle.rom_model.specs.declared.record.Fate.TheVariants.{Published, Failed, Doubt}
@@ -7,6 +8,7 @@ use Rattle.rom_model.specs.declared.record.PassRecord.{PassRecord}
 use Rattle.rom_device.specs.Device.{ShownDevice, Becomes, Runs}
 use Rattle.rom_twin.specs.declared.phase.Phase.{Phase}
 use Rattle.rom_combine.specs.Causes.{FailsAtCommit, FailsBeforeCommit}
+use Rattle.rom_combine.specs.Costs.{SpendsAtMost, batch_syncs, batch_writes}
 use Rattle.rom_combine.specs.Session.{HoldsAfter}
 
 module _ {D S : Type 0} (shown : ShownDevice D) (Contents : ℕ → List ℕ → S → ℕ → Type 0) (step : ℕ → S → ℕ → List ℕ → Option (S × List ℕ)) (story : Story S) where
@@ -32,6 +34,9 @@ module _ {D S : Type 0} (shown : ShownDevice D) (Contents : ℕ → List ℕ →
     pub before : shown.faults was ≡ r.faults_before
     pub after : shown.faults now ≡ r.faults_after
     pub cause : HasCause r.fate was now
+    -- nothing is read, and no more is called than one batch takes, with the repair before it
+    pub unread : shown.reads now ≡ shown.reads was
+    pub most : (phase : Phase) × SpendsAtMost shown (batch_writes phase story.order (region_len story.order)) (batch_syncs phase) was now
     pub reached : (len ≤ length story.history) × (r.len ≤ length story.history)
     pub images : IsTrue shown.tells_images → Runs shown (Becomes (PassImage len r)) was now
     -- what it published is certain: a stop leaves it
@@ -42,8 +47,8 @@ module _ {D S : Type 0} (shown : ShownDevice D) (Contents : ℕ → List ℕ →
   ArePassesOn len [] was now = now ≡ was
   ArePassesOn len (r ∷ rs) was now = (next : D) × IsPassOn len r was next × ArePassesOn r.len rs next now
 
-  -- All passes of the story, since a device that had failed at least so often: it went through them, up to now.
-  pub record WentThrough (faults : ℕ) (now : D) : Type 0 where
+  -- All passes of the story, since a device of which this held: it went through them, up to now.
+  pub record WentThrough (First : D → Type 0) (now : D) : Type 0 where
     pub first : D
-    pub faults_by : faults ≤ shown.faults first
+    pub begun : First first
     pub passes : ArePassesOn 0 story.records first now

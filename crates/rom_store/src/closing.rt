@@ -8,9 +8,9 @@ ghost use Rattle.rom_combine.specs.Session.{ImageNow, SessionImage};
 ghost use Rattle.rom_lr.specs.Seats.{IsSameWriter, IsWriterOf, opened_with, steps_of, writer_view};
 ghost use Rattle.rom_store.specs.Callers.{IsCallerOf, IsNumbered};
 ghost use Rattle.rom_store.specs.Closing.{HasLeftSince, joined_of, kept_in};
-ghost use Rattle.rom_store.specs.Held.{start_of};
 ghost use Rattle.rom_store.specs.Indexed.{Indexed};
 ghost use Rattle.rom_store.specs.Sessions.{EachStory, HasStory};
+ghost use Rattle.rom_store.specs.Start.{HasStarted};
 ghost use Rattle.rom_store.specs.Traced.{WentThrough};
 
 use crate::closed::Closed;
@@ -61,15 +61,16 @@ impl<D: Device, O: Object, N: Label> Store<D, O, N> {
             (λ story. (i : List ℕ) → D.shown.leaves result.device i →
             ImageNow O.Contents (on_words O.machine) story i) }
         ensures since { IsTrue D.shown.tells_images → EachStory O.machine O.Contents result.session
-            (λ story. HasLeftSince D.shown (start_of N.size N.words N.clock) N.since
+            (λ story. HasLeftSince D.shown N.start N.since
             (SessionImage O.Contents (on_words O.machine) story) result.device) }
 
-        // The device went through the passes of the records, one after another.
+        // The device went through the passes of the records, one after another, from the start on.
         ensures went { EachStory O.machine O.Contents result.session (λ story. WentThrough D.shown
-            O.Contents (on_words O.machine) story story.opening_faults result.device) }
-        ensures size { D.shown.size result.device ≡ N.size }
+            O.Contents (on_words O.machine) story (HasStarted D.shown N.base.faults N.start)
+            result.device) }
+        ensures size { D.shown.size result.device ≡ N.start.size }
         ensures outside { IsTrue D.shown.tells_words →
-            WithinHeap N.base.order N.words (D.shown.words result.device) }
+            WithinHeap N.base.order N.start.words (D.shown.words result.device) }
         ensures faults { faults_after result.session.faults result.session.records
             ≤ D.shown.faults result.device }
     {

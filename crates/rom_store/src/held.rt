@@ -2,7 +2,7 @@
 ghost use Rattle.std.specs.Prelude.{◌≡◌};
 ghost use Rattle.rom_model.specs.Machine.{on_words};
 ghost use Rattle.rom_lr.specs.Seats.{opened_with};
-ghost use Rattle.rom_store.specs.Held.{IsHeld, start_of};
+ghost use Rattle.rom_store.specs.Held.{IsHeld};
 
 use crate::label::Label;
 use crate::pace::Pace;
@@ -33,20 +33,20 @@ pub(crate) struct Held<D: Device, O: Object, N: Label> {
 impl<D: Device, O: Object, N: Label> Model for Held<D, O, N> {
     ghost use Rattle.rom_combine.specs.AtRest.{Locked};
     ghost use Rattle.rom_model.specs.Machine.{on_words};
-    ghost use Rattle.rom_store.specs.Held.{IsHeld, start_of};
+    ghost use Rattle.rom_store.specs.Held.{IsHeld};
 
     ghost Value = { Locked D };
 
     ghost view = { λ h. h.core };
 
-    ghost invariant = { λ h. IsHeld D.shown O.Contents (on_words O.machine) N.table N.base
-        (start_of N.size N.words N.clock) N.since h.core };
+    ghost invariant = { λ h. IsHeld D.shown O.Contents (on_words O.machine) N.table N.base N.start
+        N.since h.core };
 }
 
 impl<D: Device, O: Object, N: Label> Held<D, O, N> {
     pub fn new(core: Core<D, O>) -> Self
-        requires held { IsHeld D.shown O.Contents (on_words O.machine) N.table N.base
-            (start_of N.size N.words N.clock) N.since core }
+        requires held { IsHeld D.shown O.Contents (on_words O.machine) N.table N.base N.start
+            N.since core }
         ensures core { result ≡ core }
     {
         Held {
@@ -80,8 +80,8 @@ impl<D: Device, O: Object, N: Label> Held<D, O, N> {
 
     pub fn into_core(self) -> Core<D, O>
         ensures core { result ≡ self }
-        ensures held { IsHeld D.shown O.Contents (on_words O.machine) N.table N.base
-            (start_of N.size N.words N.clock) N.since result }
+        ensures held { IsHeld D.shown O.Contents (on_words O.machine) N.table N.base N.start
+            N.since result }
     {
         let Held {
             core,

@@ -2,6 +2,7 @@
 ghost use Rattle.std.specs.Prelude.{ℕ, List};
 ghost use Rattle.atomic_table.specs.Seated.{TableId};
 ghost use Rattle.rom_rule.specs.declared.views.Base.{Base};
+ghost use Rattle.rom_store.specs.Start.{Start};
 
 use std::marker::Brand;
 
@@ -14,30 +15,21 @@ pub trait Label {
     /// The order, the number of callers, the image and the device's count of faults.
     ghost base: { Base };
 
-    /// How many words the device had, and which, where it tells them.
-    ghost size: { ℕ };
+    /// The device as it was then.
+    ghost start: { Start };
 
-    ghost words: { List ℕ };
-
-    /// The moment, and the images that a stop at some moment since another one might have left by then.
-    ghost clock: { ℕ };
-
+    /// The images that a stop at some moment since another one might have left by then.
     ghost since: { ℕ → List ℕ → Type 0 };
 }
 
 impl Label for Brand {
-    ghost use Rattle.std.specs.Prelude.{[]};
-    ghost use Rattle.rom_store.specs.Blank.{no_base, no_table};
+    ghost use Rattle.rom_store.specs.Blank.{no_base, no_start, no_table};
 
     ghost table = { no_table };
 
     ghost base = { no_base };
 
-    ghost size = { 0 };
-
-    ghost words = { [] };
-
-    ghost clock = { 0 };
+    ghost start = { no_start };
 
     ghost since = { λ _ _. Unit {0} };
 }

@@ -20,6 +20,7 @@ ghost use Rattle.rom_rule.specs.Views.{base_of};
 ghost use Rattle.rom_store.specs.Callers.{IsNewCaller};
 ghost use Rattle.rom_store.specs.Indexed.{Indexed};
 ghost use Rattle.rom_store.specs.Openings.{HasBeenRefused};
+ghost use Rattle.rom_store.specs.Start.{start_of};
 
 use crate::begun::Begun;
 use crate::held::Held;
@@ -86,7 +87,7 @@ impl<D: Device, O: Object> Opening<D, O> {
         requires ready { IsReady O.STORES (opened_with seated.shared).callers seated.log }
         requires formed { let b = opened_with seated.shared in
             (s : O.State) × (k : ℕ) × O.Contents b.order b.image s k }
-        requires faults { seated.begun.faults ≤ D.shown.faults device }
+        requires faults { D.shown.faults device ≡ seated.begun.faults }
         ensures opening { result ≡ record {
           table_id = seated.shared.table.shared.table_id;
           key = seated.shared.table.shared.key;
@@ -114,9 +115,7 @@ impl<D: Device, O: Object> Opening<D, O> {
     pub fn start<N: Label>(self) -> (Store<D, O, N>, Vec<Pass>)
         requires table { N.table ≡ self.table_id }
         requires base { N.base ≡ base_of self.key }
-        requires size { N.size ≡ D.shown.size self.device }
-        requires words { IsTrue D.shown.tells_words → N.words ≡ D.shown.words self.device }
-        requires clock { IsTrue D.shown.tells_images → N.clock ≡ D.shown.clock self.device }
+        requires started { N.start ≡ start_of D.shown self.device }
         requires since { IsTrue D.shown.tells_images → (t : ℕ) (i : List ℕ) →
             (N.since t i → D.shown.left_since self.device t i)
             × (D.shown.left_since self.device t i → N.since t i) }

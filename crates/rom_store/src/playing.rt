@@ -6,6 +6,7 @@ ghost use Rattle.rom_device.specs.Device.{Leaves};
 ghost use Rattle.rom_header.specs.Held.{Holds};
 ghost use Rattle.rom_header.specs.Layout.{words_needed};
 ghost use Rattle.rom_open.specs.Refusals.{named_order};
+ghost use Rattle.rom_open.specs.Within.{HasOpened};
 ghost use Rattle.rom_combine.specs.Costs.{WithinHeap};
 ghost use Rattle.rom_combine.specs.Session.{SessionImage};
 ghost use Rattle.rom_store.specs.Playing.{IsSession, IsUnplayed};
@@ -52,9 +53,10 @@ where
     requires callers { (0 < length scripts.now) × (length scripts.now ≤ 16) }
     requires few { All (λ v. length v.items ≤ LAST_COUNT) scripts.now }
 
-    // The results are those of one history, from what the device held.
+    // The results are those of one history, from what the device held, and the device went through
+    // its passes, after one opening.
     ensures session { IfOk result (λ played. IsSession D.shown O.machine O.Contents scripts.now
-        played.results.items played.closed) }
+        played.results.items (HasOpened D.shown device) played.closed) }
     ensures order { IsTrue D.shown.tells_words → IfOk result (λ played.
         played.closed.session.order ≡ named_order (D.shown.words device)) }
     ensures held { IsTrue D.shown.tells_words → IfOk result (λ played.

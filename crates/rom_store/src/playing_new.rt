@@ -10,7 +10,7 @@ ghost use Rattle.rom_header.specs.Fresh.{HasTooFewFor, IsFormatAnswer, IsRefused
 ghost use Rattle.rom_header.specs.Layout.{words_needed};
 ghost use Rattle.rom_header.specs.declared.fresh.FormatRefused.{FormatRefused};
 ghost use Rattle.rom_open.specs.Making.{HasFaultsUnmade, IsMadeThen, NoneOrHolds};
-ghost use Rattle.rom_open.specs.Within.{MakesNone, WithinMaking};
+ghost use Rattle.rom_open.specs.Within.{HasMadeHeap, MakesNone, WithinMaking};
 ghost use Rattle.rom_open.specs.declared.new_heap.NotFormatted.TheVariants as unmade;
 ghost use Rattle.rom_lr.specs.Opening.{dealt_view};
 ghost use Rattle.rom_lr.specs.Seats.{IsWriterOf, opened_with, writer_view};
@@ -117,9 +117,10 @@ where
     requires callers { (0 < length scripts.now) × (length scripts.now ≤ 16) }
     requires few { All (λ v. length v.items ≤ LAST_COUNT) scripts.now }
 
-    // The results are those of one history, from the empty state.
+    // The results are those of one history, from the empty state, and the device went through its
+    // passes, after one making.
     ensures session { IfOk result (λ played. IsSession D.shown O.machine O.Contents scripts.now
-        played.results.items played.closed) }
+        played.results.items (HasMadeHeap D.shown order device) played.closed) }
     ensures order { IfOk result (λ played. played.closed.session.order ≡ order) }
     ensures empty { IfOk result (λ played. EachStory O.machine O.Contents played.closed.session
         (λ story. (story.opening ≡ O.machine.empty) × (story.opening_count ≡ 0))) }

@@ -7,9 +7,9 @@ ghost use Rattle.rom_combine.specs.Costs.{WithinHeap};
 ghost use Rattle.rom_combine.specs.Session.{ImageNow, SessionImage};
 ghost use Rattle.rom_rule.specs.Views.{base_of};
 ghost use Rattle.rom_store.specs.Closing.{HasLeftSince};
-ghost use Rattle.rom_store.specs.Held.{start_of};
 ghost use Rattle.rom_store.specs.Playing.{CanPlay, IsPlayed};
 ghost use Rattle.rom_store.specs.Sessions.{EachStory, HasStory};
+ghost use Rattle.rom_store.specs.Start.{HasStarted, start_of};
 ghost use Rattle.rom_store.specs.Traced.{WentThrough};
 
 use crate::closed::Closed;
@@ -52,9 +52,7 @@ where
     O::Answer: Drop + Send + Sync,
     requires table { N.table ≡ opening.table_id }
     requires base { N.base ≡ base_of opening.key }
-    requires size { N.size ≡ D.shown.size opening.device }
-    requires words { IsTrue D.shown.tells_words → N.words ≡ D.shown.words opening.device }
-    requires clock { IsTrue D.shown.tells_images → N.clock ≡ D.shown.clock opening.device }
+    requires started { N.start ≡ start_of D.shown opening.device }
     requires since { IsTrue D.shown.tells_images → (t : ℕ) (i : List ℕ) →
         (N.since t i → D.shown.left_since opening.device t i)
         × (D.shown.left_since opening.device t i → N.since t i) }
@@ -70,14 +68,14 @@ where
         result.closed.session (λ story. (i : List ℕ) → D.shown.leaves result.closed.device i →
         ImageNow O.Contents (on_words O.machine) story i) }
     ensures since { IsTrue D.shown.tells_images → EachStory O.machine O.Contents
-        result.closed.session (λ story. HasLeftSince D.shown (start_of N.size N.words N.clock)
-        N.since (SessionImage O.Contents (on_words O.machine) story) result.closed.device) }
+        result.closed.session (λ story. HasLeftSince D.shown N.start N.since
+        (SessionImage O.Contents (on_words O.machine) story) result.closed.device) }
     ensures went { EachStory O.machine O.Contents result.closed.session (λ story.
-        WentThrough D.shown O.Contents (on_words O.machine) story story.opening_faults
-        result.closed.device) }
-    ensures size { D.shown.size result.closed.device ≡ N.size }
+        WentThrough D.shown O.Contents (on_words O.machine) story
+        (HasStarted D.shown N.base.faults N.start) result.closed.device) }
+    ensures size { D.shown.size result.closed.device ≡ N.start.size }
     ensures outside { IsTrue D.shown.tells_words →
-        WithinHeap N.base.order N.words (D.shown.words result.closed.device) }
+        WithinHeap N.base.order N.start.words (D.shown.words result.closed.device) }
     ensures faults { faults_after result.closed.session.faults result.closed.session.records
         ≤ D.shown.faults result.closed.device }
 {

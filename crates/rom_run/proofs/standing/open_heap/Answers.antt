@@ -7,6 +7,7 @@ use Rattle.rom_combine.specs.Session.{SessionImage}
 use Rattle.rom_header.specs.Layout.{words_needed}
 use Rattle.rom_open.specs.AtRest.{IsAtRest}
 use Rattle.rom_open.specs.Refusals.{named_order}
+use Rattle.rom_open.specs.Within.{HasOpened}
 use Rattle.rom_store.specs.Sessions.{IsStoryOf, unchanged}
 use Rattle.rom_store.proofs.Tracing.{went_none}
 use Rattle.rom_run.proofs.Lawful.{nothing_done}
@@ -57,7 +58,7 @@ returns-in-Ok-clause-session g c =
             record {
               before = omega (arith, of.faults_is, c.fault_count-faults.ensures, same);
               after = omega (arith, none, of.faults_is, c.fault_count-faults.ensures);
-              went = went_none shown o.Contents (on_words o.machine) story story.opening_faults heap.device of.records (omega (arith, of.faults_is, c.fault_count-faults.ensures));
+              went = went_none shown o.Contents (on_words o.machine) story (HasOpened shown was) heap.device of.records (record { calls = c.in-Ok.ensures.within.calls; faults = same });
             };
       };
       told = λ story of. nothing_done o.machine story of.history of.records of.in_doubt

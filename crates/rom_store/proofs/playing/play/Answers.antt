@@ -8,6 +8,7 @@ use Rattle.rom_rule.specs.declared.views.Base.{Base}
 use Rattle.rom_open.specs.Refusals.{named_order}
 use Rattle.rom_store.specs.Playing.{CanPlay}
 use Rattle.rom_store.proofs.Spans.{held_opening, leaves_both}
+use Rattle.rom_store.proofs.Starting.{opened_first, session_since}
 use Rattle.rom_store.proofs.playing.play.Goals as goal
 
 pub play_on-requires-clause-ready : goal.play_on-requires-clause-ready
@@ -24,7 +25,12 @@ play_on-requires-clause-ready g c = λ κs outlive.
     ready
 
 pub returns-in-Ok-open_store-clause-session : goal.returns-in-Ok-open_store-clause-session
-returns-in-Ok-open_store-clause-session g c = c.play_on.ensures.played.session
+returns-in-Ok-open_store-clause-session g c =
+    let shown = g.D.Device.shown in
+    let opening = c.in-Ok-open_store.opening in
+    let opened = c.in-Ok-open_store.ensures in
+    session_since shown g.O.Object.machine g.O.Object.Contents c.args.scripts.now c.play_on.result.results.items _ _ c.play_on.result.closed
+    (λ d same. opened_first shown c.args.device opening.device d (base_of opening.key).faults opened.within opened.faults.1 same) c.play_on.ensures.played.session
 
 pub returns-in-Ok-open_store-clause-order : goal.returns-in-Ok-open_store-clause-order
 returns-in-Ok-open_store-clause-order g c told = c.play_on.ensures.played.order ∙ c.in-Ok-open_store.ensures.order told

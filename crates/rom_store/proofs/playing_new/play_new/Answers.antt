@@ -5,10 +5,12 @@ use Rattle.rom_combine.specs.Costs.{WithinHeap}
 use Rattle.rom_combine.specs.Session.{SessionImage}
 use Rattle.rom_device.specs.Device.{Leaves}
 use Rattle.rom_model.specs.Machine.{on_words}
+use Rattle.rom_open.specs.Within.{WithinMaking}
 use Rattle.rom_model.specs.VecSpace.{words_of}
 use Rattle.rom_rule.specs.Views.{base_of}
 use Rattle.rom_store.specs.Openings.{Started}
 use Rattle.rom_store.specs.Playing.{CanPlay}
+use Rattle.rom_store.proofs.Starting.{made_first, session_since}
 use Rattle.rom_store.proofs.playing_new.play_new.Goals as goal
 
 pub of-opening-requires-clause-ready : goal.of-opening-requires-clause-ready
@@ -30,7 +32,13 @@ play_on-requires-clause-ready g c = λ κs outlive.
     })
 
 pub returns-clause-session : goal.returns-clause-session
-returns-clause-session g c = c.play_on.ensures.played.session
+returns-clause-session g c =
+    let shown = g.D.Device.shown in
+    let opening = c.of-opening.result in
+    let base_is = (λ j. base_of (c.of-opening.ensures.opening j).key) ∙ c.in-Ok.ensures.base in
+    let within = subst (λ d. WithinMaking shown c.args.order c.args.device d) (λ j. (sym c.of-opening.ensures.opening j).device) c.write_heap.ensures.within in
+    session_since shown g.O.Object.machine g.O.Object.Contents c.args.scripts.now c.play_on.result.results.items _ _ c.play_on.result.closed
+    (λ d same. made_first shown c.args.order c.args.device opening.device d (base_of opening.key).faults within ((λ j. (base_is j).faults) ∙ c.fault_count.ensures) same) c.play_on.ensures.played.session
 
 pub returns-clause-order : goal.returns-clause-order
 returns-clause-order g c = c.play_on.ensures.played.order ∙ (λ j. (base_of (c.of-opening.ensures.opening j).key).order) ∙ (λ j. (c.in-Ok.ensures.base j).order)

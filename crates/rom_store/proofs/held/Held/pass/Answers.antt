@@ -2,7 +2,7 @@ use Rattle.std.proofs.Common.{sym, subst}
 use Rattle.atomic_table.specs.Seated.{TableId}
 use Rattle.rom_model.specs.Machine.{on_words}
 use Rattle.rom_rule.specs.declared.views.Base.{Base}
-use Rattle.rom_store.specs.Held.{IsHeld, start_of}
+use Rattle.rom_store.specs.Held.{IsHeld}
 use Rattle.rom_store.proofs.Passed.{held_on}
 use Rattle.rom_store.proofs.held.Held.pass.Goals as goal
 
@@ -14,8 +14,8 @@ invariant_of-self g c =
     let e = c.pass-passed.ensures in
     let shown = g.D.Device.shown in
     let step = on_words g.O.Object.machine in
-    let start = start_of g.N.Label.size g.N.Label.words g.N.Label.clock in
+    let start = g.N.Label.start in
     let here = subst (λ (z : TableId × Base). IsHeld shown g.O.Object.Contents step z.0 z.1 start g.N.Label.since old) (λ j. (sym h.table_is j, sym h.base_is j)) h in
     subst (λ (z : TableId × Base). IsHeld shown g.O.Object.Contents step z.0 z.1 start g.N.Label.since new) (λ j. (h.table_is j, h.base_is j))
     (held_on g.O.Object.Contents step shown start g.N.Label.since old new c.args.shared.now.layout.callers c.pass-passed.result
-    here e.same e.kept e.passed.0 e.passed.1 e.spent e.untouched e.repaired e.failed e.now e.device.does e.failed_cause e.doubt_cause)
+    here e.same e.kept e.passed.0 e.passed.1 e.spent e.untouched e.repaired e.failed e.now e.device e.whole e.failed_cause e.doubt_cause)

@@ -6,7 +6,6 @@ use Rattle.rom_rule.specs.Views.{base_of, plan_of, records_of}
 use Rattle.rom_rule.specs.declared.views.Base.{Base}
 use Rattle.rom_rule.specs.declared.views.Plan.{Plan}
 use Rattle.rom_store.specs.Callers.{IsCallerOf}
-use Rattle.rom_store.specs.Held.{start_of}
 use Rattle.rom_store.specs.Sessions.{SessionSeen}
 use Rattle.rom_store.proofs.Closings.{Ended, count_held, ended, ended_closed, ended_kept, ended_now, ended_since, ended_story, ended_went, plan_at_end, session_is, writer_at_end}
 use Rattle.rom_store.proofs.Stories.{session_of}
@@ -15,7 +14,7 @@ use Rattle.rom_store.proofs.store.Store.close.Goals as goal
 
 at_end : (g : given.Over) (c : goal.After-load_main-count g) → Ended g.O.Object.machine g.O.Object.Contents g.D.Device.shown g.N.Label.base (plan_of c.review.new.writer.token.me.0) c.into_parts-twin.result.0 c.args.passes.items
 at_end g c = ended g.O.Object.machine g.O.Object.Contents g.D.Device.shown g.met.O.Object.one_contents g.N.Label.table g.N.Label.base
-    (start_of g.N.Label.size g.N.Label.words g.N.Label.clock) g.N.Label.since c.into_core.result c.into_parts-twin.result.0 c.into_parts-twin.result.1.token.me.0
+    g.N.Label.start g.N.Label.since c.into_core.result c.into_parts-twin.result.0 c.into_parts-twin.result.1.token.me.0
     c.take_in_all.new.writer.token.me.0 c.review.new.writer.token.me.0 c.args.passes.items
     c.into_core.ensures.held c.into_parts-twin.ensures.twin c.into_parts-twin.ensures.seat.2 c.into_parts-twin.ensures.rest c.take_in_all.ensures.joined c.review.ensures.still c.review.ensures.told
     c.review.ensures.known c.review.ensures.kept
@@ -66,14 +65,14 @@ returns-clause-now g c =
 pub returns-clause-since : goal.returns-clause-since
 returns-clause-since g c =
     ended_since g.O.Object.machine g.O.Object.Contents g.D.Device.shown g.N.Label.base (plan_of c.review.new.writer.token.me.0) c.into_parts-twin.result.0 c.args.passes.items (at_end g c) (session_at g c) (is_session g c)
-    g.N.Label.table (start_of g.N.Label.size g.N.Label.words g.N.Label.clock) g.N.Label.since c.into_core.result c.into_core.ensures.held c.into_parts-twin.ensures.twin
+    g.N.Label.table g.N.Label.start g.N.Label.since c.into_core.result c.into_core.ensures.held c.into_parts-twin.ensures.twin
     (plan_at_end c.into_core.result.view c.into_parts-twin.result.1.token.me.0 c.take_in_all.new.writer.token.me.0 c.review.new.writer.token.me.0 c.args.passes.items
     c.into_parts-twin.ensures.seat.2 c.take_in_all.ensures.joined c.review.ensures.still)
 
 pub returns-clause-went : goal.returns-clause-went
 returns-clause-went g c =
     ended_went g.O.Object.machine g.O.Object.Contents g.D.Device.shown g.N.Label.base (plan_of c.review.new.writer.token.me.0) c.into_parts-twin.result.0 c.args.passes.items (at_end g c) (session_at g c) (is_session g c)
-    g.N.Label.table (start_of g.N.Label.size g.N.Label.words g.N.Label.clock) g.N.Label.since c.into_core.result c.into_core.ensures.held c.into_parts-twin.ensures.twin
+    g.N.Label.table g.N.Label.start g.N.Label.since c.into_core.result c.into_core.ensures.held c.into_parts-twin.ensures.twin
     (plan_at_end c.into_core.result.view c.into_parts-twin.result.1.token.me.0 c.take_in_all.new.writer.token.me.0 c.review.new.writer.token.me.0 c.args.passes.items
     c.into_parts-twin.ensures.seat.2 c.take_in_all.ensures.joined c.review.ensures.still)
 

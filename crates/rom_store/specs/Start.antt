@@ -1,0 +1,31 @@
+-- The device as a store was started on it.
+use Rattle.std.specs.Prelude.{◌≡◌, ℕ, List}
+use Rattle.rom_device.specs.Device.{ShownDevice}
+
+-- how many words it had, which, and the moment; and how many reads, writes and syncs had been called
+pub record Start : Type 0 where
+  pub size : ℕ
+  pub words : List ℕ
+  pub clock : ℕ
+  pub reads : ℕ
+  pub writes : ℕ
+  pub syncs : ℕ
+
+module _ {D : Type 0} (shown : ShownDevice D) where
+  -- that of this device
+  abbrev pub start_of : D → Start
+  start_of device = record {
+    size = shown.size device;
+    words = shown.words device;
+    clock = shown.clock device;
+    reads = shown.reads device;
+    writes = shown.writes device;
+    syncs = shown.syncs device;
+  }
+
+  -- A device that has failed so often, and whose counts of calls are those of that start: it was not called since.
+  pub record HasStarted (faults : ℕ) (start : Start) (device : D) : Type 0 where
+    pub faults_are : shown.faults device ≡ faults
+    pub reads : shown.reads device ≡ start.reads
+    pub writes : shown.writes device ≡ start.writes
+    pub syncs : shown.syncs device ≡ start.syncs
