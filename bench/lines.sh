@@ -1,7 +1,7 @@
 #!/bin/sh
 # Runs the program with so many random command lines, drawn from a seed: words of the command line, words
-# that are nearly such, and names of files of each kind (heaps, a damaged one, scripts, one that is too
-# long, one without bytes, a folder, none). It fails where a run ends by a signal, or with a status above
+# that are nearly such, and names of files of each kind (heaps, a damaged one, scripts, one of one line too
+# many, one without bytes, a folder, none). It fails where a run ends by a signal, or with a status above
 # 8, or in more than a minute; where status 2 does not come exactly for the words that are no command, by
 # a reader in awk that shares no code with the program; where a refused run prints another thing than one
 # line, or one of another status; or where a file was made or touched with status 2, 4 or 8.
@@ -22,7 +22,7 @@ printf 'enq 9\ndeq\nput 1 2\nget 1\nmove 1 1 1\nlen\n' >script
 printf 'add 1\nadd 01\n\nrem 1\nunknown\n' >other
 : >empty
 mkdir directory
-awk 'BEGIN { for (i = 0; i < 131073; i++) print "enq 123" }' >long
+awk 'BEGIN { for (i = 0; i < 131073; i++) print "len" }' >long
 printf 'put 5 7' >-x
 cp ./-x ./-
 for name in heap great; do

@@ -1,5 +1,5 @@
 #!/bin/sh
-# Measures a script of 1,048,576 bytes: the time of a run, its memory, and its system calls by kind.
+# Measures a script of 1,048,576 bytes and 131,072 lines, the most of both: the time of a run, its memory, and its system calls by kind.
 # Usage, from any folder, once the program is built: bench/measure.sh
 built=crates/romulus/out/romulus
 build="./romulus try examples/queue.txt"
@@ -8,16 +8,10 @@ script=$folder/script
 text=$folder/text
 times=$folder/times
 
-# A number comes, is looked at and goes, over and over; the last lines make the length exact.
+# A number comes, is looked at and goes, over and over: 24 bytes each time; the last lines make both exact.
 awk 'BEGIN {
-    most = 1048576; size = 0
-    for (i = 1; most - size > 64; i++) {
-        line = i % 3 == 1 ? "enq " (i * 7919) % 100000 : i % 3 == 2 ? "peek" : "deq"
-        printf "%s\n", line
-        size += length(line) + 1
-    }
-    for (; (most - size) % 4 != 0; size += 5) printf "peek\n"
-    for (; size < most; size += 4) printf "deq\n"
+    for (i = 0; i < 43690; i++) printf "enq %d\npeek\ndeq\n", 1000000000 + i * 7919
+    printf "enq 123456\npeek\n"
 }' >"$script"
 echo "script: $(wc -c <"$script") bytes, $(wc -l <"$script") lines"
 
@@ -36,7 +30,7 @@ awk '{ t[NR] = $1 / 100 } END { printf "time: %.2f ms, the middle of %d runs fro
 if [ -x /usr/bin/time ]; then
     /usr/bin/time -f 'one run: %U s in the program, %S s in the system; memory at most: %M KiB' "$program" try "$script" >"$text"
     # The shortest update, over and over, makes the most entries.
-    yes deq | head -c 1048576 >"$folder/updates"
+    yes deq | head -n 131072 >"$folder/updates"
     /usr/bin/time -f 'lines "deq" alone: memory at most: %M KiB' "$program" try "$folder/updates" >"$text"
     set --
     while [ $# -lt 16 ]; do set -- "$@" "$folder/updates"; done

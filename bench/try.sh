@@ -1,7 +1,8 @@
 #!/bin/sh
-# Counts the instructions of `romulus try` on scripts of 1,048,576 bytes, by callgrind, beside those of a
-# plain Rust program that does the same with the standard library's queue, set and map. The two must
-# print the same. Then the pages that the system gave to each, which no instruction of theirs counts.
+# Counts the instructions of `romulus try` on scripts of 1,048,576 bytes, or of 131,072 lines where these
+# are fewer bytes, by callgrind, beside those of a plain Rust program that does the same with the standard
+# library's queue, set and map. The two must print the same. Then the pages that the system gave to each,
+# which no instruction of theirs counts.
 # With a folder's name it leaves callgrind's files and the scripts there.
 # Usage, from any folder, once the program is built: bench/try.sh [FOLDER]
 for tool in valgrind rustc; do
@@ -223,7 +224,7 @@ instructions() {
 wrong=0
 for kind in unread get put-few put-many mix; do
     script=$kept/$kind
-    lines "$kind" 2>/dev/null | head -c 1048576 >"$script"
+    lines "$kind" 2>/dev/null | head -n 131072 | head -c 1048576 >"$script"
     ours=$(instructions "$kept/$kind.romulus" "$program" try "$script") || exit 1
     mv "$folder/text" "$folder/ours"
     plain=$(instructions "$kept/$kind.plain" "$folder/plain" "$script") || exit 1

@@ -1,6 +1,6 @@
 //! Scripts that are read before anything is done.
 ghost use Rattle.std.specs.Prelude.{◌≡◌, ◌≢◌, ◌⊎◌, ◌≤◌, All, length, map, IfErr, IfOk, IfSome, OnOk, Err};
-ghost use Rattle.rom_text.specs.declared.read.TheConstants.{MAX_BYTES};
+ghost use Rattle.rom_text.specs.declared.read.TheConstants.{MAX_LINES};
 ghost use Rattle.rom_text.specs.Limits.{EndsReading, FitsScript};
 ghost use Rattle.rom_model.specs.History.{LAST_COUNT};
 ghost use Rattle.rom_text.specs.Runs.{AreAskedOnce, AreAtEnd, AreWithin, IsTold};

@@ -62,11 +62,11 @@ static HEAPS: [Row; 8] = [
 ];
 
 static SCRIPTS: [Row; 5] = [
-    // The longest script that there is.
+    // The most lines that a script may have.
     Row {
-        scripts: &["1048576 * \n"],
+        scripts: &["131072 * \n"],
         status: 1,
-        text: Text::Is("caller 1\n1048576 * unread\ncount 0\n"),
+        text: Text::Is("caller 1\n131072 * unread\ncount 0\n"),
         ..TRY
     },
     Row {

@@ -185,7 +185,7 @@ static ROWS: [Row; 9] = [
     },
     Row {
         words: &["run", "file", "one", "two", "three"],
-        scripts: &["enq 7\n", "1048577 * \n", "enq 7\n"],
+        scripts: &["enq 7\n", "61681 * put 1234567 8901\n", "enq 7\n"],
         failing: &[0, 0, 1],
         device: Words::Heap(&[]),
         status: 8,
@@ -193,7 +193,13 @@ static ROWS: [Row; 9] = [
         ..PLAIN
     },
     Row {
-        scripts: &["1048577 * \n"],
+        scripts: &["1048576 * \n"],
+        status: 8,
+        text: Text::Is("script 1 too long\n"),
+        ..TRIED
+    },
+    Row {
+        scripts: &["131073 * \n"],
         status: 8,
         text: Text::Is("script 1 too long\n"),
         ..TRIED

@@ -1,6 +1,6 @@
 //! Whole scripts: their lines in order.
 ghost use Rattle.std.specs.Prelude.{◌≡◌, ◌≤◌, length, IfOk, IfSome, OnOk, slice_get};
-ghost use Rattle.rom_text.specs.declared.read.TheConstants.{MAX_BYTES};
+ghost use Rattle.rom_text.specs.declared.read.TheConstants.{MAX_LINES};
 ghost use Rattle.rom_text.specs.Limits.{EndsReading, FitsScript};
 ghost use Rattle.rom_script.specs.Lines.{AreStepsOf};
 ghost use Rattle.rom_script.specs.Scripts.{steps_of};
@@ -50,7 +50,7 @@ impl Script {
 /// Reads a script to the end of its source. What was taken is lost to the source after an `Err`.
 pub fn read_script<S: Source>(alloc: Global, source: &mut S) -> Result<Script, ReadRefused>
     ensures lines { IfOk result (λ script. AreStepsOf (S.shown.left source.old) (steps_of script)) }
-    ensures few { IfOk result (λ script. length (steps_of script) ≤ MAX_BYTES) }
+    ensures few { IfOk result (λ script. length (steps_of script) ≤ MAX_LINES) }
     ensures fits { OnOk result (IfSome (S.shown.left source.old) FitsScript) }
     ensures ends { EndsReading S.shown source.old source.new result }
 {

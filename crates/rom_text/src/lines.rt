@@ -1,12 +1,16 @@
 //! The lines of a script, and what those of any object ask for.
-ghost use Rattle.std.specs.Prelude.{◌≡◌, ◌⊎◌, ℕ, ◌-◌, ◌<◌, ◌≤◌, List, ◌∷◌, length, drop, slice_index, slice_range, vec_len, IfOk};
+ghost use Rattle.std.specs.Prelude.{◌≡◌, ◌≢◌, ◌⊎◌, ℕ, ◌-◌, ◌<◌, ◌≤◌, List, ◌∷◌, length, drop, slice_index, slice_range, Err, IfOk, OnOk};
 ghost use Rattle.rom_model.specs.declared.line.Step.{Step};
+ghost use Rattle.rom_text.specs.declared.read.TheConstants.{MAX_LINES};
+ghost use Rattle.rom_text.specs.declared.read.ReadRefused.TheVariants.{Failed, TooLong};
+ghost use Rattle.rom_text.specs.Limits.{HasFewLines, HasManyLines};
 ghost use Rattle.rom_text.specs.Lines.{AreRead, lines_of};
 ghost use Rattle.rom_text.specs.Lines as lines;
 
 use crate::phrase::len_before;
+use crate::read::{MAX_LINES, ReadRefused};
 use rom_model::{Object, Step};
-use std::alloc::{AllocError, Global};
+use std::alloc::Global;
 
 /// How the calls and queries of an object are written.
 pub trait Lines<O: Object> {
@@ -46,17 +50,24 @@ pub fn line_end(bytes: &[u8], start: u64) -> (u64, u64)
     (start + line.len() as u64, start + next as u64)
 }
 
-/// What the lines of some bytes ask for.
+/// What the lines of some bytes ask for, unless they are too many for a script.
 pub fn lines_in<O: Object, L: Lines<O>>(
     alloc: Global,
     bytes: &[u8],
-) -> Result<Vec<Step<O::Call, O::Query>>, AllocError>
+) -> Result<Vec<Step<O::Call, O::Query>>, ReadRefused>
     ensures read { IfOk result (λ lines. AreRead L.Reads (lines_of bytes.now) lines.items) }
-    ensures few { IfOk result (λ lines. vec_len lines ≤ length bytes.now) }
+    ensures few { IfOk result (λ lines. length lines.items ≤ MAX_LINES) }
+    ensures fits { OnOk result (HasFewLines bytes.now) }
+    ensures too_long { result ≡ Err TooLong → HasManyLines bytes.now }
+    ensures unfailed { result ≢ Err Failed }
 {
     let mut lines = Vec::new(alloc);
     let mut start = 0;
     while start < bytes.len() as u64 {
+        // No memory is taken for the first line that is too many.
+        if lines.len() == MAX_LINES {
+            return Err(ReadRefused::TooLong);
+        }
         let (end, next) = line_end(bytes, start);
         lines.push(L::read_line(&bytes[start as usize..end as usize]))?;
         start = next;

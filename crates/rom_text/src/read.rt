@@ -1,13 +1,16 @@
 //! The bytes of a script, read to their end.
 ghost use Rattle.std.specs.Prelude.{◌≡◌, ℕ, length, IfOk};
 ghost use Rattle.std.specs.Io.KnownBytes.{Consumes};
-ghost use Rattle.rom_text.specs.Limits.{EndsReading, IsWithinLimit};
+ghost use Rattle.rom_text.specs.Limits.{EndsReadingBytes, IsWithinLimit};
 
 use crate::streams::Source;
-use std::alloc::{AllocError, Global};
+use std::alloc::{AllocError, AllocFailed, Global};
 
 /// The greatest number of bytes in a script.
 pub const MAX_BYTES: usize = 1 << 20;
+
+/// The greatest number of lines in a script.
+pub const MAX_LINES: usize = 1 << 17;
 
 /// How many bytes a read asks for, unless fewer may still come.
 const BLOCK: usize = 4096;
@@ -17,7 +20,7 @@ const BLOCK: usize = 4096;
 pub enum ReadRefused {
     /// Its source failed.
     Failed,
-    /// It has more than `MAX_BYTES` bytes.
+    /// It has more than `MAX_BYTES` bytes or more than `MAX_LINES` lines.
     TooLong,
     OutOfMemory,
 }
@@ -32,12 +35,22 @@ impl From<AllocError> for ReadRefused {
     }
 }
 
+impl<T: Drop> From<AllocFailed<T>> for ReadRefused {
+    ghost use Rattle.rom_text.specs.declared.read.ReadRefused.TheVariants.{OutOfMemory};
+
+    ghost from_gives = { λ _ e. e ≡ OutOfMemory };
+
+    fn from(_: AllocFailed<T>) -> Self {
+        ReadRefused::OutOfMemory
+    }
+}
+
 /// Reads all that a source has left. What it has taken is lost to the source after an `Err`.
 pub fn read_bytes<S: Source>(alloc: Global, source: &mut S) -> Result<Vec<u8>, ReadRefused>
     ensures all { IfOk result (λ bytes.
         Consumes (S.shown.left source.old) (S.shown.left source.new) bytes.items) }
     ensures within { IfOk result (λ bytes. IsWithinLimit bytes.items) }
-    ensures ends { EndsReading S.shown source.old source.new result }
+    ensures ends { EndsReadingBytes S.shown source.old source.new result }
 {
     let mut bytes = Vec::new(alloc);
     let mut block = [0; BLOCK];

@@ -1,6 +1,6 @@
 //! Whole scripts: what their lines ask for, in order.
 ghost use Rattle.std.specs.Prelude.{◌≤◌, length, IfOk, IfSome, OnOk};
-ghost use Rattle.rom_text.specs.declared.read.TheConstants.{MAX_BYTES};
+ghost use Rattle.rom_text.specs.declared.read.TheConstants.{MAX_LINES};
 ghost use Rattle.rom_text.specs.Limits.{EndsReading, FitsScript};
 ghost use Rattle.rom_text.specs.Lines.{AreStepsOf};
 
@@ -17,7 +17,7 @@ pub fn read_script<O: Object, L: Lines<O>, S: Source>(
 ) -> Result<Vec<Step<O::Call, O::Query>>, ReadRefused>
     ensures lines { IfOk result (λ lines.
         AreStepsOf L.Reads (S.shown.left source.old) lines.items) }
-    ensures few { IfOk result (λ lines. length lines.items ≤ MAX_BYTES) }
+    ensures few { IfOk result (λ lines. length lines.items ≤ MAX_LINES) }
     ensures fits { OnOk result (IfSome (S.shown.left source.old) FitsScript) }
     ensures ends { EndsReading S.shown source.old source.new result }
 {

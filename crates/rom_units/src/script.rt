@@ -143,21 +143,40 @@ fn scripts_have_at_most_1048576_bytes(rt: HostRuntime) -> Result<(), Fail> {
     let alloc = rt.alloc();
     // Blocks of 4,096 bytes: 256 reads give the script, and one more tells its end.
     let trips = [258].to_vec(alloc)?;
-    let mut longest = Bytes::new(vec![in alloc; b'\n'; 1_048_576]?, u64::MAX, trips);
+    let mut longest = Bytes::new(vec![in alloc; b'7'; 1_048_576]?, u64::MAX, trips);
     let script = read_script(alloc, &mut longest)?;
-    assert_eq!(rt; script.len(), 1_048_576);
-    assert!(rt; script.lines().iter().all(|line| *line == Line::Unread));
-    let seen = (script.at(1_048_575), script.at(1_048_576));
-    assert_eq!(rt; seen, (Some(Line::Unread), None));
+    assert_eq!(rt; script.lines(), [Line::Unread].as_slice());
 
     let trips = Vec::new(alloc);
-    let mut longer = Bytes::new(vec![in alloc; b'\n'; 1_048_580]?, u64::MAX, trips);
+    let mut longer = Bytes::new(vec![in alloc; b'7'; 1_048_580]?, u64::MAX, trips);
     assert!(rt; matches!(read_script(alloc, &mut longer), Err(ReadRefused::TooLong)));
     assert_eq!(rt; read_bytes(alloc, &mut longer)?.len(), 3);
 
     let trips = Vec::new(alloc);
-    let mut longer = Bytes::new(vec![in alloc; b'\n'; 1_048_577]?, 1000, trips);
+    let mut longer = Bytes::new(vec![in alloc; b'7'; 1_048_577]?, 1000, trips);
     assert!(rt; matches!(read_script(alloc, &mut longer), Err(ReadRefused::TooLong)));
+    Ok(())
+}
+
+#[test]
+fn scripts_have_at_most_131072_lines(rt: HostRuntime) -> Result<(), Fail> {
+    let alloc = rt.alloc();
+    let trips = Vec::new(alloc);
+    let mut longest = Bytes::new(vec![in alloc; b'\n'; 131_072]?, u64::MAX, trips);
+    let script = read_script(alloc, &mut longest)?;
+    assert_eq!(rt; script.len(), 131_072);
+    assert!(rt; script.lines().iter().all(|line| *line == Line::Unread));
+    let seen = (script.at(131_071), script.at(131_072));
+    assert_eq!(rt; seen, (Some(Line::Unread), None));
+
+    // A last line without LF is one too many as well, and all bytes are read before that is told.
+    for last in [b'\n', b'7'] {
+        let mut bytes = vec![in alloc; b'\n'; 131_072]?;
+        bytes.push(last)?;
+        let mut longer = Bytes::new(bytes, 1000, Vec::new(alloc));
+        assert!(rt; matches!(read_script(alloc, &mut longer), Err(ReadRefused::TooLong)));
+        assert!(rt; read_bytes(alloc, &mut longer)?.is_empty());
+    }
     Ok(())
 }
 

@@ -53,7 +53,7 @@ loop-i-preserved g c =
     record {
       read = subst (λ ss. AreReadUpTo g.L.Lines.Reads source (c.loop-i.i + 1) c.args.sources.now (slice_set c.loop-i.sources c.loop-i.i c.read_script.new.source) ss) scripts_are
           (one_read_more g.L.Lines.Reads source c.loop-i.i c.args.sources.now c.loop-i.sources _ was c.read_script.new.source lt is read (c.in-Ok-read_script.lines.items)
-          told.lines told.fits told.ends.to_its_end told.ends.asked_once (unfailed_read source c.in-Ok-read_script.lines was c.read_script.new.source told.ends));
+          told.lines told.fits told.ends.to_its_end.at_end told.ends.asked_once (unfailed_read source c.in-Ok-read_script.lines was c.read_script.new.source told.ends));
       few = subst (λ vs. All (λ v. length v.items ≤ LAST_COUNT) vs) (sym pushed)
           (All-push (λ v. length v.items ≤ LAST_COUNT) c.loop-i.scripts.items own inv.few (omega (arith, told.few)));
       many = omega (arith, ap (λ vs. length vs) pushed, length-append c.loop-i.scripts.items (own ∷ []), inv.many);

@@ -1,4 +1,5 @@
-use Rattle.std.proofs.Common.{List, ◌++◌, ◌-◌, ◌≤◌, length, drop}
+use Rattle.std.proofs.Common.{◌≡◌, List, ◌++◌, ◌+◌, ◌-◌, ◌≤◌, length, drop}
+use Rattle.rom_text.specs.declared.read.TheConstants.{MAX_LINES}
 use Rattle.rom_text.specs.Lines.{AreRead, lines_of}
 use Rattle.rom_text.proofs.lines.lines_in.Given as goal
 
@@ -7,7 +8,8 @@ abbrev pub invariant-loop-start : goal.invariant-loop-start
 invariant-loop-start g l = record {
   within : l.start ≤ length l.bytes;
   read : (more : List _) → AreRead g.L.Lines.Reads (lines_of (drop l.start l.bytes)) more → AreRead g.L.Lines.Reads (lines_of l.bytes) (l.lines.items ++ more);
-  few : length l.lines.items ≤ l.start;
+  many : length (lines_of l.bytes) ≡ length l.lines.items + length (lines_of (drop l.start l.bytes));
+  few : length l.lines.items ≤ MAX_LINES;
 }
 
 abbrev pub decreases-loop-start : goal.decreases-loop-start
