@@ -1,5 +1,5 @@
 //! What a heap keeps: an object in the words of a region.
-ghost use Rattle.std.specs.Prelude.{◌≡◌, ℕ, ◌+◌, ◌<◌, ◌≤◌, List, length, Option, Some, IfOk, OnOk, Err, slice_index, false};
+ghost use Rattle.std.specs.Prelude.{◌≡◌, ℕ, ◌+◌, ◌*◌, ◌<◌, ◌≤◌, List, length, Option, Some, IfOk, OnOk, Err, slice_index, false};
 ghost use Rattle.rom_model.specs.Space.{KeepsSpace, Looks, Stores, HasRoom};
 ghost use Rattle.rom_model.specs.VecSpace.{words_of};
 ghost use Rattle.rom_model.specs.Machine.{Machine};
@@ -28,8 +28,14 @@ pub trait Object {
 
     ghost STORES: { ℕ };
 
-    /// The greatest number of stores of one update.
+    /// The greatest number of stores of one update of weight 1, and for each unit of its weight of
+    /// any other.
     const STORES: u64;
+
+    ghost WEIGHT: { ℕ };
+
+    /// The greatest weight of an update.
+    const WEIGHT: u64;
 
     /// Its states.
     ghost State: { Type 0 };
@@ -46,8 +52,8 @@ pub trait Object {
     /// What a query is told.
     type Answer: Copy;
 
-    /// What its calls and queries do, the words of its calls and replies, and how many loads a query
-    /// makes at most.
+    /// What its calls and queries do, the weight of a call, the words of its calls and replies, and how
+    /// many loads a query makes at most.
     ghost machine: { Machine State Self.Call Self.Query Self.Reply Self.Answer };
 
     /// The words of a region of that order are well-formed, and stand for that state and that count.
@@ -57,17 +63,25 @@ pub trait Object {
     /// before holds.
     ghost FirstBreak: { ℕ → List ℕ → Break → Type 0 };
 
-    /// The words of a call.
+    /// The weight of a call. It bounds the stores that the call makes.
+    fn weight_of(call: &Self::Call) -> u64
+        ensures is { result ≡ machine.weight call.now }
+        ensures least { 1 ≤ result }
+        ensures most { result ≤ WEIGHT };
+
+    /// The words of a call. They stand for it alone.
     fn call_words(call: &Self::Call) -> Args
-        ensures { result ≡ machine.call_words call.now };
+        ensures words { result ≡ machine.call_words call.now }
+        ensures back { machine.words_call result ≡ Some call.now };
 
     /// The call that the words are those of. It is `None` exactly where there is none.
     fn words_call(words: &Args) -> Option<Self::Call>
         ensures { result ≡ machine.words_call words.now };
 
-    /// The words of a reply.
+    /// The words of a reply. They stand for it alone.
     fn reply_words(reply: &Self::Reply) -> Back
-        ensures { result ≡ machine.reply_words reply.now };
+        ensures words { result ≡ machine.reply_words reply.now }
+        ensures back { machine.words_reply result ≡ Some reply.now };
 
     /// The reply that the words are those of. It is `None` exactly where there is none.
     fn words_reply(words: &Back) -> Option<Self::Reply>
@@ -86,11 +100,11 @@ pub trait Object {
         requires order { IsOrder order }
         requires region { (s : State) × (k : ℕ)
             × Contents order (M.shown.image space.old) s k × (k < LAST_COUNT) }
-        requires room { HasRoom M.shown STORES space.old }
+        requires room { HasRoom M.shown (STORES * machine.weight call.now) space.old }
         ensures done { (s : State) (k : ℕ) → Contents order (M.shown.image space.old) s k
             → let after = machine.step order s k call.now in
             (result ≡ after.1) × Contents order (M.shown.image space.new) after.0 (k + 1) }
-        ensures stores { Stores M.shown STORES space.old space.new };
+        ensures stores { Stores M.shown (STORES * machine.weight call.now) space.old space.new };
 
     /// Answers a query.
     fn answer<M: Look>(space: &mut M, order: u32, query: &Self::Query) -> Self::Answer
@@ -115,17 +129,17 @@ pub trait Object {
         ensures one { (e d : Break) → FirstBreak order region.now e →
             FirstBreak order region.now d → e ≡ d };
 
-    /// The words of a call stand for it alone.
-    ghost call_back: { (call : Self.Call) →
-        machine.words_call (machine.call_words call) ≡ Some call };
-
+    /// Words that are read as a call are the words of that call.
     ghost call_only: { (words : List ℕ) (call : Self.Call) → machine.words_call words ≡ Some call →
         machine.call_words call ≡ words };
 
-    /// The words of a reply stand for it alone.
-    ghost reply_back: { (reply : Self.Reply) →
-        machine.words_reply (machine.reply_words reply) ≡ Some reply };
+    /// What a call is told that has words is read back from its own words.
+    ghost reply_back: { (order : ℕ) (s : State) (count : ℕ) (words : List ℕ) (call : Self.Call) →
+        machine.words_call words ≡ Some call →
+        let told = (machine.step order s count call).1 in
+        machine.words_reply (machine.reply_words told) ≡ Some told };
 
+    /// Words that are read as a reply are the words of that reply.
     ghost reply_only: { (words : List ℕ) (reply : Self.Reply) →
         machine.words_reply words ≡ Some reply → machine.reply_words reply ≡ words };
 

@@ -7,5 +7,5 @@ pub invariant_of-self : goal.invariant_of-self
 invariant_of-self g c = let inv = c.loop-i.invariant in let end = c.loop-i-test.false in let same = inv.1 in record {
   within = omega arith;
   whole = inv.0.whole;
-  zero_past = λ k _. dite (dec_le c.loop-i.i k) (λ past. inv.0.zero_past k (omega arith)) (λ low. inv.2 k (omega arith));
+  past = λ k _. dite (dec_le c.loop-i.i k) (λ beyond. inv.0.past k (omega arith)) (λ low. inv.2 k (omega arith));
 }
