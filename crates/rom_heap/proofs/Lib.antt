@@ -12,4 +12,8 @@ pub mod Earlier
 pub mod BucketNode
 pub mod Ending
 pub mod Room
+pub mod Looking
+pub mod Plan
+pub mod Fitting
+pub mod Grouping
 pub mod Whole

@@ -7,12 +7,12 @@ use Rattle.std.specs.FinMap as finite
 use Rattle.std.proofs.lemmas.Bool.{ltb-true}
 use Rattle.rom_model.specs.Space.{ShownSpace, ChangesOnly, Costs, Looks}
 use Rattle.rom_model.specs.History.{LAST_COUNT}
-use Rattle.rom_model.specs.State.{State, live, cap, has_room, deq, put, step, first_of_queue}
+use Rattle.rom_model.specs.State.{State, live, cap, has_room, deq, put, one, first_of_queue}
 use Rattle.rom_model.specs.Region.{Contents}
-use Rattle.rom_model.specs.declared.call.Call.{Call}
-use Rattle.rom_model.specs.declared.call.Call.TheVariants.{Enq, Add, Rem, Put}
-use Rattle.rom_model.specs.declared.call.Reply.{Reply}
-use Rattle.rom_model.specs.declared.call.Reply.TheVariants as reply
+use Rattle.rom_model.specs.declared.call.Single.{Single}
+use Rattle.rom_model.specs.declared.call.Single.TheVariants.{Enq, Add, Rem, Put}
+use Rattle.rom_model.specs.declared.call.SingleReply.{SingleReply}
+use Rattle.rom_model.specs.declared.call.SingleReply.TheVariants as reply
 use Rattle.rom_model.specs.declared.call.Answer.TheVariants as answer
 use Rattle.rom_model.proofs.Looks.{stores_most}
 use Rattle.rom_model.proofs.Recounted.{recounted_contents}
@@ -35,45 +35,45 @@ pub full_is : (n : ℕ) (s : State) → live s ≡ cap n → has_room n s ≡ fa
 full_is n s is = ap (λ m. nat_lt m (cap n)) is ∙ not_below (cap n) (nat_lt (cap n) (cap n)) (λ i. nat_lt (cap n) (cap n))
 
 module _ (n : ℕ) (s : State) (j : ℕ) where
-  pub enq_room : (v : ℕ) → live s < cap n → step n s j (Enq v) ≡ (with_last s v, reply.Queued)
+  pub enq_room : (v : ℕ) → live s < cap n → one n s j (Enq v) ≡ (with_last s v, reply.Queued)
   enq_room v lt = ap (λ b. cond b (with_last s v, reply.Queued) (s, reply.Full)) (room_is n s lt)
 
-  pub enq_full : (v : ℕ) → live s ≡ cap n → step n s j (Enq v) ≡ (s, reply.Full)
+  pub enq_full : (v : ℕ) → live s ≡ cap n → one n s j (Enq v) ≡ (s, reply.Full)
   enq_full v is = ap (λ b. cond b (with_last s v, reply.Queued) (s, reply.Full)) (full_is n s is)
 
   -- where the set has the number, where it has not but there is room, and where there is none
-  abbrev added : Bool → Bool → ℕ → State × Reply
+  abbrev added : Bool → Bool → ℕ → State × SingleReply
   added there room key = if there then (s, reply.Present) else if room then (with_members s (set.insert s.members key), reply.Added) else (s, reply.Full)
 
-  pub add_there : (key : ℕ) → set.contains s.members key ≡ true → step n s j (Add key) ≡ (s, reply.Present)
+  pub add_there : (key : ℕ) → set.contains s.members key ≡ true → one n s j (Add key) ≡ (s, reply.Present)
   add_there key there = ap (λ b. added b (has_room n s) key) there
 
-  pub add_new : (key : ℕ) → set.contains s.members key ≡ false → live s < cap n → step n s j (Add key) ≡ (with_members s (set.insert s.members key), reply.Added)
+  pub add_new : (key : ℕ) → set.contains s.members key ≡ false → live s < cap n → one n s j (Add key) ≡ (with_members s (set.insert s.members key), reply.Added)
   add_new key there lt = λ i. added (there i) (room_is n s lt i) key
 
-  pub add_full : (key : ℕ) → set.contains s.members key ≡ false → live s ≡ cap n → step n s j (Add key) ≡ (s, reply.Full)
+  pub add_full : (key : ℕ) → set.contains s.members key ≡ false → live s ≡ cap n → one n s j (Add key) ≡ (s, reply.Full)
   add_full key there is = λ i. added (there i) (full_is n s is i) key
 
-  abbrev removed : Bool → ℕ → State × Reply
+  abbrev removed : Bool → ℕ → State × SingleReply
   removed there key = if there then (with_members s (set.remove s.members key), reply.Removed) else (s, reply.Absent)
 
-  pub rem_there : (key : ℕ) → set.contains s.members key ≡ true → step n s j (Rem key) ≡ (with_members s (set.remove s.members key), reply.Removed)
+  pub rem_there : (key : ℕ) → set.contains s.members key ≡ true → one n s j (Rem key) ≡ (with_members s (set.remove s.members key), reply.Removed)
   rem_there key there = ap (λ b. removed b key) there
 
-  pub rem_absent : (key : ℕ) → set.contains s.members key ≡ false → step n s j (Rem key) ≡ (s, reply.Absent)
+  pub rem_absent : (key : ℕ) → set.contains s.members key ≡ false → one n s j (Rem key) ≡ (s, reply.Absent)
   rem_absent key there = ap (λ b. removed b key) there
 
   -- where a new key is put
-  abbrev given : Bool → ℕ → ℕ → State × Reply
+  abbrev given : Bool → ℕ → ℕ → State × SingleReply
   given room key v = if room then (with_pairs s (finite.insert s.pairs key v), reply.NoPrior) else (s, reply.Full)
 
-  pub put_was : (key v u : ℕ) → finite.get s.pairs key ≡ Some u → step n s j (Put key v) ≡ (with_pairs s (finite.insert s.pairs key v), reply.Was u)
+  pub put_was : (key v u : ℕ) → finite.get s.pairs key ≡ Some u → one n s j (Put key v) ≡ (with_pairs s (finite.insert s.pairs key v), reply.Was u)
   put_was key v u is = ap (put n s key v) is
 
-  pub put_new : (key v : ℕ) → finite.get s.pairs key ≡ None → live s < cap n → step n s j (Put key v) ≡ (with_pairs s (finite.insert s.pairs key v), reply.NoPrior)
+  pub put_new : (key v : ℕ) → finite.get s.pairs key ≡ None → live s < cap n → one n s j (Put key v) ≡ (with_pairs s (finite.insert s.pairs key v), reply.NoPrior)
   put_new key v is lt = ap (put n s key v) is ∙ ap (λ b. given b key v) (room_is n s lt)
 
-  pub put_full : (key v : ℕ) → finite.get s.pairs key ≡ None → live s ≡ cap n → step n s j (Put key v) ≡ (s, reply.Full)
+  pub put_full : (key v : ℕ) → finite.get s.pairs key ≡ None → live s ≡ cap n → one n s j (Put key v) ≡ (s, reply.Full)
   put_full key v is full = ap (put n s key v) is ∙ ap (λ b. given b key v) (full_is n s full)
 
 -- the queue's first
@@ -87,22 +87,22 @@ deq_none s (x ∷ xs) is = absurd (let never : None ≡ Some x = is in cc)
 
 -- an update that does so
 module _ {n : ℕ} {new : List ℕ} {k : ℕ} where
-  pub by_step : (done : State × Reply) (after : State) (told : Reply) → done ≡ (after, told) → Contents n new after k → (told ≡ done.1) × Contents n new done.0 k
+  pub by_step : (done : State × SingleReply) (after : State) (told : SingleReply) → done ≡ (after, told) → Contents n new after k → (told ≡ done.1) × Contents n new done.0 k
   by_step done after told is held = (sym (ap (λ d. d.1) is), subst (λ s. Contents n new s k) (sym (ap (λ d. d.0) is)) held)
 
 -- an update that changes nothing
-module _ {M : Type 0} {shown : ShownSpace M} {n : ℕ} {call : Call} {told : Reply} {old new : M} where
-  pub stays : {loads : ℕ} → ((s : State) (j k : ℕ) → Contents n (shown.image old) s k → step n s j call ≡ (s, told)) → most_stores n call told ≡ 0 → Looks shown loads old new → Does shown n call told old new
+module _ {M : Type 0} {shown : ShownSpace M} {n : ℕ} {call : Single} {told : SingleReply} {old new : M} where
+  pub stays : {loads : ℕ} → ((s : State) (j k : ℕ) → Contents n (shown.image old) s k → one n s j call ≡ (s, told)) → most_stores n call told ≡ 0 → Looks shown loads old new → Does shown n call told old new
   stays is none looks = record {
-    step_is = λ s j k held. by_step (step n s j call) s told (is s j k held) (subst (λ w. Contents n w s k) (sym looks.image) held);
+    step_is = λ s j k held. by_step (one n s j call) s told (is s j k held) (subst (λ w. Contents n w s k) (sym looks.image) held);
     stores = stores_most (most_stores n call told) (omega (arith, none)) looks.costs;
   }
 
   -- an update that changes something
-  pub changes : {loads stores : ℕ} (after : State → State) → ((s : State) (j k : ℕ) → Contents n (shown.image old) s k → step n s j call ≡ (after s, told)) →
+  pub changes : {loads stores : ℕ} (after : State → State) → ((s : State) (j k : ℕ) → Contents n (shown.image old) s k → one n s j call ≡ (after s, told)) →
       ((s : State) (k : ℕ) → Contents n (shown.image old) s k → Contents n (shown.image new) (after s) k) → stores ≤ most_stores n call told → Costs shown loads stores old new → Does shown n call told old new
   changes after is contents few costs = record {
-    step_is = λ s j k held. by_step (step n s j call) (after s) told (is s j k held) (contents s k held);
+    step_is = λ s j k held. by_step (one n s j call) (after s) told (is s j k held) (contents s k held);
     stores = stores_most (most_stores n call told) few costs;
   }
 

@@ -2,6 +2,7 @@
 -- object's laws, and what the inspection tests, in its order, with its first break.
 pub mod Fresh
 pub mod Updates
+pub mod Fits
 pub mod Laws
 pub mod Tests
 pub mod Walks

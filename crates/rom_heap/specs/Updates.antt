@@ -1,16 +1,20 @@
 -- What an update leaves of a region, and how many words it stores at most.
-use Rattle.std.specs.Prelude.{◌≡◌, ℕ, ◌+◌, List}
+use Rattle.std.specs.Prelude.{◌≡◌, ℕ, ◌+◌, List, [], ◌∷◌}
 use Rattle.rom_model.specs.Space.{ShownSpace, Stores}
-use Rattle.rom_model.specs.State.{State, step}
+use Rattle.rom_model.specs.State.{State, one, state_after, replies_to, step}
 use Rattle.rom_model.specs.Region.{Contents}
+use Rattle.rom_model.specs.declared.call.Kind.{Kind}
+use Rattle.rom_model.specs.declared.call.Kind.TheVariants as kind
+use Rattle.rom_model.specs.declared.call.Single.{Single}
+use Rattle.rom_model.specs.declared.call.Single.TheVariants.{Put, Del}
+use Rattle.rom_model.specs.declared.call.SingleReply.{SingleReply}
+use Rattle.rom_model.specs.declared.call.SingleReply.TheVariants as reply
 use Rattle.rom_model.specs.declared.call.Call.{Call}
-use Rattle.rom_model.specs.declared.call.Call.TheVariants.{Put, Del}
 use Rattle.rom_model.specs.declared.call.Reply.{Reply}
-use Rattle.rom_model.specs.declared.call.Reply.TheVariants as reply
 
 -- How many stores an update makes at most in a heap of order n, beside that of the count. A block that is
 -- taken or given back changes at most n + 1 words of the allocator's tree; a node has four words.
-abbrev pub most_stores : ℕ → Call → Reply → ℕ
+abbrev pub most_stores : ℕ → Single → SingleReply → ℕ
 -- the tree and the node, a link and the tail, and the size
 most_stores n call reply.Queued = (n + 1) + 4 + 2 + 1
 -- the tree, the head and the tail, and the size
@@ -27,10 +31,27 @@ most_stores n call reply.Moved = 2
 -- where nothing changes
 most_stores n call other = 0
 
--- What an update does that is counted already: the reply and the state are those of the step, and so many stores are made at most.
-pub record Does {M : Type 0} (shown : ShownSpace M) (n : ℕ) (call : Call) (told : Reply) (old new : M) : Type 0 where
-  pub step_is : (s : State) (j k : ℕ) → Contents n (shown.image old) s k → let after = step n s j call in (told ≡ after.1) × Contents n (shown.image new) after.0 k
+-- those of several updates
+abbrev pub most_of_all : ℕ → List Single → List SingleReply → ℕ
+most_of_all n [] replies = 0
+most_of_all n (c ∷ calls) [] = 0
+most_of_all n (c ∷ calls) (r ∷ replies) = most_stores n c r + most_of_all n calls replies
+
+-- Those of an update of one structure, or of a group, which stores nothing where it is refused.
+abbrev pub most_of : ℕ → Kind Single (List Single) → Kind SingleReply (List SingleReply) → ℕ
+most_of n (kind.Single c) (kind.Single r) = most_stores n c r
+most_of n (kind.Several calls) (kind.Several replies) = most_of_all n calls replies
+most_of n call other = 0
+
+-- What an update of one structure does that is counted already: the reply and the state are those of it, and so many stores are made at most.
+pub record Does {M : Type 0} (shown : ShownSpace M) (n : ℕ) (call : Single) (told : SingleReply) (old new : M) : Type 0 where
+  pub step_is : (s : State) (j k : ℕ) → Contents n (shown.image old) s k → let after = one n s j call in (told ≡ after.1) × Contents n (shown.image new) after.0 k
   pub stores : Stores shown (most_stores n call told) old new
+
+-- So of several that are taken in order.
+pub record DoesAll {M : Type 0} (shown : ShownSpace M) (n : ℕ) (calls : List Single) (told : List SingleReply) (old new : M) : Type 0 where
+  pub steps_are : (s : State) (j k : ℕ) → Contents n (shown.image old) s k → (told ≡ replies_to n s j calls) × Contents n (shown.image new) (state_after n s j calls) k
+  pub stores : Stores shown (most_of_all n calls told) old new
 
 -- So of an update, which is counted.
 abbrev pub DoesNext : ℕ → Call → Reply → List ℕ → List ℕ → Type 0

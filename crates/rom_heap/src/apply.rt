@@ -1,15 +1,19 @@
 //! One update.
-ghost use Rattle.std.specs.Prelude.{◌≡◌, ◌+◌, ◌<◌, ◌≤◌, ℕ, length, slice_index};
+ghost use Rattle.std.specs.Prelude.{◌≡◌, ◌+◌, ◌*◌, ◌<◌, ◌≤◌, ℕ, IfNone, length, slice_index};
 ghost use Rattle.rom_model.specs.Space.{ChangesOnly, Counts, HasRoom, Stores};
-ghost use Rattle.rom_model.specs.State.{State};
+ghost use Rattle.rom_model.specs.State.{State, one};
+ghost use Rattle.rom_model.specs.Singles.{kind_of, reply_kind};
+ghost use Rattle.rom_model.specs.Trio.{weight};
 ghost use Rattle.rom_model.specs.History.{LAST_COUNT};
 ghost use Rattle.rom_model.specs.Blocks.{IsOrder};
 ghost use Rattle.rom_model.specs.Region.{IsWellFormed, Contents};
-ghost use Rattle.rom_model.specs.declared.call.Call.TheVariants as call;
-ghost use Rattle.rom_heap.specs.Updates.{Does, DoesNext, most_stores};
+ghost use Rattle.rom_model.specs.declared.call.Single.TheVariants as call;
+ghost use Rattle.rom_heap.specs.Updates.{Does, DoesAll, DoesNext, most_stores, most_of};
+ghost use Rattle.rom_heap.specs.Fits.{IsGroupDone, GroupStores};
 
+use crate::fits::fits;
 use rom_map::{Moved, Put, map_del, map_move, map_put};
-use rom_model::{COUNT, Call, Reply, Space};
+use rom_model::{COUNT, Call, Kind, Replies, Reply, Single, SingleReply, Space};
 use rom_queue::{queue_pop, queue_push};
 use rom_set::{Inserted, set_insert, set_remove};
 
@@ -27,124 +31,184 @@ fn raise_count<M: Space>(space: &mut M)
     space.store(COUNT, count + 1);
 }
 
-fn enq<M: Space>(space: &mut M, order: u32, value: u64) -> Reply
+fn enq<M: Space>(space: &mut M, order: u32, value: u64) -> SingleReply
     requires order { IsOrder order }
     requires region { IsWellFormed order (M.shown.image space.old) }
     requires room { HasRoom M.shown 31 space.old }
     ensures does { Does M.shown order (call.Enq value) result space.old space.new }
 {
     if queue_push(space, order, value) {
-        Reply::Queued
+        SingleReply::Queued
     } else {
-        Reply::Full
+        SingleReply::Full
     }
 }
 
-fn deq<M: Space>(space: &mut M, order: u32) -> Reply
+fn deq<M: Space>(space: &mut M, order: u32) -> SingleReply
     requires order { IsOrder order }
     requires region { IsWellFormed order (M.shown.image space.old) }
     requires room { HasRoom M.shown 31 space.old }
     ensures does { Does M.shown order call.Deq result space.old space.new }
 {
     match queue_pop(space, order) {
-        Some(value) => Reply::Head(value),
-        None => Reply::Empty,
+        Some(value) => SingleReply::Head(value),
+        None => SingleReply::Empty,
     }
 }
 
-fn add<M: Space>(space: &mut M, order: u32, key: u64) -> Reply
+fn add<M: Space>(space: &mut M, order: u32, key: u64) -> SingleReply
     requires order { IsOrder order }
     requires region { IsWellFormed order (M.shown.image space.old) }
     requires room { HasRoom M.shown 31 space.old }
     ensures does { Does M.shown order (call.Add key) result space.old space.new }
 {
     match set_insert(space, order, key) {
-        Inserted::New => Reply::Added,
-        Inserted::There => Reply::Present,
-        Inserted::Full => Reply::Full,
+        Inserted::New => SingleReply::Added,
+        Inserted::There => SingleReply::Present,
+        Inserted::Full => SingleReply::Full,
     }
 }
 
-fn rem<M: Space>(space: &mut M, order: u32, key: u64) -> Reply
+fn rem<M: Space>(space: &mut M, order: u32, key: u64) -> SingleReply
     requires order { IsOrder order }
     requires region { IsWellFormed order (M.shown.image space.old) }
     requires room { HasRoom M.shown 31 space.old }
     ensures does { Does M.shown order (call.Rem key) result space.old space.new }
 {
     if set_remove(space, order, key) {
-        Reply::Removed
+        SingleReply::Removed
     } else {
-        Reply::Absent
+        SingleReply::Absent
     }
 }
 
-fn put<M: Space>(space: &mut M, order: u32, key: u64, value: u64) -> Reply
+fn put<M: Space>(space: &mut M, order: u32, key: u64, value: u64) -> SingleReply
     requires order { IsOrder order }
     requires region { IsWellFormed order (M.shown.image space.old) }
     requires room { HasRoom M.shown 31 space.old }
     ensures does { Does M.shown order (call.Put key value) result space.old space.new }
 {
     match map_put(space, order, key, value) {
-        Put::New => Reply::NoPrior,
-        Put::Was(before) => Reply::Was(before),
-        Put::Full => Reply::Full,
+        Put::New => SingleReply::NoPrior,
+        Put::Was(before) => SingleReply::Was(before),
+        Put::Full => SingleReply::Full,
     }
 }
 
-fn del<M: Space>(space: &mut M, order: u32, key: u64) -> Reply
+fn del<M: Space>(space: &mut M, order: u32, key: u64) -> SingleReply
     requires order { IsOrder order }
     requires region { IsWellFormed order (M.shown.image space.old) }
     requires room { HasRoom M.shown 31 space.old }
     ensures does { Does M.shown order (call.Del key) result space.old space.new }
 {
     match map_del(space, order, key) {
-        Some(value) => Reply::Was(value),
-        None => Reply::NoPrior,
+        Some(value) => SingleReply::Was(value),
+        None => SingleReply::NoPrior,
     }
 }
 
-fn shift<M: Space>(space: &mut M, order: u32, from: u64, to: u64, amount: u64) -> Reply
+fn shift<M: Space>(space: &mut M, order: u32, from: u64, to: u64, amount: u64) -> SingleReply
     requires order { IsOrder order }
     requires region { IsWellFormed order (M.shown.image space.old) }
     requires room { HasRoom M.shown 31 space.old }
     ensures does { Does M.shown order (call.Move from to amount) result space.old space.new }
 {
     match map_move(space, order, from, to, amount) {
-        Moved::Done => Reply::Moved,
-        Moved::Absent => Reply::Absent,
-        Moved::Short(value) => Reply::Short(value),
-        Moved::Over => Reply::Over,
+        Moved::Done => SingleReply::Moved,
+        Moved::Absent => SingleReply::Absent,
+        Moved::Short(value) => SingleReply::Short(value),
+        Moved::Over => SingleReply::Over,
     }
 }
 
-/// Does an update that is counted already.
-fn update<M: Space>(space: &mut M, order: u32, call: &Call) -> Reply
+/// Does an update of one structure that is counted already.
+fn update<M: Space>(space: &mut M, order: u32, call: &Single) -> SingleReply
     requires order { IsOrder order }
     requires region { IsWellFormed order (M.shown.image space.old) }
     requires room { HasRoom M.shown 31 space.old }
     ensures does { Does M.shown order call.now result space.old space.new }
 {
     match *call {
-        Call::Enq(value) => enq(space, order, value),
-        Call::Deq => deq(space, order),
-        Call::Add(key) => add(space, order, key),
-        Call::Rem(key) => rem(space, order, key),
-        Call::Put(key, value) => put(space, order, key, value),
-        Call::Del(key) => del(space, order, key),
-        Call::Move(from, to, amount) => shift(space, order, from, to, amount),
+        Single::Enq(value) => enq(space, order, value),
+        Single::Deq => deq(space, order),
+        Single::Add(key) => add(space, order, key),
+        Single::Rem(key) => rem(space, order, key),
+        Single::Put(key, value) => put(space, order, key, value),
+        Single::Del(key) => del(space, order, key),
+        Single::Move(from, to, amount) => shift(space, order, from, to, amount),
     }
 }
 
-/// Does an update. The raised count is stored first, also where nothing else changes.
-pub(crate) fn apply<M: Space>(space: &mut M, order: u32, call: &Call) -> Reply
+/// Does the members of a group in order, which is counted already.
+fn update_all<M: Space>(space: &mut M, order: u32, calls: &[Single]) -> Replies
+    requires order { IsOrder order }
+    requires region { IsWellFormed order (M.shown.image space.old) }
+    requires few { length calls.now ≤ 8 }
+    requires room { HasRoom M.shown (31 * length calls.now) space.old }
+    ensures does { DoesAll M.shown order calls.now result space.old space.new }
+{
+    let mut replies = Replies::new();
+    for call in calls {
+        replies.push(update(space, order, call));
+    }
+    replies
+}
+
+/// Does an update of one structure. The raised count is stored first, also where nothing else
+/// changes.
+fn apply_one<M: Space>(space: &mut M, order: u32, call: &Single) -> SingleReply
     requires order { IsOrder order }
     requires region { (s : State) × (k : ℕ) × Contents order (M.shown.image space.old) s k
         × (k < LAST_COUNT) }
     requires room { HasRoom M.shown 32 space.old }
-    ensures done { DoesNext order call.now result
-        (M.shown.image space.old) (M.shown.image space.new) }
+    ensures done { (s : State) (k : ℕ) → Contents order (M.shown.image space.old) s k
+        → let after = one order s k call.now in
+        (result ≡ after.1) × Contents order (M.shown.image space.new) after.0 (k + 1) }
     ensures stores { Stores M.shown (1 + most_stores order call.now result) space.old space.new }
 {
     raise_count(space);
     update(space, order, call)
+}
+
+/// Does the members of a group in order, or none of them where one would be refused. Which of the
+/// two is found out by loads alone. Then the raised count is stored; of a refused group nothing else.
+fn apply_group<M: Space>(space: &mut M, order: u32, calls: &[Single]) -> Option<Replies>
+    requires order { IsOrder order }
+    requires region { (s : State) × (k : ℕ) × Contents order (M.shown.image space.old) s k
+        × (k < LAST_COUNT) }
+    requires few { length calls.now ≤ 8 }
+    requires room { HasRoom M.shown (1 + 31 * length calls.now) space.old }
+    ensures done { (s : State) (k : ℕ) → Contents order (M.shown.image space.old) s k
+        → IsGroupDone order s k calls.now result (M.shown.image space.new) }
+    ensures stores { GroupStores M.shown order calls.now result space.old space.new }
+    ensures refused { IfNone result
+        (ChangesOnly COUNT 1 (M.shown.image space.old) (M.shown.image space.new)) }
+{
+    let fit = fits(space, order, calls);
+    raise_count(space);
+    if !fit {
+        return None;
+    }
+    Some(update_all(space, order, calls))
+}
+
+/// Does an update.
+pub(crate) fn apply<M: Space>(space: &mut M, order: u32, call: &Call) -> Reply
+    requires order { IsOrder order }
+    requires region { (s : State) × (k : ℕ) × Contents order (M.shown.image space.old) s k
+        × (k < LAST_COUNT) }
+    requires room { HasRoom M.shown (32 * weight call.now) space.old }
+    ensures done { DoesNext order call.now result
+        (M.shown.image space.old) (M.shown.image space.new) }
+    ensures stores { Stores M.shown (1 + most_of order (kind_of call.now) (reply_kind result))
+        space.old space.new }
+    ensures most { Stores M.shown (32 * weight call.now) space.old space.new }
+{
+    match call.kind() {
+        Kind::Single(single) => Reply::plain(apply_one(space, order, &single)),
+        Kind::Several(group) => match apply_group(space, order, group.as_slice()) {
+            Some(replies) => Reply::All(replies),
+            None => Reply::Full,
+        },
+    }
 }

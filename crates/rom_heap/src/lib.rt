@@ -4,7 +4,9 @@
 //! answer, the words of calls and replies, and the inspection of a region. Its contracts promise of
 //! every well-formed region that an update leaves what one queue, set and map give, with the reply that
 //! they give, that each update is counted, that one is refused for want of room exactly where the heap
-//! is full, and how many loads and stores there are at most. `free_elements` says how much room is left.
+//! is full, and how many loads and stores there are at most. A group of updates is one update: whether
+//! one of its members would be refused is found out by loads alone (`fits`), and then nothing but the
+//! count is stored. `free_elements` says how much room is left.
 //!
 //! The inspection takes any words and says whether they are a well-formed region, and if not, which
 //! word first breaks which rule. The root words come first, then the chains of the queue, of the set
@@ -17,6 +19,7 @@
 
 mod answer;
 mod apply;
+mod fits;
 mod follow;
 mod free;
 mod fresh;

@@ -4,15 +4,15 @@ ghost use Rattle.rom_model.specs.Region.{Contents};
 ghost use Rattle.rom_model.specs.Trio.{trio};
 ghost use Rattle.rom_heap.specs.Parts.{FirstBreak};
 ghost use Rattle.rom_heap.specs.Laws.{one_contents, contents_within};
-ghost use Rattle.rom_model.proofs.Tags.{call_back, call_only, reply_back, reply_only};
+ghost use Rattle.rom_model.proofs.Tags.{call_only, reply_back, reply_only};
 
 use crate::answer::answer;
 use crate::apply::apply;
 use crate::fresh::format_region;
 use crate::inspection::inspect;
 use rom_model::{
-    Answer, Args, Back, Call, Look, Object, Query, Reply, Space, Unfit, call_words, reply_words,
-    words_call, words_reply,
+    Answer, Args, Back, Call, Kind, Look, Object, Query, Reply, Space, Unfit, call_words,
+    reply_words, words_call, words_reply,
 };
 use std::alloc::Global;
 
@@ -29,6 +29,10 @@ impl Object for Trio {
 
     const STORES: u64 = 32;
 
+    ghost WEIGHT = { 8 };
+
+    const WEIGHT: u64 = 8;
+
     ghost State = { State };
 
     type Call = Call;
@@ -44,6 +48,13 @@ impl Object for Trio {
     ghost Contents = { Contents };
 
     ghost FirstBreak = { FirstBreak };
+
+    fn weight_of(call: &Call) -> u64 {
+        match call.kind() {
+            Kind::Single(_) => 1,
+            Kind::Several(group) => group.len(),
+        }
+    }
 
     fn call_words(call: &Call) -> Args {
         call_words(call)
@@ -77,8 +88,6 @@ impl Object for Trio {
     fn inspect(alloc: Global, region: &[u64], order: u32) -> Result<(), Unfit> {
         inspect(alloc, region, order)
     }
-
-    ghost call_back = { call_back };
 
     ghost call_only = { call_only };
 

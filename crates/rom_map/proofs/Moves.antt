@@ -4,15 +4,15 @@ use Rattle.std.specs.Prelude.{◌==◌, nat_lt, if◌then◌else◌, None, Some}
 use Rattle.std.specs.FinMap as map
 use Rattle.std.proofs.lemmas.Bool.Decides.{nat_tests}
 use Rattle.rom_model.specs.State.{State, transfer, shift}
-use Rattle.rom_model.specs.declared.call.Reply.{Reply}
-use Rattle.rom_model.specs.declared.call.Reply.TheVariants as reply
+use Rattle.rom_model.specs.declared.call.SingleReply.{SingleReply}
+use Rattle.rom_model.specs.declared.call.SingleReply.TheVariants as reply
 use Rattle.rom_map.specs.Map.{with_pairs}
 use Rattle.rom_map.specs.Shift.{after_move}
 
-if_true : (t : Bool) (x y : State × Reply) → t ≡ true → (if t then x else y) ≡ x
+if_true : (t : Bool) (x y : State × SingleReply) → t ≡ true → (if t then x else y) ≡ x
 if_true t x y is = ap (λ (t : Bool). if t then x else y) is
 
-if_false : (t : Bool) (x y : State × Reply) → t ≡ false → (if t then x else y) ≡ y
+if_false : (t : Bool) (x y : State × SingleReply) → t ≡ false → (if t then x else y) ≡ y
 if_false t x y is = ap (λ (t : Bool). if t then x else y) is
 
 below : (x y : ℕ) → x < y → nat_lt x y ≡ true

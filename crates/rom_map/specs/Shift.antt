@@ -5,8 +5,8 @@ use Rattle.rom_model.specs.Space.{ShownSpace, Looks}
 use Rattle.rom_model.specs.State.{State, transfer}
 use Rattle.rom_model.specs.Blocks.{block_of}
 use Rattle.rom_model.specs.Region.{Chains, IsRegion, Contents}
-use Rattle.rom_model.specs.declared.call.Reply.{Reply}
-use Rattle.rom_model.specs.declared.call.Reply.TheVariants as reply
+use Rattle.rom_model.specs.declared.call.SingleReply.{SingleReply}
+use Rattle.rom_model.specs.declared.call.SingleReply.TheVariants as reply
 use Rattle.rom_map.specs.Map.{with_pairs, KeyBlock}
 use Rattle.rom_map.specs.declared.entry.Entry.{Entry}
 use Rattle.rom_map.specs.declared.shift.Moved.{Moved}
@@ -15,11 +15,11 @@ use Rattle.rom_map.specs.declared.shift.Plan.{Plan}
 use Rattle.rom_map.specs.declared.shift.Plan.TheVariants.{Stays, Changes}
 
 -- the state after a move, and what is told of it
-abbrev pub after_move : State → ℕ → ℕ → ℕ → State × Reply
+abbrev pub after_move : State → ℕ → ℕ → ℕ → State × SingleReply
 after_move s from to amount = transfer s from to amount (map.get s.pairs from) (map.get s.pairs to)
 
 -- the reply to the call
-abbrev pub told_of : Moved → Reply
+abbrev pub told_of : Moved → SingleReply
 told_of Done = reply.Moved
 told_of Absent = reply.Absent
 told_of (Short value) = reply.Short value

@@ -1,4 +1,4 @@
-use Rattle.std.proofs.Common.{List, ℕ, sym, subst, ◌∙◌, arith}
+use Rattle.std.proofs.Common.{sym, subst, ◌∙◌, arith}
 use Rattle.rom_model.specs.Region.{Contents}
 use Rattle.rom_heap.proofs.Room.{sizes_fit}
 use Rattle.rom_heap.proofs.free.free_elements.Goals as goal

@@ -3,7 +3,7 @@ use Rattle.std.specs.Prelude.{Some}
 use Rattle.std.specs.FinMap as map
 use Rattle.rom_model.specs.Region.{IsRegion, IsWellFormed, Contents}
 use Rattle.rom_model.proofs.Looks.{looks_most, looks_then}
-use Rattle.rom_model.specs.declared.call.Reply.TheVariants as reply
+use Rattle.rom_model.specs.declared.call.SingleReply.TheVariants as reply
 use Rattle.rom_map.specs.Map.{with_pairs, KeyBlock}
 use Rattle.rom_map.specs.Shift.{HasNode}
 use Rattle.rom_map.proofs.Finding.{same_block}
