@@ -1,25 +1,46 @@
 -- What is printed of the replies and answers of a queue, a set and a map.
-use Rattle.std.specs.Prelude.{ℕ, ◌^◌, ◌<◌, List, ◌++◌, codes, decimal}
+use Rattle.std.specs.Prelude.{ℕ, ◌^◌, ◌<◌, List, [], ◌∷◌, ◌++◌, codes, decimal}
+use Rattle.std.specs.List.{AllByRecursion, flat_map}
+use Rattle.rom_model.specs.Singles.{reply_kind}
+use Rattle.rom_model.specs.declared.call.Kind.{Kind}
+use Rattle.rom_model.specs.declared.call.Kind.TheVariants as kind
 use Rattle.rom_model.specs.declared.call.Reply.{Reply}
-use Rattle.rom_model.specs.declared.call.Reply.TheVariants as reply
+use Rattle.rom_model.specs.declared.call.SingleReply.{SingleReply}
+use Rattle.rom_model.specs.declared.call.SingleReply.TheVariants as reply
 use Rattle.rom_model.specs.declared.call.Answer.{Answer}
 use Rattle.rom_model.specs.declared.call.Answer.TheVariants as answer
 use Rattle.rom_text.specs.Text.{ShownTold}
 
+-- the text of a reply to an update of one structure
+abbrev pub single_text : SingleReply → List ℕ
+single_text reply.Queued = codes "queued"
+single_text reply.Full = codes "full"
+single_text (reply.Head v) = codes "head " ++ decimal v
+single_text reply.Empty = codes "empty"
+single_text reply.Added = codes "added"
+single_text reply.Present = codes "present"
+single_text reply.Removed = codes "removed"
+single_text reply.Absent = codes "absent"
+single_text reply.NoPrior = codes "none"
+single_text (reply.Was v) = codes "was " ++ decimal v
+single_text reply.Moved = codes "moved"
+single_text (reply.Short v) = codes "short " ++ decimal v
+single_text reply.Over = codes "over"
+
+-- the text of a group's reply behind others, and of all of a group's
+abbrev pub next_text : SingleReply → List ℕ
+next_text r = codes " ; " ++ single_text r
+
+abbrev pub all_text : List SingleReply → List ℕ
+all_text [] = codes "all"
+all_text (r ∷ replies) = codes "all " ++ (single_text r ++ flat_map next_text replies)
+
+abbrev pub kind_text : Kind SingleReply (List SingleReply) → List ℕ
+kind_text (kind.Single r) = single_text r
+kind_text (kind.Several replies) = all_text replies
+
 abbrev pub reply_text : Reply → List ℕ
-reply_text reply.Queued = codes "queued"
-reply_text reply.Full = codes "full"
-reply_text (reply.Head v) = codes "head " ++ decimal v
-reply_text reply.Empty = codes "empty"
-reply_text reply.Added = codes "added"
-reply_text reply.Present = codes "present"
-reply_text reply.Removed = codes "removed"
-reply_text reply.Absent = codes "absent"
-reply_text reply.NoPrior = codes "none"
-reply_text (reply.Was v) = codes "was " ++ decimal v
-reply_text reply.Moved = codes "moved"
-reply_text (reply.Short v) = codes "short " ++ decimal v
-reply_text reply.Over = codes "over"
+reply_text r = kind_text (reply_kind r)
 
 abbrev pub answer_text : Answer → List ℕ
 answer_text answer.Yes = codes "yes"
@@ -32,11 +53,18 @@ answer_text (answer.Sizes queue set map) = codes "queue " ++ decimal queue ++ co
 answer_text (answer.Total t) = codes "total " ++ decimal t
 
 -- the numbers of a reply are words
+abbrev pub SingleFits : SingleReply → Type 0
+SingleFits (reply.Head v) = v < 2 ^ 64
+SingleFits (reply.Was v) = v < 2 ^ 64
+SingleFits (reply.Short v) = v < 2 ^ 64
+SingleFits other = Unit {0}
+
+abbrev pub KindFits : Kind SingleReply (List SingleReply) → Type 0
+KindFits (kind.Single r) = SingleFits r
+KindFits (kind.Several replies) = AllByRecursion SingleFits replies
+
 abbrev pub ReplyFits : Reply → Type 0
-ReplyFits (reply.Head v) = v < 2 ^ 64
-ReplyFits (reply.Was v) = v < 2 ^ 64
-ReplyFits (reply.Short v) = v < 2 ^ 64
-ReplyFits other = Unit {0}
+ReplyFits r = KindFits (reply_kind r)
 
 -- the numbers of an answer are words, and a total has at most 128 bits
 abbrev pub AnswerFits : Answer → Type 0
@@ -47,6 +75,9 @@ AnswerFits (answer.Total t) = t < 2 ^ 128
 AnswerFits other = Unit {0}
 
 -- how replies and answers are printed
+abbrev pub shown_single : ShownTold SingleReply
+shown_single = record { text = single_text; Fits = SingleFits }
+
 abbrev pub shown_reply : ShownTold Reply
 shown_reply = record { text = reply_text; Fits = ReplyFits }
 

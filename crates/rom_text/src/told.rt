@@ -14,7 +14,7 @@ pub trait Told {
     /// some of the text, from its front.
     fn print<O: Sink>(&self, out: &mut O) -> Result<(), IoFailed>
         ensures prints { Prints O.shown out.old out.new result (shown.text self.now) }
-        ensures fits { shown.Fits self.now };
+        ensures fits { OnOk result (shown.Fits self.now) };
 }
 
 /// Lines of text that tell of many values, printed piece by piece.

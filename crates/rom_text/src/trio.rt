@@ -1,34 +1,81 @@
 //! The texts of what a queue, a set and a map tell. They stand here since an `impl` stands with its
 //! trait or with its type.
-ghost use Rattle.rom_text.specs.Trio.{shown_answer, shown_reply};
+ghost use Rattle.std.specs.Prelude.{OnOk};
+ghost use Rattle.std.specs.List.{AllByRecursion, flat_map};
+ghost use Rattle.rom_text.specs.Streams.{Prints};
+ghost use Rattle.rom_text.specs.Trio.{SingleFits, all_text, next_text, shown_answer, shown_reply, shown_single};
 
 use crate::print::{print_pieces, print_text};
 use crate::streams::{IoFailed, Sink};
 use crate::told::Told;
 use itoa::Buffer;
-use rom_model::{Answer, Reply};
+use rom_model::{Answer, Kind, Reply, SingleReply};
+
+impl Told for SingleReply {
+    ghost shown = { shown_single };
+
+    fn print<O: Sink>(&self, out: &mut O) -> Result<(), IoFailed> {
+        let mut digits = Buffer::new();
+        match self {
+            SingleReply::Queued => print_text(out, "queued"),
+            SingleReply::Full => print_text(out, "full"),
+            SingleReply::Head(v) => print_pieces(out, &["head ", digits.format(*v)]),
+            SingleReply::Empty => print_text(out, "empty"),
+            SingleReply::Added => print_text(out, "added"),
+            SingleReply::Present => print_text(out, "present"),
+            SingleReply::Removed => print_text(out, "removed"),
+            SingleReply::Absent => print_text(out, "absent"),
+            SingleReply::NoPrior => print_text(out, "none"),
+            SingleReply::Was(v) => print_pieces(out, &["was ", digits.format(*v)]),
+            SingleReply::Moved => print_text(out, "moved"),
+            SingleReply::Short(v) => print_pieces(out, &["short ", digits.format(*v)]),
+            SingleReply::Over => print_text(out, "over"),
+        }
+    }
+}
 
 impl Told for Reply {
     ghost shown = { shown_reply };
 
     fn print<O: Sink>(&self, out: &mut O) -> Result<(), IoFailed> {
-        let mut digits = Buffer::new();
-        match self {
-            Reply::Queued => print_text(out, "queued"),
-            Reply::Full => print_text(out, "full"),
-            Reply::Head(v) => print_pieces(out, &["head ", digits.format(*v)]),
-            Reply::Empty => print_text(out, "empty"),
-            Reply::Added => print_text(out, "added"),
-            Reply::Present => print_text(out, "present"),
-            Reply::Removed => print_text(out, "removed"),
-            Reply::Absent => print_text(out, "absent"),
-            Reply::NoPrior => print_text(out, "none"),
-            Reply::Was(v) => print_pieces(out, &["was ", digits.format(*v)]),
-            Reply::Moved => print_text(out, "moved"),
-            Reply::Short(v) => print_pieces(out, &["short ", digits.format(*v)]),
-            Reply::Over => print_text(out, "over"),
+        match self.kind() {
+            Kind::Single(reply) => reply.print(out),
+            Kind::Several(replies) => print_all(out, replies.as_slice()),
         }
     }
+}
+
+/// Prints a reply behind others.
+fn print_next<O: Sink>(out: &mut O, reply: &SingleReply) -> Result<(), IoFailed>
+    ensures prints { Prints O.shown out.old out.new result (next_text reply.now) }
+    ensures fits { OnOk result (SingleFits reply.now) }
+{
+    print_text(out, " ; ")?;
+    reply.print(out)
+}
+
+/// Prints replies behind others.
+fn print_listed<O: Sink>(out: &mut O, replies: &[SingleReply]) -> Result<(), IoFailed>
+    ensures prints { Prints O.shown out.old out.new result (flat_map next_text replies.now) }
+    ensures fits { OnOk result (AllByRecursion SingleFits replies.now) }
+{
+    for reply in replies {
+        print_next(out, reply)?;
+    }
+    Ok(())
+}
+
+/// Prints what the members of a group are told.
+fn print_all<O: Sink>(out: &mut O, replies: &[SingleReply]) -> Result<(), IoFailed>
+    ensures prints { Prints O.shown out.old out.new result (all_text replies.now) }
+    ensures fits { OnOk result (AllByRecursion SingleFits replies.now) }
+{
+    let [first, more @ ..] = replies else {
+        return print_text(out, "all");
+    };
+    print_text(out, "all ")?;
+    first.print(out)?;
+    print_listed(out, more)
 }
 
 impl Told for Answer {
