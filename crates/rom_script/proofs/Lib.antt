@@ -2,6 +2,7 @@
 pub mod Asking
 pub mod Determined
 pub mod Drills
+pub mod GroupLines
 pub mod Sums
 pub mod Summaries
 pub use Rattle.rom_text.proofs.Prints

@@ -2,7 +2,7 @@
 ghost use Rattle.std.specs.Prelude.{◌<◌, None};
 
 use crate::files::path;
-use rom_model::{Answer, LineResult, Reply, Updated};
+use rom_model::{Answer, LineResult, Replies, Reply, SingleReply, Updated};
 use rom_script::{
     Adapted, Collect, IoFailed, ReadRefused, Sink, Source, print_answer, print_number,
     print_pieces, print_run, print_text, print_update, read_bytes, read_script,
@@ -35,6 +35,43 @@ const UPDATES: [(Updated<Reply>, &str); 16] = [
     (Updated::Doubt, "doubt"),
 ];
 
+/// What the members of groups are told.
+const GROUPS: [(&[SingleReply], &str); 4] = [
+    (
+        &[
+            SingleReply::NoPrior,
+            SingleReply::NoPrior,
+            SingleReply::Moved,
+        ],
+        "all none ; none ; moved @7",
+    ),
+    (
+        &[
+            SingleReply::Head(1),
+            SingleReply::Added,
+            SingleReply::Present,
+        ],
+        "all head 1 ; added ; present @7",
+    ),
+    (
+        &[SingleReply::Empty, SingleReply::Short(0)],
+        "all empty ; short 0 @7",
+    ),
+    (
+        &[
+            SingleReply::Was(u64::MAX),
+            SingleReply::Queued,
+            SingleReply::Removed,
+            SingleReply::Absent,
+            SingleReply::Over,
+            SingleReply::Was(0),
+            SingleReply::Head(10),
+            SingleReply::Was(10),
+        ],
+        "all was 18446744073709551615 ; queued ; removed ; absent ; over ; was 0 ; head 10 ; was 10 @7",
+    ),
+];
+
 const ANSWERS: [(Answer, u64, &str); 9] = [
     (Answer::Yes, 1, "yes #1"),
     (Answer::No, 4, "no #4"),
@@ -64,6 +101,22 @@ fn updates_have_their_texts(rt: HostRuntime) -> Result<(), Fail> {
     for (updated, text) in UPDATES {
         let mut out = Collect::with_room(rt.alloc(), 1000, 2)?;
         print_update(&mut out, &updated)?;
+        assert!(rt; out.bytes() == text.as_bytes(), "at {text}");
+    }
+    Ok(())
+}
+
+#[test]
+fn replies_to_groups_have_their_texts(rt: HostRuntime) -> Result<(), Fail> {
+    for (told, text) in GROUPS {
+        let mut replies = Replies::new();
+        for reply in told {
+            if replies.len() < 8 {
+                replies.push(*reply);
+            }
+        }
+        let mut out = Collect::with_room(rt.alloc(), 1000, 2)?;
+        print_update(&mut out, &Updated::Done(Reply::All(replies), 7))?;
         assert!(rt; out.bytes() == text.as_bytes(), "at {text}");
     }
     Ok(())
