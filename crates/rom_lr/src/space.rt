@@ -1,5 +1,5 @@
 //! Shared main as a space, to which an update can be applied.
-ghost use Rattle.std.specs.Prelude.{◌≡◌, ℕ, ◌+◌, ◌<◌, ◌≤◌};
+ghost use Rattle.std.specs.Prelude.{◌≡◌, ℕ, ◌+◌, ◌*◌, ◌<◌, ◌≤◌};
 ghost use Rattle.rom_model.specs.History.{LAST_COUNT};
 ghost use Rattle.rom_lr.specs.Seats.{IsWriterOf, plan, writer_view};
 ghost use Rattle.rom_lr.specs.Writing.{NobodyReads, Writes, but_main};
@@ -67,7 +67,7 @@ impl<'a, O: Object> Space for MainSpace<'a, O> {
 
 /// Does an update on shared main, and counts it. Nothing but main changes, and the number of the
 /// writer's steps. The log, which holds where main differs from back, holds that afterwards too, and
-/// has room for the update's stores. It takes no memory.
+/// has room for as many stores as an update of its weight may make. It takes no memory.
 pub fn apply_main<O: Object>(
     shared: &Shared<O>,
     seat: &mut WriterSeat,
@@ -79,7 +79,7 @@ pub fn apply_main<O: Object>(
     requires region { let v = writer_view seat.old in
         (s : O.State) × (k : ℕ) × O.Contents v.base.order (plan_of v).main s k × (k < LAST_COUNT) }
     requires logged { let p = plan seat.old in IsLogOf p.back p.main log.old }
-    requires room { log.old.added + O.STORES ≤ log.old.room }
+    requires room { log.old.added + O.STORES * O.machine.weight call.now ≤ log.old.room }
     ensures done { let v = writer_view seat.old in
         (s : O.State) (k : ℕ) → O.Contents v.base.order (plan_of v).main s k →
         let after = O.machine.step v.base.order s k call.now in
@@ -87,7 +87,7 @@ pub fn apply_main<O: Object>(
     ensures still { let p = plan seat.old in
         Writes seat.old seat.new (record p { main = (plan seat.new).main }) }
     ensures logged { IsLogOf (plan seat.old).back (plan seat.new).main log.new }
-    ensures added { log.new.added ≤ log.old.added + O.STORES }
+    ensures added { log.new.added ≤ log.old.added + O.STORES * O.machine.weight call.now }
     ensures room { log.new.room ≡ log.old.room }
 {
     let order = shared.layout.order();
