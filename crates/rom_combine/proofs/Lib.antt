@@ -8,6 +8,7 @@ pub mod Sessions
 pub mod Writing
 pub mod Scans
 pub mod Limits
+pub mod Weights
 pub mod Stores
 pub mod Spending
 pub mod Applies

@@ -1,13 +1,23 @@
 -- How many writes and syncs of the device a batch makes.
-use Rattle.std.specs.Prelude.{◌≡◌, ℕ, ◌+◌, ◌*◌, ◌≤◌, List}
+use Rattle.std.specs.Prelude.{◌≡◌, ℕ, ◌+◌, ◌*◌, ◌≤◌, List, [], ◌∷◌, map, drop, length}
 use Rattle.rom_model.specs.Blocks.{region_len}
 use Rattle.rom_model.specs.Faults.{Adds, AtMost, Rose}
+use Rattle.rom_model.specs.declared.entry.Entry.{Entry}
 use Rattle.rom_device.specs.Device.{ShownDevice, Does}
 use Rattle.rom_header.specs.Layout.{MAIN}
 use Rattle.rom_header.specs.Writing.{StateOrWithin}
 use Rattle.rom_twin.specs.Calls.{repair_writes, repair_syncs}
 use Rattle.rom_twin.specs.declared.phase.Phase.{Phase}
 use Rattle.rom_twin.specs.declared.phase.Phase.TheVariants.{Clean}
+
+-- the sum of the weights of calls, by their words
+abbrev pub weights : (List ℕ → ℕ) → List (List ℕ) → ℕ
+weights weight [] = 0
+weights weight (args ∷ calls) = weight args + weights weight calls
+
+-- that of the calls by which a history has grown
+abbrev pub weights_added : (List ℕ → ℕ) → List Entry → List Entry → ℕ
+weights_added weight old new = weights weight (map (λ (e : Entry). e.args) (drop (length old) new))
 
 -- Those that lead from a phase at rest to `Clean`: none from `Clean` itself, and else a repair's.
 abbrev pub mending_writes : Phase → ℕ → ℕ

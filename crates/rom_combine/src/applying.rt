@@ -1,8 +1,9 @@
 //! The found calls, done on shared main.
-ghost use Rattle.std.specs.Prelude.{◌≡◌, ℕ, ◌+◌, ◌-◌, ◌*◌, ◌^◌, ◌<◌, ◌≤◌, List, [], ◌∷◌, map, length};
+ghost use Rattle.std.specs.Prelude.{◌≡◌, ℕ, ◌+◌, ◌-◌, ◌*◌, ◌^◌, ◌<◌, ◌≤◌, List, [], ◌∷◌, map, take, length};
 ghost use Rattle.rom_model.specs.History.{LAST_COUNT};
-ghost use Rattle.rom_model.specs.Machine.{on_words};
+ghost use Rattle.rom_model.specs.Machine.{on_words, weight_on_words};
 ghost use Rattle.rom_combine.specs.Applying.{IsApplied, IsDoneOne, count_in};
+ghost use Rattle.rom_combine.specs.Costs.{weights};
 ghost use Rattle.rom_combine.specs.Scanning.{IsUnanswered, posted_of};
 ghost use Rattle.rom_lr.specs.Seats.{IsWriterOf, plan, writer_view};
 ghost use Rattle.rom_lr.specs.Writing.{NobodyReads, Writes};
@@ -42,7 +43,7 @@ pub(crate) fn apply_all<O: Object>(
         × (place ≡ n + length p.history) }
     requires logged { let p = plan seat.old in IsLogOf p.back p.main log.old }
     requires clear { log.old.added ≡ 0 }
-    requires room { O.STORES * length found.now ≤ log.old.room }
+    requires room { O.STORES * O.WEIGHT * length found.now ≤ log.old.room }
     ensures kept { let p = plan seat.old in
         Writes seat.old seat.new (record p { main = (plan seat.new).main }) }
     ensures applied { let b = (writer_view seat.old).base in let p = plan seat.old in
@@ -51,9 +52,10 @@ pub(crate) fn apply_all<O: Object>(
         (length found.now) answers.new.items }
     ensures logged { IsLogOf (plan seat.old).back (plan seat.new).main
         log.new }
-    ensures few { log.new.added
-        ≤ O.STORES * (count_in (plan seat.new).main - place) }
-    ensures most { log.new.added ≤ O.STORES * length found.now }
+    ensures few { let calls = take (count_in (plan seat.new).main - place)
+        (map (λ one. one.args) found.now) in
+        log.new.added ≤ O.STORES * weights (weight_on_words O.machine) calls }
+    ensures most { log.new.added ≤ O.STORES * O.WEIGHT * length found.now }
     ensures room { log.new.room ≡ log.old.room }
 {
     answers.clear();
@@ -75,7 +77,7 @@ fn apply_one<O: Object>(
     requires held { let v = writer_view seat.old in
         (s : O.State) × (place < LAST_COUNT → O.Contents v.base.order (plan_of v).main s place) }
     requires logged { let p = plan seat.old in IsLogOf p.back p.main log.old }
-    requires room { log.old.added + O.STORES ≤ log.old.room }
+    requires room { log.old.added + O.STORES * O.WEIGHT ≤ log.old.room }
     ensures kept { let p = plan seat.old in
         Writes seat.old seat.new (record p { main = (plan seat.new).main }) }
     ensures done { let v = writer_view seat.old in
@@ -83,12 +85,16 @@ fn apply_one<O: Object>(
         (plan seat.new).main result }
     ensures logged { IsLogOf (plan seat.old).back (plan seat.new).main
         log.new }
-    ensures added { log.new.added ≤ log.old.added + O.STORES }
+    ensures few { log.new.added
+        ≤ log.old.added + O.STORES * weight_on_words O.machine one.now.args }
+    ensures most { log.new.added ≤ log.old.added + O.STORES * O.WEIGHT }
     ensures spent { LAST_COUNT ≤ place → log.new ≡ log.old }
     ensures room { log.new.room ≡ log.old.room }
 {
     if place < LAST_COUNT {
         let call = O::words_call(&one.args).unwrap();
+        // Its contract tells that the log has room for as many stores as this call may make.
+        let _ = O::weight_of(&call);
         let reply = apply_main(shared, seat, log, &call);
         return CallAnswer {
             caller: one.caller,

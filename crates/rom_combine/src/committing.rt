@@ -1,16 +1,15 @@
 //! A batch from the found calls to the store of `side` that publishes it.
-ghost use Rattle.std.specs.Prelude.{◌≡◌, ◌≢◌, ◌⊎◌, ℕ, ◌+◌, ◌-◌, ◌*◌, ◌<◌, ◌≤◌, List, map, length, IsTrue};
+ghost use Rattle.std.specs.Prelude.{◌≡◌, ◌≢◌, ◌⊎◌, ℕ, ◌+◌, ◌*◌, ◌<◌, ◌≤◌, List, map, length, IsTrue};
 ghost use Rattle.rom_model.specs.Blocks.{region_len};
 ghost use Rattle.rom_model.specs.History.{after, batch};
-ghost use Rattle.rom_model.specs.Machine.{on_words};
+ghost use Rattle.rom_model.specs.Machine.{on_words, weight_on_words};
 ghost use Rattle.rom_model.specs.declared.record.Fate.TheVariants as fate;
 ghost use Rattle.rom_device.specs.Device.{Becomes, Runs};
 ghost use Rattle.rom_twin.specs.Seen.{InPhase, NeedsRepair, committed, main_now};
 ghost use Rattle.rom_combine.specs.Answering.{HasGiven, SameCalls};
-ghost use Rattle.rom_combine.specs.Applying.{count_in};
 ghost use Rattle.rom_combine.specs.AtRest.{IsClear};
 ghost use Rattle.rom_combine.specs.Causes.{FailsAtCommit, FailsBeforeCommit};
-ghost use Rattle.rom_combine.specs.Costs.{Spends, SpendsAtMost, WritesHeap, syncs_before_commit, writes_before_commit};
+ghost use Rattle.rom_combine.specs.Costs.{Spends, SpendsAtMost, WritesHeap, syncs_before_commit, weights_added, writes_before_commit};
 ghost use Rattle.rom_combine.specs.Histories.{PassMakes};
 ghost use Rattle.rom_combine.specs.Published.{IsPublished};
 ghost use Rattle.rom_combine.specs.Publishing.{IsReadyToPublish};
@@ -58,7 +57,7 @@ pub(crate) fn publish<D: Device, O: Object>(
     requires found { found.now ≡ map posted_of (plan seat.old).requests }
     requires few { length found.now ≤ 16 }
     requires some { 0 < length found.now }
-    requires room { O.STORES * length found.now ≤ log.old.room }
+    requires room { O.STORES * O.WEIGHT * length found.now ≤ log.old.room }
 
     // Published: the batch is committed on the device before readers are sent to main.
     ensures some { result ≢ Outcome.Nothing }
@@ -82,7 +81,10 @@ pub(crate) fn publish<D: Device, O: Object>(
     ensures logged { result ≡ Outcome.Published →
         let q = plan seat.new in IsLogOf q.back q.main log.new }
     ensures few { result ≡ Outcome.Published → held_count log.new.ranges
-        ≤ O.STORES * (count_in (plan seat.new).main - place) }
+        ≤ O.STORES * weights_added (weight_on_words O.machine)
+        (plan seat.old).history (plan seat.new).history }
+    ensures held_most { result ≡ Outcome.Published →
+        held_count log.new.ranges ≤ O.STORES * O.WEIGHT * length found.now }
     ensures within { result ≡ Outcome.Published →
         held_count log.new.ranges ≤ region_len twin.old.order }
     ensures room { log.new.room ≡ log.old.room }
@@ -132,11 +134,11 @@ pub(crate) fn publish<D: Device, O: Object>(
         (held_count log.new.ranges) + 1)
         (syncs_before_commit twin.old.phase + 1) twin.old.device twin.new.device }
     ensures most { SpendsAtMost D.shown (writes_before_commit twin.old.phase twin.old.order
-        (O.STORES * length found.now) + 1)
+        (O.STORES * O.WEIGHT * length found.now) + 1)
         (syncs_before_commit twin.old.phase + 1) twin.old.device twin.new.device }
     ensures failed_most { result ≡ Outcome.Failed →
         SpendsAtMost D.shown (writes_before_commit twin.old.phase twin.old.order
-        (O.STORES * length found.now))
+        (O.STORES * O.WEIGHT * length found.now))
         (syncs_before_commit twin.old.phase) twin.old.device twin.new.device }
 
     // Nor ever more than a batch that stores to each word of the region.

@@ -1,14 +1,14 @@
 //! What the lock holds: the device with its heap, and the writer's seat.
 ghost use Rattle.std.specs.Prelude.{Some, ◌≡◌, ◌≢◌, ◌⊎◌, ℕ, ◌*◌, ◌<◌, ◌≤◌, List, length, IsTrue};
 ghost use Rattle.rom_model.specs.Blocks.{IsOrder, region_len};
-ghost use Rattle.rom_model.specs.Machine.{on_words};
+ghost use Rattle.rom_model.specs.Machine.{on_words, weight_on_words};
 ghost use Rattle.rom_model.specs.Passes.{HasFault};
 ghost use Rattle.rom_device.specs.Device.{Becomes, Runs};
 ghost use Rattle.rom_lr.specs.Seats.{writer_view};
 ghost use Rattle.rom_twin.specs.Seen.{NeedsRepair, committed};
 ghost use Rattle.rom_combine.specs.AtRest.{IsAtRest, IsCoreOf, IsReady};
 ghost use Rattle.rom_combine.specs.Causes.{FailsAtCommit, FailsBeforeCommit};
-ghost use Rattle.rom_combine.specs.Costs.{IsUnfailed, SpendsAtMost, SpendsWithin, WritesHeap, batch_syncs, batch_writes, syncs_before_commit, writes_before_commit};
+ghost use Rattle.rom_combine.specs.Costs.{IsUnfailed, SpendsAtMost, SpendsWithin, WritesHeap, batch_syncs, batch_writes, syncs_before_commit, weights_added, writes_before_commit};
 ghost use Rattle.rom_combine.specs.Histories.{ImageAt, PassMakes};
 ghost use Rattle.rom_combine.specs.Passing.{IsPass};
 ghost use Rattle.rom_combine.specs.Told.{fate_of};
@@ -33,7 +33,7 @@ use std::sync::Wait;
 /// the one lock, and runs the passes. Whenever no pass is under way, both sides are the published
 /// image, which is also the committed one of a device that tells its images; readers are sent to back,
 /// nobody reads main, and each call that was found is answered. The log is clear, and has room for the
-/// stores of a call of each caller.
+/// stores of a call of the greatest weight of each caller.
 #[derive(Drop)]
 pub struct Core<D: Device, O: Object> {
     twin: Twin<D>,
@@ -47,6 +47,7 @@ pub struct Core<D: Device, O: Object> {
 }
 
 impl<D: Device, O: Object> Model for Core<D, O> {
+    ghost use Rattle.std.specs.Prelude.{◌*◌};
     ghost use Rattle.rom_model.specs.Machine.{on_words};
     ghost use Rattle.rom_combine.specs.AtRest.{IsAtRest, IsReady, Locked};
     ghost use Rattle.rom_lr.specs.Seats.{writer_view};
@@ -62,12 +63,13 @@ impl<D: Device, O: Object> Model for Core<D, O> {
 
     ghost invariant = { λ c.
         IsAtRest D.shown O.Contents (on_words O.machine) c.twin (writer_view c.seat)
-        × IsReady O.STORES (writer_view c.seat).base.callers c.log };
+        × IsReady (O.STORES * O.WEIGHT) (writer_view c.seat).base.callers c.log };
 }
 
 impl<D: Device, O: Object> Core<D, O> {
     /// The core of a table that was just opened on the committed image of this device. The log is
-    /// empty and has room for the stores of a call of each caller, so that no pass takes memory.
+    /// empty and has room for the stores of a call of the greatest weight of each caller, so that no
+    /// pass takes memory.
     pub fn new(twin: Twin<D>, log: RangeLog, seat: WriterSeat) -> Core<D, O>
         requires phase { twin.phase ≡ Phase.Clean }
         requires order { twin.order ≡ (writer_view seat).base.order }
@@ -79,7 +81,7 @@ impl<D: Device, O: Object> Core<D, O> {
         requires committed { IsTrue D.shown.tells_images →
             committed D.shown twin ≡ (writer_view seat).base.image }
         requires faults { (writer_view seat).base.faults ≤ D.shown.faults twin.device }
-        requires ready { IsReady O.STORES (writer_view seat).base.callers log }
+        requires ready { IsReady (O.STORES * O.WEIGHT) (writer_view seat).base.callers log }
         ensures twin { result.twin ≡ twin }
         ensures seat { (result.table_id ≡ seat.token.table_id) × (result.id ≡ seat.token.id)
             × (result.view ≡ writer_view seat) }
@@ -176,14 +178,15 @@ impl<D: Device, O: Object> Core<D, O> {
         ensures spends { 0 < result.done →
             IsUnfailed D.shown self.old.twin.device self.new.twin.device →
             SpendsWithin D.shown (batch_writes self.old.twin.phase self.old.twin.order
-            (O.STORES * result.done))
+            (O.STORES * weights_added (weight_on_words O.machine)
+            (plan_of self.old.view).history (plan_of self.new.view).history))
             (batch_syncs self.old.twin.phase) self.old.twin.device self.new.twin.device }
         ensures most { SpendsAtMost D.shown (batch_writes self.old.twin.phase self.old.twin.order
-            (O.STORES * result.found))
+            (O.STORES * O.WEIGHT * result.found))
             (batch_syncs self.old.twin.phase) self.old.twin.device self.new.twin.device }
         ensures failed_most { result.outcome ≡ Outcome.Failed →
             SpendsAtMost D.shown (writes_before_commit self.old.twin.phase self.old.twin.order
-            (O.STORES * result.found))
+            (O.STORES * O.WEIGHT * result.found))
             (syncs_before_commit self.old.twin.phase)
             self.old.twin.device self.new.twin.device }
 

@@ -1,14 +1,16 @@
-use Rattle.rom_model.specs.Machine.{on_words}
-use Rattle.std.proofs.Common.{rules, arith, ◌≡◌, ℕ, ◌+◌, ◌-◌, ◌*◌, ◌<◌, ◌≤◌, List, [], ◌∷◌, ◌++◌, length, sym, refl, ap, ◌∙◌, subst}
+use Rattle.rom_model.specs.Machine.{on_words, weight_on_words}
+use Rattle.std.proofs.Common.{rules, arith, ◌≡◌, ℕ, ◌+◌, ◌-◌, ◌*◌, ◌<◌, ◌≤◌, List, [], ◌∷◌, ◌++◌, map, take, length, sym, refl, ap, ◌∙◌, subst}
 use mathlib.Core.Option.{some}
 use lib.ListN.{get_elem?}
-use Rattle.atomic_table.proofs.Lists.{at_index}
+use Rattle.atomic_table.proofs.Lists.{at_index, at_map}
 use mathlib.Core.Logic.{dite}
 use native.Mathlib.Decide.{dec_le}
 use Rattle.rom_model.specs.History.{after, LAST_COUNT}
 use Rattle.rom_ranges.specs.Changes.{IsLogOf}
 use Rattle.rom_ranges.specs.Log.{Logged}
-use Rattle.rom_combine.proofs.Stores.{stores_more, room_for, stores_for}
+use Rattle.rom_combine.proofs.Stores.{room_for, stores_for}
+use Rattle.rom_combine.proofs.Weights.{stores_more}
+use Rattle.rom_combine.specs.Costs.{weights}
 use Rattle.rom_rule.specs.declared.views.Base.{Base}
 use Rattle.rom_rule.specs.declared.views.Plan.{Plan}
 use Rattle.rom_rule.specs.declared.views.View.{View}
@@ -56,15 +58,16 @@ loop-i-preserved g c = let inv = c.loop-i.invariant in let u : View = c.args.sea
     = subst (λ (z : Base × Posted × ℕ). IsDoneOne g.O.Object.Contents (on_words g.O.Object.machine) z.0 z.1 z.2 (plan_of v).main (plan_of c.apply_one.new.seat.token.me.0).main c.apply_one.result)
     (λ j. (base j, sym f.2 j, (let e : c.args.place + i ≡ h.1 + length p.history + i = omega (arith, h.3) in e) j)) c.apply_one.ensures.done in let pushed = c.push.ensures.items in
     let w : View = c.apply_one.new.seat.token.me.0 in let one = c.apply_one.ensures in let log : Logged = c.loop-i.log in let stores : ℕ = g.O.Object.STORES in
+    let weight : List ℕ → ℕ = weight_on_words g.O.Object.machine in let calls : List (List ℕ) = map (λ (y : Posted). y.args) items in
     let back : (plan_of v).back ≡ p.back = ap (λ (z : View). (plan_of z).back) inv.0.2 in
-    let few : c.apply_one.new.log.added ≤ stores * (count_in (plan_of w).main - c.args.place)
+    let few : c.apply_one.new.log.added ≤ stores * weights weight (take (count_in (plan_of w).main - c.args.place) calls)
     = dite (dec_le LAST_COUNT (c.args.place + i))
-    (λ past. let spent = did.spent (omega (arith, past, h.3)) in subst (λ (z : List ℕ × Logged). z.1.added ≤ stores * (count_in z.0 - c.args.place)) (λ j. (sym spent.0 j, sym (one.spent past) j)) inv.3.1)
+    (λ past. let spent = did.spent (omega (arith, past, h.3)) in subst (λ (z : List ℕ × Logged). z.1.added ≤ stores * weights weight (take (count_in z.0 - c.args.place) calls)) (λ j. (sym spent.0 j, sym (one.spent past) j)) inv.3.1)
     (λ below. let low : h.1 + length p.history + i < LAST_COUNT = omega (arith, below, h.3) in
     let before = next_state g.O.Object.Contents (on_words g.O.Object.machine) b h.0 h.1 p (plan_of v).main i c.loop-i.answers.items f.0 h.4 c.requires.fresh f.1 low in
     let after = did.done low _ before in
     let was = (g.met.O.Object.contents_within b.order (plan_of v).main _ _ before).1 in let is = (g.met.O.Object.contents_within b.order (plan_of w).main _ _ after.3).1 in
-    stores_more stores c.args.place (count_in (plan_of v).main) (count_in (plan_of w).main) log.added c.apply_one.new.log.added (omega (arith, was, h.3)) (omega (arith, was, is)) inv.3.1 one.added) in (
+    stores_more weight stores c.args.place (count_in (plan_of v).main) (count_in (plan_of w).main) log.added c.apply_one.new.log.added i calls x.args (at_map (λ (y : Posted). y.args) items i x at) (omega (arith, was, h.3)) (omega (arith, was, is)) inv.3.1 one.few) in (
       (
         c.apply_one.ensures.kept.0 ∙ inv.0.0,
         c.apply_one.ensures.kept.1 ∙ inv.0.1,
@@ -82,7 +85,7 @@ loop-i-preserved g c = let inv = c.loop-i.invariant in let u : View = c.args.sea
       (
         subst (λ (l : List ℕ). IsLogOf l (plan_of w).main c.apply_one.new.log) back one.logged,
         few,
-        omega (arith, inv.3.2, one.added),
+        omega (arith, inv.3.2, one.most),
         one.room ∙ inv.3.3,
       ),
     )
@@ -94,7 +97,7 @@ apply_one-requires-clause-logged g c =
 
 pub apply_one-requires-clause-room : goal.apply_one-requires-clause-room
 apply_one-requires-clause-room g c = let inv = c.loop-i.invariant in
-    subst (λ (n : ℕ). c.loop-i.log.added + g.O.Object.STORES ≤ n) (sym inv.3.3) (room_for g.O.Object.STORES c.loop-i.i (length c.args.found.now) c.loop-i.log.added c.args.log.now.room c.loop-i-test.true inv.3.2 c.requires.room)
+    let most : ℕ = g.O.Object.STORES * g.O.Object.WEIGHT in subst (λ (n : ℕ). c.loop-i.log.added + most ≤ n) (sym inv.3.3) (room_for most c.loop-i.i (length c.args.found.now) c.loop-i.log.added c.args.log.now.room c.loop-i-test.true inv.3.2 c.requires.room)
 
 pub returns-clause-most : goal.returns-clause-most
-returns-clause-most g c = stores_for g.O.Object.STORES c.loop-i.i (length c.args.found.now) c.loop-i.log.added (omega arith) c.loop-i.invariant.3.2
+returns-clause-most g c = stores_for (g.O.Object.STORES * g.O.Object.WEIGHT) c.loop-i.i (length c.args.found.now) c.loop-i.log.added (omega arith) c.loop-i.invariant.3.2

@@ -1,11 +1,12 @@
-use Rattle.rom_model.specs.Machine.{on_words}
-use Rattle.std.proofs.Common.{Some, rules, arith, ◌≡◌, ◌≢◌, inl, inr, ⊎_elim, ℕ, ◌+◌, ◌^◌, ◌≤◌, List, map, take, length, sym, refl, ap, ◌∙◌, subst}
+use Rattle.rom_model.specs.Machine.{on_words, weight_on_words}
+use Rattle.std.proofs.Common.{Some, rules, arith, ◌≡◌, ◌≢◌, inl, inr, ⊎_elim, Option, ℕ, ◌+◌, ◌-◌, ◌*◌, ◌^◌, ◌≤◌, List, ◌++◌, map, take, length, length-append, slice_index, sym, refl, ap, ◌∙◌, subst}
 use Rattle.rom_device.specs.Device.{Runs}
 use Rattle.rom_device.specs.Device.{Becomes}
 use Rattle.rom_twin.specs.declared.phase.Phase.{Phase}
 use Rattle.rom_twin.specs.declared.phase.Phase.TheVariants as phase
 use Rattle.rom_twin.specs.Images.{HasBack}
-use Rattle.rom_combine.specs.Costs.{WritesHeap}
+use Rattle.rom_combine.specs.Costs.{WritesHeap, weights, weights_added}
+use Rattle.rom_combine.proofs.Weights.{added_weights, first_found}
 use Rattle.rom_ranges.specs.Changes.{IsLogOf}
 use Rattle.rom_ranges.specs.Log.{Logged}
 use Rattle.rom_ranges.specs.Ranges.{AreWithin, held_count}
@@ -18,7 +19,9 @@ use Rattle.rom_combine.proofs.Before.{before_on}
 use Rattle.rom_combine.proofs.Outside.{writes_then}
 use Rattle.rom_combine.proofs.Spending.{held_in_region, most_then}
 use Rattle.rom_model.specs.Blocks.{region_len}
-use Rattle.rom_model.specs.History.{after}
+use Rattle.rom_model.specs.History.{after, batch}
+use Rattle.rom_model.specs.declared.entry.Entry.{Entry}
+use Rattle.rom_model.specs.declared.record.Found.{Found}
 use Rattle.rom_model.specs.Passes.{HasFault}
 use Rattle.rom_model.specs.declared.record.Fate.TheVariants as fate
 use Rattle.rom_rule.specs.declared.views.Base.{Base}
@@ -28,7 +31,7 @@ use Rattle.rom_rule.specs.Views.{Each, plan_of}
 use Rattle.rom_rule.specs.Calls.{found_of}
 use Rattle.rom_rule.specs.Records.{IsCall}
 use Rattle.rom_rule.specs.Kinds.{CanSwitchToMain, IsBatch, TellsEach, making, switched}
-use Rattle.rom_rule.proofs.Told.{length_map}
+use Rattle.rom_rule.proofs.Told.{length_map, map_map}
 use Rattle.rom_combine.specs.Scanning.{posted_of, IsUnanswered}
 use Rattle.rom_combine.specs.declared.scanning.Posted.{Posted}
 use Rattle.rom_combine.specs.declared.answering.CallAnswer.{CallAnswer}
@@ -139,6 +142,27 @@ returns-then-is_ok-clause-left g c = let u : View = c.args.seat.now.token.me.0 i
     (is_left g.O.Object.Contents (on_words g.O.Object.machine) b it.start it.count p m₂ (length c.args.found.now) c.args.before now sw.0 sw.1 c.apply_all.new.answers.items it.long it.opened c.requires.ready.rising c.requires.ready.fresh it.applied
     (batch_fits (on_words g.O.Object.machine) b.order (after (on_words g.O.Object.machine) b.order it.start it.count p.history) (it.count + length p.history) (take (length c.args.found.now) (map found_of p.requests)) (omega (arith, counts, place, below)))
     (subst (λ (z : Base × Plan). IsBatch g.O.Object.Contents (on_words g.O.Object.machine) z.0 z.1 sw.0 sw.1) (λ j. (it.base₃ j, it.three j)) sw.2) (subst (TellsEach fate.Published sw.0 sw.1) it.three sw.3))
+
+pub returns-then-is_ok-clause-few : goal.returns-then-is_ok-clause-few
+returns-then-is_ok-clause-few g c is = let u : View = c.args.seat.now.token.me.0 in let b : Base = u.base in let p : Plan = plan_of u in let h = c.requires.ready.held in
+    let step : ℕ → g.O.Object.State → ℕ → List ℕ → Option (g.O.Object.State × List ℕ) = on_words g.O.Object.machine in let weight : List ℕ → ℕ = weight_on_words g.O.Object.machine in
+    let m₂ : List ℕ = (plan_of c.apply_all.new.seat.token.me.0).main in let calls : List (List ℕ) = map (λ (one : Posted). one.args) c.args.found.now in
+    let it = taken g u c.begin_on.new.seat.token.me.0 c.apply_all.new.seat.token.me.0 c.commit_on.new.seat.token.me.0 c.args.found.now c.apply_all.new.answers.items c.begin_on.ensures.same.2 c.apply_all.ensures.kept.2 c.commit_on.ensures.same.2 c.requires.found c.apply_all.ensures.applied in
+    let sw = c.switch.ensures.switched in let v₄ : View = c.switch.new.seat.token.me.0 in
+    let four : (plan_of v₄).history ≡ p.history ++ sw.1 = ap (λ (z : View). (plan_of z).history) sw.4.2 ∙ ap (λ (z : Plan). z.history ++ sw.1) it.three in
+    let one = g.met.O.Object.one_contents b.order b.image h.0 it.start h.1 it.count h.2 it.opened in let counts = one.1 in let place = h.4 in
+    let batched = subst (λ (z : Base × Plan). IsBatch g.O.Object.Contents step z.0 z.1 sw.0 sw.1) (λ j. (it.base₃ j, it.three j)) sw.2 it.start it.count it.opened in
+    let done = all_held g.O.Object.Contents step b it.start it.count it.start it.count p m₂ (length c.args.found.now) c.apply_all.new.answers.items (refl, refl) it.long it.applied in
+    let count : slice_index m₂ 2 ≡ it.count + length (p.history ++ batch_now g.O.Object.Contents step b it.start it.count p) = (g.met.O.Object.contents_within b.order m₂ _ _ done).1 in
+    let now : batch_now g.O.Object.Contents step b it.start it.count p ≡ sw.1 = sym (batched.1 ∙ ap (λ (k : ℕ). batch step b.order (after step b.order it.start it.count p.history) k (map found_of p.requests)) batched.0) in
+    let grown : slice_index m₂ 2 - c.args.place ≡ length sw.1 = omega (arith, count, length-append p.history (batch_now g.O.Object.Contents step b it.start it.count p), ap length now, counts, place) in
+    let args : map (λ (f : Found). f.args) (map found_of p.requests) ≡ calls = map_map (λ (f : Found). f.args) found_of p.requests ∙ (sym (map_map (λ (one : Posted). one.args) posted_of p.requests) ∙ ap (map (λ (one : Posted). one.args)) (sym c.requires.found)) in
+    let same : map (λ (e : Entry). e.args) sw.1 ≡ take (length sw.1) calls
+    = ap (map (λ (e : Entry). e.args)) batched.1 ∙ (first_found step b.order (after step b.order it.start it.count p.history) sw.0 (map found_of p.requests) ∙ (λ j. take (length (sym batched.1 j)) (args j))) in
+    let sum : weights_added weight p.history (plan_of v₄).history ≡ weights weight (take (slice_index m₂ 2 - c.args.place) calls)
+    = added_weights weight p.history sw.1 (plan_of v₄).history calls four same ∙ ap (λ (n : ℕ). weights weight (take n calls)) (sym grown) in
+    let held : held_count c.apply_all.new.log.ranges ≤ c.apply_all.new.log.added = c.apply_all.ensures.logged.few in
+    subst (λ (n : ℕ). held_count c.apply_all.new.log.ranges ≤ g.O.Object.STORES * n) (sym sum) (omega (arith, held, c.apply_all.ensures.few))
 
 pub returns-then-is_ok-clause-since : goal.returns-then-is_ok-clause-since
 returns-then-is_ok-clause-since g c told s n op =

@@ -1,4 +1,4 @@
-use Rattle.rom_model.specs.Machine.{on_words}
+use Rattle.rom_model.specs.Machine.{on_words, weight_on_words}
 use Rattle.std.proofs.Common.{Some, rules, arith, ◌≡◌, ◌⊎◌, inl, inr, ⊎_elim, ℕ, ◌+◌, ◌-◌, ◌*◌, ◌^◌, ◌<◌, ◌≤◌, List, [], ◌∷◌, ◌++◌, map, length, length-append, slice_index, sym, refl, ap, ◌∙◌, subst, true, false, ◌≢◌, IsTrue}
 use mathlib.Core.Option.{some}
 use lib.ListN.{get_elem?}
@@ -8,8 +8,7 @@ use Rattle.rom_twin.specs.Seen.{committed}
 use Rattle.rom_header.specs.Regions.{IsCurrentRegion}
 use Rattle.rom_device.specs.Device.{Runs}
 use Rattle.rom_device.specs.Device.{Becomes}
-use Rattle.std.proofs.Math.Nat.{mul-le-mul_left}
-use Rattle.rom_combine.specs.Costs.{SpendsAtMost, WritesHeap, batch_syncs, batch_writes, syncs_before_commit, writes_before_commit}
+use Rattle.rom_combine.specs.Costs.{SpendsAtMost, WritesHeap, batch_syncs, batch_writes, syncs_before_commit, weights_added, writes_before_commit}
 use Rattle.rom_ranges.specs.Changes.{IsLogOf}
 use Rattle.rom_ranges.specs.Ranges.{held_count}
 use Rattle.rom_combine.specs.Images.{MayPublish}
@@ -61,7 +60,7 @@ invariant_of-self g c = let v : View = c.self.inside.seat.token.me.0 in let w : 
     let base : w.base ≡ v.base = ap (λ (z : View). z.base) c.scan.ensures.same.2 in
     let zero : length c.scan.new.found.items ≡ 0 = search rules in
     let now = rest_same g.O.Object.Contents (on_words g.O.Object.machine) g.D.Device.shown c.self.inside.twin v w inv base (scan_stays (plan_of v) (plan_of w) sc.rest) (none_answered g.O.Object.Contents (on_words g.O.Object.machine) v.base (plan_of v) (plan_of w) _ c.scan.new.found.items sc zero) in
-    (now, ready_by g.O.Object.STORES v.base w.base c.self.inside.log c.self.inside.log c.self.invariant.1 base c.self.invariant.1.clear refl)
+    (now, ready_by (g.O.Object.STORES * g.O.Object.WEIGHT) v.base w.base c.self.inside.log c.self.inside.log c.self.invariant.1 base c.self.invariant.1.clear refl)
 
 pub returns-then-is_empty-clause-passed : goal.returns-then-is_empty-clause-passed
 returns-then-is_empty-clause-passed g c = let v : View = c.self.inside.seat.token.me.0 in let w : View = c.scan.new.seat.token.me.0 in let inv = c.self.invariant.0 in let sc = c.scan.ensures.scanned in
@@ -140,7 +139,7 @@ invariant_of-self-then-place-eq-LAST_COUNT g c = let v : View = c.self.inside.se
     let made = made_by g.O.Object.Contents (on_words g.O.Object.machine) x.base q (plan_of u) before before c.as_slice-answers.result.now fate.Published (refused (2 ^ 62) first.0) at refl (ap (λ (z : Plan). z.mine) scan) c.answer_all.ensures.recorded in
     let batched = made.2 inv.start inv.count op in
     let none : made.1 ≡ [] = batched.1 ∙ full_batch (on_words g.O.Object.machine) x.base.order (after (on_words g.O.Object.machine) x.base.order inv.start inv.count q.history) made.0 (map found_of q.requests) (batched.0 ∙ full) in
-    (core_spent g.O.Object.Contents (on_words g.O.Object.machine) g.D.Device.shown c.self.inside.twin v u q before made.0 made.1 inv base_u scan made.3 none found c.answer_all.ensures.answered (omega (arith, c.fault_count-before.ensures)), ready_by g.O.Object.STORES v.base u.base c.self.inside.log c.self.inside.log c.self.invariant.1 base_u c.self.invariant.1.clear refl)
+    (core_spent g.O.Object.Contents (on_words g.O.Object.machine) g.D.Device.shown c.self.inside.twin v u q before made.0 made.1 inv base_u scan made.3 none found c.answer_all.ensures.answered (omega (arith, c.fault_count-before.ensures)), ready_by (g.O.Object.STORES * g.O.Object.WEIGHT) v.base u.base c.self.inside.log c.self.inside.log c.self.invariant.1 base_u c.self.invariant.1.clear refl)
 
 pub returns-then-place-eq-LAST_COUNT-clause-passed : goal.returns-then-place-eq-LAST_COUNT-clause-passed
 returns-then-place-eq-LAST_COUNT-clause-passed g c = let v : View = c.self.inside.seat.token.me.0 in let w : View = c.scan.new.seat.token.me.0 in let inv = c.self.invariant.0 in let sc = c.scan.ensures.scanned in
@@ -198,7 +197,7 @@ invariant_of-self-then-ne g c = let v : View = c.self.inside.seat.token.me.0 in 
       core_refused g.O.Object.Contents (on_words g.O.Object.machine) g.D.Device.shown c.self.inside.twin t v u x.base q o before now made.0 made.1 inv base_x base_u not_published not_nothing scan made.3 found c.answer_all-then-ne.ensures.answered
           c.publish-outcome.ensures.order (c.publish-outcome.ensures.committed not_published) c.publish-outcome.ensures.images c.publish-outcome.ensures.failed c.publish-outcome.ensures.doubt (failing_refused g.D.Device.shown t.device o not_published not_nothing (λ e. (c.publish-outcome.ensures.failed_cause e).last) (λ e. (c.publish-outcome.ensures.doubt_cause e).failed.last))
           (λ told. since told inv.start inv.count op) (λ told is i left. c.publish-outcome.ensures.doubted told is inv.start inv.count op i left) last,
-      ready_by g.O.Object.STORES v.base u.base c.self.inside.log c.publish-outcome.new.log c.self.invariant.1 base_u (c.publish-outcome.ensures.cleared not_published) c.publish-outcome.ensures.room,
+      ready_by (g.O.Object.STORES * g.O.Object.WEIGHT) v.base u.base c.self.inside.log c.publish-outcome.new.log c.self.invariant.1 base_u (c.publish-outcome.ensures.cleared not_published) c.publish-outcome.ensures.room,
     )
 
 pub returns-then-ne-clause-passed : goal.returns-then-ne-clause-passed
@@ -403,7 +402,7 @@ invariant_of-self-2 g c = let v : View = c.self.inside.seat.token.me.0 in let w 
       answered = subst (λ (r : Plan). Each (λ _ f. f.answered ≡ true) r.requests) (sym settled) c.answer_all-2.ensures.answered;
       counts = let e : faults_after z.base.faults (records_of (plan_of z)) ≡ end = ap (λ (r : Plan). faults_after z.base.faults (records_of r)) kept ∙ (ap (λ (l : List PassRecord). faults_after z.base.faults ((plan_of y).records ++ map (raised end) l)) pb.mine ∙ faults_rested end z.base.faults (plan_of y).records (map found_of (plan_of x).requests) _ (sym (ap is_made pb.mine) ∙ made)) in omega (arith, e);
     } in
-    (now, ready_by g.O.Object.STORES v.base z.base c.self.inside.log c.settle.new.log c.self.invariant.1 (base_z ∙ base_x) c.settle.ensures.cleared (c.settle.ensures.room ∙ c.publish-outcome.ensures.room))
+    (now, ready_by (g.O.Object.STORES * g.O.Object.WEIGHT) v.base z.base c.self.inside.log c.settle.new.log c.self.invariant.1 (base_z ∙ base_x) c.settle.ensures.cleared (c.settle.ensures.room ∙ c.publish-outcome.ensures.room))
 
 pub returns-clause-passed : goal.returns-clause-passed
 returns-clause-passed g c = let v : View = c.self.inside.seat.token.me.0 in let w : View = c.scan.new.seat.token.me.0 in let inv = c.self.invariant.0 in let sc = c.scan.ensures.scanned in
@@ -452,33 +451,38 @@ returns-clause-now g c told s n op i left = let v : View = c.self.inside.seat.to
     (now_of g.O.Object.Contents (on_words g.O.Object.machine) g.D.Device.shown t z s n (λ s₁ s₂ j k. g.met.O.Object.one_contents z.base.order z.base.image s₁ s₂ j k) (invariant_of-self-2 g c).0 told (subst (λ (r : Base). g.O.Object.Contents r.order r.image s n) (sym same) op) i left)
 
 pub returns-clause-most : goal.returns-clause-most
-returns-clause-most g c = let v : View = c.self.inside.seat.token.me.0 in let w : View = c.scan.new.seat.token.me.0 in let inv = c.self.invariant.0 in let sc = c.scan.ensures.scanned in
-    let base : w.base ≡ v.base = ap (λ (z : View). z.base) c.scan.ensures.same.2 in
-    let x : View = c.load_main-place.new.seat.token.me.0 in let q : Plan = plan_of w in let st = scan_stays (plan_of v) q sc.rest in
-    let plan_x : plan_of x ≡ q = ap plan_of c.load_main-place.ensures.still.2 in let base_x : x.base ≡ v.base = ap (λ (z : View). z.base) c.load_main-place.ensures.still.2 ∙ base in
-    let y : View = c.publish-outcome.new.seat.token.me.0 in let is_pub : c.publish-outcome.result ≡ outcome.Published = search rules in let pb = c.publish-outcome.ensures.published is_pub in let ph = c.publish-outcome.ensures.held is_pub in
+returns-clause-most g c =
+    let shown = g.D.Device.shown in let a = c.self.inside.twin in let m = c.publish-outcome.new.twin.device in let d = c.settle.new.twin.device in
+    let many : ℕ = c.len-many.result in let stores : ℕ = g.O.Object.STORES * g.O.Object.WEIGHT in let words : ℕ = stores * many in
+    let is_pub : c.publish-outcome.result ≡ outcome.Published = search rules in
+    let many_is : length c.as_slice-2.result.now ≡ many = omega (arith, c.len-many.ensures.value, ap length c.as_slice-2.ensures.value) in
+    let held : held_count c.publish-outcome.new.log.ranges ≤ words = subst (λ (n : ℕ). held_count c.publish-outcome.new.log.ranges ≤ stores * n) many_is (c.publish-outcome.ensures.held_most is_pub) in
+    let first : SpendsAtMost shown (writes_before_commit a.phase a.order words + 1) (syncs_before_commit a.phase + 1) a.device m = subst (λ (n : ℕ). SpendsAtMost shown (writes_before_commit a.phase a.order (stores * n) + 1) (syncs_before_commit a.phase + 1) a.device m) many_is c.publish-outcome.ensures.most in
+    rw c.of-2.ensures.is (subst (λ (r : Locked g.row.D.Denot). SpendsAtMost shown (batch_writes r.twin.phase r.twin.order words) (batch_syncs r.twin.phase) r.twin.device d) c.self.view_is
+    (most_then shown (writes_before_commit a.phase a.order words + 1) (syncs_before_commit a.phase + 1) (held_count c.publish-outcome.new.log.ranges + 1) 1 (batch_writes a.phase a.order words) (batch_syncs a.phase) a.device m d
+    first c.settle.ensures.most (omega (arith, held)) (omega arith)))
+
+-- after a pass that published, the history has grown by what was published
+grown : (g : Over) (c : goal.After-of-2 g) → weights_added (weight_on_words g.O.Object.machine) (plan_of c.load_main-place.new.seat.token.me.0).history (plan_of c.publish-outcome.new.seat.token.me.0).history
+    ≡ weights_added (weight_on_words g.O.Object.machine) (plan_of c.args.self.now.view).history (plan_of c.settle.new.seat.token.me.0).history
+grown g c = let v : View = c.self.inside.seat.token.me.0 in let w : View = c.scan.new.seat.token.me.0 in let sc = c.scan.ensures.scanned in
+    let x : View = c.load_main-place.new.seat.token.me.0 in let plan_x : plan_of x ≡ plan_of w = ap plan_of c.load_main-place.ensures.still.2 in
+    let y : View = c.publish-outcome.new.seat.token.me.0 in let is_pub : c.publish-outcome.result ≡ outcome.Published = search rules in let pb = c.publish-outcome.ensures.published is_pub in
     let lm : View = c.load_main.new.seat.token.me.0 in let plan_lm : plan_of lm ≡ plan_of y = ap plan_of c.load_main.ensures.still.2 in
-    let base_lm : lm.base ≡ x.base = ap (λ (r : View). r.base) c.load_main.ensures.still.2 ∙ ap (λ (r : View). r.base) c.publish-outcome.ensures.same.2 in
-    let held₀ : rule.Held g.O.Object.Contents (on_words g.O.Object.machine) v.base inv.start inv.count q.main q.history = subst (λ (z : List ℕ × List Entry). rule.Held g.O.Object.Contents (on_words g.O.Object.machine) v.base inv.start inv.count z.0 z.1) (λ j. (sym st.main j, sym st.history j)) inv.held in
-    let word : slice_index q.main 2 ≡ inv.count + length q.history = (g.met.O.Object.contents_within v.base.order q.main _ _ held₀).1 in
-    let word₂ : slice_index (plan_of y).main 2 ≡ ph.1 + length (plan_of y).history = (g.met.O.Object.contents_within x.base.order (plan_of y).main _ _ ph.3).1 in
-    let same = g.met.O.Object.one_contents x.base.order x.base.image ph.0 inv.start ph.1 inv.count ph.2 (subst (λ (z : Base). g.O.Object.Contents z.order z.image inv.start inv.count) (sym base_x) inv.opening) in let counts = same.1 in
-    let log₂ : length (plan_of y).history ≡ length (plan_of x).history + length pb.more = ap length pb.history ∙ length-append (plan_of x).history pb.more in let log_x : length (plan_of x).history ≡ length q.history = ap (λ (z : Plan). length z.history) plan_x in
-    let b = pb.batch ph.0 ph.1 ph.2 in let short = batch_short (on_words g.O.Object.machine) x.base.order (after (on_words g.O.Object.machine) x.base.order ph.0 ph.1 (plan_of x).history) pb.front (map found_of (plan_of x).requests) in
-    let more : length pb.more ≤ length (plan_of x).requests = omega (arith, ap length b.1, short, length_map found_of (plan_of x).requests) in
-    let few : length (plan_of x).requests ≡ length c.as_slice-2.result.now = omega (arith, ap (λ (z : Plan). length z.requests) plan_x, ap length sc.items_are, length_map posted_of q.requests, ap length c.as_slice-2.ensures.value) in
-    let shown = g.D.Device.shown in let many : ℕ = c.len-many.result in let found : ℕ = length c.as_slice-2.result.now in
-    let many_is : found ≡ many = omega (arith, c.len-many.ensures.value, ap length c.as_slice-2.ensures.value) in
-    let diff : ℕ = slice_index (plan_of y).main 2 - c.load_main-place.result in
-    let done : diff ≤ many = omega (arith, word, word₂, counts, log₂, log_x, more, few, many_is, c.load_main-place.ensures.word) in
-    let stored : g.O.Object.STORES * diff ≤ g.O.Object.STORES * many = mul-le-mul_left g.O.Object.STORES done in
-    let logged : held_count c.publish-outcome.new.log.ranges ≤ g.O.Object.STORES * many = omega (arith, stored, c.publish-outcome.ensures.few is_pub) in
-    let a = c.self.inside.twin in let m = c.publish-outcome.new.twin.device in let d = c.settle.new.twin.device in
-    let first : SpendsAtMost shown (writes_before_commit a.phase a.order (g.O.Object.STORES * many) + 1) (syncs_before_commit a.phase + 1) a.device m = subst (λ (n : ℕ). SpendsAtMost shown (writes_before_commit a.phase a.order (g.O.Object.STORES * n) + 1) (syncs_before_commit a.phase + 1) a.device m) many_is c.publish-outcome.ensures.most in
-    rw c.of-2.ensures.is (subst (λ (r : Locked g.row.D.Denot). SpendsAtMost shown (batch_writes r.twin.phase r.twin.order (g.O.Object.STORES * many)) (batch_syncs r.twin.phase) r.twin.device d) c.self.view_is (record {
-      most_writes = record { later = omega (arith, first.most_writes.later, c.settle.ensures.most.most_writes.later); most = omega (arith, logged, first.most_writes.most, c.settle.ensures.most.most_writes.most) };
-      most_syncs = record { later = omega (arith, first.most_syncs.later, c.settle.ensures.most.most_syncs.later); most = omega (arith, first.most_syncs.most, c.settle.ensures.most.most_syncs.most) };
-    }))
+    let some_found : 0 < length c.scan.new.found.items = search rules in
+    let first = at_some (plan_of x).requests 0 (let e : 0 < length (plan_of x).requests = omega (arith, some_found, ap length sc.items_are, length_map posted_of (plan_of w).requests, ap (λ (r : Plan). length r.requests) plan_x) in e) in
+    let made : is_made (plan_of y).mine ≡ true = ap is_made pb.mine ∙ made_some (map found_of (plan_of x).requests) _ 0 (found_of first.0) (at_map found_of (plan_of x).requests 0 first.0 first.1) in
+    let u : View = c.answer_all-2.new.seat.token.me.0 in let given : but_requests (plan_of u) ≡ but_requests (plan_of y) = c.answer_all-2.ensures.kept (ap (λ (r : Plan). is_made r.mine) plan_lm ∙ made) ∙ ap but_requests plan_lm in
+    let z : View = c.settle.new.seat.token.me.0 in let new : (plan_of z).history ≡ (plan_of y).history = ap (λ (r : View). (plan_of r).history) c.settle.ensures.rested.writes.2 ∙ ap (λ (r : Plan). r.history) given in
+    let old : (plan_of x).history ≡ (plan_of c.args.self.now.view).history = ap (λ (r : Plan). r.history) plan_x ∙ (ap (λ (r : Plan). r.history) sc.rest ∙ ap (λ r. (plan_of r.view).history) c.self.view_is) in
+    λ j. weights_added (weight_on_words g.O.Object.machine) (old j) (sym new j)
+
+pub returns-clause-spends : goal.returns-clause-spends
+returns-clause-spends g c done unfailed =
+    let is_pub : c.publish-outcome.result ≡ outcome.Published = search rules in let z : View = c.settle.new.seat.token.me.0 in
+    let few : held_count c.publish-outcome.new.log.ranges ≤ g.O.Object.STORES * weights_added (weight_on_words g.O.Object.machine) (plan_of c.args.self.now.view).history (plan_of z).history
+    = subst (λ (n : ℕ). held_count c.publish-outcome.new.log.ranges ≤ g.O.Object.STORES * n) (grown g c) (c.publish-outcome.ensures.few is_pub) in
+    search (rules, few)
 
 pub returns-clause-whole : goal.returns-clause-whole
 returns-clause-whole g c =
