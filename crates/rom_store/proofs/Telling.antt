@@ -22,7 +22,7 @@ use Rattle.rom_rule.specs.Views.{Told, kept_of}
 use Rattle.rom_rule.specs.declared.views.Base.{Base}
 use Rattle.rom_rule.specs.declared.views.View.{View}
 use Rattle.rom_rule.proofs.Told.{at_low}
-use Rattle.rom_store.specs.Updating.{HasBeenTold, IsDoneIn, IsWithinPlaces}
+use Rattle.rom_store.specs.Updating.{HasBeenTold, IsDoneIn, IsReadBack, IsWithinPlaces}
 
 -- an answer's words stand for it alone
 one_told : (a b : Updated (List ℕ)) → IsWithinPlaces a → IsWithinPlaces b → answer_words a ≡ answer_words b → a ≡ b
@@ -137,41 +137,41 @@ module _ {S : Type 0} (Contents : ℕ → List ℕ → S → ℕ → Type 0) (st
         let same = one is.start s is.count k is.opening at in
         subst (λ (z : S × ℕ). IsDoneIn step b.order z.0 z.1 x.0 reply place before seen) (λ i. (same.0 i, same.1 i)) done_since
 
-module _ {S C Q R A : Type 0} (m : Machine S C Q R A) where
+module _ {S C Q R A : Type 0} (m : Machine S C Q R A) (back : (order : ℕ) (s : S) (count : ℕ) (words : List ℕ) (call : C) → m.words_call words ≡ Some call → let told = (m.step order s count call).1 in m.words_reply (m.reply_words told) ≡ Some told) where
   abbrev by_words : ℕ → S → ℕ → Option C → Option (S × List ℕ)
   by_words order s k o = option_map (λ (c : C). let done = m.step order s k c in (done.0, m.reply_words done.1)) o
 
   -- each entry has the words of a reply
   abbrev HaveReplies : List Entry → Type 0
-  HaveReplies es = AllByRecursion (λ e. (reply : R) × (m.reply_words reply ≡ e.reply)) es
+  HaveReplies es = AllByRecursion (λ e. (reply : R) × (m.reply_words reply ≡ e.reply) × (m.words_reply (m.reply_words reply) ≡ Some reply)) es
 
-  taken_replies : (order : ℕ) (s : S) (k : ℕ) (f : Found) (o : Option C) (rest : List Entry) → HaveReplies rest → HaveReplies (batch_of (on_words m) order k f (by_words order s k o) rest)
-  taken_replies order s k f (Some c) rest all = by_test (nat_lt k LAST_COUNT)
+  taken_replies : (order : ℕ) (s : S) (k : ℕ) (f : Found) (o : Option C) (rest : List Entry) → m.words_call f.args ≡ o → HaveReplies rest → HaveReplies (batch_of (on_words m) order k f (by_words order s k o) rest)
+  taken_replies order s k f (Some c) rest is all = by_test (nat_lt k LAST_COUNT)
     where
       by_test : (t : Bool) → HaveReplies (cond t (record { caller = f.caller; seq = f.seq; args = f.args; reply = m.reply_words (m.step order s k c).1 } ∷ rest) [])
-      by_test true = (((m.step order s k c).1, refl), all)
+      by_test true = (((m.step order s k c).1, refl, back order s k f.args c is), all)
       by_test false = tt
-  taken_replies order s k f None rest all = tt
+  taken_replies order s k f None rest is all = tt
 
   batch_replies : (order : ℕ) (s : S) (k : ℕ) (fs : List Found) → HaveReplies (batch (on_words m) order s k fs)
   batch_replies order s k [] = tt
-  batch_replies order s k (f ∷ fs) = taken_replies order s k f (m.words_call f.args) (batch (on_words m) order (left s (on_words m order s k f.args)) (k + 1) fs) (batch_replies order (left s (on_words m order s k f.args)) (k + 1) fs)
+  batch_replies order s k (f ∷ fs) = taken_replies order s k f (m.words_call f.args) (batch (on_words m) order (left s (on_words m order s k f.args)) (k + 1) fs) refl (batch_replies order (left s (on_words m order s k f.args)) (k + 1) fs)
 
   -- the words are those of what an update is told
   abbrev AreWords : Updated (List ℕ) → Type 0
-  AreWords w = (u : Updated R) × (as_words m u ≡ w)
+  AreWords w = (u : Updated R) × IsReadBack m u × (as_words m u ≡ w)
 
   batch_words : (k : ℕ) (fs : List Found) (es : List Entry) → HaveReplies es → (i : ℕ) (x : Told) → get_elem? (batch_told k fs es) i ≡ some x → AreWords x.1
   batch_words k [] es all i x e = absurd (some-ne-none x (sym e))
-  batch_words k (f ∷ fs) [] all zero x e = (told.Spent, ap (λ (y : Told). y.1) (some-injective (f, told.Spent) x e))
+  batch_words k (f ∷ fs) [] all zero x e = (told.Spent, tt, ap (λ (y : Told). y.1) (some-injective (f, told.Spent) x e))
   batch_words k (f ∷ fs) [] all (suc i) x e = batch_words k fs [] tt i x e
-  batch_words k (f ∷ fs) (g ∷ es) all zero x e = (told.Done all.0.0 k, ap (λ (w : List ℕ). told.Done w k) all.0.1 ∙ ap (λ (y : Told). y.1) (some-injective (f, told.Done g.reply k) x e))
+  batch_words k (f ∷ fs) (g ∷ es) all zero x e = (told.Done all.0.0 k, all.0.2, ap (λ (w : List ℕ). told.Done w k) all.0.1 ∙ ap (λ (y : Told). y.1) (some-injective (f, told.Done g.reply k) x e))
   batch_words k (f ∷ fs) (g ∷ es) all (suc i) x e = batch_words (k + 1) fs es all.1 i x e
 
   fate_words : (fate : Fate) (k : ℕ) (fs : List Found) (es : List Entry) → HaveReplies es → (i : ℕ) (x : Told) → get_elem? (fate_told fate k fs es) i ≡ some x → AreWords x.1
   fate_words Published k fs es all i x e = batch_words k fs es all i x e
-  fate_words Failed k fs es all i x e = (told.Failed, all_alike told.Failed fs i x e)
-  fate_words Doubt k fs es all i x e = (told.Doubt, all_alike told.Doubt fs i x e)
+  fate_words Failed k fs es all i x e = (told.Failed, tt, all_alike told.Failed fs i x e)
+  fate_words Doubt k fs es all i x e = (told.Doubt, tt, all_alike told.Doubt fs i x e)
 
   -- what a pass told a call are the words of what an update is told
   told_words : (Contents : ℕ → List ℕ → S → ℕ → Type 0) (b : Base) (x : Told) (since : ℕ) (before seen : List Entry) → IsTold Contents (on_words m) b x since before seen → AreWords x.1
@@ -181,6 +181,7 @@ module _ {S C Q R A : Type 0} (m : Machine S C Q R A) where
       let k : ℕ = is.count + length h in
       fate_words is.pass.fate k is.pass.found (batch (on_words m) b.order s k is.pass.found) (batch_replies b.order s k is.pass.found) is.at x is.told
 
+module _ {S C Q R A : Type 0} (m : Machine S C Q R A) where
   -- a place is the same by words
   within_words : (u : Updated R) → IsWithinPlaces u → IsWithinPlaces (as_words m u)
   within_words (told.Done reply place) low = low
@@ -213,12 +214,12 @@ posted_same v w x words args laid steps posts same is = posts ∙ (λ i. posted 
 
 module _ {S C Q R A : Type 0} (m : Machine S C Q R A) (Contents : ℕ → List ℕ → S → ℕ → Type 0) where
   -- what was told are the words of what an update is told, with a place below the last count
-  pub told_some : (v w : View) (h : HasBeenTold Contents (on_words m) v w) (answer : List ℕ) → ((x : Told) → IsLast w x → answer_words x.1 ≡ answer) → (u : Updated R) × IsWithinPlaces u × (answer_words (as_words m u) ≡ answer)
-  told_some v w h answer same =
-      let some = told_words m Contents v.base h.told v.since v.seen w.seen h.is_told in
+  pub told_some : (back : (order : ℕ) (s : S) (count : ℕ) (words : List ℕ) (call : C) → m.words_call words ≡ Some call → let told = (m.step order s count call).1 in m.words_reply (m.reply_words told) ≡ Some told) (v w : View) (h : HasBeenTold Contents (on_words m) v w) (answer : List ℕ) → ((x : Told) → IsLast w x → answer_words x.1 ≡ answer) → (u : Updated R) × IsWithinPlaces u × IsReadBack m u × (answer_words (as_words m u) ≡ answer)
+  told_some back v w h answer same =
+      let some = told_words m back Contents v.base h.told v.since v.seen w.seen h.is_told in
       let low = within_told Contents (on_words m) v.base h.told v.since v.seen w.seen h.is_told in
       let words : answer_words h.told.1 ≡ answer = same h.told (v.outcomes, ap (λ (z : View). z.outcomes) h.view) in
-      (some.0, within_back m some.0 (subst IsWithinPlaces (sym some.1) low), ap answer_words some.1 ∙ words)
+      (some.0, within_back m some.0 (subst IsWithinPlaces (sym some.2) low), some.1, ap answer_words some.2 ∙ words)
 
   -- A call was posted, then answered, and what was taken are the words of this update; the views are before, once it was posted, once it was answered, and after.
   pub record IsTaken (b : Base) (old v w new : View) (args : List ℕ) (u : Updated R) : Type 0 where

@@ -1,6 +1,7 @@
 -- What an update leaves.
 use Rattle.std.specs.Prelude.{◌≡◌, ℕ, ◌+◌, ◌-◌, ◌<◌, ◌≤◌, List, [], ◌∷◌, ◌++◌, length, slice_get, slice_index_or, Option, Some}
 use Rattle.rom_model.specs.History.{IsLegal, LAST_COUNT, after, batch}
+use Rattle.rom_model.specs.Machine.{Machine}
 use Rattle.rom_model.specs.declared.call.Updated.{Updated}
 use Rattle.rom_model.specs.declared.call.Updated.TheVariants as told
 use Rattle.rom_model.specs.declared.entry.Entry.{Entry}
@@ -16,6 +17,11 @@ IsWithinPlaces (told.Done reply place) = place < LAST_COUNT
 IsWithinPlaces told.Spent = Unit {0}
 IsWithinPlaces told.Failed = Unit {0}
 IsWithinPlaces told.Doubt = Unit {0}
+
+-- the words of a reply are read as that reply
+abbrev pub IsReadBack : {S C Q R A : Type 0} → Machine S C Q R A → Updated R → Type 0
+IsReadBack m (told.Done reply place) = m.words_reply (m.reply_words reply) ≡ Some reply
+IsReadBack m other = Unit {0}
 
 -- After some steps the caller was told what became of the call that it has posted, and nothing else of its view has changed but what it has seen.
 pub record HasBeenTold {S : Type 0} (Contents : ℕ → List ℕ → S → ℕ → Type 0) (step : ℕ → S → ℕ → List ℕ → Option (S × List ℕ)) (v w : View) : Type 0 where

@@ -11,7 +11,7 @@ ghost use Rattle.rom_rule.specs.CallKinds.{IsTold};
 ghost use Rattle.rom_rule.specs.Calls.{answer_words, packed};
 ghost use Rattle.rom_rule.specs.Views.{kept_of};
 ghost use Rattle.rom_store.specs.Callers.{IsCallerOf, IsSameCaller};
-ghost use Rattle.rom_store.specs.Updating.{HasBeenTold, IsDoneIn, IsWithinPlaces};
+ghost use Rattle.rom_store.specs.Updating.{HasBeenTold, IsDoneIn, IsReadBack, IsWithinPlaces};
 
 use crate::held::Held;
 use crate::label::Label;
@@ -30,7 +30,7 @@ const LOOKS: u64 = 64;
 
 /// What a caller was told, by its words.
 fn told_by<O: Object>(place: u64, words: &Back) -> Updated<O::Reply>
-    requires told { (u : Updated O.Reply) × IsWithinPlaces u
+    requires told { (u : Updated O.Reply) × IsWithinPlaces u × IsReadBack O.machine u
         × (answer_words (as_words O.machine u) ≡ place ∷ packed words.now) }
     ensures within { IsWithinPlaces result }
     ensures told { answer_words (as_words O.machine result) ≡ place ∷ packed words.now }

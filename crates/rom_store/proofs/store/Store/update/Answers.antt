@@ -8,7 +8,7 @@ use Rattle.rom_store.proofs.store.Store.update.Goals as goal
 
 pub told_by-requires : goal.told_by-requires
 told_by-requires g c = record {
-  told = told_some g.O.Object.machine g.O.Object.Contents c.post.new.seat.token.me.0 c.await_answer.new.seat.token.me.0 c.await_answer.ensures.told _ c.take-place.ensures.answer;
+  told = told_some g.O.Object.machine g.O.Object.Contents g.met.O.Object.reply_back c.post.new.seat.token.me.0 c.await_answer.new.seat.token.me.0 c.await_answer.ensures.told _ c.take-place.ensures.answer;
 }
 
 taken : (g : Over) (c : goal.After-told_by g) → IsTaken g.O.Object.machine g.O.Object.Contents g.N.Label.base c.args.pass.now.view c.post.new.seat.token.me.0 c.await_answer.new.seat.token.me.0
@@ -23,7 +23,7 @@ taken g c =
       idle = subst (λ (z : View). length z.calls ≡ length z.outcomes) was c.pass.invariant.1;
       laid = packed c.call_words.result;
       steps = steps;
-      posts = posted_same inside old c.post.new.seat.token.me.0 c.call_words.result (g.O.Object.machine.call_words c.args.call.now) (packed c.call_words.result) steps c.post.ensures.posted was c.call_words.ensures;
+      posts = posted_same inside old c.post.new.seat.token.me.0 c.call_words.result (g.O.Object.machine.call_words c.args.call.now) (packed c.call_words.result) steps c.post.ensures.posted was c.call_words.ensures.words;
       told_of = c.await_answer.ensures.told;
       more = c.await_answer.new.seat.token.me.0.steps + length c.take-place.result.1 + 2;
       takes = c.take-place.ensures.still;
