@@ -1,5 +1,7 @@
 -- Lemmas on what lines ask for, on what texts determine, and on drills.
 pub mod Asking
+pub mod Separators
+pub mod Members
 pub mod Determined
 pub mod Drills
 pub mod GroupLines

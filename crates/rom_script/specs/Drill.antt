@@ -76,7 +76,7 @@ drill_script start callers calls caller = put_lines caller ++ items callers call
 abbrev pub drill_scripts : ℕ → ℕ → ℕ → List (List (Step Call Query))
 drill_scripts start callers calls = map (drill_script start callers calls) (range_with_len 1 callers)
 
--- what a line has put into the queue
+-- what a line has put into the queue, which is never a group's in a drill
 abbrev pub enqueued_by : Step Call Query → LineResult Reply Answer → ℕ
 enqueued_by (Update (Enq v)) (outcome.Update (Done Queued place)) = v
 enqueued_by line result = 0

@@ -1,6 +1,7 @@
 -- The language of a queue, a set and a map: its lines, its texts and its drill.
 pub mod Lines
 pub mod Asking
+pub mod Members
 pub mod Scripts
 pub mod Trio
 pub mod Runs

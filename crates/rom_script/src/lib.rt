@@ -1,17 +1,19 @@
 //! The language of a queue, a set and a map: what the lines of a script ask them for, and the scripts
 //! and the text of a drill.
 //!
-//! The contracts promise that a line is read as the one call or query that is written so, or as
-//! unread where there is none, and that a script is exactly the lines of the bytes that its source
-//! had left. The scripts of a drill are those that follow from its start, and its five lines tell the
-//! sums of its replies. Streams, and what is read and printed of any object, are those of `rom_text`,
-//! handed on here.
+//! The contracts promise that a line is read as the one call or query that is written so, be it one
+//! update or a group of two to eight, or as unread where there is none, and that a script is exactly
+//! the lines of the bytes that its source had left. The scripts of a drill are those that follow from
+//! its start, and its five lines tell the sums of its replies. Streams, and what is read and printed
+//! of any object, are those of `rom_text`, handed on here.
 #![tactic(auto)]
 
 mod drill;
+mod group_line;
 mod line;
 mod script;
 mod summary;
+mod update_line;
 
 pub use drill::{drill_script, drill_scripts};
 pub use line::{Line, TrioLines, read_line};

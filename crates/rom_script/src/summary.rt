@@ -12,12 +12,18 @@ use itoa::Buffer;
 use rom_model::{Answer, Call, LineResult, Reply, Updated};
 use rom_text::{IoFailed, Report, Sink, Told, print_gathered, print_pieces, print_text};
 
-/// What a line has put into the queue.
+/// What a line has put into the queue. In a drill it is never a group's.
 fn enqueued_by(line: &Line, told: &LineResult<Reply, Answer>) -> u64
     ensures { result ≡ summed.enqueued_by line.now told.now }
 {
-    match (line, told) {
-        (Line::Update(Call::Enq(v)), LineResult::Update(Updated::Done(Reply::Queued, _))) => *v,
+    let Line::Update(call) = line else {
+        return 0;
+    };
+    let LineResult::Update(Updated::Done(reply, _)) = told else {
+        return 0;
+    };
+    match (call, reply) {
+        (Call::Enq(v), Reply::Queued) => *v,
         _ => 0,
     }
 }

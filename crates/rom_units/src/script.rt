@@ -1,6 +1,6 @@
 //! Lines that are read and lines that are not, where lines end, and scripts in pieces.
 
-use rom_model::{Call, Query};
+use rom_model::{Call, Group, Query, Single};
 use rom_script::{
     Bytes, Line, Name, Names, ReadRefused, line_end, read_bytes, read_line, read_script,
 };
@@ -13,7 +13,7 @@ const DEQ: Line = Line::Update(Call::Deq);
 
 const PEEK: Line = Line::Ask(Query::Peek);
 
-const LINES: [(&[u8], Line); 33] = [
+const LINES: [(&[u8], Line); 54] = [
     (b"enq 7", ENQ_7),
     (b"deq", DEQ),
     (b"add 10", Line::Update(Call::Add(10))),
@@ -50,12 +50,73 @@ const LINES: [(&[u8], Line); 33] = [
     (b"deq ", Line::Unread),
     (b"len\r", Line::Unread),
     (b"", Line::Unread),
+    (b"tx", Line::Unread),
+    (b"tx ", Line::Unread),
+    (b"tx enq 1", Line::Unread),
+    (b"tx enq 1 ; peek", Line::Unread),
+    (b"tx len ; enq 1", Line::Unread),
+    (b"tx enq 1 ; tx deq ; deq", Line::Unread),
+    (b"tx tx enq 1 ; deq", Line::Unread),
+    (b"tx enq 1;deq", Line::Unread),
+    (b"tx enq 1 ;deq", Line::Unread),
+    (b"tx enq 1; deq", Line::Unread),
+    (b"tx enq 1  ; deq", Line::Unread),
+    (b"tx enq 1 ;  deq", Line::Unread),
+    (b"tx  enq 1 ; deq", Line::Unread),
+    (b"tx enq 1 ; deq ;", Line::Unread),
+    (b"tx enq 1 ; deq ; ", Line::Unread),
+    (b"tx enq 1 ;  ; deq", Line::Unread),
+    (b"tx ; enq 1 ; deq", Line::Unread),
+    (b"tx enq 1 ; enq 18446744073709551616", Line::Unread),
+    (b"tx enq 1 ; unread", Line::Unread),
+    (b"TX enq 1 ; deq", Line::Unread),
+    (
+        b"tx deq ; deq ; deq ; deq ; deq ; deq ; deq ; deq ; deq",
+        Line::Unread,
+    ),
 ];
 
 #[test]
 fn lines_are_read_or_unread(rt: HostRuntime) {
     for (line, wanted) in LINES {
         assert_eq!(rt; read_line(line), wanted, "at {line:?}");
+    }
+}
+
+/// Lines of groups and their members.
+const GROUPS: [(&[u8], &[Single]); 3] = [
+    (
+        b"tx deq ; enq 18446744073709551615",
+        &[Single::Deq, Single::Enq(18446744073709551615)],
+    ),
+    (
+        b"tx put 1 5 ; put 2 6 ; move 1 2 5",
+        &[Single::Put(1, 5), Single::Put(2, 6), Single::Move(1, 2, 5)],
+    ),
+    (
+        b"tx enq 7 ; deq ; add 1 ; rem 1 ; put 5 8 ; del 5 ; move 1 2 60 ; add 1",
+        &[
+            Single::Enq(7),
+            Single::Deq,
+            Single::Add(1),
+            Single::Rem(1),
+            Single::Put(5, 8),
+            Single::Del(5),
+            Single::Move(1, 2, 60),
+            Single::Add(1),
+        ],
+    ),
+];
+
+#[test]
+fn two_to_eight_updates_are_read_as_a_group(rt: HostRuntime) {
+    for (line, members) in GROUPS {
+        let wanted = Group::of(members).map_or(
+            Line::Unread,
+            |group| Line::Update(Call::Group(group)),
+        );
+        assert_eq!(rt; read_line(line), wanted, "at {line:?}");
+        assert!(rt; wanted != Line::Unread, "at {line:?}");
     }
 }
 
