@@ -2,7 +2,7 @@
 //!
 //! It shares no code with the object of a heap, which it is to agree with.
 
-use rom_model::{Answer, Call, Query, Reply};
+use rom_model::{Answer, Call, Group, Kind, Query, Replies, Reply, Single, SingleReply};
 use std::alloc::{AllocError, Global};
 use std::collections::VecDeque;
 
@@ -18,7 +18,7 @@ pub struct Model {
 }
 
 impl Model {
-    /// Nothing in any of them. It takes no memory later.
+    /// Nothing in any of them. Only a group takes memory later.
     pub fn new(alloc: Global) -> Result<Model, AllocError> {
         Ok(Model {
             queue: VecDeque::with_capacity(alloc, ROOM)?,
@@ -52,83 +52,120 @@ impl Model {
         }
     }
 
-    fn put(&mut self, key: u64, value: u64) -> Result<Reply, AllocError> {
+    fn put(&mut self, key: u64, value: u64) -> Result<SingleReply, AllocError> {
         if let Some(old) = self.value(key) {
             self.set_value(key, value);
-            return Ok(Reply::Was(old));
+            return Ok(SingleReply::Was(old));
         }
         if self.is_full() {
-            return Ok(Reply::Full);
+            return Ok(SingleReply::Full);
         }
         self.map.push((key, value))?;
-        Ok(Reply::NoPrior)
+        Ok(SingleReply::NoPrior)
     }
 
-    fn del(&mut self, key: u64) -> Reply {
+    fn del(&mut self, key: u64) -> SingleReply {
         match self.value(key) {
             Some(old) => {
                 self.map.retain(|pair| pair.0 != key);
-                Reply::Was(old)
+                SingleReply::Was(old)
             }
-            None => Reply::NoPrior,
+            None => SingleReply::NoPrior,
         }
     }
 
-    fn shift(&mut self, from: u64, to: u64, amount: u64) -> Reply {
+    fn shift(&mut self, from: u64, to: u64, amount: u64) -> SingleReply {
         let (Some(source), Some(target)) = (self.value(from), self.value(to)) else {
-            return Reply::Absent;
+            return SingleReply::Absent;
         };
         let Some(less) = source.checked_sub(amount) else {
-            return Reply::Short(source);
+            return SingleReply::Short(source);
         };
         if from == to {
-            return Reply::Moved;
+            return SingleReply::Moved;
         }
         let Some(more) = target.checked_add(amount) else {
-            return Reply::Over;
+            return SingleReply::Over;
         };
         self.set_value(from, less);
         self.set_value(to, more);
-        Reply::Moved
+        SingleReply::Moved
     }
 
-    fn add(&mut self, number: u64) -> Result<Reply, AllocError> {
+    fn add(&mut self, number: u64) -> Result<SingleReply, AllocError> {
         if self.set.contains(&number) {
-            return Ok(Reply::Present);
+            return Ok(SingleReply::Present);
         }
         if self.is_full() {
-            return Ok(Reply::Full);
+            return Ok(SingleReply::Full);
         }
         self.set.push(number)?;
-        Ok(Reply::Added)
+        Ok(SingleReply::Added)
     }
 
-    fn rem(&mut self, number: u64) -> Reply {
+    fn rem(&mut self, number: u64) -> SingleReply {
         if !self.set.contains(&number) {
-            return Reply::Absent;
+            return SingleReply::Absent;
         }
         self.set.retain(|other| *other != number);
-        Reply::Removed
+        SingleReply::Removed
+    }
+
+    /// Does an update of one structure.
+    fn one(&mut self, call: &Single) -> Result<SingleReply, AllocError> {
+        Ok(match *call {
+            Single::Enq(_) if self.is_full() => SingleReply::Full,
+            Single::Enq(number) => {
+                self.queue.push_back(number)?;
+                SingleReply::Queued
+            }
+            Single::Deq => match self.queue.pop_front() {
+                Some(number) => SingleReply::Head(number),
+                None => SingleReply::Empty,
+            },
+            Single::Add(number) => self.add(number)?,
+            Single::Rem(number) => self.rem(number),
+            Single::Put(key, value) => self.put(key, value)?,
+            Single::Del(key) => self.del(key),
+            Single::Move(from, to, amount) => self.shift(from, to, amount),
+        })
+    }
+
+    /// The same elements, in other memory.
+    fn copied(&self, alloc: Global) -> Result<Model, AllocError> {
+        let mut copy = Model::new(alloc)?;
+        for number in self.queue.iter() {
+            copy.queue.push_back(*number)?;
+        }
+        copy.set.extend_from_slice(&self.set)?;
+        copy.map.extend_from_slice(&self.map)?;
+        Ok(copy)
+    }
+
+    /// Does the members of a group, or none of them where one finds no room.
+    fn several(&mut self, alloc: Global, group: &Group) -> Result<Reply, AllocError> {
+        let mut after = self.copied(alloc)?;
+        let mut replies = Replies::new();
+        for member in group.as_slice() {
+            let reply = after.one(member)?;
+            if reply == SingleReply::Full {
+                return Ok(Reply::Full);
+            }
+            // No group has a ninth member.
+            if replies.len() < 8 {
+                replies.push(reply);
+            }
+        }
+        *self = after;
+        Ok(Reply::All(replies))
     }
 
     /// Does an update.
-    pub fn apply(&mut self, call: &Call) -> Result<Reply, AllocError> {
-        Ok(match *call {
-            Call::Enq(_) if self.is_full() => Reply::Full,
-            Call::Enq(number) => {
-                self.queue.push_back(number)?;
-                Reply::Queued
-            }
-            Call::Deq => match self.queue.pop_front() {
-                Some(number) => Reply::Head(number),
-                None => Reply::Empty,
-            },
-            Call::Add(number) => self.add(number)?,
-            Call::Rem(number) => self.rem(number),
-            Call::Put(key, value) => self.put(key, value)?,
-            Call::Del(key) => self.del(key),
-            Call::Move(from, to, amount) => self.shift(from, to, amount),
-        })
+    pub fn apply(&mut self, alloc: Global, call: &Call) -> Result<Reply, AllocError> {
+        match call.kind() {
+            Kind::Single(single) => Ok(Reply::plain(self.one(&single)?)),
+            Kind::Several(group) => self.several(alloc, &group),
+        }
     }
 
     /// Answers a query.

@@ -9,46 +9,49 @@ ghost use Rattle.rom_counted.specs.Counted.{Begins};
 use crate::regions::{BROKEN, FRESH, QUEUED, region};
 use rom_counted::Counted;
 use rom_heap::Trio;
-use rom_model::{Answer, Args, Back, Call, Object, Query, Reply, Unfit, VecSpace, new_region};
+use rom_model::{
+    Answer, Args, Back, Call, Group, Object, Query, Reply, Single, SingleReply, Unfit, VecSpace,
+    new_region,
+};
 use std::alloc::Global;
 use std::marker::Brand;
 use std::sync::ledger::{Blank, Ledger};
 use std::test::Fail;
 
 /// With fifteen numbers the heap is full.
-const FIFTEEN: [Call; 15] = [
-    Call::Add(1),
-    Call::Add(2),
-    Call::Add(3),
-    Call::Add(4),
-    Call::Add(5),
-    Call::Add(6),
-    Call::Add(7),
-    Call::Add(8),
-    Call::Add(9),
-    Call::Add(10),
-    Call::Add(11),
-    Call::Add(12),
-    Call::Add(13),
-    Call::Add(14),
-    Call::Add(15),
+const FIFTEEN: [Single; 15] = [
+    Single::Add(1),
+    Single::Add(2),
+    Single::Add(3),
+    Single::Add(4),
+    Single::Add(5),
+    Single::Add(6),
+    Single::Add(7),
+    Single::Add(8),
+    Single::Add(9),
+    Single::Add(10),
+    Single::Add(11),
+    Single::Add(12),
+    Single::Add(13),
+    Single::Add(14),
+    Single::Add(15),
 ];
 
 /// Updates on a new heap of order 4, one more and what it is told, and the words that are then others
 /// than in a new region.
-const UPDATES: [(&[Call], Call, Reply, Option<&[(usize, u64)]>); 13] = [
-    (&[], Call::Enq(9), Reply::Queued, Some(&QUEUED)),
+const UPDATES: [(&[Single], Single, SingleReply, Option<&[(usize, u64)]>); 13] = [
+    (&[], Single::Enq(9), SingleReply::Queued, Some(&QUEUED)),
     (
-        &[Call::Enq(9)],
-        Call::Deq,
-        Reply::Head(9),
+        &[Single::Enq(9)],
+        Single::Deq,
+        SingleReply::Head(9),
         Some(&[(2, 2), (52, 9)]),
     ),
     // The second node is linked to the first, and is the tail.
     (
-        &[Call::Enq(9)],
-        Call::Enq(8),
-        Reply::Queued,
+        &[Single::Enq(9)],
+        Single::Enq(8),
+        SingleReply::Queued,
         Some(&[
             (2, 2),
             (3, 52),
@@ -66,15 +69,15 @@ const UPDATES: [(&[Call], Call, Reply, Option<&[(usize, u64)]>); 13] = [
     ),
     (
         &[],
-        Call::Put(5, 7),
-        Reply::NoPrior,
+        Single::Put(5, 7),
+        SingleReply::NoPrior,
         Some(&[(2, 1), (9, 1), (24, 0), (33, 0), (48, 52), (52, 5), (53, 7)]),
     ),
     // Two keys of one bucket, of which the one that came last is the first.
     (
-        &[Call::Put(0, 1)],
-        Call::Put(5, 2),
-        Reply::NoPrior,
+        &[Single::Put(0, 1)],
+        Single::Put(5, 2),
+        SingleReply::NoPrior,
         Some(&[
             (2, 2),
             (9, 2),
@@ -92,9 +95,9 @@ const UPDATES: [(&[Call], Call, Reply, Option<&[(usize, u64)]>); 13] = [
     ),
     // The words of a block that was given back stay.
     (
-        &[Call::Put(0, 1), Call::Put(5, 2)],
-        Call::Del(0),
-        Reply::Was(1),
+        &[Single::Put(0, 1), Single::Put(5, 2)],
+        Single::Del(0),
+        SingleReply::Was(1),
         Some(&[
             (2, 3),
             (9, 1),
@@ -109,9 +112,9 @@ const UPDATES: [(&[Call], Call, Reply, Option<&[(usize, u64)]>); 13] = [
     ),
     // Two numbers, of which the smaller one came last.
     (
-        &[Call::Add(8)],
-        Call::Add(5),
-        Reply::Added,
+        &[Single::Add(8)],
+        Single::Add(5),
+        SingleReply::Added,
         Some(&[
             (2, 2),
             (6, 56),
@@ -127,9 +130,9 @@ const UPDATES: [(&[Call], Call, Reply, Option<&[(usize, u64)]>); 13] = [
         ]),
     ),
     (
-        &[Call::Add(8), Call::Add(5)],
-        Call::Rem(8),
-        Reply::Removed,
+        &[Single::Add(8), Single::Add(5)],
+        Single::Rem(8),
+        SingleReply::Removed,
         Some(&[
             (2, 3),
             (6, 56),
@@ -141,20 +144,20 @@ const UPDATES: [(&[Call], Call, Reply, Option<&[(usize, u64)]>); 13] = [
             (56, 5),
         ]),
     ),
-    (&FIFTEEN, Call::Add(16), Reply::Full, None),
-    (&FIFTEEN, Call::Add(15), Reply::Present, None),
-    (&FIFTEEN, Call::Put(1, 1), Reply::Full, None),
-    (&FIFTEEN, Call::Enq(1), Reply::Full, None),
-    (&FIFTEEN, Call::Rem(16), Reply::Absent, None),
+    (&FIFTEEN, Single::Add(16), SingleReply::Full, None),
+    (&FIFTEEN, Single::Add(15), SingleReply::Present, None),
+    (&FIFTEEN, Single::Put(1, 1), SingleReply::Full, None),
+    (&FIFTEEN, Single::Enq(1), SingleReply::Full, None),
+    (&FIFTEEN, Single::Rem(16), SingleReply::Absent, None),
 ];
 
 /// Does updates one after another on a new heap of order 4, and then one more; what that is told.
-fn apply_all(space: &mut VecSpace, calls: &[Call], last: &Call) -> Reply
+pub(crate) fn apply_all(space: &mut VecSpace, calls: &[Single], last: &Call) -> Reply
     requires few { length calls.now ≤ 15 }
     requires region { Contents 4 (words_of space.old) empty 0 }
 {
     for call in calls {
-        Trio::apply(space, 4, call);
+        Trio::apply(space, 4, &Call::plain(*call));
     }
     Trio::apply(space, 4, last)
 }
@@ -164,7 +167,8 @@ fn updates_word_for_word(rt: HostRuntime) -> Result<(), Fail> {
     for (calls, last, reply, changes) in UPDATES {
         let mut space = new_region::<Trio>(rt.alloc(), 4)?;
         assert!(rt; calls.len() <= 15);
-        assert_eq!(rt; apply_all(&mut space, calls, &last), reply, "at {last:?}");
+        let told = apply_all(&mut space, calls, &Call::plain(last));
+        assert_eq!(rt; told, Reply::plain(reply), "at {last:?}");
         if let Some(changes) = changes {
             let words = region(false, changes);
             assert!(rt; space.words() == words.as_slice(), "at {last:?}");
@@ -244,7 +248,8 @@ fn told_and_stores<L: Ledger>(blank: Blank, space: VecSpace, call: Call) -> (Rep
     requires blank { Begins L.name L.parts blank.name blank.parts }
     requires region { (s : State) × (k : ℕ) × Contents 16 (words_of space) s k × (k < LAST_COUNT) }
 {
-    let mut space: Counted<L> = Counted::begin(space, Trio::STORES, blank);
+    let limit = Trio::STORES * Trio::weight_of(&call);
+    let mut space: Counted<L> = Counted::begin(space, limit, blank);
     let reply = Trio::apply(&mut space, 16, &call);
     (reply, space.stores())
 }
@@ -267,6 +272,28 @@ fn the_most_stores_of_each_update(rt: HostRuntime) -> Result<(), Fail> {
         let space = filled(rt.alloc(), first, keys)?;
         let told = told_and_stores::<Brand>(Blank::new(1), space, call);
         assert_eq!(rt; told, (reply, stores));
+    }
+    Ok(())
+}
+
+#[test]
+fn the_stores_of_a_group(rt: HostRuntime) -> Result<(), Fail> {
+    let twice = [Single::Add(5), Single::Add(6)];
+    let eight = [Single::Enq(9); 8];
+    // How many keys there are; the members; whether they are done, and how many stores they make at
+    // most. A refused group stores the count.
+    let rows: [(u64, &[Single], bool, u64); 4] = [
+        (CAP - 2, &twice, true, 1 + 2 * 23),
+        (CAP - 1, &twice, false, 1),
+        (CAP - 8, &eight, true, 1 + 8 * 24),
+        (CAP - 7, &eight, false, 1),
+    ];
+    for (keys, members, done, stores) in rows {
+        let space = filled(rt.alloc(), Call::Deq, keys)?;
+        let group = Group::of(members).expect(&rt, "two to eight members");
+        let (reply, made) = told_and_stores::<Brand>(Blank::new(1), space, Call::Group(group));
+        assert_eq!(rt; reply != Reply::Full, done, "at {keys}");
+        assert!(rt; made <= stores && (done || made == 1), "at {keys}");
     }
     Ok(())
 }

@@ -22,6 +22,8 @@ mod file;
 #[cfg(test)]
 mod files;
 #[cfg(test)]
+mod groups;
+#[cfg(test)]
 mod header;
 #[cfg(test)]
 mod heap;

@@ -35,7 +35,7 @@ const REPLIES: [(Reply, &[u64]); 13] = [
 ];
 
 /// The words are these, and past them there is none.
-fn are<const N: usize>(words: &Words<N>, wanted: &[u64]) -> bool {
+pub(crate) fn are<const N: usize>(words: &Words<N>, wanted: &[u64]) -> bool {
     let mut same = words.len() == wanted.len() as u64 && words.at(words.len()).is_none();
     for (i, word) in wanted.iter().enumerate() {
         same = same && words.at(i as u64) == Some(*word);

@@ -146,43 +146,48 @@ fn numbers_and_pieces_have_their_texts(rt: HostRuntime) -> Result<(), Fail> {
 
 type Told = LineResult<Reply, Answer>;
 
-const UNREAD: Told = LineResult::Unread;
+type Row = LineResult<SingleReply, Answer>;
+
+const UNREAD: Row = LineResult::Unread;
 
 /// A queue of fifteen that is filled.
-const FILLED: &[Told] = &[
-    LineResult::Update(Updated::Done(Reply::Queued, 0)),
-    LineResult::Update(Updated::Done(Reply::Queued, 1)),
-    LineResult::Update(Updated::Done(Reply::Queued, 2)),
-    LineResult::Update(Updated::Done(Reply::Queued, 3)),
-    LineResult::Update(Updated::Done(Reply::Queued, 4)),
-    LineResult::Update(Updated::Done(Reply::Queued, 5)),
-    LineResult::Update(Updated::Done(Reply::Queued, 6)),
-    LineResult::Update(Updated::Done(Reply::Queued, 7)),
-    LineResult::Update(Updated::Done(Reply::Queued, 8)),
-    LineResult::Update(Updated::Done(Reply::Queued, 9)),
-    LineResult::Update(Updated::Done(Reply::Queued, 10)),
-    LineResult::Update(Updated::Done(Reply::Queued, 11)),
-    LineResult::Update(Updated::Done(Reply::Queued, 12)),
-    LineResult::Update(Updated::Done(Reply::Queued, 13)),
-    LineResult::Update(Updated::Done(Reply::Queued, 14)),
-    LineResult::Update(Updated::Done(Reply::Full, 15)),
-    LineResult::Update(Updated::Done(Reply::Head(1), 16)),
-    LineResult::Update(Updated::Done(Reply::Queued, 17)),
+const FILLED: &[Row] = &[
+    LineResult::Update(Updated::Done(SingleReply::Queued, 0)),
+    LineResult::Update(Updated::Done(SingleReply::Queued, 1)),
+    LineResult::Update(Updated::Done(SingleReply::Queued, 2)),
+    LineResult::Update(Updated::Done(SingleReply::Queued, 3)),
+    LineResult::Update(Updated::Done(SingleReply::Queued, 4)),
+    LineResult::Update(Updated::Done(SingleReply::Queued, 5)),
+    LineResult::Update(Updated::Done(SingleReply::Queued, 6)),
+    LineResult::Update(Updated::Done(SingleReply::Queued, 7)),
+    LineResult::Update(Updated::Done(SingleReply::Queued, 8)),
+    LineResult::Update(Updated::Done(SingleReply::Queued, 9)),
+    LineResult::Update(Updated::Done(SingleReply::Queued, 10)),
+    LineResult::Update(Updated::Done(SingleReply::Queued, 11)),
+    LineResult::Update(Updated::Done(SingleReply::Queued, 12)),
+    LineResult::Update(Updated::Done(SingleReply::Queued, 13)),
+    LineResult::Update(Updated::Done(SingleReply::Queued, 14)),
+    LineResult::Update(Updated::Done(SingleReply::Full, 15)),
+    LineResult::Update(Updated::Done(SingleReply::Head(1), 16)),
+    LineResult::Update(Updated::Done(SingleReply::Queued, 17)),
 ];
 
 const FILLED_TEXT: &str =
     "caller 1\nqueued @0\nqueued @1\nqueued @2\nqueued @3\nqueued @4\nqueued @5\nqueued @6\nqueued @7\nqueued @8\nqueued @9\nqueued @10\nqueued @11\nqueued @12\nqueued @13\nqueued @14\nfull @15\nhead 1 @16\nqueued @17\ncount 18\n";
 
 /// What each caller was told, the count, and the text.
-const RUNS: [(&[&[Told]], u64, &str); 3] = [
+const RUNS: [(&[&[Row]], u64, &str); 3] = [
     (&[FILLED], 18, FILLED_TEXT),
     (
         &[
-            &[LineResult::Update(Updated::Done(Reply::Queued, 1)), UNREAD],
+            &[
+                LineResult::Update(Updated::Done(SingleReply::Queued, 1)),
+                UNREAD,
+            ],
             &[],
             &[
                 LineResult::Read(Answer::Empty, 0),
-                LineResult::Update(Updated::Done(Reply::Added, 0)),
+                LineResult::Update(Updated::Done(SingleReply::Added, 0)),
             ],
         ],
         2,
@@ -191,10 +196,28 @@ const RUNS: [(&[&[Told]], u64, &str); 3] = [
     (&[], 7, "count 7\n"),
 ];
 
-fn results_of(alloc: Global, callers: &[&[Told]]) -> Result<Vec<Vec<Told>>, AllocError> {
+/// What a line was told, by a row that has the reply to an update of one structure.
+fn told_of(row: &Row) -> Told {
+    match *row {
+        Row::Unread => Told::Unread,
+        Row::Update(Updated::Done(reply, place)) => {
+            Told::Update(Updated::Done(Reply::plain(reply), place))
+        }
+        Row::Update(Updated::Spent) => Told::Update(Updated::Spent),
+        Row::Update(Updated::Failed) => Told::Update(Updated::Failed),
+        Row::Update(Updated::Doubt) => Told::Update(Updated::Doubt),
+        Row::Read(answer, front) => Told::Read(answer, front),
+    }
+}
+
+fn results_of(alloc: Global, callers: &[&[Row]]) -> Result<Vec<Vec<Told>>, AllocError> {
     let mut results = Vec::new(alloc);
-    for told in callers {
-        results.push(told.to_vec(alloc)?)?;
+    for rows in callers {
+        let mut told = Vec::new(alloc);
+        for row in *rows {
+            told.push(told_of(row))?;
+        }
+        results.push(told)?;
     }
     Ok(results)
 }

@@ -1,0 +1,188 @@
+//! Groups of updates: their words, and what they do on a heap of order 4.
+
+use crate::heap::apply_all;
+use crate::model::are;
+use rom_heap::Trio;
+use rom_model::{
+    Args, Back, Call, Group, Replies, Reply, Single, SingleReply, call_words, new_region,
+    reply_words, words_call, words_reply,
+};
+use std::test::Fail;
+
+/// Words with the tag of a group that stand for nothing.
+const NO_GROUP: [&[u64]; 7] = [
+    // No number of members, one member, nine.
+    &[8],
+    &[8, 1, 2],
+    &[8, 9, 2, 2, 2, 2, 2, 2, 2, 2, 2],
+    // A member too few, one too many, one that lacks a number.
+    &[8, 2, 2],
+    &[8, 2, 2, 2, 2],
+    &[8, 2, 2, 5, 6],
+    // A group in a group.
+    &[8, 2, 2, 8, 2, 2, 2],
+];
+
+/// Words with the tag of a group's replies that stand for nothing: no number of replies, too few
+/// words, nine replies, a group's replies in a group's.
+const NO_REPLIES: [&[u64]; 4] = [
+    &[14],
+    &[14, 2, 10, 9],
+    &[14, 9, 1, 1, 1, 1, 1, 1, 1, 1, 1],
+    &[14, 1, 14, 0],
+];
+
+#[test]
+fn groups_have_the_words_of_the_tables(rt: HostRuntime) {
+    let calls = [Single::Move(1, 2, 3); 9];
+    for (many, fits) in [(0, false), (1, false), (2, true), (8, true), (9, false)] {
+        assert_eq!(rt;
+            Group::of(&calls[..many.min(9)]).is_some(),
+            fits,
+            "at {many}"
+        );
+    }
+    let members = [Single::Deq, Single::Put(5, 6), Single::Rem(7)];
+    let group = Group::of(&members).expect(&rt, "three members");
+    let seen = (group.len(), group.at(1), group.at(3));
+    assert_eq!(rt; seen, (3, Some(Single::Put(5, 6)), None));
+    let words = call_words(&Call::Group(group));
+    assert!(rt; are(&words, &[8, 3, 2, 5, 5, 6, 4, 7]));
+    assert_eq!(rt; words_call(&words), Some(Call::Group(group)));
+    // Eight members of four words each.
+    let widest = Group::of(&calls[..8]).expect(&rt, "eight members");
+    assert_eq!(rt; call_words(&Call::Group(widest)).len(), 34);
+    for words in NO_GROUP {
+        assert!(rt; words.len() <= 40);
+        assert_eq!(rt; words_call(&Args::of(words)), None, "at {words:?}");
+    }
+}
+
+#[test]
+fn replies_to_groups_have_the_words_of_the_tables(rt: HostRuntime) {
+    let mut replies = Replies::new();
+    replies.push(SingleReply::Was(9));
+    replies.push(SingleReply::Moved);
+    let seen = (replies.len(), replies.at(0), replies.at(2));
+    assert_eq!(rt; seen, (2, Some(SingleReply::Was(9)), None));
+    let words = reply_words(&Reply::All(replies));
+    assert!(rt; are(&words, &[14, 2, 10, 9, 11]));
+    assert_eq!(rt; words_reply(&words), Some(Reply::All(replies)));
+    for words in NO_REPLIES {
+        assert!(rt; words.len() <= 20);
+        assert_eq!(rt; words_reply(&Back::of(words)), None, "at {words:?}");
+    }
+}
+
+/// How many values the queue has first, each of them 1; the members of a group; and what they are
+/// told, or nothing where one of them finds the heap full.
+const GROUPS: [(usize, &[Single], &[SingleReply]); 17] = [
+    (
+        0,
+        &[Single::Put(1, 5), Single::Put(2, 6), Single::Move(1, 2, 5)],
+        &[
+            SingleReply::NoPrior,
+            SingleReply::NoPrior,
+            SingleReply::Moved,
+        ],
+    ),
+    (14, &[Single::Add(1), Single::Add(2)], &[]),
+    (
+        14,
+        &[Single::Deq, Single::Add(1), Single::Add(1)],
+        &[
+            SingleReply::Head(1),
+            SingleReply::Added,
+            SingleReply::Present,
+        ],
+    ),
+    // The room that a member gives back serves a later one, and not an earlier one.
+    (
+        15,
+        &[Single::Deq, Single::Enq(2)],
+        &[SingleReply::Head(1), SingleReply::Queued],
+    ),
+    (15, &[Single::Enq(2), Single::Deq], &[]),
+    // What an earlier member puts in or takes out is there, or not, for a later one.
+    (
+        14,
+        &[Single::Add(5), Single::Add(5)],
+        &[SingleReply::Added, SingleReply::Present],
+    ),
+    (
+        14,
+        &[
+            Single::Add(5),
+            Single::Rem(5),
+            Single::Add(5),
+            Single::Rem(6),
+        ],
+        &[
+            SingleReply::Added,
+            SingleReply::Removed,
+            SingleReply::Added,
+            SingleReply::Absent,
+        ],
+    ),
+    (
+        14,
+        &[Single::Put(5, 1), Single::Put(5, 2)],
+        &[SingleReply::NoPrior, SingleReply::Was(1)],
+    ),
+    (
+        14,
+        &[Single::Put(5, 1), Single::Del(5), Single::Put(6, 2)],
+        &[
+            SingleReply::NoPrior,
+            SingleReply::Was(1),
+            SingleReply::NoPrior,
+        ],
+    ),
+    (14, &[Single::Put(5, 1), Single::Put(6, 2)], &[]),
+    // A number of the set is none of the map's keys.
+    (14, &[Single::Add(5), Single::Put(5, 1)], &[]),
+    // What changes nothing gives no room.
+    (15, &[Single::Del(5), Single::Put(5, 1)], &[]),
+    (15, &[Single::Rem(5), Single::Add(5)], &[]),
+    (
+        15,
+        &[Single::Move(1, 2, 0), Single::Move(1, 1, 0)],
+        &[SingleReply::Absent, SingleReply::Absent],
+    ),
+    // The queue is emptied, and a value that a member put is taken by a later one.
+    (
+        1,
+        &[Single::Deq, Single::Deq, Single::Enq(3), Single::Deq],
+        &[
+            SingleReply::Head(1),
+            SingleReply::Empty,
+            SingleReply::Queued,
+            SingleReply::Head(3),
+        ],
+    ),
+    // The last of eight members finds the heap full, or takes its last place.
+    (8, &[Single::Enq(2); 8], &[]),
+    (7, &[Single::Enq(2); 8], &[SingleReply::Queued; 8]),
+];
+
+#[test]
+fn groups_on_a_heap_with_so_many_values(rt: HostRuntime) -> Result<(), Fail> {
+    for (many, members, wanted) in GROUPS {
+        let group = Group::of(members).expect(&rt, "two to eight members");
+        let values = &[Single::Enq(1); 15][..many.min(15)];
+        let mut space = new_region::<Trio>(rt.alloc(), 4)?;
+        match apply_all(&mut space, values, &Call::Group(group)) {
+            Reply::All(replies) => {
+                assert!(rt; replies.as_slice() == wanted, "at {members:?}");
+            }
+            told => {
+                assert!(rt; told == Reply::Full && wanted.is_empty(), "at {members:?}");
+                // A call that is full changes the count alone, and so does a refused group.
+                let mut alone = new_region::<Trio>(rt.alloc(), 4)?;
+                apply_all(&mut alone, values, &Call::Rem(0));
+                assert!(rt; space.words() == alone.words(), "at {members:?}");
+            }
+        }
+    }
+    Ok(())
+}
