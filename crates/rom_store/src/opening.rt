@@ -1,5 +1,5 @@
 //! A heap that is opened for callers, whose lock isn't made yet.
-ghost use Rattle.std.specs.Prelude.{◌≡◌, ℕ, ◌≤◌, List, IfErr, IfOk, IsTrue, Ok, length};
+ghost use Rattle.std.specs.Prelude.{◌≡◌, ℕ, ◌*◌, ◌≤◌, List, IfErr, IfOk, IsTrue, Ok, length};
 ghost use Rattle.rom_model.specs.Blocks.{IsOrder};
 ghost use Rattle.rom_model.specs.VecSpace.{words_of};
 ghost use Rattle.rom_device.specs.Device.{IsSynced, Leaves};
@@ -84,7 +84,8 @@ impl<D: Device, O: Object> Opening<D, O> {
         requires begun { let b = opened_with seated.shared in
             (seated.begun.order ≡ b.order) × (words_of seated.begun.image.value ≡ b.image)
             × (seated.begun.faults ≡ b.faults) × (b.order ≡ geometry) }
-        requires ready { IsReady O.STORES (opened_with seated.shared).callers seated.log }
+        requires ready { let callers = (opened_with seated.shared).callers in
+            IsReady (O.STORES * O.WEIGHT) callers seated.log }
         requires formed { let b = opened_with seated.shared in
             (s : O.State) × (k : ℕ) × O.Contents b.order b.image s k }
         requires faults { D.shown.faults device ≡ seated.begun.faults }

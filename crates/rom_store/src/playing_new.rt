@@ -1,5 +1,5 @@
 //! Scripts on a heap that is made for them.
-ghost use Rattle.std.specs.Prelude.{◌≡◌, Err, Ok, ◌<◌, ◌≤◌, length, All, IfErr, IfOk, IsTrue, OnOk};
+ghost use Rattle.std.specs.Prelude.{◌≡◌, Err, Ok, ◌*◌, ◌<◌, ◌≤◌, length, All, IfErr, IfOk, IsTrue, OnOk};
 ghost use Rattle.rom_model.specs.Blocks.{IsOrder};
 ghost use Rattle.rom_model.specs.History.{LAST_COUNT};
 ghost use Rattle.rom_model.specs.Machine.{on_words};
@@ -74,7 +74,8 @@ where
     }) }
     ensures writer { IfOk result (λ made. writer_view made.seated.writer
         ≡ dealt_view (opened_with made.seated.shared) (length scripts.now)) }
-    ensures ready { IfOk result (λ made. IsReady O.STORES (length scripts.now) made.seated.log) }
+    ensures ready { IfOk result (λ made.
+        IsReady (O.STORES * O.WEIGHT) (length scripts.now) made.seated.log) }
     ensures many { IfOk result (λ made. length made.seated.passes.items ≡ length scripts.now) }
     ensures passes { IfOk result (λ made. Indexed (IsNewCaller O.Contents
         made.seated.shared.table.shared.table_id (opened_with made.seated.shared))

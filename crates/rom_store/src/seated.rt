@@ -1,5 +1,5 @@
 //! A table whose callers have their seats.
-ghost use Rattle.std.specs.Prelude.{◌≡◌, ℕ, ◌≤◌, All, IfOk, length, map};
+ghost use Rattle.std.specs.Prelude.{◌≡◌, ℕ, ◌*◌, ◌≤◌, All, IfOk, length, map};
 ghost use Rattle.rom_model.specs.Blocks.{IsOrder, region_len};
 ghost use Rattle.rom_model.specs.VecSpace.{words_of};
 ghost use Rattle.rom_lr.specs.Opening.{AreNew, dealt_view};
@@ -19,7 +19,8 @@ use std::alloc::{AllocError, Global};
 use std::snapshot::Snapshot;
 
 /// The table of a heap's words, with the writer's seat, a log with room for the stores of a call of
-/// each caller, and a pass for each. The device is still to come; nothing takes memory from here on.
+/// the greatest weight of each caller, and a pass for each. The device is still to come; nothing takes
+/// memory from here on.
 #[derive(Drop)]
 pub(crate) struct Seated<O: Object> {
     pub shared: Shared<O>,
@@ -41,15 +42,15 @@ fn passes_of(alloc: Global, seats: Vec<Seat>) -> Result<Vec<Pass>, AllocError>
     Ok(passes)
 }
 
-// A log with room for the stores of a call of each caller. An object's number of stores may be any; where
-// so many words cannot be counted, there is no memory for them either.
+// A log with room for the stores of a call of the greatest weight of each caller. An object's numbers of
+// stores and of weight may be any; where so many words cannot be counted, there is no memory for them
+// either.
 fn log_for<O: Object>(alloc: Global, callers: u32) -> Result<RangeLog, AllocError>
-    ensures { IfOk result (λ log. IsReady O.STORES callers log) }
+    ensures { IfOk result (λ log. IsReady (O.STORES * O.WEIGHT) callers log) }
 {
-    match O::STORES.checked_mul(u64::from(callers)) {
-        Some(room) => RangeLog::with_room(alloc, room),
-        None => Err(AllocError),
-    }
+    let stores = O::STORES.checked_mul(O::WEIGHT).ok_or(AllocError)?;
+    let room = stores.checked_mul(u64::from(callers)).ok_or(AllocError)?;
+    RangeLog::with_room(alloc, room)
 }
 
 impl<O: Object> Seated<O> {
@@ -73,7 +74,7 @@ impl<O: Object> Seated<O> {
         }) }
         ensures writer { IfOk result (λ t. writer_view t.writer
             ≡ dealt_view (opened_with t.shared) callers) }
-        ensures ready { IfOk result (λ t. IsReady O.STORES callers t.log) }
+        ensures ready { IfOk result (λ t. IsReady (O.STORES * O.WEIGHT) callers t.log) }
         ensures many { IfOk result (λ t. length t.passes.items ≡ callers) }
         ensures passes { IfOk result (λ t. Indexed (IsNewCaller O.Contents
             t.shared.table.shared.table_id (opened_with t.shared)) t.passes.items) }

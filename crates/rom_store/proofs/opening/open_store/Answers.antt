@@ -1,8 +1,8 @@
-use Rattle.std.proofs.Common.{rules, arith, ◌≡◌, ℕ, List, inr, sym, subst}
+use Rattle.std.proofs.Common.{rules, arith, ◌≡◌, ℕ, List, inr, refl, sym, subst}
 use Rattle.std.specs.Prelude.{Err, IfErr}
 use Rattle.std.proofs.lemmas.Grind.{common_steps}
 use Rattle.rom_combine.specs.Costs.{WithinHeap}
-use Rattle.rom_device.specs.Device.{Leaves}
+use Rattle.rom_device.specs.Device.{IsSynced, Leaves}
 use Rattle.rom_header.specs.Held.{Holds}
 use Rattle.rom_header.specs.Regions.{IsCurrentRegion}
 use Rattle.rom_recover.specs.Recovered.{Mended}
@@ -56,6 +56,11 @@ returns-in-Ok-clause-images g c told =
     let words = shown.words c.args.device in
     let device_is : c.of.result.device ≡ c.in_ok-device.field-0.device = search rules in
     subst (λ d. Leaves shown (Mended (named_order words) words) c.args.device d) (sym device_is) (c.in_ok-device.ensures.images told)
+
+pub returns-in-Ok-clause-certain : goal.returns-in-Ok-clause-certain
+returns-in-Ok-clause-certain g c =
+    let device_is : c.of.result.device ≡ c.in_ok-device.field-0.device = search rules in
+    subst (IsSynced g.D.Device.shown) (sym device_is) (c.in_ok-device.ensures.certain refl)
 
 pub returns-in-Ok-clause-outside : goal.returns-in-Ok-clause-outside
 returns-in-Ok-clause-outside g c told =

@@ -1,4 +1,4 @@
-use Rattle.std.proofs.Common.{◌≡◌, ◌∙◌, ℕ, List, arith, rules, sym, subst}
+use Rattle.std.proofs.Common.{◌≡◌, ◌∙◌, ◌*◌, ℕ, List, arith, rules, sym, subst}
 use Rattle.rom_combine.specs.AtRest.{IsReady}
 use Rattle.rom_rule.specs.declared.views.Base.{Base}
 use Rattle.rom_combine.specs.Costs.{WithinHeap}
@@ -14,7 +14,7 @@ use Rattle.rom_store.proofs.Starting.{made_first, session_since}
 use Rattle.rom_store.proofs.playing_new.play_new.Goals as goal
 
 pub of-opening-requires-clause-ready : goal.of-opening-requires-clause-ready
-of-opening-requires-clause-ready g c = subst (λ (b : Base). IsReady g.O.Object.STORES b.callers c.in-Ok.made.seated.log) (sym c.in-Ok.ensures.base) c.in-Ok.ensures.ready
+of-opening-requires-clause-ready g c = subst (λ (b : Base). IsReady (g.O.Object.STORES * g.O.Object.WEIGHT) b.callers c.in-Ok.made.seated.log) (sym c.in-Ok.ensures.base) c.in-Ok.ensures.ready
 
 pub play_on-requires-clause-ready : goal.play_on-requires-clause-ready
 play_on-requires-clause-ready g c = λ κs outlive.
