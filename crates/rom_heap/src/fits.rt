@@ -31,18 +31,8 @@ fn set_tells(key: u64, call: &Single, told: Option<bool>) -> Option<bool>
     ensures { result ≡ plan.set_tells key call.now told }
 {
     match *call {
-        Single::Add(k) => {
-            if key == k {
-                return Some(true);
-            }
-            told
-        }
-        Single::Rem(k) => {
-            if key == k {
-                return Some(false);
-            }
-            told
-        }
+        Single::Add(k) if key == k => Some(true),
+        Single::Rem(k) if key == k => Some(false),
         _ => told,
     }
 }
@@ -52,18 +42,8 @@ fn map_tells(key: u64, call: &Single, told: Option<bool>) -> Option<bool>
     ensures { result ≡ plan.map_tells key call.now told }
 {
     match *call {
-        Single::Put(k, _) => {
-            if key == k {
-                return Some(true);
-            }
-            told
-        }
-        Single::Del(k) => {
-            if key == k {
-                return Some(false);
-            }
-            told
-        }
+        Single::Put(k, _) if key == k => Some(true),
+        Single::Del(k) if key == k => Some(false),
         _ => told,
     }
 }
@@ -172,36 +152,24 @@ fn next_room(there: bool, call: &Single, room: Room) -> Option<Room>
 {
     match *call {
         Single::Enq(_) => {
-            if room.free == 0 {
-                return None;
-            }
+            let Room { free, queue } = taken(room)?;
             Some(Room {
-                free: room.free - 1,
-                queue: room.queue + 1,
+                free,
+                queue: queue + 1,
             })
         }
+        Single::Deq if room.queue == 0 => Some(room),
         Single::Deq => {
-            if room.queue == 0 {
-                return Some(room);
-            }
+            let Room { free, queue } = given(room);
             Some(Room {
-                free: room.free + 1,
-                queue: room.queue - 1,
+                free,
+                queue: queue - 1,
             })
         }
-        Single::Add(_) | Single::Put(_, _) => {
-            if there {
-                return Some(room);
-            }
-            taken(room)
-        }
-        Single::Rem(_) | Single::Del(_) => {
-            if there {
-                return Some(given(room));
-            }
-            Some(room)
-        }
-        Single::Move(_, _, _) => Some(room),
+        Single::Add(_) | Single::Put(_, _) if there => Some(room),
+        Single::Add(_) | Single::Put(_, _) => taken(room),
+        Single::Rem(_) | Single::Del(_) if there => Some(given(room)),
+        Single::Rem(_) | Single::Del(_) | Single::Move(_, _, _) => Some(room),
     }
 }
 
