@@ -51,7 +51,7 @@ fn table_on<D: Device + Drop>(
     let twin = Twin::new(device, geometry);
     let faults = twin.fault_count();
     let (shared, writer, seats) = Shared::<Trio>::new(alloc, geometry.order(), 3, image, faults)?;
-    let log = RangeLog::with_room(alloc, 3 * Trio::STORES)?;
+    let log = RangeLog::with_room(alloc, 3 * Trio::STORES * Trio::WEIGHT)?;
     let core = Core::new(twin, log, writer);
     Ok((core, shared, seats))
 }

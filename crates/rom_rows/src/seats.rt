@@ -31,7 +31,7 @@ fn an_update_on_main_is_not_seen_by_a_query_on_back(rt: HostRuntime) -> Result<(
     let heap = new_region::<Trio>(alloc, 4)?;
     let (shared, mut writer, (mut seat, _second, _third)) = seated(alloc, &heap)?;
     shared.enter(&mut seat);
-    let mut log = RangeLog::with_room(alloc, Trio::STORES)?;
+    let mut log = RangeLog::with_room(alloc, Trio::STORES * Trio::WEIGHT)?;
     let reply = apply_main(&shared, &mut writer, &mut log, &Call::Enq(5));
     let told = asked(&shared, &mut seat, Query::Len);
     shared.leave(&mut seat);
