@@ -5,10 +5,10 @@ use Rattle.std.specs.List.{AllByRecursion, enumerate_from, sum_by, zip}
 use Rattle.std.proofs.lemmas.Bool.Decides.{eqb_tells}
 use Rattle.std.proofs.lemmas.List.Sums.{sum_by-append, sum_by-cons}
 use Rattle.rom_model.specs.declared.call.Call.{Call}
-use Rattle.rom_model.specs.declared.call.Call.TheVariants.{Enq}
+use Rattle.rom_model.specs.declared.call.Call.TheVariants.{Enq, Group}
 use Rattle.rom_model.specs.declared.call.Query.{Query}
 use Rattle.rom_model.specs.declared.call.Reply.{Reply}
-use Rattle.rom_model.specs.declared.call.Reply.TheVariants.{Queued, Head}
+use Rattle.rom_model.specs.declared.call.Reply.TheVariants.{Queued, Head, All}
 use Rattle.rom_model.specs.declared.call.Answer.{Answer}
 use Rattle.rom_model.specs.declared.call.Updated.{Updated}
 use Rattle.rom_model.specs.declared.call.Updated.TheVariants as told
@@ -27,7 +27,7 @@ use Rattle.rom_model.specs.State.{State}
 use Rattle.rom_model.specs.Story.{Story}
 use Rattle.rom_model.specs.Trio.{trio}
 use Rattle.rom_model.proofs.Placed.{history_placed}
-use Rattle.rom_model.proofs.Tags.{call_back, reply_back}
+use Rattle.rom_model.proofs.Tags.{group_or_none, replies_or_none}
 use Rattle.rom_script.specs.Drill.{dequeued, dequeued_by, dequeued_of, enqueued, enqueued_by, enqueued_of}
 use Rattle.rom_shell.specs.Drilled.{dequeued_in, enqueued_in, put_by, put_in, taken_by, taken_in}
 
@@ -135,6 +135,17 @@ module _ (story : Story State) (g : Entry → ℕ) (line_sum : Step Call Query �
       (done_within 1 (length lss) (all_told (on_words trio) story.order story.opening story.opening_count story.records) (within (length lss) _ lawful.known)) in
       served_sum 1 lss rss lawful.served ∙ sym (all_parts (λ x. g x.1) (length lss) 1 (enumerate_from story.opening_count story.history) theirs) ∙ sum_places g story.opening_count story.history
 
+-- what the words of a call and a reply count for is what these do; a group counts for nothing
+words_put : (call : Call) (reply : Reply) → put_by (words_call (call_words call)) (words_reply (reply_words reply)) ≡ put_by (Some call) (Some reply)
+words_put (Group calls) reply = group_or_none calls (λ o. put_by o (words_reply (reply_words reply)) ≡ 0) refl refl
+words_put (Enq v) (All replies) = replies_or_none replies (λ o. put_by (Some (Enq v)) o ≡ 0) refl refl
+words_put (Enq v) reply = refl
+words_put call reply = refl
+
+words_taken : (reply : Reply) → taken_by (words_reply (reply_words reply)) ≡ taken_by (Some reply)
+words_taken (All replies) = replies_or_none replies (λ o. taken_by o ≡ 0) refl refl
+words_taken reply = refl
+
 put_same : (call : Call) (reply : Reply) (place : ℕ) → enqueued_by (line.Update call) (outcome.Update (told.Done reply place)) ≡ put_by (Some call) (Some reply)
 put_same (Enq v) Queued place = refl
 put_same call reply place = refl
@@ -158,7 +169,7 @@ doubt_put call = refl
 
 put_line : (story : Story State) (caller seq : ℕ) (l : Step Call Query) (r : LineResult Reply Answer) → Tells trio story l r → enqueued_by l r ≡ sum_by (λ x. put_in x.1) (done_by trio caller seq l r)
 put_line story caller seq (line.Update call) (outcome.Update (told.Done reply place)) tells =
-    let words : put_by (words_call (call_words call)) (words_reply (reply_words reply)) ≡ put_by (Some call) (Some reply) = λ i. put_by (call_back call i) (reply_back reply i) in
+    let words = words_put call reply in
     let here = put_same call reply place in omega (arith, words, here)
 put_line story caller seq (line.Update call) (outcome.Update told.Spent) tells = spent_put call
 put_line story caller seq (line.Update call) (outcome.Update told.Failed) tells = failed_put call
@@ -170,7 +181,7 @@ put_line story caller seq line.Unread r tells = refl
 
 taken_line : (story : Story State) (caller seq : ℕ) (l : Step Call Query) (r : LineResult Reply Answer) → Tells trio story l r → dequeued_by r ≡ sum_by (λ x. taken_in x.1) (done_by trio caller seq l r)
 taken_line story caller seq (line.Update call) (outcome.Update (told.Done reply place)) tells =
-    let words : taken_by (words_reply (reply_words reply)) ≡ taken_by (Some reply) = λ i. taken_by (reply_back reply i) in
+    let words = words_taken reply in
     let here = taken_same reply place in omega (arith, words, here)
 taken_line story caller seq (line.Ask query) (outcome.Update updated) tells = absurd tells
 taken_line story caller seq line.Unread (outcome.Update updated) tells = absurd tells
