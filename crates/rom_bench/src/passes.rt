@@ -143,15 +143,15 @@ fn new_poster(shared: &Shared<Trio>, seat: Seat) -> Poster
     Poster::of(seat)
 }
 
-/// The core of a table that was opened on this twin's image, of an empty heap. The log has room for 32
-/// stores of each caller, which is `Trio::STORES`.
+/// The core of a table that was opened on this twin's image, of an empty heap. The log has room for 256
+/// stores of each caller, which is `Trio::STORES` for each unit of `Trio::WEIGHT`.
 fn core_of(
     shared: &Shared<Trio>,
     twin: Twin<Ram>,
     log: RangeLog,
     seat: WriterSeat,
 ) -> Core<Ram, Trio>
-    requires ready { IsReady 32 (writer_view seat).base.callers log }
+    requires ready { IsReady 256 (writer_view seat).base.callers log }
     requires phase { twin.phase ≡ Phase.Clean }
     requires order { twin.order ≡ 4 }
     requires of { IsWriterOf shared.now seat }
@@ -182,7 +182,8 @@ fn passed<R: Wait>(
         region.words(),
         0,
     )?;
-    let log = RangeLog::with_room(alloc, u64::from(passes.callers) * Trio::STORES)?;
+    let room = u64::from(passes.callers) * Trio::STORES * Trio::WEIGHT;
+    let log = RangeLog::with_room(alloc, room)?;
     let mut core = core_of(&shared, twin, log, writer);
     let mut posters = posters_of(alloc, &shared, seats, passes.posting)?;
     let done = pass_all(

@@ -27,6 +27,7 @@ abbrev pub counter : Machine ℕ Add Query Sum Sum
 counter = record {
   empty = 0;
   step = λ order s count call. (sum_of s call.amount, record { value = sum_of s call.amount });
+  weight = λ call. 1;
   tell = λ s query. record { value = s };
   cost = λ order s query. 1;
   call_words = λ call. call.amount ∷ [];

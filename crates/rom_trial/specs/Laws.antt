@@ -2,21 +2,18 @@
 use Rattle.std.specs.Prelude.{◌≡◌, ℕ, ◌≤◌, List, [], ◌∷◌, length, slice_index, Some}
 use Rattle.rom_model.specs.Blocks.{region_len}
 use Rattle.rom_model.specs.History.{LAST_COUNT}
-use Rattle.rom_trial.specs.Counter.{Contents, words_add, words_sum}
+use Rattle.rom_trial.specs.Counter.{Contents, counter, words_add, words_sum}
 use Rattle.rom_trial.specs.declared.counter.Add.{Add}
 use Rattle.rom_trial.specs.declared.counter.Sum.{Sum}
 use Rattle.std.proofs.Common.{refl, sym, ◌∙◌}
-
-pub call_back : (call : Add) → words_add (call.amount ∷ []) ≡ Some call
-call_back call = refl
 
 pub call_only : (words : List ℕ) (call : Add) → words_add words ≡ Some call → call.amount ∷ [] ≡ words
 call_only [] call is = cc
 call_only (w ∷ []) call is = cc
 call_only (w ∷ v ∷ ws) call is = cc
 
-pub reply_back : (reply : Sum) → words_sum (reply.value ∷ []) ≡ Some reply
-reply_back reply = refl
+pub reply_back : (order s count : ℕ) (words : List ℕ) (call : Add) → words_add words ≡ Some call → let told : Sum = (counter.step order s count call).1 in words_sum (told.value ∷ []) ≡ Some told
+reply_back order s count words call is = refl
 
 pub reply_only : (words : List ℕ) (reply : Sum) → words_sum words ≡ Some reply → reply.value ∷ [] ≡ words
 reply_only [] reply is = cc

@@ -2,7 +2,7 @@
 ghost use Rattle.std.specs.Prelude.{◌≡◌, ℕ, ◌<◌, Option, Some};
 ghost use Rattle.rom_model.specs.Blocks.{region_len};
 ghost use Rattle.rom_trial.specs.Counter.{Contents, FirstBreak, counter};
-ghost use Rattle.rom_trial.specs.Laws.{call_back, call_only, contents_within, one_contents, reply_back, reply_only};
+ghost use Rattle.rom_trial.specs.Laws.{call_only, contents_within, one_contents, reply_back, reply_only};
 
 use rom_model::{Args, Back, COUNT, KIND, LAST_COUNT, Look, Object, Rule, Space, Unfit};
 use std::alloc::Global;
@@ -44,6 +44,10 @@ impl Object for Counter {
 
     const STORES: u64 = 2;
 
+    ghost WEIGHT = { 1 };
+
+    const WEIGHT: u64 = 1;
+
     ghost State = { ℕ };
 
     type Call = Add;
@@ -59,6 +63,10 @@ impl Object for Counter {
     ghost Contents = { Contents };
 
     ghost FirstBreak = { FirstBreak };
+
+    fn weight_of(call: &Add) -> u64 {
+        1
+    }
 
     fn call_words(call: &Add) -> Args {
         Args::of(&[call.amount])
@@ -119,8 +127,6 @@ impl Object for Counter {
         }
         Ok(())
     }
-
-    ghost call_back = { call_back };
 
     ghost call_only = { call_only };
 
