@@ -33,12 +33,19 @@ const GREAT: &str = "put 0 18446744073709551615\nput 1 18446744073709551615\ntot
 const GREAT_TOLD: &str =
     "caller 1\nnone @0\nnone @1\ntotal 36893488147419103230 #2\nover @2\ncount 3\n";
 
+/// A group that finds no room for its second member, and one that takes an element out before it puts
+/// one in.
+const GROUPED: &str = "14 * enq 1\ntx add 1 ; add 2\nhas 1\ntx deq ; add 1 ; add 1\n";
+
+const GROUPED_TOLD: &str =
+    "caller 1\nqueued @0\nqueued @1\nqueued @2\nqueued @3\nqueued @4\nqueued @5\nqueued @6\nqueued @7\nqueued @8\nqueued @9\nqueued @10\nqueued @11\nqueued @12\nqueued @13\nfull @14\nno #15\nall head 1 ; added ; present @15\ncount 16\n";
+
 const TRIED: Row = Row {
     words: &["try", "script"],
     ..PLAIN
 };
 
-static SCRIPTS: [Row; 12] = [
+static SCRIPTS: [Row; 15] = [
     Row {
         scripts: &[""],
         text: Text::Is("caller 1\ncount 0\n"),
@@ -102,6 +109,22 @@ static SCRIPTS: [Row; 12] = [
         text: Text::Is("caller 1\nqueued @0\nhead 9 #1\nunread\nhead 9 @1\ncount 2\n"),
         ..TRIED
     },
+    Row {
+        scripts: &["tx put 1 5 ; put 2 6 ; move 1 2 5\nget 2\n"],
+        text: Text::Is("caller 1\nall none ; none ; moved @0\nvalue 11 #1\ncount 1\n"),
+        ..TRIED
+    },
+    Row {
+        scripts: &[GROUPED],
+        text: Text::Is(GROUPED_TOLD),
+        ..TRIED
+    },
+    Row {
+        scripts: &["tx enq 1\ntx enq 1 ; peek\ntx enq 1;deq\n"],
+        status: 1,
+        text: Text::Is("caller 1\nunread\nunread\nunread\ncount 0\n"),
+        ..TRIED
+    },
 ];
 
 /// Twelve reads give the 34 bytes of this script, and the thirteenth tells their end.
@@ -129,7 +152,7 @@ const READS: [&[u64]; 13] = [
     &[13],
 ];
 
-static ROWS: [Row; 9] = [
+static ROWS: [Row; 10] = [
     // A lone dash is a script's name.
     Row {
         words: &["try", "-"],
