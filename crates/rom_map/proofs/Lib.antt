@@ -1,12 +1,5 @@
--- Lemmas on finite maps, on the chains of buckets, and on the map's blocks.
-pub mod Entries
-pub mod Buckets
-pub mod Heads
-pub mod Walking
-pub mod Sparing
-pub mod Linking
-pub mod Pairs
-pub mod Places
+-- Lemmas on the map's blocks, on keys in buckets' chains with their values.
+pub mod Keyed
 pub mod Finding
 pub mod Regions
 pub mod Added

@@ -1,39 +1,30 @@
 -- The region once a node was unlinked and its block given back.
-use Rattle.std.proofs.Common.{◌≡◌, ℕ, ◌+◌, ◌-◌, ◌*◌, ◌^◌, ◌<◌, ◌≤◌, Bool, true, List, [], ◌∷◌, ◌++◌, length, ◌∙◌, ap, subst, arith}
-use Rattle.std.specs.Prelude.{slice_index}
+use Rattle.std.proofs.Common.{◌≡◌, ℕ, ◌+◌, ◌-◌, ◌*◌, ◌^◌, ◌<◌, ◌≤◌, Bool, true, List, [], ◌∷◌, ◌++◌, ◌∙◌, subst, arith}
 use Rattle.std.specs.FinMap as finite
 use Rattle.rom_model.specs.Space.{ChangesOnly}
 use Rattle.rom_model.specs.State.{State}
 use Rattle.rom_model.specs.Blocks.{IsNode, IsDisjoint, AreWords, giving, block_at, block_of}
 use Rattle.rom_model.specs.Chains.{times}
-use Rattle.rom_model.specs.Region.{Chains, buckets, bucket_of, map_blocks, element_blocks, taken_by, IsRegion}
-use Rattle.rom_model.proofs.Times.{times_here, times_away, times-append, times_bucket}
+use Rattle.rom_model.specs.Region.{Chains, buckets, bucket_of, element_blocks, taken_by, IsRegion}
+use Rattle.rom_model.proofs.Times.{times_away, times_bucket}
 use Rattle.rom_model.proofs.Nodes.{pow_positive}
 use Rattle.rom_model.proofs.Members.{member_taken, quarter_pow}
 use Rattle.rom_model.proofs.Elements.{AreElements, one_fewer}
 use Rattle.rom_model.proofs.Frames.{pairs_same, tree_part, part_then}
 use Rattle.rom_model.proofs.Room.{times_members, tree_stays, region_disjoint}
 use Rattle.rom_block.specs.Taken.{IsTakenAt}
-use Rattle.rom_map.specs.Link.{IsUnlinked}
+use Rattle.rom_bucket.specs.Link.{IsUnlinked}
+use Rattle.rom_bucket.specs.Buckets.{There}
+use Rattle.rom_bucket.specs.declared.walk.Place.{Place}
+use Rattle.rom_bucket.proofs.Heads.{four_each}
+use Rattle.rom_bucket.proofs.Removed as gone
 use Rattle.rom_map.specs.Map.{with_bucket, table_block, IsDeleted}
-use Rattle.rom_map.specs.declared.walk.Place.{Place}
-use Rattle.rom_map.proofs.Heads.{four_each}
-use Rattle.rom_map.proofs.Places.{There}
+use Rattle.rom_map.proofs.Keyed.{map_keys}
 use Rattle.rom_map.proofs.Regions.{map_stays, version_stays, remapped}
-use Rattle.rom_map.proofs.Removed.{link_high, one_block_fewer, removed_map, removed_version, removed_part, block_stays, pairs_stay}
+use Rattle.rom_map.proofs.Removed.{one_block_fewer, removed_map, removed_version, removed_part, pairs_stay}
 
-module _ {n : ℕ} {w : List ℕ} {p : Chains} {s : State} {k key : ℕ} {place : Place} (le : 4 ≤ n) (is : IsRegion n w p s k) (within : bucket_of n key < buckets n) (t : There n w p key place) where
-  among : 0 < times t.block (p.bucket (bucket_of n key))
-  among = omega (arith, ap (times t.block) t.blocks, times-append t.block t.front (t.block ∷ t.back), times_here t.block t.back)
-
-  pub size_some : 0 < slice_index w 9
-  size_some = omega (arith, is.shape.map.len, positive (map_blocks n p) (omega (arith, among, times_bucket p.bucket (buckets n) (bucket_of n key) t.block within)))
-    where
-      positive : (bs : List ℕ) → 0 < times t.block bs → 0 < length bs
-      positive [] some = absurd (omega (arith, some))
-      positive (b ∷ bs) some = omega arith
-
-  module _ {w1 : List ℕ} (un : IsUnlinked place w w1) where
+module _ {n : ℕ} {w : List ℕ} {p : Chains} {s : State} {k key : ℕ} {place : Place} (le : 4 ≤ n) (is : IsRegion n w p s k) (within : bucket_of n key < buckets n) (t : There n w p.bucket key place) where
+  module _ {w1 : List ℕ} (un : IsUnlinked 9 place w w1) where
     abbrev own : ℕ
     own = bucket_of n key
 
@@ -47,10 +38,10 @@ module _ {n : ℕ} {w : List ℕ} {p : Chains} {s : State} {k key : ℕ} {place 
     at = t.node_is ∙ (let unit : block_of n t.block ≡ block_at n 0 (2 ^ n + t.block) = omega arith in unit)
 
     held : taken (2 ^ n + t.block) ≡ true
-    held = member_taken n t.block (element_blocks n p) (omega (arith, quarter_pow n le, pow_positive (n - 4), t.within)) (omega (arith, times_members n p t.block, among, times_bucket p.bucket (buckets n) own t.block within))
+    held = member_taken n t.block (element_blocks n p) (omega (arith, quarter_pow n le, pow_positive (n - 4), t.within)) (omega (arith, times_members n p t.block, t.among))
 
     words : AreWords n taken w1
-    words = tree_stays n taken w w1 (λ j least most. un.others j (λ e. absurd (omega (arith, e, most, link_high le is within t))) (λ e. absurd (omega (arith, e, least)))) is.shape.tree
+    words = tree_stays n taken w w1 (λ j least most. gone.removed_low le (omega arith) (map_keys is) within t un j most (omega (arith, least))) is.shape.tree
 
     -- the block may be given back
     pub may_give : IsTakenAt n 0 place.node w1
@@ -82,7 +73,7 @@ module _ {n : ℕ} {w : List ℕ} {p : Chains} {s : State} {k key : ℕ} {place 
           front = t.front;
           back = t.back;
           blocks = t.blocks;
-          kept = λ j lt. only.behind (block_of n t.block + j) (omega (arith, pow_positive n)) ∙ block_stays le is within t un j lt;
+          kept = λ j lt. only.behind (block_of n t.block + j) (omega (arith, pow_positive n)) ∙ gone.block_stays le (omega arith) (map_keys is) within t un j lt;
           stay = pairs_same n w1 w2 (t.front ++ t.back) (λ c j lt some. only.behind (block_of n c + j) (omega (arith, pow_positive n))) ∙ pairs_stay le is within t un;
           becomes = record {
             region = remapped is w2 touched 10 (omega arith) next.bucket (finite.remove s.pairs key) part away elements (given taken (2 ^ n + t.block) (region_disjoint le is) words node at held).1

@@ -1,5 +1,5 @@
 -- The map in which a key has another value.
-use Rattle.std.proofs.Common.{◌≡◌, ◌≢◌, inl, inr, ℕ, ◌+◌, ◌<◌, ◌≤◌, List, [], ◌∷◌, ◌++◌, refl, sym, ◌∙◌, ap, subst, arith}
+use Rattle.std.proofs.Common.{◌≡◌, ◌≢◌, inl, inr, ℕ, ◌+◌, ◌<◌, ◌≤◌, List, [], ◌∷◌, refl, sym, ◌∙◌, ap, subst, arith}
 use Rattle.std.specs.Prelude.{slice_index, slice_set}
 use Rattle.std.specs.FinMap as finite
 use Rattle.std.proofs.lemmas.Bool.{cases_lt}
@@ -7,22 +7,22 @@ use Rattle.std.proofs.lemmas.Grind.{get_or-set_at}
 use Rattle.rom_model.specs.Space.{ChangesOnly}
 use Rattle.rom_model.specs.State.{State}
 use Rattle.rom_model.specs.Blocks.{block_of}
-use Rattle.rom_model.specs.Chains.{times, each_pair}
-use Rattle.rom_model.specs.Region.{Chains, buckets, bucket_of, map_blocks, element_blocks, taken_by, IsMap, IsVersion, IsRegion, ChangesPart}
+use Rattle.rom_model.specs.Chains.{times}
+use Rattle.rom_model.specs.Region.{Chains, buckets, bucket_of, element_blocks, taken_by, IsMap, IsVersion, IsRegion, ChangesPart}
 use Rattle.rom_model.proofs.Times.{times_here, times_away, times-append}
 use Rattle.rom_model.proofs.Changes.{changes_set}
-use Rattle.rom_model.proofs.Frames.{chain_same, each_same, pairs_same}
 use Rattle.rom_model.proofs.Room.{times_members, tree_stays}
 use Rattle.rom_model.proofs.Elements.{AreElements}
+use Rattle.rom_bucket.specs.Walk.{head_of}
+use Rattle.rom_bucket.specs.Buckets.{AreBuckets, There}
+use Rattle.rom_bucket.specs.declared.walk.Place.{Place}
+use Rattle.rom_bucket.proofs.Heads.{head_before}
+use Rattle.rom_bucket.proofs.Keys.{buckets_same, again}
 use Rattle.rom_map.specs.Map.{IsReplaced}
-use Rattle.rom_map.specs.declared.walk.Place.{Place}
-use Rattle.rom_map.proofs.Heads.{head_before}
-use Rattle.rom_map.proofs.Entries.{entries_map, insert_again}
-use Rattle.rom_map.proofs.Pairs.{pairs_append, around, whole, none_ahead, pairs_here}
-use Rattle.rom_map.proofs.Places.{There, single}
+use Rattle.rom_map.proofs.Keyed.{value_at, map_keys, map_pairs, map_of}
 use Rattle.rom_map.proofs.Regions.{remapped}
 
-module _ {n : ℕ} {w w' : List ℕ} {p : Chains} {s : State} {k : ℕ} (least : 4 ≤ n) (is : IsRegion n w p s k) (key value : ℕ) (lt : bucket_of n key < buckets n) (place : Place) (t : There n w p key place) (now : w' ≡ slice_set w (place.node + 1) value) where
+module _ {n : ℕ} {w w' : List ℕ} {p : Chains} {s : State} {k : ℕ} (least : 4 ≤ n) (is : IsRegion n w p s k) (key value : ℕ) (lt : bucket_of n key < buckets n) (place : Place) (t : There n w p.bucket key place) (now : w' ≡ slice_set w (place.node + 1) value) where
   abbrev at : ℕ
   at = block_of n t.block + 1
 
@@ -38,33 +38,21 @@ module _ {n : ℕ} {w w' : List ℕ} {p : Chains} {s : State} {k : ℕ} (least :
   written : slice_index w' at ≡ value
   written = ap (λ v. slice_index v at) same ∙ get_or-set_at w at at value 0 refl (omega (arith, t.within, is.shape.as_long))
 
-  -- the block stands once among the map's blocks
-  apart : (c : ℕ) → times c (map_blocks n p) ≡ times c (around is key lt t.front t.block t.back t.blocks t.holds).ahead + times c (t.block ∷ (around is key lt t.front t.block t.back t.blocks t.holds).behind)
-  apart c = ap (times c) (whole is key lt t.front t.block t.back t.blocks t.holds) ∙ times-append c (around is key lt t.front t.block t.back t.blocks t.holds).ahead (t.block ∷ (around is key lt t.front t.block t.back t.blocks t.holds).behind)
+  replaced_buckets : AreBuckets n 9 w' p.bucket
+  replaced_buckets = buckets_same w'
+      (λ i less. stays (head_of n i) (λ e. absurd (omega (arith, e, head_before n i least less, t.within))))
+      (stays 9 (omega arith)) (λ c some. stays (block_of n c + 0) (omega arith)) (λ c some. stays (block_of n c + 2) (omega arith)) (map_keys is)
 
   replaced_map : IsMap n w' p (finite.insert s.pairs key value)
-  replaced_map =
-      let a = around is key lt t.front t.block t.back t.blocks t.holds in
-      let block_stays : (c j : ℕ) → c ≢ t.block → j < 4 → slice_index w' (block_of n c + j) ≡ slice_index w (block_of n c + j) = λ c j ne less. stays (block_of n c + j) (λ e. ne (omega (arith, e, less))) in
-      let one = pairs_same n w w' a.ahead (λ c j less some. block_stays c j (λ e. absurd (omega (arith, some, ap (λ x. times x a.ahead) e, apart t.block, single is t.block, times_here t.block a.behind))) (omega (arith, less))) in
-      let two = pairs_same n w w' a.behind (λ c j less some. block_stays c j (λ e. absurd (omega (arith, some, ap (λ x. times x a.behind) e, apart t.block, single is t.block, times_here t.block a.behind))) (omega (arith, less))) in
-      let key_is : slice_index w' (block_of n t.block + 0) ≡ key = stays (block_of n t.block + 0) (omega arith) ∙ t.holds in
-      let pairs : each_pair n w' (map_blocks n p) ≡ each_pair n w a.ahead ++ (key, value) ∷ each_pair n w a.behind = ap (each_pair n w') (whole is key lt t.front t.block t.back t.blocks t.holds) ∙ pairs_append n w' a.ahead (t.block ∷ a.behind) ∙ (λ i. one i ++ (key_is i, written i) ∷ two i) in
-      record {
-        chains = λ i less. chain_same n (block_of n 0 + i) 2 w w' (p.bucket i)
-            (stays (block_of n 0 + i) (λ e. absurd (omega (arith, e, head_before n i least less, t.within))))
-            (λ c some. stays (block_of n c + 2) (omega arith)) (is.shape.map.chains i less);
-        len = stays 9 (omega arith) ∙ is.shape.map.len;
-        own_bucket = λ i b less some. ap (bucket_of n) (stays (block_of n b + 0) (omega arith)) ∙ is.shape.map.own_bucket i b less some;
-        pairs_are = ap (λ es. entries_map es) pairs
-            ∙ insert_again (each_pair n w a.ahead) (each_pair n w a.behind) key (none_ahead is key lt t.front t.block t.back t.blocks t.holds) (slice_index w at) value
-            ∙ ap (λ m. finite.insert m key value) (pairs_here is key lt t.front t.block t.back t.blocks t.holds);
-      }
+  replaced_map = map_of replaced_buckets (
+      again (map_keys is) key lt t.front t.block t.back t.blocks t.holds (value_at n w) w' (value_at n w') (λ c some. stays (block_of n c + 0) (omega arith)) (λ c some ne. stays (block_of n c + 1) (λ e. ne (omega (arith, e))))
+      ∙ (λ i. finite.insert (map_pairs is i) key (written i))
+      )
 
   replaced_version : IsVersion n w' p k
   replaced_version = record {
     version = stays 1 (omega arith) ∙ is.version.version;
-    keys_differ = λ i j less. subst (λ ks. times j ks ≤ 1) (sym (each_same n 0 w w' (p.bucket i) (λ c some. stays (block_of n c + 0) (omega arith)))) (is.version.keys_differ i j less);
+    keys_differ = replaced_buckets.keys_differ;
     fourth = λ c some. stays (block_of n c + 3) (omega arith) ∙ is.version.fourth c some;
   }
 
@@ -76,7 +64,7 @@ module _ {n : ℕ} {w w' : List ℕ} {p : Chains} {s : State} {k : ℕ} (least :
   }
 
   away : (c : ℕ) → 0 < times c p.queue + times c p.set → times c (t.block ∷ []) ≡ 0
-  away c some = times_away c t.block [] (λ e. absurd (omega (arith, some, ap (λ x. times x p.queue) e, ap (λ x. times x p.set) e, is.shape.different t.block, times_members n p t.block, apart t.block, times_here t.block (around is key lt t.front t.block t.back t.blocks t.holds).behind)))
+  away c some = times_away c t.block [] (λ e. absurd (omega (arith, some, ap (λ x. times x p.queue) e, ap (λ x. times x p.set) e, is.shape.different t.block, times_members n p t.block, t.among)))
 
   elements : AreElements n (taken_by n (element_blocks n p)) p
   elements = record { different = is.shape.different; within = is.shape.within; tree = λ words are. are }

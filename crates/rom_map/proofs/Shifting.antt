@@ -8,14 +8,15 @@ use Rattle.rom_model.specs.State.{State}
 use Rattle.rom_model.specs.Blocks.{block_of}
 use Rattle.rom_model.specs.Chains.{times}
 use Rattle.rom_model.specs.Links.{link_after}
-use Rattle.rom_model.specs.Region.{Chains, buckets, bucket_of, IsRegion}
+use Rattle.rom_model.specs.Region.{Chains, buckets, bucket_of, map_blocks, IsRegion}
 use Rattle.rom_model.proofs.Times.{times_here, times-append}
-use Rattle.rom_map.specs.Walk.{head_of}
+use Rattle.rom_bucket.specs.Walk.{head_of}
+use Rattle.rom_bucket.specs.Buckets.{There}
+use Rattle.rom_bucket.specs.declared.walk.Place.{Place}
+use Rattle.rom_bucket.proofs.Keys.{in_all, get_here}
 use Rattle.rom_map.specs.Map.{with_pairs}
 use Rattle.rom_map.specs.Shift.{IsShifted, HasNode}
-use Rattle.rom_map.specs.declared.walk.Place.{Place}
-use Rattle.rom_map.proofs.Pairs.{get_here}
-use Rattle.rom_map.proofs.Places.{There, placed_in}
+use Rattle.rom_map.proofs.Keyed.{value_at, map_keys, map_pairs}
 use Rattle.rom_map.proofs.Replaced.{only, replaced}
 
 -- a word that is not the one that differs
@@ -27,7 +28,10 @@ module _ {n : ℕ} {w : List ℕ} {p : Chains} {s : State} {k key node : ℕ} (i
   abbrev pub place : Place
   place = record { link = link_after n (head_of n (bucket_of n key)) 2 has.at.front; node = node }
 
-  abbrev pub there : There n w p key place
+  pub among : 0 < times has.at.block (map_blocks n p)
+  among = in_all (map_keys is) (bucket_of n key) lt has.at.block (omega (arith, ap (times has.at.block) has.at.blocks, times-append has.at.block has.at.front (has.at.block ∷ has.at.back), times_here has.at.block has.at.back))
+
+  abbrev pub there : There n w p.bucket key place
   there = record {
     front = has.at.front;
     block = has.at.block;
@@ -36,7 +40,8 @@ module _ {n : ℕ} {w : List ℕ} {p : Chains} {s : State} {k key node : ℕ} (i
     holds = has.at.holds;
     node_is = has.begins;
     link_is = refl;
-    within = placed_in is (bucket_of n key) lt has.at.block (omega (arith, ap (times has.at.block) has.at.blocks, times-append has.at.block has.at.front (has.at.block ∷ has.at.back), times_here has.at.block has.at.back));
+    within = (map_keys is).within has.at.block among;
+    among = among;
   }
 
   pub inside : node + 4 ≤ length w
@@ -45,7 +50,7 @@ module _ {n : ℕ} {w : List ℕ} {p : Chains} {s : State} {k key node : ℕ} (i
   pub value_here : (value : ℕ) → finite.get s.pairs key ≡ Some value → slice_index w (node + 1) ≡ value
   value_here value has_it =
       ap (λ b. slice_index w (b + 1)) has.begins
-      ∙ ap (λ o. unwrap_or o 0) (sym (get_here is key lt has.at.front has.at.block has.at.back has.at.blocks has.at.holds) ∙ has_it)
+      ∙ ap (λ o. unwrap_or o 0) (sym (get_here (map_keys is) key lt has.at.front has.at.block has.at.back has.at.blocks has.at.holds (value_at n w)) ∙ ap (λ pairs. finite.get pairs key) (map_pairs is) ∙ has_it)
 
   -- where only the value of another node differs, it is the node still
   abbrev pub stays : {w' : List ℕ} (at : ℕ) → ChangesOnly at 1 w w' → block_of n has.at.block + 0 ≢ at → HasNode n w' p key node

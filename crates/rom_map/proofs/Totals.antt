@@ -1,14 +1,20 @@
 -- The sums of values along a chain, and over the buckets.
-use Rattle.std.proofs.Common.{◌≡◌, inl, inr, ℕ, zero, suc, ◌+◌, ◌*◌, ◌^◌, ◌<◌, ◌≤◌, add-one, List, [], ◌∷◌, ◌++◌, length, refl, sym, ◌∙◌, ap, arith, length-append}
+use Rattle.std.proofs.Common.{◌≡◌, inl, inr, ℕ, zero, suc, ◌+◌, ◌*◌, ◌^◌, ◌<◌, ◌≤◌, add-one, List, [], ◌∷◌, ◌++◌, map, length, refl, sym, ◌∙◌, ap, arith, length-append}
 use Rattle.std.specs.Prelude.{slice_index, sum}
 use Rattle.std.proofs.lemmas.Bool.{cases_lt}
-use Rattle.std.proofs.lemmas.List.Sums.{sum_by-append, sum_by_push}
+use Rattle.std.specs.Ordering.{nat_cmp}
+use Rattle.std.specs.FinMap as finite
+use Rattle.std.proofs.lemmas.List.Sums.{sum_by-append, sum_by_push, sum-map}
+use Rattle.rom_model.specs.State.{State}
 use Rattle.rom_model.specs.Blocks.{block_of}
-use Rattle.rom_model.specs.Chains.{each_word}
-use Rattle.rom_model.specs.Region.{all_of}
+use Rattle.rom_model.specs.Chains.{each_word, each_pair}
+use Rattle.rom_model.specs.Region.{Chains, all_of, map_blocks, IsRegion}
 use Rattle.rom_model.proofs.Links.{chain_first, each_append}
-use Rattle.rom_map.specs.Walk.{head_of, IsBucket}
-use Rattle.rom_map.proofs.Walking.{Along, whole, first, blocks, further, further-front}
+use Rattle.rom_bucket.specs.Walk.{head_of, IsBucket}
+use Rattle.rom_bucket.proofs.Walking.{Along, whole, first, blocks, further, further-front}
+use Rattle.rom_bucket.proofs.Entries.{sum_entries}
+use Rattle.rom_bucket.proofs.Keys.{once}
+use Rattle.rom_map.proofs.Keyed.{value_at, map_keys, map_pairs}
 
 -- the sum of the values before a node of a bucket's chain
 pub record Summed (n i : ℕ) (w bs : List ℕ) (total node : ℕ) : Type 0 where
@@ -70,3 +76,14 @@ next_bucket {n} {m} {w} {f} {total} value x is fits =
     let sums = ap sum words ∙ sum_by-append (λ y. y) (each_word n w 1 (all_of f m)) (each_word n w 1 (f m)) in
     let long = ap length (all_next f m) ∙ length-append (all_of f m) (f m) in
     record { total_is = omega (arith, x.total_is, is, sums); fits = omega (arith, x.fits, fits, long) }
+
+-- the values of the pairs
+pair_values : (n : ℕ) (w bs : List ℕ) → map (λ e. e.1) (each_pair n w bs) ≡ each_word n w 1 bs
+pair_values n w [] = refl
+pair_values n w (b ∷ bs) = ap (λ xs. slice_index w (block_of n b + 1) ∷ xs) (pair_values n w bs)
+
+pub values_sum : {n : ℕ} {w : List ℕ} {p : Chains} {s : State} {k : ℕ} → IsRegion n w p s k → sum (finite.values s.pairs) ≡ sum (each_word n w 1 (map_blocks n p))
+values_sum {n} {w} {p} {s} is =
+    let es : List (ℕ × ℕ) = each_pair n w (map_blocks n p) in
+    let kept : finite.FinMap nat_cmp ℕ = finite.from_entries es in
+    ap (λ pairs. sum (finite.values pairs)) (sym (map_pairs is)) ∙ sum-map (λ e. e.1) (finite.entries kept) ∙ sum_entries (λ e. e.1) es (once (map_keys is) (value_at n w)) ∙ sym (sum-map (λ e. e.1) es) ∙ ap sum (pair_values n w (map_blocks n p))

@@ -1,7 +1,7 @@
 //! A key's node with its value.
-ghost use Rattle.std.specs.Prelude.{◌≡◌, ℕ, ◌+◌, ◌*◌, None, Some, MatchOption, length};
+ghost use Rattle.std.specs.Prelude.{◌≡◌, ℕ, ◌+◌, ◌*◌, ◌^◌, ◌<◌, ◌≤◌, None, Some, MatchOption, length, slice_index, slice_set};
 ghost use Rattle.std.specs.FinMap as map;
-ghost use Rattle.rom_model.specs.Space.{Looks};
+ghost use Rattle.rom_model.specs.Space.{Costs, Looks, HasRoom, IsSparing};
 ghost use Rattle.rom_model.specs.State.{State};
 ghost use Rattle.rom_model.specs.Walks.{keys_beside};
 ghost use Rattle.rom_model.specs.Blocks.{IsOrder};
@@ -9,8 +9,8 @@ ghost use Rattle.rom_model.specs.Region.{Chains, IsRegion, IsWellFormed, Content
 ghost use Rattle.rom_map.specs.Map.{KeyBlock};
 ghost use Rattle.rom_map.specs.Shift.{HasNode};
 
-use crate::walk::find;
-use rom_model::Look;
+use rom_bucket::find;
+use rom_model::{Look, Space};
 
 /// A node, and a value for it.
 #[derive(Clone, Copy)]
@@ -42,4 +42,23 @@ pub fn find_entry<M: Look>(space: &mut M, order: u32, key: u64) -> Option<Entry>
     }
     let value = space.load(node + 1);
     Some(Entry { node, value })
+}
+
+/// Gives the node that begins there a value, and tells the one that it had. One that stays is not
+/// stored.
+pub fn replace_value<M: Space>(space: &mut M, node: u64, value: u64) -> u64
+    requires within { node + 4 ≤ length (M.shown.image space.old) }
+    requires small { node < 2 ^ 63 }
+    requires room { HasRoom M.shown 1 space.old }
+    ensures was { result ≡ slice_index (M.shown.image space.old) (node + 1) }
+    ensures image { M.shown.image space.new ≡ slice_set (M.shown.image space.old) (node + 1) value }
+    ensures costs { Costs M.shown 1 1 space.old space.new }
+    ensures kept { result ≡ value → Looks M.shown 1 space.old space.new }
+    ensures sparing { IsSparing M.shown space.old space.new }
+{
+    let was = space.load(node + 1);
+    if was != value {
+        space.store(node + 1, value);
+    }
+    was
 }

@@ -11,11 +11,9 @@
 #![tactic(auto)]
 
 mod entry;
-mod link;
 mod map;
 mod shift;
 mod total;
-mod walk;
 
 pub use map::{Put, map_del, map_get, map_len, map_put};
 pub use shift::{Moved, map_move};

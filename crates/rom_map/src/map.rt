@@ -8,10 +8,9 @@ ghost use Rattle.rom_model.specs.Blocks.{IsOrder};
 ghost use Rattle.rom_model.specs.Region.{Chains, IsRegion, IsWellFormed, Contents};
 ghost use Rattle.rom_map.specs.Map.{with_pairs, KeyBlock, IsPut, PutLeaves, PutCosts, AgainCosts, IsDeleted};
 
-use crate::entry::find_entry;
-use crate::link::{link_first, replace_value, unlink_node};
-use crate::walk::find;
+use crate::entry::{find_entry, replace_value};
 use rom_block::Blocks;
+use rom_bucket::{Node, find, link_first, unlink_node};
 use rom_model::{Look, MAP_LEN, Space};
 
 /// What a put tells.
@@ -55,7 +54,12 @@ pub fn map_put<M: Space>(space: &mut M, order: u32, key: u64, value: u64) -> Put
     let Some(node) = Blocks::take(space, order, 0) else {
         return Put::Full;
     };
-    link_first(space, order, node, key, value);
+    let added = Node {
+        key,
+        second: value,
+        last: 0,
+    };
+    link_first(space, order, MAP_LEN, node, added);
     Put::New
 }
 
@@ -91,7 +95,7 @@ pub fn map_del<M: Space>(space: &mut M, order: u32, key: u64) -> Option<u64>
         return None;
     }
     let was = space.load(place.node + 1);
-    unlink_node(space, place);
+    unlink_node(space, MAP_LEN, place);
     Blocks::give(space, order, place.node, 0);
     Some(was)
 }

@@ -8,8 +8,7 @@ ghost use Rattle.rom_model.specs.Region.{Chains, IsRegion, IsWellFormed, Content
 ghost use Rattle.rom_map.specs.Map.{KeyBlock};
 ghost use Rattle.rom_map.specs.Shift.{IsMoved, MoveLeaves, KeepsUnlessMoved, IsPlan};
 
-use crate::entry::{Entry, find_entry};
-use crate::link::replace_value;
+use crate::entry::{Entry, find_entry, replace_value};
 use rom_model::{Look, Space};
 
 /// What a move tells.

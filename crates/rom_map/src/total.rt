@@ -6,7 +6,7 @@ ghost use Rattle.rom_model.specs.State.{State};
 ghost use Rattle.rom_model.specs.Blocks.{IsOrder, region_len};
 ghost use Rattle.rom_model.specs.Chains.{each_word};
 ghost use Rattle.rom_model.specs.Region.{buckets, IsWellFormed, Contents};
-ghost use Rattle.rom_map.specs.Walk.{IsBucket, HoldsBucket};
+ghost use Rattle.rom_bucket.specs.Walk.{IsBucket, HoldsBucket};
 
 use rom_model::{Look, blocks_at, power_of_two};
 

@@ -2,12 +2,14 @@ use Rattle.std.proofs.Common.{List, ℕ, ◌+◌, arith, sym, ◌∙◌, ap}
 use Rattle.std.specs.Prelude.{Some, slice_index}
 use Rattle.rom_model.specs.Region.{bucket_of}
 use Rattle.rom_model.proofs.Looks.{looks_most, looks_more}
-use Rattle.rom_map.proofs.Places.{holds_bucket}
-use Rattle.rom_map.proofs.Finding.{own_within, looked, image_same, no_value, passed, sooner, node, value, inside, small}
+use Rattle.rom_bucket.proofs.Keys.{holds_bucket}
+use Rattle.rom_bucket.proofs.Finding.{own_within}
+use Rattle.rom_map.proofs.Keyed.{map_keys}
+use Rattle.rom_map.proofs.Finding.{looked, image_same, no_value, passed, sooner, node, value, inside, small}
 use Rattle.rom_map.proofs.entry.find_entry.Goals as goal
 
 pub find-node-requires-clause-bucket : goal.find-node-requires-clause-bucket
-find-node-requires-clause-bucket g c = holds_bucket c.requires.region.contents.1 (bucket_of c.args.order c.args.key) (own_within c.args.key c.requires.order)
+find-node-requires-clause-bucket g c = holds_bucket (map_keys c.requires.region.contents.1) (bucket_of c.args.order c.args.key) (own_within c.args.key c.requires.order)
 
 -- the key is not there
 pub returns-then-node-eq0-clause-is : goal.returns-then-node-eq0-clause-is

@@ -5,21 +5,23 @@ use Rattle.rom_model.specs.Walks.{keys_beside}
 use Rattle.rom_model.specs.Region.{bucket_of, Contents}
 use Rattle.rom_model.proofs.Nodes.{pow_positive}
 use Rattle.rom_model.proofs.Looks.{looks_more, costs_most, costs_then, room_left}
-use Rattle.rom_map.specs.Link.{IsUnlinked}
+use Rattle.rom_bucket.specs.Link.{IsUnlinked}
+use Rattle.rom_bucket.proofs.Sparing.{sparing_after, sparing_load, range_last}
+use Rattle.rom_bucket.proofs.Entries.{remove_absent}
+use Rattle.rom_bucket.proofs.Keys.{holds_bucket}
+use Rattle.rom_bucket.proofs.Finding.{own_within}
+use Rattle.rom_bucket.proofs.Removed.{link_high, link_inside, link_differs, size_some}
 use Rattle.rom_map.specs.Map.{with_pairs, with_bucket}
-use Rattle.rom_map.proofs.Entries.{remove_absent}
-use Rattle.rom_map.proofs.Places.{holds_bucket}
-use Rattle.rom_map.proofs.Finding.{own_within, looked, image_same, long, no_value, passed, sooner, node, value, inside, small}
-use Rattle.rom_map.proofs.Sparing.{sparing_after, sparing_load, range_last}
-use Rattle.rom_map.proofs.Removed.{link_high, link_inside, link_differs}
-use Rattle.rom_map.proofs.Removing.{size_some, may_give, deleted}
+use Rattle.rom_map.proofs.Keyed.{map_keys}
+use Rattle.rom_map.proofs.Finding.{looked, image_same, long, no_value, passed, sooner, node, value, inside, small}
+use Rattle.rom_map.proofs.Removing.{may_give, deleted}
 use Rattle.rom_map.proofs.map.map_del.Goals as goal
 
 pub find-place-requires-clause-sized : goal.find-place-requires-clause-sized
 find-place-requires-clause-sized g c = c.requires.region.contents.1.shape.as_long
 
 pub find-place-requires-clause-bucket : goal.find-place-requires-clause-bucket
-find-place-requires-clause-bucket g c = holds_bucket c.requires.region.contents.1 (bucket_of c.args.order c.args.key) (own_within c.args.key c.requires.order)
+find-place-requires-clause-bucket g c = holds_bucket (map_keys c.requires.region.contents.1) (bucket_of c.args.order c.args.key) (own_within c.args.key c.requires.order)
 
 -- the key is not there
 pub returns-then-place-eq0-clause-was : goal.returns-then-place-eq0-clause-was
@@ -53,7 +55,7 @@ pub unlink_node-requires-clause-link : goal.unlink_node-requires-clause-link
 unlink_node-requires-clause-link g c =
     let o = c.requires.order in
     let is = c.requires.region.contents.1 in
-    omega (arith, link_inside o.least is (own_within c.args.key o) (node o is c.find-place.ensures (λ e. absurd (omega arith))), ap length c.load-was.ensures.image, long o is c.find-place.ensures)
+    omega (arith, link_inside o.least (omega arith) (map_keys is) (own_within c.args.key o) (node o is c.find-place.ensures (λ e. absurd (omega arith))), ap length c.load-was.ensures.image, long o is c.find-place.ensures)
 
 pub unlink_node-requires-clause-node : goal.unlink_node-requires-clause-node
 unlink_node-requires-clause-node g c = omega (arith, inside c.requires.order c.requires.region.contents.1 c.find-place.ensures (λ e. absurd (omega arith)), ap length c.load-was.ensures.image)
@@ -65,7 +67,7 @@ pub unlink_node-requires-clause-apart : goal.unlink_node-requires-clause-apart
 unlink_node-requires-clause-apart g c e =
     let o = c.requires.order in
     let is = c.requires.region.contents.1 in
-    absurd (omega (arith, e, link_high o.least is (own_within c.args.key o) (node o is c.find-place.ensures (λ e. absurd (omega arith)))))
+    absurd (omega (arith, e, link_high o.least (omega arith) (map_keys is) (own_within c.args.key o) (node o is c.find-place.ensures (λ e. absurd (omega arith)))))
 
 pub unlink_node-requires-clause-long : goal.unlink_node-requires-clause-long
 unlink_node-requires-clause-long g c = omega (arith, long c.requires.order c.requires.region.contents.1 c.find-place.ensures, ap length c.load-was.ensures.image)
@@ -74,7 +76,7 @@ pub unlink_node-requires-clause-len : goal.unlink_node-requires-clause-len
 unlink_node-requires-clause-len g c =
     let o = c.requires.order in
     let is = c.requires.region.contents.1 in
-    let some = size_some o.least is (own_within c.args.key o) (node o is c.find-place.ensures (λ e. absurd (omega arith))) in
+    let some = size_some o.least (omega arith) (map_keys is) (own_within c.args.key o) (node o is c.find-place.ensures (λ e. absurd (omega arith))) in
     omega (arith, some, ap (λ (v : List ℕ). slice_index v 9) (c.load-was.ensures.image ∙ image_same o is c.find-place.ensures))
 
 pub unlink_node-requires-clause-room : goal.unlink_node-requires-clause-room
@@ -90,7 +92,7 @@ give-requires-clause-taken g c =
     let o = c.requires.order in
     let is = c.requires.region.contents.1 in
     let same = c.load-was.ensures.image ∙ image_same o is c.find-place.ensures in
-    may_give o.least is (own_within c.args.key o) (node o is c.find-place.ensures (λ e. absurd (omega arith))) (subst (λ v. IsUnlinked c.find-place.result v (g.M.Look.shown.image c.unlink_node.new.space)) same c.unlink_node.ensures.unlinked)
+    may_give o.least is (own_within c.args.key o) (node o is c.find-place.ensures (λ e. absurd (omega arith))) (subst (λ v. IsUnlinked 9 c.find-place.result v (g.M.Look.shown.image c.unlink_node.new.space)) same c.unlink_node.ensures.unlinked)
 
 pub give-requires-clause-room : goal.give-requires-clause-room
 give-requires-clause-room g c =
@@ -102,7 +104,7 @@ pub returns-clause-others : goal.returns-clause-others
 returns-clause-others g c p s k is =
     let o = c.requires.order in
     let same = c.load-was.ensures.image ∙ image_same o is c.find-place.ensures in
-    deleted o.least is (own_within c.args.key o) (node o is c.find-place.ensures (λ e. absurd (omega arith))) (subst (λ v. IsUnlinked c.find-place.result v (g.M.Look.shown.image c.unlink_node.new.space)) same c.unlink_node.ensures.unlinked)
+    deleted o.least is (own_within c.args.key o) (node o is c.find-place.ensures (λ e. absurd (omega arith))) (subst (λ v. IsUnlinked 9 c.find-place.result v (g.M.Look.shown.image c.unlink_node.new.space)) same c.unlink_node.ensures.unlinked)
     (g.M.Look.shown.image c.give.new.space) c.give.ensures.given c.give.ensures.others
 
 pub returns-clause-was : goal.returns-clause-was
@@ -137,9 +139,9 @@ returns-clause-sparing g c =
     let is = c.requires.region.contents.1 in
     let t = node o is c.find-place.ensures (λ e. absurd (omega arith)) in
     let un = c.unlink_node.ensures.unlinked in
-    let high = link_high o.least is (own_within c.args.key o) t in
+    let high = link_high o.least (omega arith) (map_keys is) (own_within c.args.key o) t in
     let same = c.load-was.ensures.image ∙ image_same o is c.find-place.ensures in
-    let differs = subst (λ (v : List ℕ). slice_index v c.find-place.result.link ≢ slice_index v (c.find-place.result.node + 2)) (sym same) (link_differs o.least is (own_within c.args.key o) t) in
+    let differs = subst (λ (v : List ℕ). slice_index v c.find-place.result.link ≢ slice_index v (c.find-place.result.node + 2)) (sym same) (link_differs o.least (omega arith) (map_keys is) (own_within c.args.key o) t) in
     sparing_after g.M.Look.shown _ _ _ (looked o is c.find-place.ensures)
     (sparing_load g.M.Look.shown _ _ _ c.load-was.ensures.image c.load-was.ensures.counts
     (range_last g.M.Look.shown 17 (2 * 2 ^ n - 1) _ _ _ un.as_long c.give.ensures.others

@@ -1,5 +1,5 @@
 use Rattle.std.proofs.Common.{sym, ◌∙◌}
-use Rattle.rom_map.proofs.Pairs.{many}
+use Rattle.rom_map.proofs.Keyed.{many}
 use Rattle.rom_map.proofs.map.map_len.Goals as goal
 
 pub returns-clause-len : goal.returns-clause-len

@@ -7,10 +7,12 @@ use Rattle.rom_model.specs.Region.{bucket_of, map_blocks, element_blocks, taken_
 use Rattle.rom_model.proofs.Nodes.{pow_positive}
 use Rattle.rom_model.proofs.Looks.{looks_then, costs_then, room_left}
 use Rattle.rom_model.proofs.Room.{region_disjoint, full}
+use Rattle.rom_bucket.proofs.Keys.{holds_bucket}
+use Rattle.rom_bucket.proofs.Finding.{own_within}
+use Rattle.rom_bucket.proofs.Sparing.{sparing_after, sparing_range}
 use Rattle.rom_map.specs.Map.{with_pairs, with_bucket, IsAdded}
-use Rattle.rom_map.proofs.Places.{holds_bucket}
-use Rattle.rom_map.proofs.Finding.{own_within, looked, image_same, long, no_key, no_value, passed, sooner, node, value, inside, small}
-use Rattle.rom_map.proofs.Sparing.{sparing_after, sparing_range}
+use Rattle.rom_map.proofs.Keyed.{map_keys}
+use Rattle.rom_map.proofs.Finding.{looked, image_same, long, no_key, no_value, passed, sooner, node, value, inside, small}
 use Rattle.rom_map.proofs.Adding.{had_room, head_differs, at_least, at_most, size_small, added}
 use Rattle.rom_map.proofs.Replaced.{replaced}
 use Rattle.rom_map.proofs.map.map_put.Goals as goal
@@ -19,7 +21,7 @@ pub find-place-requires-clause-sized : goal.find-place-requires-clause-sized
 find-place-requires-clause-sized g c = c.requires.region.contents.1.shape.as_long
 
 pub find-place-requires-clause-bucket : goal.find-place-requires-clause-bucket
-find-place-requires-clause-bucket g c = holds_bucket c.requires.region.contents.1 (bucket_of c.args.order c.args.key) (own_within c.args.key c.requires.order)
+find-place-requires-clause-bucket g c = holds_bucket (map_keys c.requires.region.contents.1) (bucket_of c.args.order c.args.key) (own_within c.args.key c.requires.order)
 
 -- the key is there
 pub replace_value-requires-clause-within : goal.replace_value-requires-clause-within

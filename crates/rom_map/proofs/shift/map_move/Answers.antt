@@ -5,11 +5,11 @@ use Rattle.rom_model.specs.State.{State}
 use Rattle.rom_model.specs.Region.{IsRegion, IsWellFormed}
 use Rattle.rom_model.proofs.Nodes.{pow_small}
 use Rattle.rom_model.proofs.Looks.{looks_most, looks_then, costs_most, costs_then, room_left}
+use Rattle.rom_bucket.proofs.Sparing.{sparing_after}
+use Rattle.rom_bucket.proofs.Finding.{own_within}
 use Rattle.rom_map.specs.Shift.{after_move, MovedWords, KeepsUnlessMoved}
 use Rattle.rom_map.specs.declared.shift.Moved.{Moved}
 use Rattle.rom_map.specs.declared.shift.Moved.TheVariants.{Done, Absent, Short, Over}
-use Rattle.rom_map.proofs.Finding.{own_within}
-use Rattle.rom_map.proofs.Sparing.{sparing_after}
 use Rattle.rom_map.proofs.Shifting.{inside, value_here, apart, shifted_region, shifted}
 use Rattle.rom_map.proofs.shift.map_move.Goals as goal
 

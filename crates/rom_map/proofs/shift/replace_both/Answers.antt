@@ -3,7 +3,7 @@ use Rattle.std.specs.Prelude.{slice_index, slice_set}
 use Rattle.rom_model.specs.Space.{ChangesOnly}
 use Rattle.rom_model.proofs.Changes.{changes_set}
 use Rattle.rom_model.proofs.Looks.{looks_then}
-use Rattle.rom_map.proofs.Sparing.{sparing_range}
+use Rattle.rom_bucket.proofs.Sparing.{sparing_range}
 use Rattle.rom_map.proofs.Shifting.{outside}
 use Rattle.rom_map.proofs.shift.replace_both.Goals as goal
 

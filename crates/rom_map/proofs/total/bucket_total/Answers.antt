@@ -1,9 +1,9 @@
 use Rattle.std.proofs.Common.{◌≡◌, ◌+◌, ◌*◌, ◌^◌, length, slice_index, rules, arith, ◌∙◌, ap}
 use Rattle.rom_model.proofs.Nodes.{pow_small}
 use Rattle.rom_model.proofs.Looks.{looks_more}
-use Rattle.rom_map.specs.Walk.{head_of}
-use Rattle.rom_map.proofs.Heads.{head_within}
-use Rattle.rom_map.proofs.Walking.{node_within, falls}
+use Rattle.rom_bucket.specs.Walk.{head_of}
+use Rattle.rom_bucket.proofs.Heads.{head_within}
+use Rattle.rom_bucket.proofs.Walking.{node_within, falls}
 use Rattle.rom_map.proofs.Totals.{at_start, next_summed}
 use Rattle.rom_map.proofs.total.bucket_total.Goals as goal
 

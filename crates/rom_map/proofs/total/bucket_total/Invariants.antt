@@ -1,7 +1,7 @@
 use Rattle.std.proofs.Common.{◌≡◌, ℕ, ◌+◌, ◌*◌, ◌^◌, List, length}
 use Rattle.rom_model.specs.Space.{Looks}
-use Rattle.rom_map.specs.Walk.{IsBucket}
-use Rattle.rom_map.proofs.Walking.{left}
+use Rattle.rom_bucket.specs.Walk.{IsBucket}
+use Rattle.rom_bucket.proofs.Walking.{left}
 use Rattle.rom_map.proofs.Totals.{Summed}
 use Rattle.rom_map.proofs.total.bucket_total.Given as goal
 

@@ -4,14 +4,14 @@ use Rattle.rom_model.specs.Chains.{each_word}
 use Rattle.rom_model.specs.Region.{all_of, buckets}
 use Rattle.rom_model.proofs.Nodes.{pow_small}
 use Rattle.rom_model.proofs.Looks.{looks_most, looks_then}
-use Rattle.rom_map.specs.Walk.{IsBucket, HoldsBucket}
-use Rattle.rom_map.proofs.Pairs.{values_sum, many}
-use Rattle.rom_map.proofs.Places.{holds_bucket, few}
-use Rattle.rom_map.proofs.Totals.{all_next, all_shorter, next_bucket}
+use Rattle.rom_bucket.specs.Walk.{IsBucket, HoldsBucket}
+use Rattle.rom_bucket.proofs.Keys.{holds_bucket, few}
+use Rattle.rom_map.proofs.Keyed.{map_keys, many}
+use Rattle.rom_map.proofs.Totals.{all_next, all_shorter, next_bucket, values_sum}
 use Rattle.rom_map.proofs.total.map_total.Goals as goal
 
 pub bucket_total-total-requires-clause-bucket : goal.bucket_total-total-requires-clause-bucket
-bucket_total-total-requires-clause-bucket g c = subst (λ v. HoldsBucket c.args.order c.loop-number.number v) (sym c.loop-number.invariant.image) (holds_bucket c.requires.region.contents.1 c.loop-number.number (omega (arith, c.power_of_two-number-end.ensures.is)))
+bucket_total-total-requires-clause-bucket g c = subst (λ v. HoldsBucket c.args.order c.loop-number.number v) (sym c.loop-number.invariant.image) (holds_bucket (map_keys c.requires.region.contents.1) c.loop-number.number (omega (arith, c.power_of_two-number-end.ensures.is)))
 
 pub overflow_add-total : goal.overflow_add-total
 overflow_add-total g c =
@@ -23,7 +23,7 @@ overflow_add-total g c =
     let x = (c.loop-number.invariant.far r.contents.0 r.state r.count r.contents.1).0 in
     let here = subst (λ v. IsBucket n v m (f m)) (sym c.loop-number.invariant.image) (r.contents.1.shape.map.chains m lt) in
     let long = ap length (all_next f m) ∙ length-append (all_of f m) (f m) in
-    omega (arith, x.fits, c.bucket_total-total.ensures.fits (f m) here, long, all_shorter f (m + 1) (buckets n) (omega (arith, lt)), few r.contents.1, pow_small n c.requires.order.most)
+    omega (arith, x.fits, c.bucket_total-total.ensures.fits (f m) here, long, all_shorter f (m + 1) (buckets n) (omega (arith, lt)), few (map_keys r.contents.1), pow_small n c.requires.order.most)
 
 pub loop-number-preserved : goal.loop-number-preserved
 loop-number-preserved g c =
@@ -59,4 +59,4 @@ returns-clause-fits g c =
     let r = c.requires.region in
     let last : c.loop-number.number ≡ buckets c.args.order = omega (arith, c.power_of_two-number-end.ensures.is) in
     let x = (c.loop-number.invariant.far r.contents.0 r.state r.count r.contents.1).0 in
-    omega (arith, x.fits, ap (λ m. length (all_of r.contents.0.bucket m)) last, few r.contents.1, pow_small c.args.order c.requires.order.most)
+    omega (arith, x.fits, ap (λ m. length (all_of r.contents.0.bucket m)) last, few (map_keys r.contents.1), pow_small c.args.order c.requires.order.most)

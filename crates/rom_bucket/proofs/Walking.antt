@@ -8,7 +8,7 @@ use Rattle.rom_model.specs.Links.{link_after, first_of}
 use Rattle.rom_model.specs.Region.{bucket_of}
 use Rattle.rom_model.proofs.Times.{times_here, times_away, times_more, times-append}
 use Rattle.rom_model.proofs.Links.{link_push, chain_back, chain_first, each_append}
-use Rattle.rom_map.specs.Walk.{head_of, IsBucket, StartsWith, Walked, IsPlace}
+use Rattle.rom_bucket.specs.Walk.{head_of, IsBucket, StartsWith, Walked, IsPlace}
 
 -- the first block of a chain that is not empty
 pub record First (n node : ℕ) (back : List ℕ) : Type 0 where

@@ -1,9 +1,9 @@
 use Rattle.std.proofs.Common.{◌≡◌, ◌+◌, ◌*◌, ◌^◌, List, ℕ, length}
 use Rattle.rom_model.specs.Space.{Looks}
 use Rattle.rom_model.specs.Region.{bucket_of}
-use Rattle.rom_map.specs.Walk.{IsBucket, Walked}
-use Rattle.rom_map.proofs.Walking.{left}
-use Rattle.rom_map.proofs.walk.find.Given as goal
+use Rattle.rom_bucket.specs.Walk.{IsBucket, Walked}
+use Rattle.rom_bucket.proofs.Walking.{left}
+use Rattle.rom_bucket.proofs.walk.find.Given as goal
 
 -- each node that was passed took two loads
 abbrev pub invariant-loop-node : goal.invariant-loop-node

@@ -5,7 +5,7 @@ use Rattle.std.proofs.Math.Nat.{div-lt_iff_lt-mul}
 use Rattle.rom_model.specs.Blocks.{block_of}
 use Rattle.rom_model.specs.Region.{buckets, bucket_of}
 use Rattle.rom_model.proofs.Members.{quarter_pow}
-use Rattle.rom_map.specs.Walk.{head_of}
+use Rattle.rom_bucket.specs.Walk.{head_of}
 
 pub bucket_within : (n key : ℕ) → 4 ≤ n → n ≤ 16 → bucket_of n key < buckets n
 bucket_within n key least most =

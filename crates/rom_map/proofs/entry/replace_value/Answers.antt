@@ -1,7 +1,7 @@
 use Rattle.std.proofs.Common.{◌+◌, List, ℕ, length, get_or, sym, ◌∙◌, ap, arith}
 use Rattle.rom_block.proofs.Apart.{sparing_store}
-use Rattle.rom_map.proofs.Sparing.{sparing_load}
-use Rattle.rom_map.proofs.link.replace_value.Goals as goal
+use Rattle.rom_bucket.proofs.Sparing.{sparing_load}
+use Rattle.rom_map.proofs.entry.replace_value.Goals as goal
 
 pub returns-then-was-value-clause-sparing : goal.returns-then-was-value-clause-sparing
 returns-then-was-value-clause-sparing g c =

@@ -1,9 +1,9 @@
-//! The walk along a bucket's chain. A node is a block of four words, which are a key, its value, where
-//! the next node begins, and 0; a bucket's keys stand in any order.
+//! The walk along a bucket's chain. A node's first word is its key, and its third is where the next node
+//! begins, or 0 at the chain's end; a bucket's keys stand in any order.
 ghost use Rattle.std.specs.Prelude.{◌≡◌, length};
 ghost use Rattle.rom_model.specs.Blocks.{IsOrder, region_len};
 ghost use Rattle.rom_model.specs.Region.{bucket_of};
-ghost use Rattle.rom_map.specs.Walk.{head_of, HoldsBucket, Finds};
+ghost use Rattle.rom_bucket.specs.Walk.{head_of, HoldsBucket, Finds};
 
 use rom_model::{Look, blocks_at, bucket};
 

@@ -36,9 +36,9 @@ module _ {M : Type 0} (shown : ShownSpace M) where
       ]
 
   -- the size was loaded last, and another one stored
-  pub then_size : (a b c d : M) (len : ℕ) → length (shown.image b) ≡ length (shown.image a) → get_or (shown.image b) 9 0 ≡ get_or (shown.image a) 9 0 → 9 < length (shown.image b) → get_or (shown.image b) 9 0 ≢ len
-      → shown.image c ≡ shown.image b → Counts shown 1 0 b c → shown.image d ≡ set (shown.image c) 9 len → Counts shown 0 1 c d → IsSparing shown a b → IsSparing shown a d
-  then_size a b c d len long same lt other load loads put stores first =
-      let only : ChangesOnly 9 1 (shown.image b) (shown.image d) = subst (λ (w : List ℕ). ChangesOnly 9 1 (shown.image b) w) (sym (put ∙ ap (λ (w : List ℕ). set w 9 len) load)) (changes_set 9 1 (shown.image b) 9 len (omega arith) (omega arith)) in
-      let stays : (k : ℕ) → 9 ≤ k → k < 9 + 1 → get_or (shown.image b) k 0 ≡ get_or (shown.image a) k 0 = λ k ge less. (let nine : 9 ≡ k = omega (arith, ge, less) in subst (λ j. get_or (shown.image b) j 0 ≡ get_or (shown.image a) j 0) nine same) in
-      range_last 9 1 a b d long only stays first (sparing_load b c d load loads (sparing_store shown c d 9 len put (omega (arith, lt, ap length load)) (λ e. other (sym (ap (λ (w : List ℕ). get_or w 9 0) load) ∙ e)) stores))
+  pub then_size : (size : ℕ) (a b c d : M) (len : ℕ) → length (shown.image b) ≡ length (shown.image a) → get_or (shown.image b) size 0 ≡ get_or (shown.image a) size 0 → size < length (shown.image b) → get_or (shown.image b) size 0 ≢ len
+      → shown.image c ≡ shown.image b → Counts shown 1 0 b c → shown.image d ≡ set (shown.image c) size len → Counts shown 0 1 c d → IsSparing shown a b → IsSparing shown a d
+  then_size size a b c d len long same lt other load loads put stores first =
+      let only : ChangesOnly size 1 (shown.image b) (shown.image d) = subst (λ (w : List ℕ). ChangesOnly size 1 (shown.image b) w) (sym (put ∙ ap (λ (w : List ℕ). set w size len) load)) (changes_set size 1 (shown.image b) size len (omega arith) (omega arith)) in
+      let stays : (k : ℕ) → size ≤ k → k < size + 1 → get_or (shown.image b) k 0 ≡ get_or (shown.image a) k 0 = λ k ge less. (let here : size ≡ k = omega (arith, ge, less) in subst (λ j. get_or (shown.image b) j 0 ≡ get_or (shown.image a) j 0) here same) in
+      range_last size 1 a b d long only stays first (sparing_load b c d load loads (sparing_store shown c d size len put (omega (arith, lt, ap length load)) (λ e. other (sym (ap (λ (w : List ℕ). get_or w size 0) load) ∙ e)) stores))

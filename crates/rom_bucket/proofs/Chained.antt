@@ -3,15 +3,15 @@ use Rattle.std.proofs.Common.{◌≡◌, ◌≢◌, inl, inr, ℕ, zero, suc, �
 use Rattle.std.specs.Prelude.{◌==◌, if◌then◌else◌}
 use Rattle.std.proofs.lemmas.Bool.{cases_lt}
 use Rattle.std.proofs.lemmas.Bool.Decides.{nat_tests}
-use Rattle.rom_model.specs.Region.{Chains, all_of}
+use Rattle.rom_model.specs.Region.{all_of}
 use Rattle.rom_model.proofs.Contents.{one_all}
-use Rattle.rom_map.specs.Map.{with_bucket}
+use Rattle.rom_bucket.specs.Buckets.{with_chain}
 
-pub bucket_here : (p : Chains) (i : ℕ) (bs : List ℕ) → (with_bucket p i bs).bucket i ≡ bs
-bucket_here p i bs = let test : (i == i) ≡ true = grind (arith, nat_tests) in ap (λ b. if b then bs else p.bucket i) test
+pub chain_here : (f : ℕ → List ℕ) (i : ℕ) (bs : List ℕ) → with_chain f i bs i ≡ bs
+chain_here f i bs = let test : (i == i) ≡ true = grind (arith, nat_tests) in ap (λ b. if b then bs else f i) test
 
-pub bucket_other : (p : Chains) (i j : ℕ) (bs : List ℕ) → j ≢ i → (with_bucket p i bs).bucket j ≡ p.bucket j
-bucket_other p i j bs ne = let test : (j == i) ≡ false = grind (arith, nat_tests) in ap (λ b. if b then bs else p.bucket j) test
+pub chain_other : (f : ℕ → List ℕ) (i j : ℕ) (bs : List ℕ) → j ≢ i → with_chain f i bs j ≡ f j
+chain_other f i j bs ne = let test : (j == i) ≡ false = grind (arith, nat_tests) in ap (λ b. if b then bs else f j) test
 
 -- What stands before and behind a place of one bucket's chain: whatever stands there itself, the chains of all buckets are these.
 pub record Cut (f : ℕ → List ℕ) (i m : ℕ) (front back : List ℕ) : Type 0 where

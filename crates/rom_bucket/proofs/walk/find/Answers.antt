@@ -2,9 +2,9 @@ use Rattle.std.proofs.Common.{◌≡◌, ◌+◌, ◌*◌, ◌^◌, ◌∷◌, �
 use Rattle.rom_model.specs.Region.{bucket_of}
 use Rattle.rom_model.proofs.Nodes.{pow_small}
 use Rattle.rom_model.proofs.Looks.{looks_most, looks_more}
-use Rattle.rom_map.proofs.Heads.{bucket_within, head_within}
-use Rattle.rom_map.proofs.Walking.{node_within, falls, along, at_head, front_few, at_end, front_fewer, at_key, step, not_further}
-use Rattle.rom_map.proofs.walk.find.Goals as goal
+use Rattle.rom_bucket.proofs.Heads.{bucket_within, head_within}
+use Rattle.rom_bucket.proofs.Walking.{node_within, falls, along, at_head, front_few, at_end, front_fewer, at_key, step, not_further}
+use Rattle.rom_bucket.proofs.walk.find.Goals as goal
 
 pub load-node-requires : goal.load-node-requires
 load-node-requires g c =

@@ -5,7 +5,7 @@ use Rattle.rom_model.specs.Blocks.{block_of}
 use Rattle.rom_model.specs.Chains.{times, Chain, each_word}
 use Rattle.rom_model.specs.Links.{link_after, first_of}
 use Rattle.rom_model.specs.Region.{bucket_of}
-use Rattle.rom_map.specs.declared.walk.Place.{Place}
+use Rattle.rom_bucket.specs.declared.walk.Place.{Place}
 
 -- the word of the bucket table that links to a bucket's first node
 abbrev pub head_of : ℕ → ℕ → ℕ

@@ -1,0 +1,69 @@
+//! Putting a node into a bucket's chain, and taking one out.
+ghost use Rattle.std.specs.Prelude.{◌≡◌, ◌≢◌, ◌+◌, ◌-◌, ◌^◌, ◌<◌, ◌≤◌, length, slice_index};
+ghost use Rattle.rom_model.specs.Space.{Costs, HasRoom, IsSparing};
+ghost use Rattle.rom_model.specs.Blocks.{IsOrder, block_of, region_len};
+ghost use Rattle.rom_model.specs.Region.{bucket_of};
+ghost use Rattle.rom_bucket.specs.Walk.{head_of};
+ghost use Rattle.rom_bucket.specs.Link.{IsLinked, IsUnlinked};
+
+use crate::walk::{Place, head_of};
+use rom_block::fill_node;
+use rom_model::Space;
+
+/// What a node holds beside its link.
+#[derive(Clone, Copy)]
+pub struct Node {
+    /// The first word.
+    pub key: u64,
+    /// The second word.
+    pub second: u64,
+    /// The fourth and last word.
+    pub last: u64,
+}
+
+/// Makes the block that begins there a node, and links it in front of its key's bucket. The keys are
+/// counted by the root's word at that size.
+pub fn link_first<M: Space>(space: &mut M, order: u32, size: u64, at: u64, node: Node)
+    requires order { IsOrder order }
+    requires sized { length (M.shown.image space.old) ≡ region_len order }
+    requires least { block_of order (2 ^ (order - 4)) ≤ at }
+    requires most { at + 4 ≤ region_len order }
+    requires root { size ≤ 16 }
+    requires len { slice_index (M.shown.image space.old) size < 2 ^ 63 }
+    requires room { HasRoom M.shown 6 space.old }
+    ensures linked { IsLinked order size at node (M.shown.image space.old)
+        (M.shown.image space.new) }
+    ensures costs { Costs M.shown 6 6 space.old space.new }
+    ensures sparing { slice_index (M.shown.image space.old)
+        (head_of order (bucket_of order node.key)) ≢ at
+        → IsSparing M.shown space.old space.new }
+{
+    let link = head_of(order, node.key);
+    let next = space.load(link);
+    fill_node(space, at, [node.key, node.second, next, node.last]);
+    space.store(link, at);
+    let len = space.load(size);
+    space.store(size, len + 1);
+}
+
+/// Takes the node at that place out of its chain. Its words stay. The keys are counted by the root's
+/// word at that size.
+pub fn unlink_node<M: Space>(space: &mut M, size: u64, place: Place)
+    requires link { place.link < length (M.shown.image space.old) }
+    requires node { place.node + 4 ≤ length (M.shown.image space.old) }
+    requires small { place.node < 2 ^ 63 }
+    requires apart { place.link ≢ size }
+    requires long { size < length (M.shown.image space.old) }
+    requires len { 0 < slice_index (M.shown.image space.old) size }
+    requires room { HasRoom M.shown 2 space.old }
+    ensures unlinked { IsUnlinked size place (M.shown.image space.old) (M.shown.image space.new) }
+    ensures costs { Costs M.shown 2 2 space.old space.new }
+    ensures sparing { slice_index (M.shown.image space.old) place.link
+        ≢ slice_index (M.shown.image space.old) (place.node + 2) →
+        IsSparing M.shown space.old space.new }
+{
+    let next = space.load(place.node + 2);
+    space.store(place.link, next);
+    let len = space.load(size);
+    space.store(size, len - 1);
+}
