@@ -1,11 +1,9 @@
 -- Reading one after another, from the front.
-use Rattle.std.proofs.Common.{◌≡◌, ℕ, zero, suc, ◌+◌, ◌-◌, ◌<◌, ◌≤◌, List, [], ◌∷◌, ◌++◌, length, drop, refl, sym, ap, ◌∙◌, Bool, true, Some, None, append_assoc, append-nil, length-drop, take, subst, arith}
-use Rattle.std.specs.Prelude.{Option, option_map, nat_le, ◌&&◌, if◌then◌else◌}
+use Rattle.std.proofs.Common.{◌≡◌, ℕ, zero, suc, ◌+◌, ◌-◌, ◌<◌, ◌≤◌, List, [], ◌∷◌, ◌++◌, length, drop, refl, sym, ap, ◌∙◌, Bool, true, false, Some, None, append_assoc, append-nil, length-drop, take, subst, arith}
+use Rattle.std.specs.Prelude.{Option, option_map, if◌then◌else◌}
 use Rattle.std.specs.Option.{option_and_then}
 use Rattle.std.proofs.Math.Seq.{take-length}
 use Rattle.std.proofs.lemmas.List.{drop-drop}
-use Rattle.std.proofs.lemmas.Bool.{le-leb}
-use Rattle.rom_model.specs.Groups.{is_size}
 use Rattle.rom_model.specs.Codes.{read_all, whole}
 
 -- what is read behind others
@@ -16,8 +14,9 @@ prepend xs (Some (more, rest)) = Some (xs ++ more, rest)
 pub when : {Y : Type 0} (b : Bool) (o : Option Y) → b ≡ true → (if b then o else None) ≡ o
 when b o is = ap (λ (c : Bool). if c then o else None) is
 
-pub size_is : (m : ℕ) → 2 ≤ m → m ≤ 8 → is_size m ≡ true
-size_is m least most = λ i. le-leb 2 m least i && le-leb m 8 most i
+pub whenever_none : {Y : Type 0} (b : Bool) {o : Option Y} → o ≡ None → (if b then o else None) ≡ None
+whenever_none true none = none
+whenever_none false none = refl
 
 -- the words from an offset on, as a slice has them
 part : (at : ℕ) (words : List ℕ) → take (length words - at) (drop at words) ≡ drop at words

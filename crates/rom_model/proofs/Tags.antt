@@ -1,10 +1,10 @@
 -- The words of calls and replies stand for them alone.
-use Rattle.std.proofs.Common.{◌≡◌, ℕ, zero, suc, ◌≤◌, List, [], ◌∷◌, ◌++◌, length, Bool, true, false, refl, sym, ap, subst, ◌∙◌, Some, None, append_assoc, append-nil, arith}
+use Rattle.std.proofs.Common.{◌≡◌, ℕ, zero, suc, List, [], ◌∷◌, ◌++◌, length, Bool, true, false, refl, sym, ap, subst, ◌∙◌, Some, None, append_assoc, append-nil}
 use Rattle.std.specs.Prelude.{Option, option_map, ◌==◌, nat_le, ◌&&◌, if◌then◌else◌}
 use Rattle.std.specs.Option.{option_and_then}
 use Rattle.std.proofs.lemmas.Bool.{eqb-true}
 use Rattle.std.proofs.lemmas.Option.{option_and_then_some}
-use Rattle.rom_model.specs.State.{State, one, replies_to, state_after, any_full, group, step_of, step}
+use Rattle.rom_model.specs.State.{State, one, replies_to, state_after, any_full, step_of, step}
 use Rattle.rom_model.specs.Groups.{is_size, HasSize, HasFewReplies}
 use Rattle.rom_model.specs.Singles.{call_of, kind_of, reply_of, reply_kind}
 use Rattle.rom_model.specs.declared.call.Kind.{Kind}
@@ -262,7 +262,7 @@ call_read (tag ∷ rest) c is =
 pub call_only : (words : List ℕ) (call : Call) → words_call words ≡ Some call → call_words call ≡ words
 call_only words call is = (call_read words call is).0
 
-has_size : (words : List ℕ) (call : Call) → words_call words ≡ Some call → HasSize (kind_of call)
+pub has_size : (words : List ℕ) (call : Call) → words_call words ≡ Some call → HasSize (kind_of call)
 has_size words call is = (call_read words call is).1
 
 pub reply_only : (words : List ℕ) (reply : Reply) → words_reply words ≡ Some reply → reply_words reply ≡ words

@@ -3,11 +3,11 @@ use Rattle.std.specs.Prelude.{◌≡◌, ℕ, nat_le, ◌&&◌, Bool, true, List
 use Rattle.rom_model.specs.declared.call.Kind.{Kind}
 use Rattle.rom_model.specs.declared.call.Kind.TheVariants.{Single, Several}
 
--- whether a group has so many members
+-- whether a group may have m members: two to eight
 abbrev pub is_size : ℕ → Bool
 is_size m = nat_le 2 m && nat_le m 8
 
--- the members, where they are so many
+-- the members, where they are two to eight
 abbrev pub sized : {X : Type 0} → List X → Option (List X)
 sized xs = if is_size (length xs) then Some xs else None
 

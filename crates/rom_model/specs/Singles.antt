@@ -1,5 +1,5 @@
 -- Updates and replies of one structure, beside those of groups.
-use Rattle.std.specs.Prelude.{ℕ, List}
+use Rattle.std.specs.Prelude.{List}
 use Rattle.rom_model.specs.declared.call.Single.{Single}
 use Rattle.rom_model.specs.declared.call.Single.TheVariants as single
 use Rattle.rom_model.specs.declared.call.SingleReply.{SingleReply}

@@ -6,10 +6,16 @@ ghost use Rattle.rom_model.specs.Groups.{sized};
 use crate::call::{Single, SingleReply};
 use std::marker::Model;
 
+/// The least number of members of a group.
+pub const MIN_MEMBERS: usize = 2;
+
+/// The greatest number of members of a group.
+pub const MAX_MEMBERS: usize = 8;
+
 /// Two to eight updates. A contract sees their list.
 #[derive(Clone, Copy, Debug)]
 pub struct Group {
-    cells: [Single; 8],
+    cells: [Single; MAX_MEMBERS],
     len: usize,
 }
 
@@ -43,10 +49,10 @@ impl Group {
     pub fn of(calls: &[Single]) -> Option<Group>
         ensures { result ≡ sized calls.now }
     {
-        if calls.len() < 2 || calls.len() > 8 {
+        if calls.len() < MIN_MEMBERS || calls.len() > MAX_MEMBERS {
             return None;
         }
-        let mut cells = [Single::Deq; 8];
+        let mut cells = [Single::Deq; MAX_MEMBERS];
         cells[..calls.len()].copy_from_slice(calls);
         Some(Group {
             cells,
@@ -108,7 +114,7 @@ impl Eq for Group {
 /// What the members of a group are told: at most eight replies. A contract sees their list.
 #[derive(Clone, Copy, Debug)]
 pub struct Replies {
-    cells: [SingleReply; 8],
+    cells: [SingleReply; MAX_MEMBERS],
     len: usize,
 }
 
@@ -141,7 +147,7 @@ impl Replies {
         ensures { result ≡ [] }
     {
         Replies {
-            cells: [SingleReply::Full; 8],
+            cells: [SingleReply::Full; MAX_MEMBERS],
             len: 0,
         }
     }

@@ -1,5 +1,5 @@
 //! What a heap keeps: an object in the words of a region.
-ghost use Rattle.std.specs.Prelude.{◌≡◌, ℕ, ◌+◌, ◌*◌, ◌<◌, ◌≤◌, List, length, Option, Some, IfOk, OnOk, Err, slice_index, false};
+ghost use Rattle.std.specs.Prelude.{◌≡◌, ℕ, ◌+◌, ◌*◌, ◌<◌, ◌≤◌, List, length, Option, Some, IfSome, IfOk, OnOk, Err, slice_index, false};
 ghost use Rattle.rom_model.specs.Space.{KeepsSpace, Looks, Stores, HasRoom};
 ghost use Rattle.rom_model.specs.VecSpace.{words_of};
 ghost use Rattle.rom_model.specs.Machine.{Machine};
@@ -76,7 +76,9 @@ pub trait Object {
 
     /// The call that the words are those of. It is `None` exactly where there is none.
     fn words_call(words: &Args) -> Option<Self::Call>
-        ensures { result ≡ machine.words_call words.now };
+        ensures call { result ≡ machine.words_call words.now }
+        ensures weight { IfSome result (λ call.
+            (1 ≤ machine.weight call) × (machine.weight call ≤ WEIGHT)) };
 
     /// The words of a reply. They stand for it alone.
     fn reply_words(reply: &Self::Reply) -> Back

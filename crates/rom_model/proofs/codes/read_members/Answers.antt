@@ -1,12 +1,13 @@
-use Rattle.std.proofs.Common.{◌≡◌, ◌+◌, ◌-◌, List, ℕ, take, drop, length, refl, sym, ap, ◌∙◌, arith, add-one, ◌<◌, [], ◌∷◌, ◌++◌, Some, length-drop, length-take-le}
+use Rattle.std.proofs.Common.{◌≡◌, ◌+◌, ◌-◌, List, ℕ, take, drop, length, refl, sym, ap, ◌∙◌, arith, add-one, ◌<◌, [], ◌∷◌, ◌++◌, Bool, true, false, Some, None, length-drop, length-take-le}
 use Rattle.std.proofs.lemmas.List.{length-set}
 use Rattle.std.proofs.Math.Seq.{take-suc-set}
 use Rattle.rom_model.specs.declared.call.Single.{Single}
+use Rattle.rom_model.specs.declared.call.Call.{Call}
 use Rattle.rom_model.specs.declared.call.Call.TheVariants.{Group}
 use Rattle.rom_model.specs.Codes.{read_single, read_all, whole, as_group}
-use Rattle.std.specs.Prelude.{slice_set}
+use Rattle.std.specs.Prelude.{slice_set, Option, if◌then◌else◌}
 use Rattle.rom_model.specs.Groups.{is_size}
-use Rattle.rom_model.proofs.Reading.{prepend, when, size_is, read_part, length_part, read_next, read_to_end, whole_none, whole_some}
+use Rattle.rom_model.proofs.Reading.{prepend, whenever_none, read_part, length_part, read_next, read_to_end, whole_none, whole_some}
 use Rattle.rom_model.proofs.codes.read_members.Goals as goal
 
 pub loop-i-preserved : goal.loop-i-preserved
@@ -27,15 +28,17 @@ loop-i-preserved c =
 pub returns-then-at-words : goal.returns-then-at-words
 returns-then-at-words c =
     let all = read_to_end read_single c.args.many c.loop-i.i (take c.loop-i.i c.loop-i.calls) c.args.words.now (drop c.loop-i.at c.args.words.now) c.loop-i-test.false c.loop-i.invariant.so_far in
-    when _ _ (size_is c.args.many (omega arith) (omega arith)) ∙ (ap (whole Group) all ∙ whole_none Group _ (drop c.loop-i.at c.args.words.now) (omega (arith, length-drop c.loop-i.at c.args.words.now)))
+    whenever_none (is_size c.args.many) (ap (whole Group) all ∙ whole_none Group _ (drop c.loop-i.at c.args.words.now) (omega (arith, length-drop c.loop-i.at c.args.words.now)))
 
 pub returns : goal.returns
 returns c =
+    let same : c.loop-i.i ≡ c.args.many = omega arith in
+    let members : List Single = take c.args.many c.loop-i.calls in
+    let many : length members ≡ c.args.many = length-take-le c.args.many c.loop-i.calls (omega arith) in
     let all = read_to_end read_single c.args.many c.loop-i.i (take c.loop-i.i c.loop-i.calls) c.args.words.now (drop c.loop-i.at c.args.words.now) c.loop-i-test.false c.loop-i.invariant.so_far in
-    when _ _ (size_is c.args.many (omega arith) (omega arith)) ∙ (ap (whole Group) all ∙ (whole_some Group _ (drop c.loop-i.at c.args.words.now) (omega (arith, length-drop c.loop-i.at c.args.words.now)) ∙ members))
+    let read = ap (whole Group) all ∙ (whole_some Group _ (drop c.loop-i.at c.args.words.now) (omega (arith, length-drop c.loop-i.at c.args.words.now)) ∙ ap (λ k. Some (Group (take k c.loop-i.calls))) same) in
+    ap (λ (o : Option Call). if is_size c.args.many then o else None) read ∙ (ap (λ m. if is_size m then Some (Group members) else None) (sym many) ∙ (made (is_size (length members)) members ∙ sym (ap as_group c.of.ensures)))
   where
-    members : Some (Group (take c.loop-i.i c.loop-i.calls)) ≡ as_group c.of.result
-    members =
-        let same : c.loop-i.i ≡ c.args.many = omega arith in
-        let size = when (is_size (length (take c.args.many c.loop-i.calls))) (Some (take c.args.many c.loop-i.calls)) (size_is (length (take c.args.many c.loop-i.calls)) (omega (arith, length-take-le c.args.many c.loop-i.calls (omega arith))) (omega (arith, length-take-le c.args.many c.loop-i.calls (omega arith)))) in
-        ap (λ k. Some (Group (take k c.loop-i.calls))) same ∙ sym (ap as_group (c.of.ensures ∙ size))
+    made : (b : Bool) (calls : List Single) → (if b then Some (Group calls) else None) ≡ as_group (if b then Some calls else None)
+    made true calls = refl
+    made false calls = refl

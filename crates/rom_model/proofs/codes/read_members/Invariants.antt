@@ -1,4 +1,4 @@
-use Rattle.std.proofs.Common.{◌≡◌, ◌+◌, ◌-◌, ◌≤◌, length, take, drop}
+use Rattle.std.proofs.Common.{◌≡◌, ◌-◌, ◌≤◌, length, take, drop}
 use Rattle.rom_model.specs.Codes as codes
 use Rattle.rom_model.proofs.Reading.{prepend}
 use Rattle.rom_model.proofs.codes.read_members.Given as goal
