@@ -27,6 +27,12 @@ pub record Compares {D T : Type 0} (shown : ShownDevice D) (reads : ℕ) (old ne
   pub most_reads : AtMost (reads_until reads result) (shown.reads old) (shown.reads new)
   pub faults : HasFaults result (shown.faults old) (shown.faults new) (shown.failing new)
 
+-- At most so many reads, writes and syncs were called.
+pub record CallsWithin {D : Type 0} (shown : ShownDevice D) (reads writes syncs : ℕ) (was now : D) : Type 0 where
+  pub most_reads : AtMost reads (shown.reads was) (shown.reads now)
+  pub most_writes : AtMost writes (shown.writes was) (shown.writes now)
+  pub most_syncs : AtMost syncs (shown.syncs was) (shown.syncs now)
+
 -- Nothing is written, and one sync is called.
 pub record SyncsOnce {D : Type 0} (shown : ShownDevice D) (old new : D) : Type 0 where
   pub stays : Does shown Stays old new
@@ -71,6 +77,10 @@ abbrev pub AreSyncs : Result Recovered RecoverRefused → ℕ → ℕ → Type 0
 AreSyncs (Ok recovered) before now = Adds (syncs_from recovered.found) before now
 AreSyncs (Err (Twins offset main back)) before now = Adds 1 before now
 AreSyncs (Err Device) before now = AtMost 3 before now
+
+-- No more than any recovery of a heap of this order asks for, whatever its words are.
+abbrev pub WithinRecovery : {D : Type 0} → ShownDevice D → ℕ → D → D → Type 0
+WithinRecovery shown order was now = CallsWithin shown (1 + 2 * region_len order) (region_len order + 1) 3 was now
 
 -- The calls that recovery made.
 pub record Calls {D : Type 0} (shown : ShownDevice D) (order : ℕ) (old new : D) (result : Result Recovered RecoverRefused) : Type 0 where

@@ -7,7 +7,7 @@ ghost use Rattle.rom_header.specs.Headers.{IsIdle, state_word};
 ghost use Rattle.rom_header.specs.Layout.{STATE, words_needed};
 ghost use Rattle.rom_header.specs.Regions.{IsHeap};
 ghost use Rattle.rom_header.specs.Writing.{Alters};
-ghost use Rattle.rom_recover.specs.Calls.{Calls, SyncsOnce, reads_at_most};
+ghost use Rattle.rom_recover.specs.Calls.{Calls, SyncsOnce, WithinRecovery, reads_at_most};
 ghost use Rattle.rom_recover.specs.Image.{IsEmptyOrFull, KeepsMain};
 ghost use Rattle.rom_recover.specs.Recovered.{IsDone, IsFirst, IsStateOf, Mended, Mends};
 
@@ -94,6 +94,10 @@ pub fn recover_into<D: Device>(
         IfErr result (IsFirst geometry (D.shown.words device.old)) }
     ensures calls { Calls D.shown geometry device.old device.new result }
 
+    // Whatever the words are, it calls the device no more often than the longest recovery of a heap
+    // of this order does.
+    ensures within { WithinRecovery D.shown geometry device.old device.new }
+
     // Whatever the answer, only the state and the regions change, each word of a region to its
     // twin's at most, the region that counts stays, and under IDLE nothing changes.
     ensures left { Alters D.shown (Mends geometry) device.old device.new }
@@ -130,6 +134,10 @@ pub fn recover<D: Device>(device: &mut D, geometry: Geometry) -> Result<Recovere
     ensures twins { IsTrue D.shown.tells_words →
         IfErr result (IsFirst geometry (D.shown.words device.old)) }
     ensures calls { Calls D.shown geometry device.old device.new result }
+
+    // Whatever the words are, it calls the device no more often than the longest recovery of a heap
+    // of this order does.
+    ensures within { WithinRecovery D.shown geometry device.old device.new }
 
     // Whatever the answer, only the state and the regions change, each word of a region to its
     // twin's at most, the region that counts stays, and under IDLE nothing changes.

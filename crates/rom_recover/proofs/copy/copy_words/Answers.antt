@@ -1,4 +1,4 @@
-use Rattle.std.proofs.Common.{IsTrue, length, rules, ◌+◌, ◌≤◌}
+use Rattle.std.proofs.Common.{rules, ◌+◌, ◌≤◌}
 use Rattle.rom_recover.proofs.Copying.{copied_on, does_piece, source_stays}
 use Rattle.rom_recover.proofs.Keeping.{keeps_from, keeps_on}
 use Rattle.rom_recover.proofs.copy.copy_words.Goals as goal
