@@ -157,7 +157,9 @@ impl<D: Device, O: Object> Core<D, O> {
             ImageAt O.Contents (on_words O.machine) b s n self.new.twin.phase
             (plan_of self.new.view) i }
 
-        // What the device needs afterwards.
+        // What the device needed, and what it needs afterwards.
+        ensures needed { NeedsRepair self.old.twin.phase →
+            IsTrue (D.shown.failing self.old.twin.device) }
         ensures repaired { 0 < result.done → (self.new.twin.phase ≡ Phase.Clean)
             ⊎ (self.new.twin.phase ≡ Phase.Redo) }
         ensures failed { result.outcome ≡ Outcome.Failed → (self.new.twin.phase ≡ Phase.Undo)

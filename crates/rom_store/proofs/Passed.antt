@@ -289,20 +289,20 @@ module _ {S : Type 0} (Contents : ℕ → List ℕ → S → ℕ → Type 0) (st
 
   -- The pass is one that the device went through.
   pass_on : len_after 0 (records_of p) ≡ length p.history
-      → shown.reads u.device ≡ shown.reads t.device → SpendsAtMost shown (batch_writes t.phase b.order (region_len b.order)) (batch_syncs t.phase) t.device u.device
+      → shown.reads u.device ≡ shown.reads t.device → (NeedsRepair t.phase → IsTrue (shown.failing t.device)) → SpendsAtMost shown (batch_writes t.phase b.order (region_len b.order)) (batch_syncs t.phase) t.device u.device
       → (r.outcome ≡ outcome.Failed → FailsBeforeCommit shown t.phase b.order p.main t.device u.device) → (r.outcome ≡ outcome.Doubt → FailsAtCommit shown t.phase b.order p.main t.device u.device)
       → (IsTrue shown.tells_images → Runs shown (Becomes (PassMakes Contents step b s k (fate_of r.outcome) p.history x.more)) t.device u.device)
       → (0 < r.done → (u.phase ≡ phase.Clean) ⊎ (u.phase ≡ phase.Redo))
       → (IsTrue shown.tells_images → (i : List ℕ) → shown.leaves u.device i → ImageAt Contents step b s k u.phase q i)
       → IsPassOn shown Contents step Story' (len_after 0 (records_of p)) Record t.device u.device
-  pass_on ends unread most failed doubt runs repaired now_is =
+  pass_on ends unread needed most failed doubt runs repaired now_is =
       let grown : length q.history ≡ length p.history + r.done = ap length x.history ∙ (length-append p.history _ ∙ ap (λ (n : ℕ). length p.history + n) (sym x.done)) in
       record {
         before = refl;
         after = refl;
         cause = cause_by r.outcome refl failed doubt;
         unread = unread;
-        most = (t.phase, most);
+        most = (t.phase, needed, most);
         reached = (omega (arith, ends, grown), omega arith);
         images = λ told. becomes_by shown _ (PassImage shown Contents step Story' (len_after 0 (records_of p)) Record) (λ i made. ⊎_elim
             (λ holds. inl (was_held ends grown i holds))
@@ -322,13 +322,13 @@ module _ {S : Type 0} (Contents : ℕ → List ℕ → S → ℕ → Type 0) (st
 
   -- So the device went through one pass more, or through none where no call was found.
   pub went_on : (First : D → Type 0) → len_after 0 (records_of p) ≡ length p.history
-      → shown.reads u.device ≡ shown.reads t.device → SpendsAtMost shown (batch_writes t.phase b.order (region_len b.order)) (batch_syncs t.phase) t.device u.device
+      → shown.reads u.device ≡ shown.reads t.device → (NeedsRepair t.phase → IsTrue (shown.failing t.device)) → SpendsAtMost shown (batch_writes t.phase b.order (region_len b.order)) (batch_syncs t.phase) t.device u.device
       → (r.outcome ≡ outcome.Failed → FailsBeforeCommit shown t.phase b.order p.main t.device u.device) → (r.outcome ≡ outcome.Doubt → FailsAtCommit shown t.phase b.order p.main t.device u.device)
       → (IsTrue shown.tells_images → Runs shown (Becomes (PassMakes Contents step b s k (fate_of r.outcome) p.history x.more)) t.device u.device)
       → (r.outcome ≡ outcome.Nothing → u ≡ t) → (0 < r.done → (u.phase ≡ phase.Clean) ⊎ (u.phase ≡ phase.Redo))
       → (IsTrue shown.tells_images → (i : List ℕ) → shown.leaves u.device i → ImageAt Contents step b s k u.phase q i)
       → WentThrough shown Contents step (story_at b s k p) First t.device → WentThrough shown Contents step (story_at b s k q) First u.device
-  went_on First ends unread most failed doubt runs untouched repaired now_is was = record {
+  went_on First ends unread needed most failed doubt runs untouched repaired now_is was = record {
     first = was.first;
     begun = was.begun;
     passes = by (founds Contents step b p q callers (shown.faults t.device) (shown.faults u.device) r x) refl;
@@ -348,7 +348,7 @@ module _ {S : Type 0} (Contents : ℕ → List ℕ → S → ℕ → Type 0) (st
       by (f ∷ fs) e =
           let records : records_of p ++ Record ∷ [] ≡ records_of q = sym (x.records ∙ ap (λ (l : List Found). records_of p ++ record_list l Record) e) in
           subst (λ (l : List PassRecord). ArePassesOn shown Contents step Story' 0 l was.first u.device) records
-          (passes_on shown Contents step Story' 0 (records_of p) Record was.first t.device u.device stayed (pass_on ends unread most failed doubt runs repaired now_is))
+          (passes_on shown Contents step Story' 0 (records_of p) Record was.first t.device u.device stayed (pass_on ends unread needed most failed doubt runs repaired now_is))
 
 module _ {S : Type 0} (Contents : ℕ → List ℕ → S → ℕ → Type 0) (step : ℕ → S → ℕ → List ℕ → Option (S × List ℕ)) {D : Type 0} (shown : ShownDevice D) (start : Start) (test : ℕ → List ℕ → Type 0)
     (c d : Locked D) (callers : ℕ) (r : Passed) where
@@ -362,11 +362,12 @@ module _ {S : Type 0} (Contents : ℕ → List ℕ → S → ℕ → Type 0) (st
       → (r.outcome ≡ outcome.Failed → (d.twin.phase ≡ phase.Undo) ⊎ ((d.twin.phase ≡ c.twin.phase) × NeedsRepair c.twin.phase))
       → (let b = c.view.base in IsTrue shown.tells_images → (s : S) (n : ℕ) → Contents b.order b.image s n → (i : List ℕ) → shown.leaves d.twin.device i → ImageAt Contents step b s n d.twin.phase (plan_of d.view) i)
       → WritesHeap shown c.twin.order c.twin.device d.twin.device
+      → (NeedsRepair c.twin.phase → IsTrue (shown.failing c.twin.device))
       → SpendsAtMost shown (batch_writes c.twin.phase c.twin.order (region_len c.twin.order)) (batch_syncs c.twin.phase) c.twin.device d.twin.device
       → (r.outcome ≡ outcome.Failed → FailsBeforeCommit shown c.twin.phase c.twin.order (plan_of c.view).main c.twin.device d.twin.device)
       → (r.outcome ≡ outcome.Doubt → FailsAtCommit shown c.twin.phase c.twin.order (plan_of c.view).main c.twin.device d.twin.device)
       → IsHeld shown Contents step c.table_id c.view.base start test d
-  held_on h same kept x runs spent untouched repaired failed now_is writes most failed_by doubt_by = record {
+  held_on h same kept x runs spent untouched repaired failed now_is writes needed most failed_by doubt_by = record {
     table_is = same.0;
     base_is = same.2;
     order_is = same.3 ∙ h.order_is;
@@ -381,7 +382,7 @@ module _ {S : Type 0} (Contents : ℕ → List ℕ → S → ℕ → Type 0) (st
     later = λ told. let on = (writes.does.images told).later in omega (arith, on, h.later told);
     keeps = λ told t i le was. (writes.does.images told).keeps t i (omega (arith, le, h.later told)) (h.keeps told t i le was);
     since = λ told s k op t i left. ⊎_elim (past told s k op t i) (here told s k op t i) ((runs told s k op).nothing_else t i left);
-    went = λ s k op. went_on Contents step shown b p q callers r c.twin d.twin x s k op (HasStarted shown b.faults start) h.ends writes.only.reads
+    went = λ s k op. went_on Contents step shown b p q callers r c.twin d.twin x s k op (HasStarted shown b.faults start) h.ends writes.only.reads needed
         (subst (λ (n : ℕ). SpendsAtMost shown (batch_writes c.twin.phase n (region_len n)) (batch_syncs c.twin.phase) c.twin.device d.twin.device) h.order_is most)
         (λ e. subst (λ (n : ℕ). FailsBeforeCommit shown c.twin.phase n p.main c.twin.device d.twin.device) h.order_is (failed_by e))
         (λ e. subst (λ (n : ℕ). FailsAtCommit shown c.twin.phase n p.main c.twin.device d.twin.device) h.order_is (doubt_by e))

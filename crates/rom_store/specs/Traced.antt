@@ -6,6 +6,7 @@ use Rattle.rom_model.specs.declared.record.Fate.{Fate}
 use Rattle.rom_model.specs.declared.record.Fate.TheVariants.{Published, Failed, Doubt}
 use Rattle.rom_model.specs.declared.record.PassRecord.{PassRecord}
 use Rattle.rom_device.specs.Device.{ShownDevice, Becomes, Runs}
+use Rattle.rom_twin.specs.Seen.{NeedsRepair}
 use Rattle.rom_twin.specs.declared.phase.Phase.{Phase}
 use Rattle.rom_combine.specs.Causes.{FailsAtCommit, FailsBeforeCommit}
 use Rattle.rom_combine.specs.Costs.{SpendsAtMost, batch_syncs, batch_writes}
@@ -34,9 +35,9 @@ module _ {D S : Type 0} (shown : ShownDevice D) (Contents : ℕ → List ℕ →
     pub before : shown.faults was ≡ r.faults_before
     pub after : shown.faults now ≡ r.faults_after
     pub cause : HasCause r.fate was now
-    -- nothing is read, and no more is called than one batch takes, with the repair before it
+    -- nothing is read, and no more is called than one batch takes, with the repair before it where the device's last call had failed, and else without one
     pub unread : shown.reads now ≡ shown.reads was
-    pub most : (phase : Phase) × SpendsAtMost shown (batch_writes phase story.order (region_len story.order)) (batch_syncs phase) was now
+    pub most : (phase : Phase) × (NeedsRepair phase → IsTrue (shown.failing was)) × SpendsAtMost shown (batch_writes phase story.order (region_len story.order)) (batch_syncs phase) was now
     pub reached : (len ≤ length story.history) × (r.len ≤ length story.history)
     pub images : IsTrue shown.tells_images → Runs shown (Becomes (PassImage len r)) was now
     -- what it published is certain: a stop leaves it
