@@ -26,6 +26,10 @@ script() {
         for (i = 0; i < lines; i++) {
             if (kind == "put") line = "put " i % 10 + 1 " " any(1000000)
             if (kind == "get") line = "get " i % 12 + 1
+            if (kind == "group") {
+                line = "tx"
+                for (j = 0; j < 8; j++) line = line (j ? " ; " : " ") "put " (i + j) % 10 + 1 " " any(1000000)
+            }
             if (kind == "updates" || kind == "queries") {
                 which = kind == "updates" ? any(7) + 1 : any(5) + 8
                 line = name[which]
@@ -84,12 +88,12 @@ run "$folder/first"
 cp "$used" "$heap"
 echo "order $order: a file of $(wc -c <"$heap") bytes; of $lines lines more, each:"
 wrong=0
-for kind in put updates get queries; do
+for kind in put group updates get queries; do
     script "$kind" "$lines" >"$folder/less"
     script "$kind" "$((2 * lines))" >"$folder/more"
     less=$(measured "$folder/less") || exit 1
     more=$(measured "$folder/more") || exit 1
-    case $kind in put | updates) syncs=4 ;; *) syncs=0 ;; esac
+    case $kind in put | group | updates) syncs=4 ;; *) syncs=0 ;; esac
     echo "$less $more" | awk -v kind="$kind" -v lines="$lines" -v syncs="$syncs" '{
         printf "%s: fdatasync %.3f, pwrite64 %.3f with %.0f bytes, pread64 %.3f, all calls %.3f, instructions %.0f\n", kind,
             ($7 - $1) / lines, ($8 - $2) / lines, ($9 - $3) / lines, ($10 - $4) / lines, ($11 - $5) / lines, ($12 - $6) / lines
