@@ -16,7 +16,7 @@ use Rattle.rom_model.specs.declared.call.SingleReply.TheVariants as reply
 use Rattle.rom_set.specs.Set.{with_members}
 use Rattle.rom_map.specs.Map.{with_pairs}
 use Rattle.rom_queue.specs.Queue.{with_last}
-use Rattle.rom_heap.specs.Fits.{is_there, given, next_room, IsRoom, Leaves}
+use Rattle.rom_heap.specs.Fits.{is_there, given, next_room, IsRoom, LeavesRoom}
 use Rattle.rom_heap.specs.declared.fits.Room.{Room}
 use Rattle.rom_model.proofs.Nodes.{pow_small}
 use Rattle.rom_heap.proofs.Steps.{enq_room, enq_full, add_there, add_new, add_full, rem_there, rem_absent, put_was, put_new, put_full}
@@ -138,11 +138,11 @@ module _ (n j : ℕ) where
   full_append [] ys s = refl
   full_append (c ∷ xs) ys s = ap (λ b. is_full (one n s j c).1 || b) (full_append xs ys (one n s j c).0) ∙ or_all (is_full (one n s j c).1) (any_full (replies_to n (one n s j c).0 j xs)) _
 
-  pub leaves_none : (s : State) (room : Room) → IsRoom n s room → Leaves n s j [] room
+  pub leaves_none : (s : State) (room : Room) → IsRoom n s room → LeavesRoom n s j [] room
   leaves_none s room is = record { done = refl; left = is }
 
   -- one more is done
-  pub leaves_more : (s : State) (before : List Single) (room : Room) (c : Single) (next : Room) → Leaves n s j before room → next_room (is_there (state_after n s j before) c) c room ≡ Some next → Leaves n s j (before ++ c ∷ []) next
+  pub leaves_more : (s : State) (before : List Single) (room : Room) (c : Single) (next : Room) → LeavesRoom n s j before room → next_room (is_there (state_after n s j before) c) c room ≡ Some next → LeavesRoom n s j (before ++ c ∷ []) next
   leaves_more s before room c next l is =
       let t : State = state_after n s j before in
       let o : Outcome n (one n t j c) (Some next) = subst (λ o. Outcome n (one n t j c) o) is (next_is n t j room l.left c) in
@@ -152,20 +152,20 @@ module _ (n j : ℕ) where
       }
 
   -- one is refused
-  pub refuses : (s : State) (before : List Single) (room : Room) (c : Single) (rest : List Single) → Leaves n s j before room → next_room (is_there (state_after n s j before) c) c room ≡ None → any_full (replies_to n s j (before ++ c ∷ rest)) ≡ true
+  pub refuses : (s : State) (before : List Single) (room : Room) (c : Single) (rest : List Single) → LeavesRoom n s j before room → next_room (is_there (state_after n s j before) c) c room ≡ None → any_full (replies_to n s j (before ++ c ∷ rest)) ≡ true
   refuses s before room c rest l is =
       let t : State = state_after n s j before in
       let o : is_full (one n t j c).1 ≡ true = subst (λ o. Outcome n (one n t j c) o) is (next_is n t j room l.left c) in
       full_append before (c ∷ rest) s ∙ (λ i. l.done i || (o i || any_full (replies_to n (one n t j c).0 j rest)))
 
   -- so of the updates of a list, up to the one at an index
-  pub leaves_next : (s : State) (calls : List Single) (i : ℕ) (d : Single) (room next : Room) (there : Bool) (o : Option Room) → i < length calls → Leaves n s j (take i calls) room →
-      (any_full (replies_to n s j (take i calls)) ≡ false → there ≡ is_there (state_after n s j (take i calls)) (get_or calls i d)) → o ≡ next_room there (get_or calls i d) room → o ≡ Some next → Leaves n s j (take (i + 1) calls) next
+  pub leaves_next : (s : State) (calls : List Single) (i : ℕ) (d : Single) (room next : Room) (there : Bool) (o : Option Room) → i < length calls → LeavesRoom n s j (take i calls) room →
+      (any_full (replies_to n s j (take i calls)) ≡ false → there ≡ is_there (state_after n s j (take i calls)) (get_or calls i d)) → o ≡ next_room there (get_or calls i d) room → o ≡ Some next → LeavesRoom n s j (take (i + 1) calls) next
   leaves_next s calls i d room next there o lt l is room_is some =
-      subst (λ cs. Leaves n s j cs next) (sym (take_more calls i d lt)) (leaves_more s (take i calls) room (get_or calls i d) next l
+      subst (λ cs. LeavesRoom n s j cs next) (sym (take_more calls i d lt)) (leaves_more s (take i calls) room (get_or calls i d) next l
       (ap (λ b. next_room b (get_or calls i d) room) (sym (is l.done)) ∙ (sym room_is ∙ some)))
 
-  pub refuses_all : (s : State) (calls : List Single) (i : ℕ) (d : Single) (room : Room) (there : Bool) (o : Option Room) → i < length calls → Leaves n s j (take i calls) room →
+  pub refuses_all : (s : State) (calls : List Single) (i : ℕ) (d : Single) (room : Room) (there : Bool) (o : Option Room) → i < length calls → LeavesRoom n s j (take i calls) room →
       (any_full (replies_to n s j (take i calls)) ≡ false → there ≡ is_there (state_after n s j (take i calls)) (get_or calls i d)) → o ≡ next_room there (get_or calls i d) room → o ≡ None → any_full (replies_to n s j calls) ≡ true
   refuses_all s calls i d room there o lt l is room_is none =
       let parts : take i calls ++ get_or calls i d ∷ drop (suc i) calls ≡ calls = ap (λ cs. take i calls ++ cs) (sym (drop-cons calls i d lt)) ∙ take-append-drop i calls in

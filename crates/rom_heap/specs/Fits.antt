@@ -11,19 +11,19 @@ use Rattle.rom_model.specs.declared.call.SingleReply.{SingleReply}
 use Rattle.rom_heap.specs.Updates.{most_of_all}
 use Rattle.rom_heap.specs.declared.fits.Room.{Room}
 
--- what an update tells, once it is done, of a number, whether the set has it
+-- whether the set has a number after an update, as far as that is known; `told` is what was known before it
 abbrev pub set_tells : ℕ → Single → Option Bool → Option Bool
 set_tells key (Add k) told = if key == k then Some true else told
 set_tells key (Rem k) told = if key == k then Some false else told
 set_tells key other told = told
 
--- and of a key, whether the map has it
+-- so of the map and a key
 abbrev pub map_tells : ℕ → Single → Option Bool → Option Bool
 map_tells key (Put k v) told = if key == k then Some true else told
 map_tells key (Del k) told = if key == k then Some false else told
 map_tells key other told = told
 
--- What several of them tell, which are done in order: the last that tells something counts.
+-- What is known after several of them, which are done in order: the last that tells something counts.
 abbrev pub told_by : (Single → Option Bool → Option Bool) → Option Bool → List Single → Option Bool
 told_by tells told [] = told
 told_by tells told (c ∷ calls) = told_by tells (tells c told) calls
@@ -64,7 +64,7 @@ pub record IsRoom (n : ℕ) (s : State) (room : Room) : Type 0 where
   pub queue : room.queue ≡ length s.queue
 
 -- The updates were taken in order, none was refused, and this is the room that they leave.
-pub record Leaves (n : ℕ) (s : State) (count : ℕ) (calls : List Single) (room : Room) : Type 0 where
+pub record LeavesRoom (n : ℕ) (s : State) (count : ℕ) (calls : List Single) (room : Room) : Type 0 where
   pub done : any_full (replies_to n s count calls) ≡ false
   pub left : IsRoom n (state_after n s count calls) room
 

@@ -26,7 +26,8 @@ pub(crate) struct Room {
     pub queue: u64,
 }
 
-/// What an update that is done tells of a number, whether the set has it then.
+/// Whether the set has a number after an update, as far as that is known; `told` is what was known
+/// before it.
 fn set_tells(key: u64, call: &Single, told: Option<bool>) -> Option<bool>
     ensures { result ≡ plan.set_tells key call.now told }
 {
@@ -37,7 +38,8 @@ fn set_tells(key: u64, call: &Single, told: Option<bool>) -> Option<bool>
     }
 }
 
-/// What an update that is done tells of a key, whether the map has it then.
+/// Whether the map has a key after an update, as far as that is known; `told` is what was known
+/// before it.
 fn map_tells(key: u64, call: &Single, told: Option<bool>) -> Option<bool>
     ensures { result ≡ plan.map_tells key call.now told }
 {
@@ -48,7 +50,7 @@ fn map_tells(key: u64, call: &Single, told: Option<bool>) -> Option<bool>
     }
 }
 
-/// What updates that are done tell of a number, whether the set has it then.
+/// Whether the set has a number after these updates, as far as they tell.
 fn set_told(key: u64, calls: &[Single]) -> Option<bool>
     ensures { result ≡ plan.told_by (plan.set_tells key) None calls.now }
 {
@@ -59,7 +61,7 @@ fn set_told(key: u64, calls: &[Single]) -> Option<bool>
     told
 }
 
-/// What updates that are done tell of a key, whether the map has it then.
+/// Whether the map has a key after these updates, as far as they tell.
 fn map_told(key: u64, calls: &[Single]) -> Option<bool>
     ensures { result ≡ plan.told_by (plan.map_tells key) None calls.now }
 {

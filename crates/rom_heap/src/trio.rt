@@ -1,4 +1,5 @@
 //! The object.
+ghost use Rattle.rom_model.specs.declared.group.TheConstants.{MAX_MEMBERS};
 ghost use Rattle.rom_model.specs.State.{State};
 ghost use Rattle.rom_model.specs.Region.{Contents};
 ghost use Rattle.rom_model.specs.Trio.{trio};
@@ -11,8 +12,8 @@ use crate::apply::apply;
 use crate::fresh::format_region;
 use crate::inspection::inspect;
 use rom_model::{
-    Answer, Args, Back, Call, Kind, Look, Object, Query, Reply, Space, Unfit, call_words,
-    reply_words, words_call, words_reply,
+    Answer, Args, Back, Call, Kind, Look, MAX_MEMBERS, Object, Query, Reply, Space, Unfit,
+    call_words, reply_words, words_call, words_reply,
 };
 use std::alloc::Global;
 
@@ -29,9 +30,9 @@ impl Object for Trio {
 
     const STORES: u64 = 32;
 
-    ghost WEIGHT = { 8 };
+    ghost WEIGHT = { MAX_MEMBERS };
 
-    const WEIGHT: u64 = 8;
+    const WEIGHT: u64 = MAX_MEMBERS as u64;
 
     ghost State = { State };
 
