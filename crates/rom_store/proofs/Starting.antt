@@ -7,7 +7,8 @@ use Rattle.rom_model.specs.Machine.{Machine, on_words}
 use Rattle.rom_model.specs.declared.line.LineResult.{LineResult}
 use Rattle.rom_model.specs.declared.line.Step.{Step}
 use Rattle.rom_device.specs.Device.{ShownDevice}
-use Rattle.rom_open.specs.Within.{CallsWithin, HasMadeHeap, HasOpened, WithinMaking, WithinOpening}
+use Rattle.rom_recover.specs.Calls.{CallsWithin}
+use Rattle.rom_open.specs.Within.{CallsOfOrder, HasMadeHeap, HasOpened, WithinMaking, WithinOpening}
 use Rattle.rom_store.specs.Closing.{ClosedSeen}
 use Rattle.rom_store.specs.Playing.{IsSession}
 use Rattle.rom_store.specs.Start.{HasStarted, start_of}
@@ -23,9 +24,10 @@ module _ {D : Type 0} (shown : ShownDevice D) where
   }
 
   -- where the heap was opened by then
-  pub opened_first : (was at d : D) (faults : ℕ) → WithinOpening shown was at → faults ≡ shown.faults was → HasStarted shown faults (start_of shown at) d → HasOpened shown was d
-  opened_first was at d faults within as_often same = record {
+  pub opened_first : (order : ℕ) (was at d : D) (faults : ℕ) → WithinOpening shown was at → CallsOfOrder shown order was at → faults ≡ shown.faults was → HasStarted shown faults (start_of shown at) d → HasOpened shown order was d
+  opened_first order was at d faults within by_order as_often same = record {
     calls = λ told. calls_stay _ _ _ faults was at d same (within.calls told);
+    by_order = calls_stay _ _ _ faults was at d same by_order;
     faults = same.faults_are ∙ as_often;
   }
 

@@ -12,7 +12,7 @@ ghost use Rattle.rom_recover.specs.Recovered.{Mended};
 ghost use Rattle.rom_open.specs.AtRest.{IsAtRest};
 ghost use Rattle.rom_open.specs.Calls.{Calls};
 ghost use Rattle.rom_open.specs.Refusals.{named_order};
-ghost use Rattle.rom_open.specs.Within.{WithinOpening};
+ghost use Rattle.rom_open.specs.Within.{CallsOfOrder, WithinOpening};
 ghost use Rattle.rom_combine.specs.AtRest.{IsReady};
 ghost use Rattle.rom_combine.specs.Costs.{WithinHeap};
 ghost use Rattle.rom_rule.specs.Places.{AreCallers};
@@ -187,6 +187,8 @@ pub fn open_store<D: Device + Send, O: Object>(
     ensures calls { IsTrue D.shown.tells_words → IfOk result (λ o.
         Calls {T = Unit {0}} D.shown (D.shown.words device) device o.device (Ok tt)) }
     ensures within { IfOk result (λ o. WithinOpening D.shown device o.device) }
+    ensures by_order { IfOk result (λ o.
+        CallsOfOrder D.shown (base_of o.key).order device o.device) }
 
     // Else the device is refused by the first test that fails, and handed back.
     ensures refused { IfErr result (λ refused. HasBeenRefused D.shown O.Contents O.FirstBreak device

@@ -56,7 +56,7 @@ where
     // The results are those of one history, from what the device held, and the device went through
     // its passes, after one opening.
     ensures session { IfOk result (λ played. IsSession D.shown O.machine O.Contents scripts.now
-        played.results.items (HasOpened D.shown device) played.closed) }
+        played.results.items (HasOpened D.shown played.closed.session.order device) played.closed) }
     ensures order { IsTrue D.shown.tells_words → IfOk result (λ played.
         played.closed.session.order ≡ named_order (D.shown.words device)) }
     ensures held { IsTrue D.shown.tells_words → IfOk result (λ played.
