@@ -1,7 +1,6 @@
 -- The calls of an opening and of a making, counted by their answers, are no more than any makes.
-use Rattle.std.specs.Prelude.{◌≡◌, ℕ, ◌+◌, ◌*◌, ◌==◌, ◌≤◌, min, Bool, true, false, if◌then◌else◌, Result, Ok, Err, IsTrue}
+use Rattle.std.specs.Prelude.{◌≡◌, ℕ, ◌==◌, ◌≤◌, min, Bool, true, false, if◌then◌else◌, Result, Ok, Err, IsTrue}
 use Rattle.std.proofs.Common.{arith, inl, inr}
-use Rattle.rom_model.specs.Blocks.{region_len}
 use Rattle.rom_model.specs.Faults.{Adds, AtMost, StopsAtFault}
 use Rattle.rom_device.specs.Device.{ShownDevice, Does, Makes, Stays}
 use Rattle.rom_header.specs.Calls.{format_fault, format_reads, format_syncs, format_writes}
@@ -9,7 +8,7 @@ use Rattle.rom_header.specs.Headers.{IsIdle}
 use Rattle.rom_header.specs.declared.fresh.FormatRefused.{FormatRefused}
 use Rattle.rom_header.specs.declared.fresh.FormatRefused.TheVariants as format
 use Rattle.rom_open.specs.Calls.{AreReads, AreSyncs, AreWrites, Calls, HasFaults, opening_reads, opening_syncs, opening_writes}
-use Rattle.rom_open.specs.Within.{WithinMaking, WithinOpening}
+use Rattle.rom_open.specs.Within.{CallsOfSomeOrder, WithinMaking, WithinOpening}
 use Rattle.rom_open.specs.declared.reasons.Why.{Why}
 use Rattle.rom_open.specs.declared.reasons.Why.TheVariants.{NotAHeap, BadVersion, BadOrder, BadState, TooSmall, Twins, Malformed, Device, OutOfMemory}
 
@@ -90,13 +89,14 @@ stops_opening (Err (Malformed offset rule)) before now failing same = inl same
 stops_opening (Err OutOfMemory) before now failing same = inl same
 
 pub within_opening : {D T : Type 0} (shown : ShownDevice D) (was now : D) (result : Result T Why) → (IsTrue shown.tells_words → Calls shown (shown.words was) was now result)
-    → (IsTrue shown.tells_words → IsIdle (shown.words was) → Does shown Stays was now) → HasFaults result (shown.faults was) (shown.faults now) (shown.failing now) → WithinOpening shown was now
-within_opening shown was now result calls idle faults = record {
+    → (IsTrue shown.tells_words → IsIdle (shown.words was) → Does shown Stays was now) → HasFaults result (shown.faults was) (shown.faults now) (shown.failing now) → CallsOfSomeOrder shown was now → WithinOpening shown was now
+within_opening shown was now result calls idle faults by_order = record {
   calls = λ told. record {
     most_reads = most_reads _ _ result _ _ (calls told).reads;
     most_writes = most_writes _ _ result _ _ (calls told).writes;
     most_syncs = most_syncs _ result _ _ (calls told).syncs;
   };
+  by_order = by_order;
   idle = idle;
   stops = stops_opening result _ _ _ faults;
 }

@@ -1,20 +1,16 @@
 -- What of a device's calls the opening of its heap comes to at most, and the making of one.
-use Rattle.std.specs.Prelude.{◌≡◌, ℕ, slice_index, Err, IsTrue}
-use Rattle.rom_model.specs.Faults.{AtMost, StopsAtFault}
+use Rattle.std.specs.Prelude.{◌≡◌, ◌⊎◌, ℕ, ◌+◌, ◌*◌, ◌≤◌, slice_index, Err, IsTrue}
+use Rattle.rom_model.specs.Blocks.{IsOrder, region_len}
+use Rattle.rom_model.specs.Faults.{StopsAtFault}
 use Rattle.rom_device.specs.Device.{ShownDevice, Does, Makes, Stays}
 use Rattle.rom_header.specs.Calls.{format_fault, format_reads, format_syncs, format_writes}
 use Rattle.rom_header.specs.Headers.{IsIdle}
 use Rattle.rom_header.specs.Layout.{STATE, words_needed}
+use Rattle.rom_recover.specs.Calls.{CallsWithin}
 use Rattle.rom_open.specs.Calls.{opening_reads, opening_syncs, opening_writes}
 use Rattle.rom_open.specs.Refusals.{named_order}
 use Rattle.rom_open.specs.declared.new_heap.NotFormatted.{NotFormatted}
 use Rattle.rom_open.specs.declared.new_heap.NotFormatted.TheVariants.{Refused, OutOfMemory}
-
--- At most so many reads, writes and syncs were called.
-pub record CallsWithin {D : Type 0} (shown : ShownDevice D) (reads writes syncs : ℕ) (was now : D) : Type 0 where
-  pub most_reads : AtMost reads (shown.reads was) (shown.reads now)
-  pub most_writes : AtMost writes (shown.writes was) (shown.writes now)
-  pub most_syncs : AtMost syncs (shown.syncs was) (shown.syncs now)
 
 module _ {D : Type 0} (shown : ShownDevice D) where
   -- No more than the words before it ask for, of one opening: under IDLE no write, and one sync.
@@ -22,13 +18,22 @@ module _ {D : Type 0} (shown : ShownDevice D) where
   CallsOfOpening was now = let words = shown.words was in let state = slice_index words STATE in
       IsTrue shown.tells_words → CallsWithin shown (opening_reads (named_order words) state) (opening_writes (named_order words) state) (opening_syncs state) was now
 
+  -- No more than one opening of a heap of this order asks for, whatever its words are: the header and the state again, and both regions, are read, and one region and the state are written.
+  abbrev pub CallsOfOrder : ℕ → D → D → Type 0
+  CallsOfOrder order was now = CallsWithin shown (5 + 2 * region_len order) (region_len order + 1) 3 was now
+
+  -- So of a heap of some order that there is, which the device has room for; or no more than the reads of a header.
+  abbrev pub CallsOfSomeOrder : D → D → Type 0
+  CallsOfSomeOrder was now = CallsWithin shown 4 0 0 was now ⊎ ((order : ℕ) × IsOrder order × (words_needed order ≤ shown.size was) × CallsOfOrder order was now)
+
   -- Of the making of one heap of this order: one read, a write of each of its words, and three syncs.
   abbrev pub CallsOfMaking : ℕ → D → D → Type 0
   CallsOfMaking order was now = CallsWithin shown 1 (words_needed order) 3 was now
 
-  -- The calls of one opening at most, and none after one that failed. Under IDLE every word stays.
+  -- The calls of one opening at most, by the words where these are told and by the order whatever they are, and none after one that failed. Under IDLE every word stays.
   pub record WithinOpening (was now : D) : Type 0 where
     pub calls : CallsOfOpening was now
+    pub by_order : CallsOfSomeOrder was now
     pub idle : IsTrue shown.tells_words → IsIdle (shown.words was) → Does shown Stays was now
     pub stops : StopsAtFault (shown.faults was) (shown.faults now) (shown.failing now)
 
@@ -37,9 +42,10 @@ module _ {D : Type 0} (shown : ShownDevice D) where
     pub calls : CallsOfMaking order was now
     pub stops : StopsAtFault (shown.faults was) (shown.faults now) (shown.failing now)
 
-  -- Since this device a heap was opened once at most, and no call failed.
-  pub record HasOpened (was now : D) : Type 0 where
+  -- Since this device a heap of this order was opened once at most, and no call failed.
+  pub record HasOpened (order : ℕ) (was now : D) : Type 0 where
     pub calls : CallsOfOpening was now
+    pub by_order : CallsOfOrder order was now
     pub faults : shown.faults now ≡ shown.faults was
 
   -- A heap of this order was made once at most, likewise.

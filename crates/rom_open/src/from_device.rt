@@ -12,7 +12,7 @@ ghost use Rattle.rom_header.specs.Held.{Holds, HoldsOne};
 ghost use Rattle.rom_open.specs.AtRest.{IsAtRest};
 ghost use Rattle.rom_open.specs.Opening.{IsOpeningAnswer, MendsNamed, device_of, refusal_of};
 ghost use Rattle.rom_open.specs.Refusals.{IsRefusal, NamesTooFew, named_order};
-ghost use Rattle.rom_open.specs.Within.{WithinOpening};
+ghost use Rattle.rom_open.specs.Within.{CallsOfOrder, CallsOfSomeOrder, WithinOpening};
 ghost use Rattle.rom_open.specs.declared.reasons.Why.TheVariants.{TooSmall};
 
 use crate::image::inspect_image;
@@ -81,6 +81,9 @@ fn accept<D: Device, O: Object>(alloc: Global, device: &mut D) -> Result<Accepte
         (D.shown.faults device.old) (D.shown.faults device.new) (D.shown.failing device.new) }
     ensures calls { IsTrue D.shown.tells_words →
         Calls D.shown (D.shown.words device.old) device.old device.new result }
+    ensures by_some_order { CallsOfSomeOrder D.shown device.old device.new }
+    ensures by_order { IfOk result (λ accepted.
+        CallsOfOrder D.shown accepted.geometry device.old device.new) }
 {
     let Ready { geometry, image } = make_ready(alloc, device)?;
     let Some(image) = image else {
@@ -145,6 +148,8 @@ pub fn open_device<D: Device, O: Object>(alloc: Global, device: D) -> Result<Ope
     ensures calls { IsTrue D.shown.tells_words →
         Calls D.shown (D.shown.words device) device (device_of result) (refusal_of result) }
     ensures within { WithinOpening D.shown device (device_of result) }
+    ensures by_order { IfOk result (λ opened.
+        CallsOfOrder D.shown opened.geometry device opened.device) }
 {
     let mut device = device;
     match accept::<D, O>(alloc, &mut device) {

@@ -10,6 +10,7 @@ ghost use Rattle.rom_recover.specs.Recovered.{IsDone, Mended};
 ghost use Rattle.rom_open.specs.Calls.{Calls, HasFaults};
 ghost use Rattle.rom_open.specs.Opening.{MendsNamed};
 ghost use Rattle.rom_open.specs.Refusals.{IsUnready, NamesTooFew, named_order};
+ghost use Rattle.rom_open.specs.Within.{CallsOfOrder, CallsOfSomeOrder};
 ghost use Rattle.rom_open.specs.declared.reasons.Why.TheVariants.{TooSmall};
 
 use crate::reasons::Why;
@@ -55,6 +56,9 @@ pub fn make_ready<D: Device>(alloc: Global, device: &mut D) -> Result<Ready, Why
         (D.shown.faults device.old) (D.shown.faults device.new) (D.shown.failing device.new) }
     ensures calls { IsTrue D.shown.tells_words →
         Calls D.shown (D.shown.words device.old) device.old device.new result }
+    ensures by_some_order { CallsOfSomeOrder D.shown device.old device.new }
+    ensures by_order { IfOk result (λ ready.
+        CallsOfOrder D.shown ready.geometry device.old device.new) }
 {
     let geometry = read_header(device)?.geometry;
     let Ok(mut image) = vec![in alloc; 0u64; geometry.region() as usize] else {

@@ -23,7 +23,7 @@ returns-in-Ok-clause-held_images g c told s k contents =
     (c.in-Ok.ensures.images told)
 
 pub returns-in-Ok-clause-within : goal.returns-in-Ok-clause-within
-returns-in-Ok-clause-within g c = within_opening g.D.Device.shown c.args.device c.accept.new.device (Ok c.in-Ok.accepted) c.in-Ok.ensures.calls c.in-Ok.ensures.idle c.in-Ok.ensures.faults
+returns-in-Ok-clause-within g c = within_opening g.D.Device.shown c.args.device c.accept.new.device (Ok c.in-Ok.accepted) c.in-Ok.ensures.calls c.in-Ok.ensures.idle c.in-Ok.ensures.faults c.in-Ok.ensures.by_some_order
 
 pub returns-in-Err-clause-within : goal.returns-in-Err-clause-within
-returns-in-Err-clause-within g c = within_opening {T = Accepted} g.D.Device.shown c.args.device c.accept.new.device (Err c.in-Err.why) c.in-Err.ensures.calls c.in-Err.ensures.idle c.in-Err.ensures.faults
+returns-in-Err-clause-within g c = within_opening {T = Accepted} g.D.Device.shown c.args.device c.accept.new.device (Err c.in-Err.why) c.in-Err.ensures.calls c.in-Err.ensures.idle c.in-Err.ensures.faults c.in-Err.ensures.by_some_order

@@ -1,4 +1,4 @@
-use Rattle.std.proofs.Common.{◌≡◌, IsTrue, rules}
+use Rattle.std.proofs.Common.{rules}
 use Rattle.rom_open.specs.Refusals.{named_order}
 use Rattle.rom_open.proofs.Recovering.{images_from}
 use Rattle.rom_open.proofs.ready.make_ready.Goals as goal
