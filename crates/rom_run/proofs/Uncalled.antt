@@ -6,7 +6,7 @@ use Rattle.rom_model.specs.declared.unfit.Break.{Break}
 use Rattle.rom_device.specs.Device.{ShownDevice}
 use Rattle.rom_device.proofs.Going.{leaves_none, runs_none}
 use Rattle.rom_header.specs.Layout.{words_needed}
-use Rattle.rom_open.specs.Within.{CallsWithin}
+use Rattle.rom_recover.specs.Calls.{CallsWithin}
 use Rattle.rom_text.specs.Runs.{IsTold}
 use Rattle.rom_text.specs.Streams.{ShownSink}
 use Rattle.rom_run.specs.Statuses.{number_of}
@@ -34,6 +34,7 @@ module _ {D : Type 0} (shown : ShownDevice D) (was : D) where
   }
   within_uncalled Standing = record {
     calls = λ tells. uncalled _ _ _;
+    by_order = inl (uncalled 4 0 0);
     idle = λ tells idle. record { size = refl; words = λ told. refl; images = λ told. runs_none shown _ (λ x. refl) was };
     stops = inl refl;
   }

@@ -39,10 +39,10 @@ module _ {D : Type 0} (shown : ShownDevice D) where
   IsCalledWithin (New order) was now = WithinMaking shown order was now
   IsCalledWithin Standing was now = WithinOpening shown was now
 
-  -- So, where there is a session, before its first pass; and no call failed.
-  abbrev pub HasBegun : Heap → D → D → Type 0
-  HasBegun (New order) was first = HasMadeHeap shown order was first
-  HasBegun Standing was first = HasOpened shown was first
+  -- So, where there is a session on a heap of this order, before its first pass; and no call failed.
+  abbrev pub HasBegun : Heap → ℕ → D → D → Type 0
+  HasBegun (New made) order was first = HasMadeHeap shown made was first
+  HasBegun Standing order was first = HasOpened shown order was first
 
 -- Of an object:
 module _ {S C Q R A : Type 0} (machine : Machine S C Q R A) (Contents : ℕ → List ℕ → S → ℕ → Type 0) where
@@ -70,7 +70,7 @@ module _ {S C Q R A : Type 0} (machine : Machine S C Q R A) (Contents : ℕ → 
     pub record CountsFaults (heap : Heap) (was now : D) (story : Story S) : Type 0 where
       pub before : story.opening_faults ≡ shown.faults was
       pub after : faults_after story.opening_faults story.records ≤ shown.faults now
-      pub went : WentThrough shown Contents (on_words machine) story (HasBegun shown heap was) now
+      pub went : WentThrough shown Contents (on_words machine) story (HasBegun shown heap story.order was) now
 
 module _ {D : Type 0} (shown : ShownDevice D) where
   -- Nothing changes where a heap that is to be made stands already, or there are too few words for it.

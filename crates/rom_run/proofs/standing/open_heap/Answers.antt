@@ -7,7 +7,7 @@ use Rattle.rom_combine.specs.Session.{SessionImage}
 use Rattle.rom_header.specs.Layout.{words_needed}
 use Rattle.rom_open.specs.AtRest.{IsAtRest}
 use Rattle.rom_open.specs.Refusals.{named_order}
-use Rattle.rom_open.specs.Within.{HasOpened}
+use Rattle.rom_open.specs.Within.{CallsOfOrder, HasOpened}
 use Rattle.rom_store.specs.Sessions.{IsStoryOf, unchanged}
 use Rattle.rom_store.proofs.Tracing.{went_none}
 use Rattle.rom_run.proofs.Lawful.{nothing_done}
@@ -58,7 +58,8 @@ returns-in-Ok-clause-session g c =
             record {
               before = omega (arith, of.faults_is, c.fault_count-faults.ensures, same);
               after = omega (arith, none, of.faults_is, c.fault_count-faults.ensures);
-              went = went_none shown o.Contents (on_words o.machine) story (HasOpened shown was) heap.device of.records (record { calls = c.in-Ok.ensures.within.calls; faults = same });
+              went = went_none shown o.Contents (on_words o.machine) story (HasOpened shown story.order was) heap.device of.records
+                  (record { calls = c.in-Ok.ensures.within.calls; by_order = subst (λ (n : ℕ). CallsOfOrder shown n was heap.device) (sym of.order_is) c.in-Ok.ensures.by_order; faults = same });
             };
       };
       told = λ story of. nothing_done o.machine story of.history of.records of.in_doubt
@@ -75,6 +76,7 @@ returns-in-Ok-clause-still g c =
       held = λ told. subst (λ (n : ℕ). Holds o.Contents n (shown.words heap.device) story.opening story.opening_count) (sym of.order_is) (c.in-Ok.ensures.holds told story.opening story.opening_count of.opening);
       at_rest = λ told. (heap.image.items, subst (λ (n : ℕ). IsAtRest n heap.image.items (shown.words heap.device)) (sym of.order_is) (c.in-Ok.ensures.rest told));
       calls = c.in-Ok.ensures.within;
+      by_order = subst (λ (n : ℕ). CallsOfOrder shown n c.args.device heap.device) (sym of.order_is) c.in-Ok.ensures.by_order;
       at_end = λ images i left. subst (λ (n : ℕ). Holds o.Contents n i story.opening story.opening_count) (sym of.order_is)
           (subst (λ words. Holds o.Contents heap.geometry words story.opening story.opening_count) (sym (c.in-Ok.ensures.certain refl images i left))
           (c.in-Ok.ensures.holds (g.met.D.Device.tells_both images) story.opening story.opening_count of.opening));
