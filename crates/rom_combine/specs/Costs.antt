@@ -3,17 +3,24 @@ use Rattle.std.specs.Prelude.{◌≡◌, ℕ, ◌+◌, ◌*◌, ◌≤◌, List,
 use Rattle.rom_model.specs.Blocks.{region_len}
 use Rattle.rom_model.specs.Faults.{Adds, AtMost, Rose}
 use Rattle.rom_model.specs.declared.entry.Entry.{Entry}
+use Rattle.rom_model.specs.declared.record.Found.{Found}
 use Rattle.rom_device.specs.Device.{ShownDevice, Does}
 use Rattle.rom_header.specs.Layout.{MAIN}
 use Rattle.rom_header.specs.Writing.{StateOrWithin}
 use Rattle.rom_twin.specs.Calls.{repair_writes, repair_syncs}
 use Rattle.rom_twin.specs.declared.phase.Phase.{Phase}
 use Rattle.rom_twin.specs.declared.phase.Phase.TheVariants.{Clean}
+use Rattle.rom_rule.specs.Calls.{found_of}
+use Rattle.rom_rule.specs.declared.views.Plan.{Plan}
 
 -- the sum of the weights of calls, by their words
 abbrev pub weights : (List ℕ → ℕ) → List (List ℕ) → ℕ
 weights weight [] = 0
 weights weight (args ∷ calls) = weight args + weights weight calls
+
+-- that of the calls that a pass found, which are the requests of its plan
+abbrev pub weights_found : (List ℕ → ℕ) → Plan → ℕ
+weights_found weight p = weights weight (map (λ (f : Found). f.args) (map found_of p.requests))
 
 -- that of the calls by which a history has grown
 abbrev pub weights_added : (List ℕ → ℕ) → List Entry → List Entry → ℕ

@@ -55,7 +55,8 @@ pub(crate) fn apply_all<O: Object>(
     ensures few { let calls = take (count_in (plan seat.new).main - place)
         (map (λ one. one.args) found.now) in
         log.new.added ≤ O.STORES * weights (weight_on_words O.machine) calls }
-    ensures most { log.new.added ≤ O.STORES * O.WEIGHT * length found.now }
+    ensures most { log.new.added
+        ≤ O.STORES * weights (weight_on_words O.machine) (map (λ one. one.args) found.now) }
     ensures room { log.new.room ≡ log.old.room }
 {
     answers.clear();
@@ -93,8 +94,6 @@ fn apply_one<O: Object>(
 {
     if place < LAST_COUNT {
         let call = O::words_call(&one.args).unwrap();
-        // Its contract tells that the log has room for as many stores as this call may make.
-        let _ = O::weight_of(&call);
         let reply = apply_main(shared, seat, log, &call);
         return CallAnswer {
             caller: one.caller,

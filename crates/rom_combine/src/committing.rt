@@ -9,7 +9,7 @@ ghost use Rattle.rom_twin.specs.Seen.{InPhase, NeedsRepair, committed, main_now}
 ghost use Rattle.rom_combine.specs.Answering.{HasGiven, SameCalls};
 ghost use Rattle.rom_combine.specs.AtRest.{IsClear};
 ghost use Rattle.rom_combine.specs.Causes.{FailsAtCommit, FailsBeforeCommit};
-ghost use Rattle.rom_combine.specs.Costs.{Spends, SpendsAtMost, WritesHeap, syncs_before_commit, weights_added, writes_before_commit};
+ghost use Rattle.rom_combine.specs.Costs.{Spends, SpendsAtMost, WritesHeap, syncs_before_commit, weights_added, weights_found, writes_before_commit};
 ghost use Rattle.rom_combine.specs.Histories.{PassMakes};
 ghost use Rattle.rom_combine.specs.Published.{IsPublished};
 ghost use Rattle.rom_combine.specs.Publishing.{IsReadyToPublish};
@@ -83,8 +83,8 @@ pub(crate) fn publish<D: Device, O: Object>(
     ensures few { result ≡ Outcome.Published → held_count log.new.ranges
         ≤ O.STORES * weights_added (weight_on_words O.machine)
         (plan seat.old).history (plan seat.new).history }
-    ensures held_most { result ≡ Outcome.Published →
-        held_count log.new.ranges ≤ O.STORES * O.WEIGHT * length found.now }
+    ensures held_most { result ≡ Outcome.Published → held_count log.new.ranges
+        ≤ O.STORES * weights_found (weight_on_words O.machine) (plan seat.old) }
     ensures within { result ≡ Outcome.Published →
         held_count log.new.ranges ≤ region_len twin.old.order }
     ensures room { log.new.room ≡ log.old.room }
@@ -134,11 +134,11 @@ pub(crate) fn publish<D: Device, O: Object>(
         (held_count log.new.ranges) + 1)
         (syncs_before_commit twin.old.phase + 1) twin.old.device twin.new.device }
     ensures most { SpendsAtMost D.shown (writes_before_commit twin.old.phase twin.old.order
-        (O.STORES * O.WEIGHT * length found.now) + 1)
+        (O.STORES * weights_found (weight_on_words O.machine) (plan seat.old)) + 1)
         (syncs_before_commit twin.old.phase + 1) twin.old.device twin.new.device }
     ensures failed_most { result ≡ Outcome.Failed →
         SpendsAtMost D.shown (writes_before_commit twin.old.phase twin.old.order
-        (O.STORES * O.WEIGHT * length found.now))
+        (O.STORES * weights_found (weight_on_words O.machine) (plan seat.old)))
         (syncs_before_commit twin.old.phase) twin.old.device twin.new.device }
 
     // Nor ever more than a batch that stores to each word of the region.

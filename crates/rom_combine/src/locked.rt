@@ -8,7 +8,7 @@ ghost use Rattle.rom_lr.specs.Seats.{writer_view};
 ghost use Rattle.rom_twin.specs.Seen.{NeedsRepair, committed};
 ghost use Rattle.rom_combine.specs.AtRest.{IsAtRest, IsCoreOf, IsReady};
 ghost use Rattle.rom_combine.specs.Causes.{FailsAtCommit, FailsBeforeCommit};
-ghost use Rattle.rom_combine.specs.Costs.{IsUnfailed, SpendsAtMost, SpendsWithin, WritesHeap, batch_syncs, batch_writes, syncs_before_commit, weights_added, writes_before_commit};
+ghost use Rattle.rom_combine.specs.Costs.{IsUnfailed, SpendsAtMost, SpendsWithin, WritesHeap, batch_syncs, batch_writes, syncs_before_commit, weights_added, weights_found, writes_before_commit};
 ghost use Rattle.rom_combine.specs.Histories.{ImageAt, PassMakes};
 ghost use Rattle.rom_combine.specs.Passing.{IsPass};
 ghost use Rattle.rom_combine.specs.Told.{fate_of};
@@ -184,11 +184,11 @@ impl<D: Device, O: Object> Core<D, O> {
             (plan_of self.old.view).history (plan_of self.new.view).history))
             (batch_syncs self.old.twin.phase) self.old.twin.device self.new.twin.device }
         ensures most { SpendsAtMost D.shown (batch_writes self.old.twin.phase self.old.twin.order
-            (O.STORES * O.WEIGHT * result.found))
+            (O.STORES * weights_found (weight_on_words O.machine) (plan_of self.new.view)))
             (batch_syncs self.old.twin.phase) self.old.twin.device self.new.twin.device }
         ensures failed_most { result.outcome ≡ Outcome.Failed →
             SpendsAtMost D.shown (writes_before_commit self.old.twin.phase self.old.twin.order
-            (O.STORES * O.WEIGHT * result.found))
+            (O.STORES * weights_found (weight_on_words O.machine) (plan_of self.new.view)))
             (syncs_before_commit self.old.twin.phase)
             self.old.twin.device self.new.twin.device }
 

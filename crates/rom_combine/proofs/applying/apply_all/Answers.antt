@@ -8,8 +8,8 @@ use native.Mathlib.Decide.{dec_le}
 use Rattle.rom_model.specs.History.{after, LAST_COUNT}
 use Rattle.rom_ranges.specs.Changes.{IsLogOf}
 use Rattle.rom_ranges.specs.Log.{Logged}
-use Rattle.rom_combine.proofs.Stores.{room_for, stores_for}
-use Rattle.rom_combine.proofs.Weights.{stores_more}
+use Rattle.rom_combine.proofs.Stores.{room_for}
+use Rattle.rom_combine.proofs.Weights.{stores_more, stores_of_all}
 use Rattle.rom_combine.specs.Costs.{weights}
 use Rattle.rom_rule.specs.declared.views.Base.{Base}
 use Rattle.rom_rule.specs.declared.views.Plan.{Plan}
@@ -100,4 +100,5 @@ apply_one-requires-clause-room g c = let inv = c.loop-i.invariant in
     let most : ℕ = g.O.Object.STORES * g.O.Object.WEIGHT in subst (λ (n : ℕ). c.loop-i.log.added + most ≤ n) (sym inv.3.3) (room_for most c.loop-i.i (length c.args.found.now) c.loop-i.log.added c.args.log.now.room c.loop-i-test.true inv.3.2 c.requires.room)
 
 pub returns-clause-most : goal.returns-clause-most
-returns-clause-most g c = stores_for (g.O.Object.STORES * g.O.Object.WEIGHT) c.loop-i.i (length c.args.found.now) c.loop-i.log.added (omega arith) c.loop-i.invariant.3.2
+returns-clause-most g c =
+    stores_of_all (weight_on_words g.O.Object.machine) g.O.Object.STORES c.loop-i.log.added (count_in (plan_of c.loop-i.seat.token.me.0).main - c.args.place) (map (λ (y : Posted). y.args) c.args.found.now) c.loop-i.invariant.3.1

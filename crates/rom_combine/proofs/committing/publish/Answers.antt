@@ -5,8 +5,8 @@ use Rattle.rom_device.specs.Device.{Becomes}
 use Rattle.rom_twin.specs.declared.phase.Phase.{Phase}
 use Rattle.rom_twin.specs.declared.phase.Phase.TheVariants as phase
 use Rattle.rom_twin.specs.Images.{HasBack}
-use Rattle.rom_combine.specs.Costs.{WritesHeap, weights, weights_added}
-use Rattle.rom_combine.proofs.Weights.{added_weights, first_found}
+use Rattle.rom_combine.specs.Costs.{WritesHeap, weights, weights_added, weights_found}
+use Rattle.rom_combine.proofs.Weights.{added_weights, first_found, posted_args, stores_found}
 use Rattle.rom_ranges.specs.Changes.{IsLogOf}
 use Rattle.rom_ranges.specs.Log.{Logged}
 use Rattle.rom_ranges.specs.Ranges.{AreWithin, held_count}
@@ -31,7 +31,7 @@ use Rattle.rom_rule.specs.Views.{Each, plan_of}
 use Rattle.rom_rule.specs.Calls.{found_of}
 use Rattle.rom_rule.specs.Records.{IsCall}
 use Rattle.rom_rule.specs.Kinds.{CanSwitchToMain, IsBatch, TellsEach, making, switched}
-use Rattle.rom_rule.proofs.Told.{length_map, map_map}
+use Rattle.rom_rule.proofs.Told.{length_map}
 use Rattle.rom_combine.specs.Scanning.{posted_of, IsUnanswered}
 use Rattle.rom_combine.specs.declared.scanning.Posted.{Posted}
 use Rattle.rom_combine.specs.declared.answering.CallAnswer.{CallAnswer}
@@ -156,7 +156,7 @@ returns-then-is_ok-clause-few g c is = let u : View = c.args.seat.now.token.me.0
     let count : slice_index m₂ 2 ≡ it.count + length (p.history ++ batch_now g.O.Object.Contents step b it.start it.count p) = (g.met.O.Object.contents_within b.order m₂ _ _ done).1 in
     let now : batch_now g.O.Object.Contents step b it.start it.count p ≡ sw.1 = sym (batched.1 ∙ ap (λ (k : ℕ). batch step b.order (after step b.order it.start it.count p.history) k (map found_of p.requests)) batched.0) in
     let grown : slice_index m₂ 2 - c.args.place ≡ length sw.1 = omega (arith, count, length-append p.history (batch_now g.O.Object.Contents step b it.start it.count p), ap length now, counts, place) in
-    let args : map (λ (f : Found). f.args) (map found_of p.requests) ≡ calls = map_map (λ (f : Found). f.args) found_of p.requests ∙ (sym (map_map (λ (one : Posted). one.args) posted_of p.requests) ∙ ap (map (λ (one : Posted). one.args)) (sym c.requires.found)) in
+    let args : map (λ (f : Found). f.args) (map found_of p.requests) ≡ calls = posted_args weight p c.args.found.now c.requires.found in
     let same : map (λ (e : Entry). e.args) sw.1 ≡ take (length sw.1) calls
     = ap (map (λ (e : Entry). e.args)) batched.1 ∙ (first_found step b.order (after step b.order it.start it.count p.history) sw.0 (map found_of p.requests) ∙ (λ j. take (length (sym batched.1 j)) (args j))) in
     let sum : weights_added weight p.history (plan_of v₄).history ≡ weights weight (take (slice_index m₂ 2 - c.args.place) calls)
@@ -334,3 +334,27 @@ returns-clause-failed_whole g c is =
     let undo : c.commit_on.new.twin.phase ≡ phase.Undo = search rules in
     most_then g.D.Device.shown _ _ (held_count c.list.result.now) 1 _ _ c.args.twin.now.device c.begin_on.new.twin.device c.commit_on.new.twin.device c.begin_on.ensures.most
     (c.commit_on.ensures.undo undo).0 (omega (arith, held, ap held_count c.list.ensures.ranges)) (omega arith)
+
+-- no call that was found stores more than its weight lets it
+few_of : (g : Over) (p : Plan) (found : List Posted) (log : Logged) → found ≡ map posted_of p.requests → log.added ≤ g.O.Object.STORES * weights (weight_on_words g.O.Object.machine) (map (λ (one : Posted). one.args) found) → log.added ≤ g.O.Object.STORES * weights_found (weight_on_words g.O.Object.machine) p
+few_of g p found log is most = stores_found (weight_on_words g.O.Object.machine) g.O.Object.STORES log.added p found is most
+
+pub returns-then-is_ok-clause-held_most : goal.returns-then-is_ok-clause-held_most
+returns-then-is_ok-clause-held_most g c is =
+    let few = few_of g (plan_of c.args.seat.now.token.me.0) c.args.found.now c.apply_all.new.log c.requires.found c.apply_all.ensures.most in search (rules, few)
+
+pub returns-then-is_ok-clause-most : goal.returns-then-is_ok-clause-most
+returns-then-is_ok-clause-most g c =
+    let few = few_of g (plan_of c.args.seat.now.token.me.0) c.args.found.now c.apply_all.new.log c.requires.found c.apply_all.ensures.most in search (rules, few)
+
+pub returns-then-eq-clause-most : goal.returns-then-eq-clause-most
+returns-then-eq-clause-most g c =
+    let few = few_of g (plan_of c.args.seat.now.token.me.0) c.args.found.now c.apply_all.new.log c.requires.found c.apply_all.ensures.most in search (rules, few)
+
+pub returns-clause-most : goal.returns-clause-most
+returns-clause-most g c =
+    let few = few_of g (plan_of c.args.seat.now.token.me.0) c.args.found.now c.apply_all.new.log c.requires.found c.apply_all.ensures.most in search (rules, few)
+
+pub returns-clause-failed_most : goal.returns-clause-failed_most
+returns-clause-failed_most g c is =
+    let few = few_of g (plan_of c.args.seat.now.token.me.0) c.args.found.now c.apply_all.new.log c.requires.found c.apply_all.ensures.most in search (rules, few)

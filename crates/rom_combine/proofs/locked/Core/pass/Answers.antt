@@ -2,13 +2,14 @@ use Rattle.rom_model.specs.Machine.{on_words, weight_on_words}
 use Rattle.std.proofs.Common.{Some, rules, arith, ◌≡◌, ◌⊎◌, inl, inr, ⊎_elim, ℕ, ◌+◌, ◌-◌, ◌*◌, ◌^◌, ◌<◌, ◌≤◌, List, [], ◌∷◌, ◌++◌, map, length, length-append, slice_index, sym, refl, ap, ◌∙◌, subst, true, false, ◌≢◌, IsTrue}
 use mathlib.Core.Option.{some}
 use lib.ListN.{get_elem?}
+use Rattle.rom_combine.proofs.Weights.{same_found}
 use Rattle.rom_combine.proofs.Since.{becomes_none}
 use Rattle.rom_combine.proofs.Counting.{after_region}
 use Rattle.rom_twin.specs.Seen.{committed}
 use Rattle.rom_header.specs.Regions.{IsCurrentRegion}
 use Rattle.rom_device.specs.Device.{Runs}
 use Rattle.rom_device.specs.Device.{Becomes}
-use Rattle.rom_combine.specs.Costs.{SpendsAtMost, WritesHeap, batch_syncs, batch_writes, syncs_before_commit, weights_added, writes_before_commit}
+use Rattle.rom_combine.specs.Costs.{SpendsAtMost, WritesHeap, batch_syncs, batch_writes, syncs_before_commit, weights_added, weights_found, writes_before_commit}
 use Rattle.rom_ranges.specs.Changes.{IsLogOf}
 use Rattle.rom_ranges.specs.Ranges.{held_count}
 use Rattle.rom_combine.specs.Images.{MayPublish}
@@ -450,17 +451,40 @@ returns-clause-now g c told s n op i left = let v : View = c.self.inside.seat.to
     subst (λ (r : Base). ImageAt g.O.Object.Contents (on_words g.O.Object.machine) r s n t.phase (plan_of z) i) same
     (now_of g.O.Object.Contents (on_words g.O.Object.machine) g.D.Device.shown t z s n (λ s₁ s₂ j k. g.met.O.Object.one_contents z.base.order z.base.image s₁ s₂ j k) (invariant_of-self-2 g c).0 told (subst (λ (r : Base). g.O.Object.Contents r.order r.image s n) (sym same) op) i left)
 
+-- the calls that the pass has found are those in the plan that it leaves
+left_published : (g : Over) (c : goal.After-of-2 g) → weights_found (weight_on_words g.O.Object.machine) (plan_of c.load_main-place.new.seat.token.me.0) ≡ weights_found (weight_on_words g.O.Object.machine) (plan_of c.settle.new.seat.token.me.0)
+left_published g c = let weight : List ℕ → ℕ = weight_on_words g.O.Object.machine in
+    let x : Plan = plan_of c.load_main-place.new.seat.token.me.0 in let y : Plan = plan_of c.publish-outcome.new.seat.token.me.0 in let lm : Plan = plan_of c.load_main.new.seat.token.me.0 in let u : Plan = plan_of c.answer_all-2.new.seat.token.me.0 in
+    sym (ap (λ (r : View). weights_found weight (plan_of r)) c.settle.ensures.rested.writes.2 ∙ (same_found weight lm u c.answer_all-2.ensures.calls ∙ (ap (λ (r : View). weights_found weight (plan_of r)) c.load_main.ensures.still.2 ∙ same_found weight x y c.publish-outcome.ensures.calls)))
+
 pub returns-clause-most : goal.returns-clause-most
 returns-clause-most g c =
     let shown = g.D.Device.shown in let a = c.self.inside.twin in let m = c.publish-outcome.new.twin.device in let d = c.settle.new.twin.device in
-    let many : ℕ = c.len-many.result in let stores : ℕ = g.O.Object.STORES * g.O.Object.WEIGHT in let words : ℕ = stores * many in
+    let stores : ℕ = g.O.Object.STORES in let weight : List ℕ → ℕ = weight_on_words g.O.Object.machine in let words : ℕ = stores * weights_found weight (plan_of c.settle.new.seat.token.me.0) in
     let is_pub : c.publish-outcome.result ≡ outcome.Published = search rules in
-    let many_is : length c.as_slice-2.result.now ≡ many = omega (arith, c.len-many.ensures.value, ap length c.as_slice-2.ensures.value) in
-    let held : held_count c.publish-outcome.new.log.ranges ≤ words = subst (λ (n : ℕ). held_count c.publish-outcome.new.log.ranges ≤ stores * n) many_is (c.publish-outcome.ensures.held_most is_pub) in
-    let first : SpendsAtMost shown (writes_before_commit a.phase a.order words + 1) (syncs_before_commit a.phase + 1) a.device m = subst (λ (n : ℕ). SpendsAtMost shown (writes_before_commit a.phase a.order (stores * n) + 1) (syncs_before_commit a.phase + 1) a.device m) many_is c.publish-outcome.ensures.most in
-    rw c.of-2.ensures.is (subst (λ (r : Locked g.row.D.Denot). SpendsAtMost shown (batch_writes r.twin.phase r.twin.order words) (batch_syncs r.twin.phase) r.twin.device d) c.self.view_is
+    let held : held_count c.publish-outcome.new.log.ranges ≤ words = subst (λ (n : ℕ). held_count c.publish-outcome.new.log.ranges ≤ stores * n) (left_published g c) (c.publish-outcome.ensures.held_most is_pub) in
+    let first : SpendsAtMost shown (writes_before_commit a.phase a.order words + 1) (syncs_before_commit a.phase + 1) a.device m = subst (λ (n : ℕ). SpendsAtMost shown (writes_before_commit a.phase a.order (stores * n) + 1) (syncs_before_commit a.phase + 1) a.device m) (left_published g c) c.publish-outcome.ensures.most in
+    subst (λ (r : Locked g.row.D.Denot). SpendsAtMost shown (batch_writes r.twin.phase r.twin.order words) (batch_syncs r.twin.phase) r.twin.device d) c.self.view_is
     (most_then shown (writes_before_commit a.phase a.order words + 1) (syncs_before_commit a.phase + 1) (held_count c.publish-outcome.new.log.ranges + 1) 1 (batch_writes a.phase a.order words) (batch_syncs a.phase) a.device m d
-    first c.settle.ensures.most (omega (arith, held)) (omega arith)))
+    first c.settle.ensures.most (omega (arith, held)) (omega arith))
+
+left_refused : (g : Over) (c : goal.After-of-then-ne g) → weights_found (weight_on_words g.O.Object.machine) (plan_of c.load_main-place.new.seat.token.me.0) ≡ weights_found (weight_on_words g.O.Object.machine) (plan_of c.answer_all-then-ne.new.seat.token.me.0)
+left_refused g c = let weight : List ℕ → ℕ = weight_on_words g.O.Object.machine in
+    let x : Plan = plan_of c.load_main-place.new.seat.token.me.0 in let y : Plan = plan_of c.publish-outcome.new.seat.token.me.0 in let u : Plan = plan_of c.answer_all-then-ne.new.seat.token.me.0 in
+    sym (same_found weight y u c.answer_all-then-ne.ensures.calls ∙ same_found weight x y c.publish-outcome.ensures.calls)
+
+pub returns-then-ne-clause-most : goal.returns-then-ne-clause-most
+returns-then-ne-clause-most g c =
+    let shown = g.D.Device.shown in let a = c.self.inside.twin in let m = c.publish-outcome.new.twin.device in let stores : ℕ = g.O.Object.STORES in let words : ℕ = stores * weights_found (weight_on_words g.O.Object.machine) (plan_of c.answer_all-then-ne.new.seat.token.me.0) in
+    let first : SpendsAtMost shown (writes_before_commit a.phase a.order words + 1) (syncs_before_commit a.phase + 1) a.device m = subst (λ (n : ℕ). SpendsAtMost shown (writes_before_commit a.phase a.order (stores * n) + 1) (syncs_before_commit a.phase + 1) a.device m) (left_refused g c) c.publish-outcome.ensures.most in
+    search (rules, first)
+
+pub returns-then-ne-clause-failed_most : goal.returns-then-ne-clause-failed_most
+returns-then-ne-clause-failed_most g c is =
+    let shown = g.D.Device.shown in let a = c.self.inside.twin in let m = c.publish-outcome.new.twin.device in let stores : ℕ = g.O.Object.STORES in let words : ℕ = stores * weights_found (weight_on_words g.O.Object.machine) (plan_of c.answer_all-then-ne.new.seat.token.me.0) in
+    let failed : c.publish-outcome.result ≡ outcome.Failed = search rules in
+    let first : SpendsAtMost shown (writes_before_commit a.phase a.order words) (syncs_before_commit a.phase) a.device m = subst (λ (n : ℕ). SpendsAtMost shown (writes_before_commit a.phase a.order (stores * n)) (syncs_before_commit a.phase) a.device m) (left_refused g c) (c.publish-outcome.ensures.failed_most failed) in
+    search (rules, first)
 
 -- after a pass that published, the history has grown by what was published
 grown : (g : Over) (c : goal.After-of-2 g) → weights_added (weight_on_words g.O.Object.machine) (plan_of c.load_main-place.new.seat.token.me.0).history (plan_of c.publish-outcome.new.seat.token.me.0).history
