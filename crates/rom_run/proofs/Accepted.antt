@@ -1,9 +1,11 @@
--- Words that hold a heap are not refused, nor are words in which one can be made.
-use Rattle.std.specs.Prelude.{◌≡◌, ℕ, ◌+◌, List, IsTrue, Ok, Err, slice_index}
+-- Words that hold a heap are not refused, nor are words in which one can be made; so with a session, or a heap that is made, none is refused.
+use Rattle.std.specs.Prelude.{◌≡◌, ℕ, ◌+◌, Bool, true, if◌then◌else◌, List, Option, Some, None, IfSome, IsTrue, Ok, Err, slice_index}
 use Rattle.std.proofs.Common.{refl, sym, ap, ◌∙◌, arith, subst, inl, inr}
 use Rattle.rom_model.specs.Blocks.{region_len}
 use Rattle.rom_model.specs.declared.unfit.Break.{Break}
-use Rattle.rom_device.specs.Device.{ShownDevice}
+use Rattle.rom_model.specs.Machine.{Machine}
+use Rattle.rom_model.specs.Story.{Story}
+use Rattle.rom_device.specs.Device.{ShownDevice, told_words}
 use Rattle.rom_header.specs.Fresh.{IsFormatAnswer}
 use Rattle.rom_header.specs.Held.{Holds}
 use Rattle.rom_header.specs.Layout.{MAIN, back_at, back_of, main_of, words_needed}
@@ -18,8 +20,8 @@ use Rattle.rom_open.specs.Refusals.{IsRefusal, IsUnfit, IsUnready, named_order}
 use Rattle.rom_open.specs.declared.new_heap.NotFormatted.TheVariants.{Refused}
 use Rattle.rom_open.specs.declared.reasons.Why.{Why}
 use Rattle.rom_open.specs.declared.reasons.Why.TheVariants.{NotAHeap, BadVersion, BadOrder, BadState, TooSmall, Twins, Malformed, Device, OutOfMemory}
-use Rattle.rom_run.specs.Complete.{HoldsSome, IsAtHand}
-use Rattle.rom_run.specs.Keeping.{IsHeapRefused, IsUnmade, IsUnopened}
+use Rattle.rom_run.specs.Complete.{IsAtHand, IsRefusedByName}
+use Rattle.rom_run.specs.Keeping.{IsHeapRefused, IsOpening}
 use Rattle.rom_run.specs.Refusing.{refusal_status, unmade_status}
 use Rattle.rom_run.specs.Statuses.{number_of}
 use Rattle.rom_run.specs.declared.heap.Heap.{Heap}
@@ -89,14 +91,22 @@ unspared order words can format.AlreadyAHeap name is = can.0 is
 unspared order words can (format.TooSmall need have) name is = let long = can.1 in let a = is.1 in let b = is.2 in let c = is.3 in absurd (omega (arith, long, a, b, c))
 unspared order words can format.Device name is = let no : 7 ≡ 3 = ap number_of name in absurd (omega (arith, no))
 
-module _ {S D K : Type 0} (Contents : ℕ → List ℕ → S → ℕ → Type 0) (FirstBreak : ℕ → List ℕ → Break → Type 0) (shown : ShownDevice D) (sink : ShownSink K) (was now : D) (old new : K) (tells : IsTrue shown.tells_words) where
-  opened : HoldsSome Contents (shown.words was) → IsUnopened shown sink Contents FirstBreak was now old new → ⊥
-  opened (order, state, count, held) is = unrefused Contents FirstBreak order (shown.words was) state count held is.why is.by_name (is.refused tells)
-
-  made : (order : ℕ) → IsFormatAnswer order (shown.words was) (Ok tt) → IsUnmade shown sink order was now old new → ⊥
-  made order can is = unspared order (shown.words was) can is.why is.by_name (is.refused tells)
-
+module _ {S : Type 0} (Contents : ℕ → List ℕ → S → ℕ → Type 0) (FirstBreak : ℕ → List ℕ → Break → Type 0) where
   -- a heap that is at hand is not refused by name
-  pub begins : (heap : Heap) → IsAtHand Contents heap (shown.words was) → IsHeapRefused shown sink Contents FirstBreak heap was now old new → ⊥
-  begins (New order) can is = made order can is
-  begins Standing can is = opened can is
+  pub begins : (heap : Heap) (words : List ℕ) → IsAtHand Contents heap words → IsRefusedByName Contents FirstBreak heap words → ⊥
+  begins (New order) words can (why, name, is) = unspared order words can why name is
+  begins Standing words (order, state, count, held) (why, name, is) = unrefused Contents FirstBreak order words state count held why name is
+
+  module _ {D : Type 0} (shown : ShownDevice D) (was : D) (tells : IsTrue shown.tells_words) where
+    -- what is told is refused so
+    pub by_name : {K : Type 0} (sink : ShownSink K) (now : D) (old new : K) (heap : Heap) → IsHeapRefused shown sink Contents FirstBreak heap was now old new → IsRefusedByName Contents FirstBreak heap (shown.words was)
+    by_name sink now old new (New order) is = (is.why, is.by_name, is.refused tells)
+    by_name sink now old new Standing is = (is.why, is.by_name, is.refused tells)
+
+    told : (P : List ℕ → Type 0) → IfSome (told_words shown was) P → P (shown.words was)
+    told P is = subst (λ (b : Bool). IfSome (if b then Some (shown.words was) else None) P) tells is
+
+    -- where a story began, its heap was at hand
+    pub at_hand : {C Q R A : Type 0} (machine : Machine S C Q R A) (heap : Heap) (story : Story S) → IsOpening machine Contents heap (told_words shown was) story → IsAtHand Contents heap (shown.words was)
+    at_hand machine (New order) story is = told (λ words. IsFormatAnswer order words (Ok tt)) is.0
+    at_hand machine Standing story is = (story.order, story.opening, story.opening_count, told (λ words. Holds Contents story.order words story.opening story.opening_count) is)

@@ -1,4 +1,4 @@
--- How a command ends where nothing fails: it follows from the other promises.
+-- How a command ends where nothing fails, and when its heap is refused: it follows from the other promises.
 use Rattle.std.specs.Prelude.{◌≡◌, ◌⊎◌, ◌||◌, ℕ, ◌+◌, ◌≤◌, Bool, true, false, IsTrue, if◌then◌else◌, List, [], ◌∷◌, Option, Some, None, IfSome, IsSome, IsNone}
 use Rattle.std.proofs.Common.{refl, sym, ◌∙◌, arith, subst, inl, inr}
 use Rattle.std.specs.List.{AllByRecursion, list_any}
@@ -19,14 +19,15 @@ use Rattle.rom_text.specs.Runs.{SourceFailed, SourceTooLong}
 use Rattle.rom_text.specs.Streams.{ShownSink, ShownSource, WriteFailed}
 use Rattle.rom_text.specs.Text.{Texts}
 use Rattle.rom_store.specs.Sessions.{EachStory, SessionSeen}
-use Rattle.rom_run.proofs.Accepted.{begins}
-use Rattle.rom_run.specs.Complete.{EndsWell, HasFewFaults, HasUnreadLine, IsAtHand, IsComplete, NoneFailed, is_unread_line}
+use Rattle.rom_combine.specs.Costs.{IsUnfailed}
+use Rattle.rom_run.proofs.Accepted.{at_hand, begins, by_name}
+use Rattle.rom_run.specs.Complete.{EndsWell, HasFewFaults, HasUnreadLine, IsAtHand, IsComplete, IsRefusedByName, IsRefusedExactly, NoneFailed, RefusesExactly, is_unread_line}
 use Rattle.rom_run.specs.Keeping.{CountsFaults}
 use Rattle.rom_run.specs.Played.{HasReplies, IsText}
 use Rattle.rom_run.specs.Statuses.{is_faulted, is_unread}
 use Rattle.rom_run.specs.declared.heap.Heap.{Heap}
 use Rattle.rom_run.specs.Use.{Drawn, HasNotRun, HasRun, IsStatus, Makes, Plays, Read, Shows, Use, heap_of}
-use Rattle.rom_run.specs.Working.{HasNone, HasSession}
+use Rattle.rom_run.specs.Working.{HasMade, HasNone, HasSession}
 
 -- ---- results and their status
 
@@ -134,6 +135,7 @@ module _ {S C Q R A D X K : Type 0} (machine : Machine S C Q R A) (Contents : �
     pub not_run : HasNotRun asked status → IsNone session
     pub story : IfSome asked (λ does. IfSome session (HasSession machine Contents shown (heap_of does) was now (HasReplies machine AreRun Prints before old new status)))
     pub none : IfSome asked (λ does. IsNone session → HasNone machine Contents shown sink FirstBreak (heap_of does) was now old new status)
+    pub made : status ≡ 0 → HasMade machine Contents shown sink asked was now old new
     pub source_failed : status ≡ 4 → SourceFailed source sink before after old new
     pub too_long : status ≡ 8 → SourceTooLong source sink before after old new
     pub sink_failed : status ≡ 5 → WriteFailed sink old new
@@ -160,7 +162,7 @@ module _ {S C Q R A D X K : Type 0} (machine : Machine S C Q R A) (Contents : �
 
       module _ (session : Option SessionSeen) (p : Promised (Some does) status session) (tells : IsTrue shown.tells_words) (can : IsAtHand Contents (heap_of does) (shown.words was)) (none : NoneFailed shown source sink was now before after old new) where
         not_three : (status ≡ 3 → IsNone session) → status ≡ 3 → ⊥
-        not_three left is = begins Contents FirstBreak shown sink was now old new tells (heap_of does) can ((p.none (left is)).heap_refused is)
+        not_three left is = begins Contents FirstBreak (heap_of does) (shown.words was) can (by_name Contents FirstBreak shown was tells sink now old new (heap_of does) ((p.none (left is)).heap_refused is))
 
         not_four : status ≡ 4 → ⊥
         not_four is = let f = p.source_failed is in none.of_sources f.script f.was f.now f.first.stood f.first.stands (once_rose _ _ f.failed.cause.once)
@@ -196,10 +198,81 @@ module _ {S C Q R A D X K : Type 0} (machine : Machine S C Q R A) (Contents : �
         of_heap left (inr (inr (inr is))) = absurd (not_seven is)
 
     -- So where it can begin, and no count of faults rises, it ends well.
-    pub complete : (asked : Option Use) (status : ℕ) (session : Option SessionSeen) → Promised asked status session → IsComplete shown source sink was now before after old new AreRun Contents asked status
+    complete : (asked : Option Use) (status : ℕ) (session : Option SessionSeen) → Promised asked status session → IsComplete shown source sink was now before after old new AreRun Contents asked status
     complete (Some (Plays heap Read)) status session p tells can none =
         of_read (Plays heap Read) status session p tells can none (λ is. p.not_run (inl is)) (λ is. p.ran (inr (inl is))) p.statuses
     complete (Some (Plays heap Drawn)) status session p tells can none = of_drawn (Plays heap Drawn) status session p tells can none (λ is. p.not_run (inl is)) p.statuses
     complete (Some (Makes order)) status session p tells can none = of_heap (Makes order) status session p tells can none (λ is. p.not_run tt) p.statuses
     complete (Some Shows) status session p tells can none = of_heap Shows status session p tells can none (λ is. p.not_run (inl is)) p.statuses
     complete None status session p tells can none = absurd can
+
+    -- Likewise when its heap is refused.
+    module _ (does : Use) (status : ℕ) (session : Option SessionSeen) (p : Promised (Some does) status session) (tells : IsTrue shown.tells_words) where
+      -- with 3 it is refused by name
+      named : (status ≡ 3 → IsNone session) → status ≡ 3 → IsRefusedByName Contents FirstBreak (heap_of does) (shown.words was)
+      named left is = by_name Contents FirstBreak shown was tells sink now old new (heap_of does) ((p.none (left is)).heap_refused is)
+
+      -- with a session it was at hand
+      began : (z : Option SessionSeen) → IfSome z (HasSession machine Contents shown (heap_of does) was now (HasReplies machine AreRun Prints before old new status)) → IsSome z → IsAtHand Contents (heap_of does) (shown.words was)
+      began None told some = absurd (let no : ⊥ = cc in no)
+      began (Some z) told some = let story = told.story.0 in at_hand Contents FirstBreak shown was tells machine (heap_of does) story (told.each story told.story.1).opening
+
+      module _ (refused : IsRefusedByName Contents FirstBreak (heap_of does) (shown.words was)) (unfailed : IsUnfailed shown was now) where
+        not_at_hand : IsAtHand Contents (heap_of does) (shown.words was) → ⊥
+        not_at_hand can = begins Contents FirstBreak (heap_of does) (shown.words was) can refused
+
+        no_session : IsSome session → ⊥
+        no_session some = not_at_hand (began session p.story some)
+
+        no_fault : status ≡ 7 → ⊥
+        no_fault is = unfailed (seven does status session p.story p.none is)
+
+        of_scripts : ((status ≡ 0) ⊎ (status ≡ 1) ⊎ (status ≡ 5) → IsSome session) → (status ≡ 0) ⊎ (status ≡ 1) ⊎ (status ≡ 3) ⊎ (status ≡ 4) ⊎ (status ≡ 5) ⊎ (status ≡ 6) ⊎ (status ≡ 7) ⊎ (status ≡ 8) →
+            (status ≡ 3) ⊎ (status ≡ 4) ⊎ (status ≡ 6) ⊎ (status ≡ 8)
+        of_scripts ran (inl is) = absurd (no_session (ran (inl is)))
+        of_scripts ran (inr (inl is)) = absurd (no_session (ran (inr (inl is))))
+        of_scripts ran (inr (inr (inl is))) = inl is
+        of_scripts ran (inr (inr (inr (inl is)))) = inr (inl is)
+        of_scripts ran (inr (inr (inr (inr (inl is))))) = absurd (no_session (ran (inr (inr is))))
+        of_scripts ran (inr (inr (inr (inr (inr (inl is)))))) = inr (inr (inl is))
+        of_scripts ran (inr (inr (inr (inr (inr (inr (inl is))))))) = absurd (no_fault is)
+        of_scripts ran (inr (inr (inr (inr (inr (inr (inr is))))))) = inr (inr (inr is))
+
+        of_drill : ((status ≡ 0) ⊎ (status ≡ 1) ⊎ (status ≡ 5) → IsSome session) → (status ≡ 0) ⊎ (status ≡ 3) ⊎ (status ≡ 5) ⊎ (status ≡ 6) ⊎ (status ≡ 7) → (status ≡ 3) ⊎ (status ≡ 4) ⊎ (status ≡ 6) ⊎ (status ≡ 8)
+        of_drill ran (inl is) = absurd (no_session (ran (inl is)))
+        of_drill ran (inr (inl is)) = inl is
+        of_drill ran (inr (inr (inl is))) = absurd (no_session (ran (inr (inr is))))
+        of_drill ran (inr (inr (inr (inl is)))) = inr (inr (inl is))
+        of_drill ran (inr (inr (inr (inr is)))) = absurd (no_fault is)
+
+        of_one : (status ≡ 0 → ⊥) → (status ≡ 0) ⊎ (status ≡ 3) ⊎ (status ≡ 6) ⊎ (status ≡ 7) → (status ≡ 3) ⊎ (status ≡ 4) ⊎ (status ≡ 6) ⊎ (status ≡ 8)
+        of_one undone (inl is) = absurd (undone is)
+        of_one undone (inr (inl is)) = inl is
+        of_one undone (inr (inr (inl is))) = inr (inr (inl is))
+        of_one undone (inr (inr (inr is))) = absurd (no_fault is)
+
+    -- So the status is 3 exactly where it is refused by name.
+    refuses : (asked : Option Use) (status : ℕ) (session : Option SessionSeen) → Promised asked status session → IsRefusedExactly Contents FirstBreak shown was now asked status
+    refuses (Some (Plays heap Read)) status session p tells = record {
+      only = named (Plays heap Read) status session p tells (λ is. p.not_run (inl is));
+      always = λ refused unfailed. of_scripts (Plays heap Read) status session p tells refused unfailed p.ran p.statuses;
+    }
+    refuses (Some (Plays heap Drawn)) status session p tells = record {
+      only = named (Plays heap Drawn) status session p tells (λ is. p.not_run (inl is));
+      always = λ refused unfailed. of_drill (Plays heap Drawn) status session p tells refused unfailed p.ran p.statuses;
+    }
+    refuses (Some (Makes order)) status session p tells = record {
+      only = named (Makes order) status session p tells (λ is. p.not_run tt);
+      always = λ refused unfailed. of_one (Makes order) status session p tells refused unfailed
+          (λ is. not_at_hand (Makes order) status session p tells refused unfailed ((p.made is).accepted tells)) p.statuses;
+    }
+    refuses (Some Shows) status session p tells = record {
+      only = named Shows status session p tells (λ is. p.not_run (inl is));
+      always = λ refused unfailed. of_one Shows status session p tells refused unfailed (λ is. no_session Shows status session p tells refused unfailed (p.ran is)) p.statuses;
+    }
+    refuses None status session p tells = tt
+
+    -- both
+    pub ends : (asked : Option Use) (status : ℕ) (session : Option SessionSeen) → Promised asked status session →
+        IsComplete shown source sink was now before after old new AreRun Contents asked status × IsRefusedExactly Contents FirstBreak shown was now asked status
+    ends asked status session p = (complete asked status session p, refuses asked status session p)

@@ -1,5 +1,5 @@
--- How a command ends where nothing fails, and how many lines of a caller tell of a fault.
-use Rattle.std.specs.Prelude.{◌≡◌, ◌⊎◌, ℕ, Bool, true, false, IsTrue, List, Option, Some, IsSomeAnd, Ok, slice_get}
+-- How a command ends where nothing fails, when its heap is refused, and how many lines of a caller tell of a fault.
+use Rattle.std.specs.Prelude.{◌≡◌, ◌⊎◌, ℕ, Bool, true, false, IsTrue, List, Option, Some, IfSome, IsSomeAnd, Ok, Err, slice_get}
 use Rattle.std.specs.List.{AllByRecursion, list_any}
 use Rattle.rom_model.specs.Faulted.{RoseBy, faulted_lines}
 use Rattle.rom_model.specs.Faults.{Rose}
@@ -9,14 +9,22 @@ use Rattle.rom_model.specs.Story.{Story}
 use Rattle.rom_model.specs.declared.line.Step.{Step}
 use Rattle.rom_model.specs.declared.line.Step.TheVariants as line
 use Rattle.rom_model.specs.declared.line.LineResult.{LineResult}
+use Rattle.rom_model.specs.declared.unfit.Break.{Break}
 use Rattle.rom_device.specs.Device.{ShownDevice}
 use Rattle.rom_header.specs.Fresh.{IsFormatAnswer}
 use Rattle.rom_header.specs.Held.{Holds}
+use Rattle.rom_header.specs.declared.fresh.FormatRefused.{FormatRefused}
+use Rattle.rom_combine.specs.Costs.{IsUnfailed}
 use Rattle.rom_text.specs.Runs.{SourceTooLong}
 use Rattle.rom_text.specs.Streams.{ShownSink, ShownSource}
+use Rattle.rom_open.specs.Refusals.{IsRefusal}
+use Rattle.rom_open.specs.declared.new_heap.NotFormatted.TheVariants.{Refused}
+use Rattle.rom_open.specs.declared.reasons.Why.{Why}
+use Rattle.rom_run.specs.Refusing.{refusal_status, unmade_status}
 use Rattle.rom_run.specs.Use.{Use, heap_of}
 use Rattle.rom_run.specs.declared.heap.Heap.{Heap}
 use Rattle.rom_run.specs.declared.heap.Heap.TheVariants.{New, Standing}
+use Rattle.rom_run.specs.declared.status.Status.TheVariants.{HeapRefused}
 
 module _ {S : Type 0} (Contents : ℕ → List ℕ → S → ℕ → Type 0) where
   -- the words hold some state
@@ -31,6 +39,22 @@ module _ {S : Type 0} (Contents : ℕ → List ℕ → S → ℕ → Type 0) whe
   -- there is a command, and its heap is at hand in these words of the device
   abbrev pub CanBegin : Option Use → List ℕ → Type 0
   CanBegin asked words = IsSomeAnd asked (λ does. IsAtHand (heap_of does) words)
+
+  module _ (FirstBreak : ℕ → List ℕ → Break → Type 0) where
+    -- For a reason that has a name, which no fault and no want of memory is, a heap isn't made in these words, or the one that is to stand in them isn't opened.
+    abbrev pub IsRefusedByName : Heap → List ℕ → Type 0
+    IsRefusedByName (New order) words = (why : FormatRefused) × (unmade_status (Refused why) ≡ HeapRefused) × IsFormatAnswer order words (Err why)
+    IsRefusedByName Standing words = (why : Why) × (refusal_status why ≡ HeapRefused) × IsRefusal Contents FirstBreak words why
+
+    module _ {D : Type 0} (shown : ShownDevice D) (was now : D) where
+      -- With 3 the heap is refused by name; and where it is, and no call of the device fails, it is 3, unless a script can't be read or is too long (4, 8), or memory is short (6).
+      pub record RefusesExactly (heap : Heap) (status : ℕ) : Type 0 where
+        pub only : status ≡ 3 → IsRefusedByName heap (shown.words was)
+        pub always : IsRefusedByName heap (shown.words was) → IsUnfailed shown was now → (status ≡ 3) ⊎ (status ≡ 4) ⊎ (status ≡ 6) ⊎ (status ≡ 8)
+
+      -- so of each command, where the device tells its words
+      abbrev pub IsRefusedExactly : Option Use → ℕ → Type 0
+      IsRefusedExactly asked status = IsTrue shown.tells_words → IfSome asked (λ does. RefusesExactly (heap_of does) status)
 
 -- the line is none
 abbrev pub is_unread_line : {C Q : Type 0} → Step C Q → Bool

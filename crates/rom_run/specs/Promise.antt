@@ -10,7 +10,7 @@ use Rattle.rom_device.specs.Device.{ShownDevice}
 use Rattle.rom_text.specs.Runs.{AreAskedOnce, AreAtEnd, AreWithin, IsTold, SourceFailed, SourceTooLong}
 use Rattle.rom_text.specs.Streams.{ShownSink, ShownSource, StopsWriting, WriteFailed}
 use Rattle.rom_store.specs.Sessions.{EachStory, SessionSeen}
-use Rattle.rom_run.specs.Complete.{HasFewFaults, IsComplete}
+use Rattle.rom_run.specs.Complete.{HasFewFaults, IsComplete, IsRefusedExactly}
 use Rattle.rom_run.specs.Played.{HasReplies}
 use Rattle.rom_run.specs.Use.{HasNotFailed, HasNotRun, HasRead, HasRun, IsStatus, Use, heap_of}
 use Rattle.rom_run.specs.Working.{HasMade, HasNone, HasSession, IsDeviceKept, IsStill}
@@ -26,6 +26,8 @@ module _ {S C Q R A D X K : Type 0} (machine : Machine S C Q R A) (Contents : �
     pub not_run : HasNotRun asked status → IsNone session
     -- and which it is where the command can begin and nothing fails
     pub complete : IsComplete shown source sink was now sources.items left.items old new AreRun Contents asked status
+    -- and that it is 3 exactly where the heap is refused by name
+    pub refused : IsRefusedExactly Contents FirstBreak shown was now asked status
     -- where scripts were run or a heap was shown, the results of one history are printed, and what a stop leaves is told by it
     pub story : IfSome asked (λ does. IfSome session (HasSession machine Contents shown (heap_of does) was now (HasReplies machine AreRun Prints sources.items old new status)))
     pub still : IfSome session (λ s. EachStory machine Contents s (IsStill Contents shown asked was now))

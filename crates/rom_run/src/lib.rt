@@ -4,11 +4,11 @@
 //! record, `Promise`, by the use that is made of a heap (scripts that are read and played on a new one
 //! of an order, or on the one that stands; or a new one alone): which statuses it ends with and where
 //! a session is left, that what was printed are the results of one history, what a stop leaves of the
-//! device at any moment, of each refusal the cause and the line, and that it is done where nothing
-//! fails. The record has more uses, for programs with commands of their own (scripts that are drawn, a
-//! heap that is shown). So what `run_asked` does in between is public too: each such function names its
-//! clauses, and the record holds the same, and what follows from them. A program that takes plain words
-//! alone is one call of `run_plain`.
+//! device at any moment, of each refusal the cause and the line, that it is done where nothing
+//! fails, and refused exactly where the heap's words are. The record has more uses, for programs with
+//! commands of their own (scripts that are drawn, a heap that is shown). So what `run_asked` does in
+//! between is public too: each such function names its clauses, and the record holds the same, and what
+//! follows from them. A program that takes plain words alone is one call of `run_plain`.
 #![tactic(auto)]
 
 mod ended;

@@ -2,10 +2,10 @@ use Rattle.rom_text.specs.Lines.{AreScripts}
 use Rattle.rom_text.specs.Text.{texts_of}
 use Rattle.rom_run.specs.Asked.{use_of}
 use Rattle.rom_run.specs.Played.{IsText}
-use Rattle.rom_run.proofs.Completing.{complete, few_faults, text_faulted, text_unread}
+use Rattle.rom_run.proofs.Completing.{ends, few_faults, text_faulted, text_unread}
 use Rattle.rom_run.proofs.program.run_asked.Goals as goal
 
--- two of the promises follow from the others
+-- three of the promises follow from the others
 pub returns : goal.returns
 returns g c =
     let o = g.O.Object in
@@ -14,24 +14,27 @@ returns g c =
     let texts = texts_of g.O.Reply.Told.shown g.O.Answer.Told.shown in
     let is = c.run_command.ensures in
     let ended = c.run_command.result in
+    let both = ends o.machine o.Contents o.FirstBreak g.D.Device.shown source sink (AreScripts g.L.Lines.Reads source) (IsText sink texts)
+    c.args.device ended.device c.args.scripts.items ended.scripts.items c.args.out.now c.run_command.new.out (text_faulted sink texts) (text_unread sink texts)
+    (use_of c.args.asked) ended.status ended.session
+    (record {
+      statuses = is.statuses;
+      ran = is.ran;
+      not_run = is.not_run;
+      story = is.story;
+      none = is.none;
+      made = is.made;
+      source_failed = is.source_failed;
+      too_long = is.too_long;
+      sink_failed = is.sink_failed;
+    }) in
     record {
       promise = record {
         statuses = is.statuses;
         ran = is.ran;
         not_run = is.not_run;
-        complete = complete o.machine o.Contents o.FirstBreak g.D.Device.shown source sink (AreScripts g.L.Lines.Reads source) (IsText sink texts)
-            c.args.device ended.device c.args.scripts.items ended.scripts.items c.args.out.now c.run_command.new.out (text_faulted sink texts) (text_unread sink texts)
-            (use_of c.args.asked) ended.status ended.session
-            (record {
-              statuses = is.statuses;
-              ran = is.ran;
-              not_run = is.not_run;
-              story = is.story;
-              none = is.none;
-              source_failed = is.source_failed;
-              too_long = is.too_long;
-              sink_failed = is.sink_failed;
-            });
+        complete = both.0;
+        refused = both.1;
         story = is.story;
         still = is.still;
         few_faults = few_faults o.machine o.Contents g.D.Device.shown c.args.device ended.device _ (use_of c.args.asked) ended.status ended.session is.not_run is.story;

@@ -2,13 +2,13 @@ use Rattle.rom_heap.specs.Parts.{FirstBreak}
 use Rattle.rom_model.specs.Region.{Contents}
 use Rattle.rom_model.specs.Trio.{trio}
 use Rattle.rom_script.proofs.Determined.{text_determines}
-use Rattle.rom_run.proofs.Completing.{complete, few_faults}
+use Rattle.rom_run.proofs.Completing.{ends, few_faults}
 use Rattle.rom_shell.specs.Run.{AreRun, IsPrinted, use_of}
 use Rattle.rom_words.specs.Words.{command}
 use Rattle.rom_shell.proofs.Printed.{printed_faulted, printed_unread}
 use Rattle.rom_shell.proofs.program.run.Goals as goal
 
--- two of the promises follow from the others
+-- three of the promises follow from the others
 pub returns-clause-promise : goal.returns-clause-promise
 returns-clause-promise g c =
     let shown = g.D.Device.shown in
@@ -17,23 +17,26 @@ returns-clause-promise g c =
     let asked = command c.args.words.now in
     let is = c.run_command.ensures in
     let ended = c.run_command.result in
+    let both = ends trio Contents FirstBreak shown source sink (AreRun source asked) (IsPrinted sink asked)
+    c.args.device ended.device c.args.scripts.items ended.scripts.items c.args.out.now c.run_command.new.out (printed_faulted sink asked) (printed_unread sink asked)
+    (use_of asked) ended.status ended.session
+    (record {
+      statuses = is.statuses;
+      ran = is.ran;
+      not_run = is.not_run;
+      story = is.story;
+      none = is.none;
+      made = is.made;
+      source_failed = is.source_failed;
+      too_long = is.too_long;
+      sink_failed = is.sink_failed;
+    }) in
     record {
       statuses = is.statuses;
       ran = is.ran;
       not_run = is.not_run;
-      complete = complete trio Contents FirstBreak shown source sink (AreRun source asked) (IsPrinted sink asked)
-          c.args.device ended.device c.args.scripts.items ended.scripts.items c.args.out.now c.run_command.new.out (printed_faulted sink asked) (printed_unread sink asked)
-          (use_of asked) ended.status ended.session
-          (record {
-            statuses = is.statuses;
-            ran = is.ran;
-            not_run = is.not_run;
-            story = is.story;
-            none = is.none;
-            source_failed = is.source_failed;
-            too_long = is.too_long;
-            sink_failed = is.sink_failed;
-          });
+      complete = both.0;
+      refused = both.1;
       story = is.story;
       still = is.still;
       few_faults = few_faults trio Contents shown c.args.device ended.device _ (use_of asked) ended.status ended.session is.not_run is.story;
