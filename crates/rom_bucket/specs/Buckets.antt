@@ -5,7 +5,7 @@ use Rattle.std.specs.FinMap as finite
 use Rattle.rom_model.specs.Blocks.{block_of}
 use Rattle.rom_model.specs.Chains.{times, Chain, each_word}
 use Rattle.rom_model.specs.Region.{buckets, bucket_of, all_of}
-use Rattle.rom_model.specs.Links.{link_after}
+use Rattle.rom_model.specs.Links.{link_after, first_of}
 use Rattle.rom_bucket.specs.Walk.{head_of}
 use Rattle.rom_bucket.specs.declared.walk.Place.{Place}
 
@@ -17,8 +17,8 @@ nodes_of n bucket = all_of bucket (buckets n)
 abbrev pub with_chain : (ℕ → List ℕ) → ℕ → List ℕ → ℕ → List ℕ
 with_chain bucket i blocks j = if j == i then blocks else bucket j
 
--- The keys stand in these blocks, each in its bucket's chain and no key twice, and the root's word at
--- that size tells how many there are. The first word of a block is its key, and the third its link. The
+-- The keys stand in these blocks, each in its bucket's chain and no key twice, and the word at the offset
+-- `size` tells how many there are. The first word of a block is its key, and the third its link. The
 -- first 2 ^ (n - 4) blocks are the bucket table.
 pub record AreBuckets (n size : ℕ) (words : List ℕ) (bucket : ℕ → List ℕ) : Type 0 where
   pub chains : (i : ℕ) → i < buckets n → Chain n words (head_of n i) 2 (bucket i)
@@ -27,6 +27,14 @@ pub record AreBuckets (n size : ℕ) (words : List ℕ) (bucket : ℕ → List �
   pub keys_differ : (i key : ℕ) → i < buckets n → times key (each_word n words 0 (bucket i)) ≤ 1
   pub different : (b : ℕ) → times b (nodes_of n bucket) ≤ 1
   pub within : (b : ℕ) → 0 < times b (nodes_of n bucket) → (2 ^ (n - 4) ≤ b) × (b < 2 ^ n)
+
+-- The place stands between these blocks of the chain of the key's bucket.
+pub record Between (n : ℕ) (bucket : ℕ → List ℕ) (key : ℕ) (place : Place) : Type 0 where
+  pub front : List ℕ
+  pub back : List ℕ
+  pub blocks : bucket (bucket_of n key) ≡ front ++ back
+  pub link_is : place.link ≡ link_after n (head_of n (bucket_of n key)) 2 front
+  pub node_is : place.node ≡ first_of n back
 
 -- The key has a node, which begins where the place tells: its block, and those before and behind it in
 -- the chain of the key's bucket.

@@ -2,3 +2,4 @@
 pub mod Walk
 pub mod Link
 pub mod Buckets
+pub mod Rising

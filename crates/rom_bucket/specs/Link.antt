@@ -5,19 +5,24 @@ use Rattle.rom_bucket.specs.Walk.{head_of}
 use Rattle.rom_bucket.specs.declared.walk.Place.{Place}
 use Rattle.rom_bucket.specs.declared.link.Node.{Node}
 
--- The node begins there, and is the first of its key's bucket, before the one that was. The word at that
--- size counts one key more, and no other word differs.
-pub record IsLinked (n size at : ℕ) (node : Node) (old new : List ℕ) : Type 0 where
+-- the place before the first node of a key's bucket
+abbrev pub first_place : ℕ → ℕ → List ℕ → Place
+first_place n key words = let head = head_of n (bucket_of n key) in record { link = head; node = slice_index words head }
+
+-- The node begins there and stands at that place: the place's link leads to it, and its own to the node
+-- that the place told. The word at the offset `size` counts one key more, and no other word differs.
+pub record IsLinked (size : ℕ) (place : Place) (at : ℕ) (node : Node) (old new : List ℕ) : Type 0 where
   pub as_long : length new ≡ length old
   pub key_is : slice_index new at ≡ node.key
   pub second_is : slice_index new (at + 1) ≡ node.second
-  pub next : slice_index new (at + 2) ≡ slice_index old (head_of n (bucket_of n node.key))
+  pub next : slice_index new (at + 2) ≡ place.node
   pub last_is : slice_index new (at + 3) ≡ node.last
-  pub head : slice_index new (head_of n (bucket_of n node.key)) ≡ at
+  pub link : slice_index new place.link ≡ at
   pub len : slice_index new size ≡ slice_index old size + 1
-  pub others : (k : ℕ) → (k < at) ⊎ (at + 4 ≤ k) → k ≢ head_of n (bucket_of n node.key) → k ≢ size → slice_index new k ≡ slice_index old k
+  pub others : (k : ℕ) → (k < at) ⊎ (at + 4 ≤ k) → k ≢ place.link → k ≢ size → slice_index new k ≡ slice_index old k
 
--- The link leads to the node behind. The word at that size counts one key fewer, and no other word differs.
+-- The link leads to the node behind. The word at the offset `size` counts one key fewer, and no other word
+-- differs.
 pub record IsUnlinked (size : ℕ) (place : Place) (old new : List ℕ) : Type 0 where
   pub as_long : length new ≡ length old
   pub link : slice_index new place.link ≡ slice_index old (place.node + 2)

@@ -2,15 +2,18 @@
 //!
 //! Each key has a node, a block of four words: the first is the key, the third links to the next node of
 //! the key's bucket, and the two others belong to the structure that keeps its keys so. A walk along the
-//! bucket's chain finds a key's node or tells that there is none; a new node goes to the front of its
-//! chain, and one that goes is taken out of it. The contracts promise the place of the key in whatever
+//! bucket's chain finds a key's node or tells that there is none; where the keys rise along a chain,
+//! another walk ends where the key stands or would stand. A new node goes to the front of its chain or to
+//! such a place, and one that goes is taken out. The contracts promise the place of the key in whatever
 //! blocks are the bucket's nodes, the words that a change leaves, how many loads and stores a call makes
 //! at most, and that it stores no more often than words differ afterwards. What a key has, and which word
 //! of the root counts the keys, is for the structure to say.
 #![tactic(auto)]
 
 mod link;
+mod rising;
 mod walk;
 
-pub use link::{Node, link_first, unlink_node};
+pub use link::{Node, link_at, link_first, unlink_node};
+pub use rising::{Sought, find_rising};
 pub use walk::{Place, find, head_of};

@@ -1,10 +1,10 @@
 //! Putting a node into a bucket's chain, and taking one out.
-ghost use Rattle.std.specs.Prelude.{◌≡◌, ◌≢◌, ◌+◌, ◌-◌, ◌^◌, ◌<◌, ◌≤◌, length, slice_index};
+ghost use Rattle.std.specs.Prelude.{◌≡◌, ◌≢◌, ◌⊎◌, ◌+◌, ◌-◌, ◌^◌, ◌<◌, ◌≤◌, length, slice_index};
 ghost use Rattle.rom_model.specs.Space.{Costs, HasRoom, IsSparing};
 ghost use Rattle.rom_model.specs.Blocks.{IsOrder, block_of, region_len};
 ghost use Rattle.rom_model.specs.Region.{bucket_of};
 ghost use Rattle.rom_bucket.specs.Walk.{head_of};
-ghost use Rattle.rom_bucket.specs.Link.{IsLinked, IsUnlinked};
+ghost use Rattle.rom_bucket.specs.Link.{first_place, IsLinked, IsUnlinked};
 
 use crate::walk::{Place, head_of};
 use rom_block::fill_node;
@@ -21,8 +21,31 @@ pub struct Node {
     pub last: u64,
 }
 
-/// Makes the block that begins there a node, and links it in front of its key's bucket. The keys are
-/// counted by the root's word at that size.
+/// Makes the block that begins there a node, and links it into a chain at that place, before the node
+/// that the place tells. The root's word at the offset `size` counts the keys.
+pub fn link_at<M: Space>(space: &mut M, size: u64, place: Place, at: u64, node: Node)
+    requires link { place.link < length (M.shown.image space.old) }
+    requires outside { (place.link < at) ⊎ (at + 4 ≤ place.link) }
+    requires apart { place.link ≢ size }
+    requires root { size < at }
+    requires within { at + 4 ≤ length (M.shown.image space.old) }
+    requires small { at < 2 ^ 63 }
+    requires len { slice_index (M.shown.image space.old) size < 2 ^ 63 }
+    requires room { HasRoom M.shown 6 space.old }
+    ensures linked { IsLinked size place at node (M.shown.image space.old)
+        (M.shown.image space.new) }
+    ensures costs { Costs M.shown 5 6 space.old space.new }
+    ensures sparing { slice_index (M.shown.image space.old) place.link ≢ at
+        → IsSparing M.shown space.old space.new }
+{
+    fill_node(space, at, [node.key, node.second, place.node, node.last]);
+    space.store(place.link, at);
+    let len = space.load(size);
+    space.store(size, len + 1);
+}
+
+/// Makes the block that begins there a node, and links it in front of its key's bucket. The root's word
+/// at the offset `size` counts the keys.
 pub fn link_first<M: Space>(space: &mut M, order: u32, size: u64, at: u64, node: Node)
     requires order { IsOrder order }
     requires sized { length (M.shown.image space.old) ≡ region_len order }
@@ -31,23 +54,20 @@ pub fn link_first<M: Space>(space: &mut M, order: u32, size: u64, at: u64, node:
     requires root { size ≤ 16 }
     requires len { slice_index (M.shown.image space.old) size < 2 ^ 63 }
     requires room { HasRoom M.shown 6 space.old }
-    ensures linked { IsLinked order size at node (M.shown.image space.old)
-        (M.shown.image space.new) }
+    ensures linked { IsLinked size (first_place order node.key (M.shown.image space.old)) at node
+        (M.shown.image space.old) (M.shown.image space.new) }
     ensures costs { Costs M.shown 6 6 space.old space.new }
     ensures sparing { slice_index (M.shown.image space.old)
         (head_of order (bucket_of order node.key)) ≢ at
         → IsSparing M.shown space.old space.new }
 {
     let link = head_of(order, node.key);
-    let next = space.load(link);
-    fill_node(space, at, [node.key, node.second, next, node.last]);
-    space.store(link, at);
-    let len = space.load(size);
-    space.store(size, len + 1);
+    let first = space.load(link);
+    link_at(space, size, Place { link, node: first }, at, node);
 }
 
-/// Takes the node at that place out of its chain. Its words stay. The keys are counted by the root's
-/// word at that size.
+/// Takes the node at that place out of its chain. Its words stay. The root's word at the offset `size`
+/// counts the keys.
 pub fn unlink_node<M: Space>(space: &mut M, size: u64, place: Place)
     requires link { place.link < length (M.shown.image space.old) }
     requires node { place.node + 4 ≤ length (M.shown.image space.old) }

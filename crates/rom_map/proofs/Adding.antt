@@ -16,11 +16,11 @@ use Rattle.rom_model.proofs.Frames.{tree_part, part_then, each_same}
 use Rattle.rom_model.proofs.Room.{times_members, tree_stays, region_disjoint, new_block, not_full}
 use Rattle.rom_block.specs.Taken.{Takes}
 use Rattle.rom_bucket.specs.Walk.{head_of}
-use Rattle.rom_bucket.specs.Link.{IsLinked}
+use Rattle.rom_bucket.specs.Link.{first_place, IsLinked}
 use Rattle.rom_bucket.proofs.Heads.{four_each}
 use Rattle.rom_bucket.proofs.Walking.{first_other}
 use Rattle.rom_bucket.proofs.Keys.{few}
-use Rattle.rom_bucket.proofs.Added.{MayAdd, added_tree}
+use Rattle.rom_bucket.proofs.Added.{MayAdd, at_front, added_tree}
 use Rattle.rom_map.specs.Map.{with_bucket, table_block, IsAdded}
 use Rattle.rom_map.proofs.Keyed.{node_of, buckets_of, map_keys}
 use Rattle.rom_map.proofs.Regions.{map_stays, version_stays, remapped}
@@ -69,7 +69,7 @@ module _ {n : ℕ} {w : List ℕ} {p : Chains} {s : State} {k : ℕ} (le : 4 ≤
       missing = ap (times key) (each_same n 0 w w1 (map_blocks n p) (λ c some. only.behind (block_of n c + 0) (omega (arith, pow_positive n)))) ∙ none;
     }
 
-    module _ (w2 : List ℕ) (linked : IsLinked n 9 (block_of n new.block) (node_of key value) w1 w2) where
+    module _ (w2 : List ℕ) (linked : IsLinked 9 (first_place n key w1) (block_of n new.block) (node_of key value) w1 w2) where
       abbrev map : IsMap n w1 p s.pairs
       map = map_stays w1 only is.shape.map
 
@@ -105,10 +105,10 @@ module _ {n : ℕ} {w : List ℕ} {p : Chains} {s : State} {k : ℕ} (le : 4 ≤
             first = refl;
             lowest = subst (λ x. IsLowest n (taken_by n (element_blocks n p)) 0 x) new.node_is takes.lowest;
             becomes = record {
-              region = remapped is w2 touched 10 (omega arith) next.bucket (finite.insert s.pairs key value) part away elements (tree_stays n (taking takes.node (taken_by n (element_blocks n p))) w1 w2 (added_tree may_add linked) takes.words_are) (added_map may_add map.pairs_are version linked) (added_version may_add map.pairs_are version linked);
+              region = remapped is w2 touched 10 (omega arith) next.bucket (finite.insert s.pairs key value) part away elements (tree_stays n (taking takes.node (taken_by n (element_blocks n p))) w1 w2 (added_tree may_add (at_front may_add.are may_add.within) linked) takes.words_are) (added_map may_add map.pairs_are version linked) (added_version may_add map.pairs_are version linked);
               others = part;
             };
           }
 
-    pub added : (w2 : List ℕ) → IsLinked n 9 at (node_of key value) w1 w2 → IsAdded n w p s k key value w2
-    added w2 linked = added_block w2 (subst (λ a. IsLinked n 9 a (node_of key value) w1 w2) here linked)
+    pub added : (w2 : List ℕ) → IsLinked 9 (first_place n key w1) at (node_of key value) w1 w2 → IsAdded n w p s k key value w2
+    added w2 linked = added_block w2 (subst (λ a. IsLinked 9 (first_place n key w1) a (node_of key value) w1 w2) here linked)

@@ -10,7 +10,8 @@ use Rattle.rom_bucket.proofs.Sparing.{sparing_after, sparing_load, range_last}
 use Rattle.rom_bucket.proofs.Entries.{remove_absent}
 use Rattle.rom_bucket.proofs.Keys.{holds_bucket}
 use Rattle.rom_bucket.proofs.Finding.{own_within}
-use Rattle.rom_bucket.proofs.Removed.{link_high, link_inside, link_differs, size_some}
+use Rattle.rom_bucket.proofs.Places.{before_node, link_high, link_inside}
+use Rattle.rom_bucket.proofs.Removed.{link_differs, size_some}
 use Rattle.rom_map.specs.Map.{with_pairs, with_bucket}
 use Rattle.rom_map.proofs.Keyed.{map_keys}
 use Rattle.rom_map.proofs.Finding.{looked, image_same, long, no_value, passed, sooner, node, value, inside, small}
@@ -55,7 +56,7 @@ pub unlink_node-requires-clause-link : goal.unlink_node-requires-clause-link
 unlink_node-requires-clause-link g c =
     let o = c.requires.order in
     let is = c.requires.region.contents.1 in
-    omega (arith, link_inside o.least (omega arith) (map_keys is) (own_within c.args.key o) (node o is c.find-place.ensures (λ e. absurd (omega arith))), ap length c.load-was.ensures.image, long o is c.find-place.ensures)
+    omega (arith, link_inside o.least (map_keys is) (own_within c.args.key o) (before_node (node o is c.find-place.ensures (λ e. absurd (omega arith)))), ap length c.load-was.ensures.image, long o is c.find-place.ensures)
 
 pub unlink_node-requires-clause-node : goal.unlink_node-requires-clause-node
 unlink_node-requires-clause-node g c = omega (arith, inside c.requires.order c.requires.region.contents.1 c.find-place.ensures (λ e. absurd (omega arith)), ap length c.load-was.ensures.image)
@@ -67,7 +68,7 @@ pub unlink_node-requires-clause-apart : goal.unlink_node-requires-clause-apart
 unlink_node-requires-clause-apart g c e =
     let o = c.requires.order in
     let is = c.requires.region.contents.1 in
-    absurd (omega (arith, e, link_high o.least (omega arith) (map_keys is) (own_within c.args.key o) (node o is c.find-place.ensures (λ e. absurd (omega arith)))))
+    absurd (omega (arith, e, link_high o.least (map_keys is) (own_within c.args.key o) (before_node (node o is c.find-place.ensures (λ e. absurd (omega arith))))))
 
 pub unlink_node-requires-clause-long : goal.unlink_node-requires-clause-long
 unlink_node-requires-clause-long g c = omega (arith, long c.requires.order c.requires.region.contents.1 c.find-place.ensures, ap length c.load-was.ensures.image)
@@ -139,7 +140,7 @@ returns-clause-sparing g c =
     let is = c.requires.region.contents.1 in
     let t = node o is c.find-place.ensures (λ e. absurd (omega arith)) in
     let un = c.unlink_node.ensures.unlinked in
-    let high = link_high o.least (omega arith) (map_keys is) (own_within c.args.key o) t in
+    let high = link_high o.least (map_keys is) (own_within c.args.key o) (before_node t) in
     let same = c.load-was.ensures.image ∙ image_same o is c.find-place.ensures in
     let differs = subst (λ (v : List ℕ). slice_index v c.find-place.result.link ≢ slice_index v (c.find-place.result.node + 2)) (sym same) (link_differs o.least (omega arith) (map_keys is) (own_within c.args.key o) t) in
     sparing_after g.M.Look.shown _ _ _ (looked o is c.find-place.ensures)
