@@ -6,13 +6,10 @@ ghost use Rattle.rom_script.specs.Members.{behind_line};
 
 use crate::update_line::read_update;
 use memchr::memmem;
-use rom_model::{Group, Single};
+use rom_model::{Group, MAX_MEMBERS, Single};
 
 /// What stands between two members.
 const SEPARATOR: &[u8] = b" ; ";
-
-/// The greatest number of members.
-const MAX_MEMBERS: usize = 8;
 
 /// What stands before the first separator, and what stands behind it where there is one.
 fn split_first(text: &[u8]) -> (&[u8], Option<&[u8]>)
