@@ -1,6 +1,7 @@
 //! What the lock holds: the device with its heap, and the writer's seat.
 ghost use Rattle.std.specs.Prelude.{Some, ◌≡◌, ◌≢◌, ◌⊎◌, ℕ, ◌*◌, ◌<◌, ◌≤◌, List, length, IsTrue};
 ghost use Rattle.rom_model.specs.Blocks.{IsOrder, region_len};
+ghost use Rattle.rom_model.specs.Faults.{Rose};
 ghost use Rattle.rom_model.specs.Machine.{on_words, weight_on_words};
 ghost use Rattle.rom_model.specs.Passes.{HasFault};
 ghost use Rattle.rom_device.specs.Device.{Becomes, Runs};
@@ -162,6 +163,8 @@ impl<D: Device, O: Object> Core<D, O> {
             IsTrue (D.shown.failing self.old.twin.device) }
         ensures repaired { 0 < result.done → (self.new.twin.phase ≡ Phase.Clean)
             ⊎ (self.new.twin.phase ≡ Phase.Redo) }
+        ensures undone { 0 < result.done → self.new.twin.phase ≡ Phase.Redo →
+            Rose (D.shown.faults self.old.twin.device) (D.shown.faults self.new.twin.device) }
         ensures failed { result.outcome ≡ Outcome.Failed → (self.new.twin.phase ≡ Phase.Undo)
             ⊎ ((self.new.twin.phase ≡ self.old.twin.phase) × NeedsRepair self.old.twin.phase) }
         ensures doubt { result.outcome ≡ Outcome.Doubt → self.new.twin.phase ≡ Phase.Doubt }

@@ -2,6 +2,7 @@
 use Rattle.std.proofs.Common.{◌≡◌, ◌≢◌, ◌⊎◌, inl, inr, ⊎_elim, ℕ, zero, suc, ◌+◌, ◌*◌, ◌<◌, IsTrue, List, [], ◌∷◌, ◌++◌, map, length, Option, None, Some, refl, sym, ap, ◌∙◌, subst, arith, append_assoc, append-nil, length-append}
 use Rattle.std.proofs.lemmas.List.{length-map}
 use Rattle.std.specs.List.{AllByRecursion}
+use Rattle.rom_model.specs.Faults.{Rose}
 use Rattle.rom_model.specs.History.{after, batch}
 use Rattle.rom_model.specs.Passes.{published}
 use Rattle.rom_model.specs.Story.{Story, doubted_batch, len_after, state_at}
@@ -289,7 +290,7 @@ module _ {S : Type 0} (Contents : ℕ → List ℕ → S → ℕ → Type 0) (st
 
   -- The pass is one that the device went through.
   pass_on : len_after 0 (records_of p) ≡ length p.history
-      → shown.reads u.device ≡ shown.reads t.device → (NeedsRepair t.phase → IsTrue (shown.failing t.device)) → SpendsAtMost shown (batch_writes t.phase b.order (region_len b.order)) (batch_syncs t.phase) t.device u.device
+      → shown.reads u.device ≡ shown.reads t.device → (NeedsRepair t.phase → IsTrue (shown.failing t.device) × Rose b.faults (shown.faults t.device)) → SpendsAtMost shown (batch_writes t.phase b.order (region_len b.order)) (batch_syncs t.phase) t.device u.device
       → (r.outcome ≡ outcome.Failed → FailsBeforeCommit shown t.phase b.order p.main t.device u.device) → (r.outcome ≡ outcome.Doubt → FailsAtCommit shown t.phase b.order p.main t.device u.device)
       → (IsTrue shown.tells_images → Runs shown (Becomes (PassMakes Contents step b s k (fate_of r.outcome) p.history x.more)) t.device u.device)
       → (0 < r.done → (u.phase ≡ phase.Clean) ⊎ (u.phase ≡ phase.Redo))
@@ -322,7 +323,7 @@ module _ {S : Type 0} (Contents : ℕ → List ℕ → S → ℕ → Type 0) (st
 
   -- So the device went through one pass more, or through none where no call was found.
   pub went_on : (First : D → Type 0) → len_after 0 (records_of p) ≡ length p.history
-      → shown.reads u.device ≡ shown.reads t.device → (NeedsRepair t.phase → IsTrue (shown.failing t.device)) → SpendsAtMost shown (batch_writes t.phase b.order (region_len b.order)) (batch_syncs t.phase) t.device u.device
+      → shown.reads u.device ≡ shown.reads t.device → (NeedsRepair t.phase → IsTrue (shown.failing t.device) × Rose b.faults (shown.faults t.device)) → SpendsAtMost shown (batch_writes t.phase b.order (region_len b.order)) (batch_syncs t.phase) t.device u.device
       → (r.outcome ≡ outcome.Failed → FailsBeforeCommit shown t.phase b.order p.main t.device u.device) → (r.outcome ≡ outcome.Doubt → FailsAtCommit shown t.phase b.order p.main t.device u.device)
       → (IsTrue shown.tells_images → Runs shown (Becomes (PassMakes Contents step b s k (fate_of r.outcome) p.history x.more)) t.device u.device)
       → (r.outcome ≡ outcome.Nothing → u ≡ t) → (0 < r.done → (u.phase ≡ phase.Clean) ⊎ (u.phase ≡ phase.Redo))
@@ -350,6 +351,12 @@ module _ {S : Type 0} (Contents : ℕ → List ℕ → S → ℕ → Type 0) (st
           subst (λ (l : List PassRecord). ArePassesOn shown Contents step Story' 0 l was.first u.device) records
           (passes_on shown Contents step Story' 0 (records_of p) Record was.first t.device u.device stayed (pass_on ends unread needed most failed doubt runs repaired now_is))
 
+-- in `Clean` no repair is needed
+clean_needs_none : (ph : Phase) → ph ≡ phase.Clean → NeedsRepair ph → ⊥
+clean_needs_none ph clean (inl undo) = let no : phase.Clean ≡ phase.Undo = sym clean ∙ undo in cc
+clean_needs_none ph clean (inr (inl doubt)) = let no : phase.Clean ≡ phase.Doubt = sym clean ∙ doubt in cc
+clean_needs_none ph clean (inr (inr redo)) = let no : phase.Clean ≡ phase.Redo = sym clean ∙ redo in cc
+
 module _ {S : Type 0} (Contents : ℕ → List ℕ → S → ℕ → Type 0) (step : ℕ → S → ℕ → List ℕ → Option (S × List ℕ)) {D : Type 0} (shown : ShownDevice D) (start : Start) (test : ℕ → List ℕ → Type 0)
     (c d : Locked D) (callers : ℕ) (r : Passed) where
   -- What the lock keeps is kept by a pass.
@@ -363,11 +370,12 @@ module _ {S : Type 0} (Contents : ℕ → List ℕ → S → ℕ → Type 0) (st
       → (let b = c.view.base in IsTrue shown.tells_images → (s : S) (n : ℕ) → Contents b.order b.image s n → (i : List ℕ) → shown.leaves d.twin.device i → ImageAt Contents step b s n d.twin.phase (plan_of d.view) i)
       → WritesHeap shown c.twin.order c.twin.device d.twin.device
       → (NeedsRepair c.twin.phase → IsTrue (shown.failing c.twin.device))
+      → (0 < r.done → d.twin.phase ≡ phase.Redo → Rose (shown.faults c.twin.device) (shown.faults d.twin.device))
       → SpendsAtMost shown (batch_writes c.twin.phase c.twin.order (region_len c.twin.order)) (batch_syncs c.twin.phase) c.twin.device d.twin.device
       → (r.outcome ≡ outcome.Failed → FailsBeforeCommit shown c.twin.phase c.twin.order (plan_of c.view).main c.twin.device d.twin.device)
       → (r.outcome ≡ outcome.Doubt → FailsAtCommit shown c.twin.phase c.twin.order (plan_of c.view).main c.twin.device d.twin.device)
       → IsHeld shown Contents step c.table_id c.view.base start test d
-  held_on h same kept x runs spent untouched repaired failed now_is writes needed most failed_by doubt_by = record {
+  held_on h same kept x runs spent untouched repaired failed now_is writes needed undone most failed_by doubt_by = record {
     table_is = same.0;
     base_is = same.2;
     order_is = same.3 ∙ h.order_is;
@@ -375,6 +383,8 @@ module _ {S : Type 0} (Contents : ℕ → List ℕ → S → ℕ → Type 0) (st
     alone = ap (λ (v : View). v.joined) kept ∙ h.alone;
     ends = ends_on Contents step b p q callers before now r x h.formed h.ends;
     in_doubt = λ doubt s k op. in_doubt_on Contents step b p q callers before now r x s k op c.twin d.twin spent untouched repaired failed (λ was. h.in_doubt was s k op) doubt;
+    no_lower = let low = h.no_lower in let later = writes.later in omega (arith, low, later);
+    needed = needs r.outcome refl;
     now = now_is;
     size_is = writes.does.size ∙ h.size_is;
     outside = λ told. state_or_joins MAIN (2 * region_len b.order) start.words (shown.words c.twin.device) (shown.words d.twin.device) (h.outside told)
@@ -382,7 +392,7 @@ module _ {S : Type 0} (Contents : ℕ → List ℕ → S → ℕ → Type 0) (st
     later = λ told. let on = (writes.does.images told).later in omega (arith, on, h.later told);
     keeps = λ told t i le was. (writes.does.images told).keeps t i (omega (arith, le, h.later told)) (h.keeps told t i le was);
     since = λ told s k op t i left. ⊎_elim (past told s k op t i) (here told s k op t i) ((runs told s k op).nothing_else t i left);
-    went = λ s k op. went_on Contents step shown b p q callers r c.twin d.twin x s k op (HasStarted shown b.faults start) h.ends writes.only.reads needed
+    went = λ s k op. went_on Contents step shown b p q callers r c.twin d.twin x s k op (HasStarted shown b.faults start) h.ends writes.only.reads (λ is. (needed is, h.needed is))
         (subst (λ (n : ℕ). SpendsAtMost shown (batch_writes c.twin.phase n (region_len n)) (batch_syncs c.twin.phase) c.twin.device d.twin.device) h.order_is most)
         (λ e. subst (λ (n : ℕ). FailsBeforeCommit shown c.twin.phase n p.main c.twin.device d.twin.device) h.order_is (failed_by e))
         (λ e. subst (λ (n : ℕ). FailsAtCommit shown c.twin.phase n p.main c.twin.device d.twin.device) h.order_is (doubt_by e))
@@ -403,6 +413,24 @@ module _ {S : Type 0} (Contents : ℕ → List ℕ → S → ℕ → Type 0) (st
 
       q : Plan
       q = plan_of d.view
+
+      rose : Rose before now → Rose b.faults now
+      rose by = let low = h.no_lower in omega (arith, low, by)
+
+      left_so : d.twin ≡ c.twin → NeedsRepair d.twin.phase → Rose b.faults now
+      left_so same is = subst (λ (t : Seen D). Rose b.faults (shown.faults t.device)) (sym same) (h.needed (subst (λ (t : Seen D). NeedsRepair t.phase) same is))
+
+      done_or_none : (n : ℕ) → r.done ≡ n → r.outcome ≡ outcome.Published → NeedsRepair d.twin.phase → Rose b.faults now
+      done_or_none zero none published is = left_so (spent published none) is
+      done_or_none (suc n) some published is =
+          let positive : 0 < r.done = omega (arith, some) in ⊎_elim (λ clean. absurd (clean_needs_none d.twin.phase clean is)) (λ redo. rose (undone positive redo)) (repaired positive)
+
+      -- where it needs a repair, its count rose in this pass or before
+      needs : (o : Outcome) → r.outcome ≡ o → NeedsRepair d.twin.phase → Rose b.faults now
+      needs outcome.Nothing e is = left_so (untouched e) is
+      needs outcome.Published e is = done_or_none r.done refl e is
+      needs outcome.Failed e is = rose (failed_by e).rose
+      needs outcome.Doubt e is = let f = doubt_by e in let later = f.later in let once = f.failed.once in rose (omega (arith, later, once))
 
       stays : (s : S) (k : ℕ) (i : List ℕ) → SessionImage Contents step (story_at b s k p) i → SessionImage Contents step (story_at b s k q) i
       stays s k i = image_stays Contents step b s k p q _ _ x.history x.records i

@@ -1,9 +1,11 @@
 -- What holds behind the lock whenever it is free.
 use Rattle.std.specs.Prelude.{◌≡◌, ◌⊎◌, ℕ, ◌≤◌, List, [], length, Option, None, IsTrue}
 use Rattle.atomic_table.specs.Seated.{TableId}
+use Rattle.rom_model.specs.Faults.{Rose}
 use Rattle.rom_model.specs.Story.{Story, len_after}
 use Rattle.rom_model.specs.declared.entry.Entry.{Entry}
 use Rattle.rom_device.specs.Device.{ShownDevice}
+use Rattle.rom_twin.specs.Seen.{NeedsRepair}
 use Rattle.rom_twin.specs.declared.phase.Phase.TheVariants.{Doubt}
 use Rattle.rom_combine.specs.AtRest.{Locked}
 use Rattle.rom_combine.specs.Costs.{WithinHeap}
@@ -32,6 +34,9 @@ pub record IsHeld {D S : Type 0} (shown : ShownDevice D) (Contents : ℕ → Lis
   pub ends : len_after 0 (records_of (plan_of c.view)) ≡ length (plan_of c.view).history
   -- in doubt, there is a batch in doubt, since which nothing was published
   pub in_doubt : c.twin.phase ≡ Doubt → (s : S) (k : ℕ) → Contents base.order base.image s k → (d : List Entry) × Doubted Contents step base s k (plan_of c.view) d
+  -- the device's count of faults is not below that of the opening, and it needs a repair only where it rose since
+  pub no_lower : base.faults ≤ shown.faults c.twin.device
+  pub needed : NeedsRepair c.twin.phase → Rose base.faults (shown.faults c.twin.device)
   -- each image that a stop leaves now holds the published history, or, in doubt, that with the batch in doubt
   pub now : IsTrue shown.tells_images → (s : S) (k : ℕ) → Contents base.order base.image s k → (i : List ℕ) → shown.leaves c.twin.device i → ImageAt Contents step base s k c.twin.phase (plan_of c.view) i
   -- the device has its length, and of its words only the state and the two regions of the heap differ

@@ -1,6 +1,7 @@
 -- The passes of a session, one after another, as its device went through them.
 use Rattle.std.specs.Prelude.{◌≡◌, ◌⊎◌, ℕ, ◌<◌, ◌≤◌, List, [], ◌∷◌, length, Option, IsTrue}
 use Rattle.rom_model.specs.Blocks.{region_len}
+use Rattle.rom_model.specs.Faults.{Rose}
 use Rattle.rom_model.specs.Story.{Story, doubted_batch}
 use Rattle.rom_model.specs.declared.record.Fate.{Fate}
 use Rattle.rom_model.specs.declared.record.Fate.TheVariants.{Published, Failed, Doubt}
@@ -35,9 +36,9 @@ module _ {D S : Type 0} (shown : ShownDevice D) (Contents : ℕ → List ℕ →
     pub before : shown.faults was ≡ r.faults_before
     pub after : shown.faults now ≡ r.faults_after
     pub cause : HasCause r.fate was now
-    -- nothing is read, and no more is called than one batch takes, with the repair before it where the device's last call had failed, and else without one
+    -- nothing is read, and no more is called than one batch takes, with the repair before it where the device's last call had failed, and its count of faults had risen since the opening; and else without one
     pub unread : shown.reads now ≡ shown.reads was
-    pub most : (phase : Phase) × (NeedsRepair phase → IsTrue (shown.failing was)) × SpendsAtMost shown (batch_writes phase story.order (region_len story.order)) (batch_syncs phase) was now
+    pub most : (phase : Phase) × (NeedsRepair phase → IsTrue (shown.failing was) × Rose story.opening_faults (shown.faults was)) × SpendsAtMost shown (batch_writes phase story.order (region_len story.order)) (batch_syncs phase) was now
     pub reached : (len ≤ length story.history) × (r.len ≤ length story.history)
     pub images : IsTrue shown.tells_images → Runs shown (Becomes (PassImage len r)) was now
     -- what it published is certain: a stop leaves it
