@@ -7,7 +7,7 @@ use Rattle.rom_model.specs.Blocks.{block_of}
 use Rattle.rom_model.specs.Chains.{times, Chain, each_word}
 use Rattle.rom_model.specs.Links.{link_after}
 use Rattle.rom_model.specs.Region.{buckets, bucket_of}
-use Rattle.rom_model.proofs.Times.{times_here, times_away, times-append}
+use Rattle.rom_model.proofs.Times.{times_here, times_away, times-append, times_bucket}
 use Rattle.rom_model.proofs.Nodes.{pow_positive}
 use Rattle.rom_model.proofs.Frames.{chain_same, each_same}
 use Rattle.rom_model.proofs.Links.{chain_first, chain_moved, each_append}
@@ -17,10 +17,11 @@ use Rattle.rom_bucket.specs.Buckets.{nodes_of, with_chain, AreBuckets, Between, 
 use Rattle.rom_bucket.specs.declared.link.Node.{Node}
 use Rattle.rom_bucket.specs.declared.walk.Place.{Place}
 use Rattle.rom_bucket.proofs.Heads.{head_before}
+use Rattle.rom_bucket.proofs.Walking.{first_other}
 use Rattle.rom_bucket.proofs.Entries.{firsts, entries_map, insert_between}
 use Rattle.rom_bucket.proofs.Chained.{Cut, cut, chain_here, chain_other}
 use Rattle.rom_bucket.proofs.Keys.{entry_keys, entries_append, entries_same, in_all}
-use Rattle.rom_bucket.proofs.Places.{in_own, not_link, head_apart, link_high, elsewhere, behind_only, chain_behind, leads, relinked}
+use Rattle.rom_bucket.proofs.Places.{in_own, link_kinds, not_link, head_apart, link_high, elsewhere, behind_only, chain_behind, leads, link_leads, relinked}
 
 -- chains, and a block that is not in them, for a key that is not in them either
 pub record MayAdd (n size : ℕ) (w : List ℕ) (f : ℕ → List ℕ) (key block : ℕ) : Type 0 where
@@ -32,6 +33,21 @@ pub record MayAdd (n size : ℕ) (w : List ℕ) (f : ℕ → List ℕ) (key bloc
   pub absent : times block (nodes_of n f) ≡ 0
   pub within : bucket_of n key < buckets n
   pub missing : times key (each_word n w 0 (nodes_of n f)) ≡ 0
+
+module _ {n size : ℕ} {w : List ℕ} {f : ℕ → List ℕ} {key block : ℕ} {place : Place} (may : MayAdd n size w f key block) (b : Between n f key place) where
+  -- the link of the place is no word of the block, and leads elsewhere
+  pub link_outside : (place.link < block_of n block) ⊎ (block_of n block + 4 ≤ place.link)
+  link_outside = ⊎_elim
+      (λ at. inl (omega (arith, at, head_before n (bucket_of n key) may.least may.within, may.block_late)))
+      (λ x.
+      let ne : x.0 ≢ block = λ e. absurd (omega (arith, x.1, ap (λ c. times c (nodes_of n f)) e, may.absent)) in
+      elim (cases_lt x.0 block) [ inl less ↦ inl (omega (arith, x.2, less)) | inr ge ↦ inr (omega (arith, x.2, ge, ne)) ])
+      (link_kinds may.least may.are may.within b)
+
+  pub link_differs : slice_index w place.link ≢ block_of n block
+  link_differs e =
+      let none : times block b.back ≡ 0 = omega (arith, in_own may.least may.are may.within b block, times_bucket f (buckets n) (bucket_of n key) block may.within, may.absent) in
+      first_other n block b.back none (sym b.node_is ∙ sym (link_leads may.least may.are may.within b) ∙ e)
 
 module _ {n size : ℕ} {w w' : List ℕ} {f : ℕ → List ℕ} {node : Node} {block : ℕ} {place : Place} (may : MayAdd n size w f node.key block) (b : Between n f node.key place) (linked : IsLinked size place (block_of n block) node w w') where
   abbrev key : ℕ

@@ -14,7 +14,7 @@ use Rattle.rom_model.proofs.Frames.{each_same}
 use Rattle.rom_model.proofs.Links.{each_append}
 use Rattle.rom_bucket.specs.Link.{IsLinked, IsUnlinked}
 use Rattle.rom_bucket.specs.Buckets.{nodes_of, AreBuckets, Between, There, entries_of, keyed}
-use Rattle.rom_bucket.specs.Rising.{AreRising, AreBelow, StartsAbove, starts_with, IsSought, keys_under}
+use Rattle.rom_bucket.specs.Rising.{KeysRise, AreBelow, StartsAbove, starts_with, IsSought, keys_under}
 use Rattle.rom_bucket.specs.declared.link.Node.{Node}
 use Rattle.rom_bucket.specs.declared.walk.Place.{Place}
 use Rattle.rom_bucket.specs.declared.rising.Sought.{Sought}
@@ -26,11 +26,11 @@ use Rattle.rom_bucket.proofs.Added as added
 use Rattle.rom_bucket.proofs.Removed as removed
 
 -- keys that rise differ
-pub rising_differ : (n : ℕ) (w : List ℕ) (f : ℕ → List ℕ) → AreRising n w f → (i key : ℕ) → i < buckets n → times key (each_word n w 0 (f i)) ≤ 1
+pub rising_differ : (n : ℕ) (w : List ℕ) (f : ℕ → List ℕ) → KeysRise n w f → (i key : ℕ) → i < buckets n → times key (each_word n w 0 (f i)) ≤ 1
 rising_differ n w f rising i key lt = rising_once key (each_word n w 0 (f i)) (rising i lt)
 
 -- they rise where the keys stay
-pub rising_same : (n : ℕ) (w w' : List ℕ) (f : ℕ → List ℕ) → ((c : ℕ) → 0 < times c (nodes_of n f) → slice_index w' (block_of n c + 0) ≡ slice_index w (block_of n c + 0)) → AreRising n w f → AreRising n w' f
+pub rising_same : (n : ℕ) (w w' : List ℕ) (f : ℕ → List ℕ) → ((c : ℕ) → 0 < times c (nodes_of n f) → slice_index w' (block_of n c + 0) ≡ slice_index w (block_of n c + 0)) → KeysRise n w f → KeysRise n w' f
 rising_same n w w' f keys rising i lt = subst IsRising (sym (each_same n 0 w w' (f i) (λ c some. keys c (omega (arith, some, times_bucket f (buckets n) i c lt))))) (rising i lt)
 
 -- the first block has the key
@@ -55,7 +55,7 @@ below_in n w key (b ∷ front) all c some = elim (cases_eq b c) [
   | inr other ↦ below_in n w key front all.1 c (omega (arith, some, times_away c b front other))
 ]
 
-module _ {n size : ℕ} {w : List ℕ} {f : ℕ → List ℕ} {key : ℕ} {sought : Sought} (is : AreBuckets n size w f) (rising : AreRising n w f) (lt : bucket_of n key < buckets n) (at : IsSought n w (f (bucket_of n key)) key sought) where
+module _ {n size : ℕ} {w : List ℕ} {f : ℕ → List ℕ} {key : ℕ} {sought : Sought} (is : AreBuckets n size w f) (rising : KeysRise n w f) (lt : bucket_of n key < buckets n) (at : IsSought n w (f (bucket_of n key)) key sought) where
   abbrev own : ℕ
   own = bucket_of n key
 
@@ -121,12 +121,12 @@ module _ {n size : ℕ} {w : List ℕ} {f : ℕ → List ℕ} {key : ℕ} {sough
       passes b e less = grind (arith, nat_tests)
 
 -- they rise with a node more, at the place where the walk stopped
-module _ {n size : ℕ} {w w' : List ℕ} {f : ℕ → List ℕ} {node : Node} {block : ℕ} {sought : Sought} (may : added.MayAdd n size w f node.key block) (rising : AreRising n w f) (at : IsSought n w (f (bucket_of n node.key)) node.key sought) (missing : sought.found ≡ false)
+module _ {n size : ℕ} {w w' : List ℕ} {f : ℕ → List ℕ} {node : Node} {block : ℕ} {sought : Sought} (may : added.MayAdd n size w f node.key block) (rising : KeysRise n w f) (at : IsSought n w (f (bucket_of n node.key)) node.key sought) (missing : sought.found ≡ false)
     (linked : IsLinked size sought.place (block_of n block) node w w') where
   abbrev spot : Between n f node.key sought.place
   spot = between may.are rising may.within at
 
-  pub added_rising : AreRising n w' (added.next may spot linked)
+  pub added_rising : KeysRise n w' (added.next may spot linked)
   added_rising i less = elim (cases_eq i (bucket_of n node.key)) [
     | inl same ↦
         let own : IsRising (each_word n w 0 at.walked.front ++ node.key ∷ each_word n w 0 at.walked.back) = rising_between node.key (each_word n w 0 at.walked.front) (each_word n w 0 at.walked.back) at.walked.below (over may.are rising may.within at missing) (rise may.are rising may.within at) in
@@ -135,8 +135,8 @@ module _ {n size : ℕ} {w w' : List ℕ} {f : ℕ → List ℕ} {node : Node} {
   ]
 
 -- and with a node fewer
-module _ {n size : ℕ} {w w' : List ℕ} {f : ℕ → List ℕ} {key : ℕ} {place : Place} (le : 4 ≤ n) (root : size ≤ 16) (is : AreBuckets n size w f) (within : bucket_of n key < buckets n) (t : There n w f key place) (un : IsUnlinked size place w w') (rising : AreRising n w f) where
-  pub removed_rising : AreRising n w' (removed.next le root is within t un)
+module _ {n size : ℕ} {w w' : List ℕ} {f : ℕ → List ℕ} {key : ℕ} {place : Place} (le : 4 ≤ n) (root : size ≤ 16) (is : AreBuckets n size w f) (within : bucket_of n key < buckets n) (t : There n w f key place) (un : IsUnlinked size place w w') (rising : KeysRise n w f) where
+  pub removed_rising : KeysRise n w' (removed.next le root is within t un)
   removed_rising i less = elim (cases_eq i (bucket_of n key)) [
     | inl same ↦
         let word = slice_index w (block_of n t.block + 0) in

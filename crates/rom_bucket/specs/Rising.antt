@@ -10,8 +10,8 @@ use Rattle.rom_bucket.specs.Walk.{head_of, IsBucket}
 use Rattle.rom_bucket.specs.declared.rising.Sought.{Sought}
 
 -- the keys of each bucket rise along its chain
-abbrev pub AreRising : ℕ → List ℕ → (ℕ → List ℕ) → Type 0
-AreRising n words bucket = (i : ℕ) → i < buckets n → IsRising (each_word n words 0 (bucket i))
+abbrev pub KeysRise : ℕ → List ℕ → (ℕ → List ℕ) → Type 0
+KeysRise n words bucket = (i : ℕ) → i < buckets n → IsRising (each_word n words 0 (bucket i))
 
 -- each of the numbers is below the key
 abbrev pub AreBelow : ℕ → List ℕ → Type 0
