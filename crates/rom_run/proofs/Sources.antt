@@ -143,6 +143,7 @@ module _ {S C Q : Type 0} (Reads : List ℕ → Step C Q → Type 0) (source : S
         stands = slice_get-get_or (slice_set after i now) i now (omega (arith, lt, length-set after i now)) ∙ ap (λ y. let some : Option S = Some y in some) set_here;
         others_fit = r.within;
         others_read = subst (λ ys. AreAtEnd source ys) (sym (take-set after i now)) r.at_end;
+        others_left = behind_after;
       };
       cause = cause;
     }

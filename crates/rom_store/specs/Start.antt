@@ -23,7 +23,7 @@ module _ {D : Type 0} (shown : ShownDevice D) where
     syncs = shown.syncs device;
   }
 
-  -- A device that has failed so often, and whose counts of calls are those of that start: it was not called since.
+  -- A device that has failed so often, and whose counts of calls are those of that start.
   pub record HasStarted (faults : ℕ) (start : Start) (device : D) : Type 0 where
     pub faults_are : shown.faults device ≡ faults
     pub reads : shown.reads device ≡ start.reads

@@ -1,5 +1,5 @@
 -- What a run that reads scripts and prints a text promises of its streams, whatever it does with the lines.
-use Rattle.std.specs.Prelude.{◌≡◌, ◌⊎◌, ℕ, ◌+◌, List, [], ◌∷◌, ◌++◌, take, codes, decimal, slice_get, Some, IfSome}
+use Rattle.std.specs.Prelude.{◌≡◌, ◌⊎◌, ℕ, ◌+◌, List, [], ◌∷◌, ◌++◌, take, drop, codes, decimal, slice_get, Some, IfSome}
 use Rattle.std.specs.List.{AllByRecursion}
 use Rattle.std.specs.Io.KnownBytes.{Appends, IsAtEnd}
 use Rattle.rom_text.specs.Limits.{FailedEarly, FitsScript, IsTooLong}
@@ -22,12 +22,13 @@ module _ {S : Type 0} (source : ShownSource S) where
   AreAskedOnce before after = ⊥
 
   -- The script of this number, whose source was the one and is the other now, is the first that is refused:
-  -- the scripts before it were read to their ends, and hold no more than they may.
+  -- the scripts before it were read to their ends, and hold no more than they may; those behind it were not read.
   pub record IsFirstToFail (script : ℕ) (was now : S) (before after : List S) : Type 0 where
     pub stood : slice_get before script ≡ Some was
     pub stands : slice_get after script ≡ Some now
     pub others_fit : AreWithin (take script before)
     pub others_read : AreAtEnd (take script after)
+    pub others_left : drop (script + 1) after ≡ drop (script + 1) before
 
 module _ {O : Type 0} (sink : ShownSink O) where
   -- the text is written, and no write failed
