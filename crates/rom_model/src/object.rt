@@ -1,16 +1,18 @@
 //! What a heap keeps: an object in the words of a region.
-ghost use Rattle.std.specs.Prelude.{◌≡◌, ℕ, ◌+◌, ◌*◌, ◌<◌, ◌≤◌, List, length, Option, Some, IfSome, IfOk, OnOk, Err, slice_index, false};
+ghost use Rattle.std.specs.Prelude.{◌≡◌, ℕ, ◌+◌, ◌*◌, ◌<◌, ◌≤◌, List, length, Option, Some, Err, IfSome, IfOk, OnOk, IfErr, slice_index, false};
 ghost use Rattle.rom_model.specs.Space.{KeepsSpace, Looks, Stores, HasRoom};
 ghost use Rattle.rom_model.specs.VecSpace.{words_of};
 ghost use Rattle.rom_model.specs.Machine.{Machine};
 ghost use Rattle.rom_model.specs.History.{LAST_COUNT};
 ghost use Rattle.rom_model.specs.Blocks.{IsOrder, region_len};
-ghost use Rattle.rom_model.specs.declared.unfit.Break.{Break};
-ghost use Rattle.rom_model.specs.declared.unfit.Unfit.TheVariants.{Malformed};
+ghost use Rattle.rom_model.specs.Earlier.{Earlier};
+ghost use Rattle.rom_model.specs.Inspected.{IsReason};
+ghost use Rattle.rom_model.specs.declared.unfit.Unfit.{Unfit};
+ghost use Rattle.rom_model.specs.declared.unfit.Unfit.TheVariants.{Old};
 
 use crate::sizes::region_len;
 use crate::space::{Look, Space};
-use crate::unfit::{Break, Unfit};
+use crate::unfit::Unfit;
 use crate::vec_space::VecSpace;
 use crate::words::{Args, Back};
 use std::alloc::{AllocError, Global};
@@ -59,9 +61,12 @@ pub trait Object {
     /// The words of a region of that order are well-formed, and stand for that state and that count.
     ghost Contents: { ℕ → List ℕ → State → ℕ → Type 0 };
 
-    /// The first break of the words of a region of that order: that word breaks that rule, and each test
-    /// before holds.
-    ghost FirstBreak: { ℕ → List ℕ → Break → Type 0 };
+    /// Why the words of a region of that order are not accepted: they are one of an older version, or
+    /// that word breaks that rule and each test before holds. Want of memory is no reason of words.
+    ghost Rejects: { ℕ → List ℕ → Unfit → Type 0 };
+
+    /// The version that its regions had before this one, or `no_earlier`.
+    ghost earlier: { Earlier State };
 
     /// The weight of a call. It bounds the stores that the call makes.
     fn weight_of(call: &Self::Call) -> u64
@@ -117,19 +122,20 @@ pub trait Object {
         ensures looks { (s : State) (k : ℕ) → Contents order (M.shown.image space.old) s k
             → Looks M.shown (machine.cost order s query.now) space.old space.new };
 
-    /// Whether the words are a well-formed region. Else it tells the first break: the first test that
-    /// does not hold, by the word's offset from the region's start and the rule that it breaks.
-    /// `OutOfMemory` says that there was no memory, and then nothing is known of the words.
+    /// Whether the words are a well-formed region. Else it tells why not: `Old` exactly of a region of
+    /// an older version, and of any other the first test that does not hold, by the word's offset from
+    /// the region's start and the rule that it breaks. `OutOfMemory` says that there was no memory,
+    /// and then nothing is known of the words.
     fn inspect(alloc: Global, region: &[u64], order: u32) -> Result<(), Unfit>
         requires order { IsOrder order }
         requires sized { length region.now ≡ region_len order }
         ensures fit { OnOk result ((s : State) × (k : ℕ) × Contents order region.now s k) }
-        ensures first { (e : Break) → result ≡ Err (Malformed e.offset e.rule) →
-            FirstBreak order region.now e }
-        ensures refused { (e : Break) → FirstBreak order region.now e → (s : State) (k : ℕ) →
+        ensures reason { IfErr result (IsReason (Rejects order region.now)) }
+        ensures old { Rejects order region.now Old → result ≡ Err Old }
+        ensures refused { (e : Unfit) → Rejects order region.now e → (s : State) (k : ℕ) →
             Contents order region.now s k → ⊥ }
-        ensures one { (e d : Break) → FirstBreak order region.now e →
-            FirstBreak order region.now d → e ≡ d };
+        ensures one { (e d : Unfit) → Rejects order region.now e → Rejects order region.now d →
+            e ≡ d };
 
     /// Words that are read as a call are the words of that call.
     ghost call_only: { (words : List ℕ) (call : Self.Call) → machine.words_call words ≡ Some call →

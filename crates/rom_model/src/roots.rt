@@ -4,7 +4,7 @@
 /// The kind of object, which is 1.
 pub const KIND: u64 = 0;
 
-/// The version of the region's words, which is 1.
+/// The version of the region's words, which is 2. It was 1 before keys of the map had stamps.
 pub const VERSION: u64 = 1;
 
 /// How many updates were counted.
