@@ -1,6 +1,6 @@
 -- The keys of the blocks in the chains, and what they have there.
 use Rattle.std.proofs.Common.{◌≡◌, inl, inr, ℕ, zero, suc, ◌+◌, ◌-◌, ◌^◌, ◌<◌, ◌≤◌, Bool, true, false, cond, List, [], ◌∷◌, ◌++◌, length, refl, sym, ◌∙◌, ap, subst, arith, append-nil}
-use Rattle.std.specs.Prelude.{slice_index, ◌==◌, None, Some, is_some}
+use Rattle.std.specs.Prelude.{slice_index, ◌==◌, None, Some, is_some, filter}
 use Rattle.std.specs.Ordering.{nat_cmp}
 use Rattle.std.specs.Cmp.{nat_cmp_total}
 use Rattle.std.specs.List.{sum_by}
@@ -147,19 +147,21 @@ module _ {n size : ℕ} {w : List ℕ} {f : ℕ → List ℕ} (is : AreBuckets n
       | inr gone ↦ omega (arith, gone)
     ]
 
+    -- blocks of one bucket that stand together and pass a test are no more than the keys that do
+    pub passing_few : (p : ℕ → Bool) (i : ℕ) → i < buckets n → (front mid back : List ℕ) → f i ≡ front ++ (mid ++ back) → ((b : ℕ) → 0 < times b mid → p (slice_index w (block_of n b + 0)) ≡ true) → length mid ≤ length (filter p (finite.keys (keyed n w value f)))
+    passing_few p i lt front mid back are passes =
+        let one : ℕ × V → ℕ = λ e. cond (p e.0) 1 0 in
+        let c = cut f i (buckets n) front back lt in
+        let whole : nodes_of n f ≡ c.ahead ++ (mid ++ c.behind) = c.are f (λ j ne. refl) mid are in
+        let all = all_counted n w value p mid passes in
+        let first = ap (λ bs. sum_by one (entries_of n w value bs)) whole ∙ ap (sum_by one) (entries_append n w value c.ahead (mid ++ c.behind)) ∙ sum_by-append one (entries_of n w value c.ahead) (entries_of n w value (mid ++ c.behind)) in
+        let second = ap (sum_by one) (entries_append n w value mid c.behind) ∙ sum_by-append one (entries_of n w value mid) (entries_of n w value c.behind) in
+        let total = count_keys p (entries_of n w value (nodes_of n f)) once in
+        omega (arith, all, first, second, total)
+
     -- the keys of a bucket
     pub beside : (key : ℕ) → bucket_of n key < buckets n → length (f (bucket_of n key)) ≤ keys_beside n (keyed n w value f) key
-    beside key lt =
-        let i = bucket_of n key in
-        let test : ℕ → Bool = λ x. bucket_of n x == i in
-        let one : ℕ × V → ℕ = λ e. cond (test e.0) 1 0 in
-        let c = cut f i (buckets n) [] [] lt in
-        let whole : nodes_of n f ≡ c.ahead ++ (f i ++ c.behind) = c.are f (λ j ne. refl) (f i) (sym (append-nil (f i))) in
-        let all = all_counted n w value test (f i) (λ b some. passes b (is.own_bucket i b lt some)) in
-        let first = ap (λ bs. sum_by one (entries_of n w value bs)) whole ∙ ap (sum_by one) (entries_append n w value c.ahead (f i ++ c.behind)) ∙ sum_by-append one (entries_of n w value c.ahead) (entries_of n w value (f i ++ c.behind)) in
-        let second = ap (sum_by one) (entries_append n w value (f i) c.behind) ∙ sum_by-append one (entries_of n w value (f i)) (entries_of n w value c.behind) in
-        let total = count_keys test (entries_of n w value (nodes_of n f)) once in
-        omega (arith, all, first, second, total)
+    beside key lt = passing_few (λ x. bucket_of n x == bucket_of n key) (bucket_of n key) lt [] (f (bucket_of n key)) [] (sym (append-nil (f (bucket_of n key)))) (λ b some. passes b (is.own_bucket (bucket_of n key) b lt some))
       where
         passes : (b : ℕ) → bucket_of n (slice_index w (block_of n b + 0)) ≡ bucket_of n key → (bucket_of n (slice_index w (block_of n b + 0)) == bucket_of n key) ≡ true
         passes b e = grind (arith, nat_tests)

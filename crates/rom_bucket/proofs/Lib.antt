@@ -1,7 +1,6 @@
 -- Lemmas on finite maps, and on keys in the chains of buckets.
 pub mod Heads
 pub mod Walking
-pub mod Numbers
 pub mod Seeking
 pub mod Sparing
 pub mod Linking
@@ -13,3 +12,4 @@ pub mod Places
 pub mod Added
 pub mod Removed
 pub mod Ordered
+pub mod Found

@@ -6,8 +6,9 @@ use Rattle.rom_model.specs.Chains.{Chain, each_word}
 use Rattle.rom_model.specs.Region.{bucket_of}
 use Rattle.rom_model.proofs.Links.{link_push, chain_back, chain_first, each_append}
 use Rattle.rom_bucket.specs.Walk.{head_of, IsBucket}
-use Rattle.rom_bucket.specs.Rising.{AreBelow, StartsAbove, starts_with, WalkedBelow, IsSought, last_load}
-use Rattle.rom_bucket.proofs.Numbers.{below_push}
+use Rattle.rom_model.specs.Rising.{AreBelow, StartsAbove, starts_with}
+use Rattle.rom_bucket.specs.Rising.{WalkedBelow, IsSought, last_load}
+use Rattle.rom_model.proofs.Rising.{below_push}
 use Rattle.rom_bucket.proofs.Walking.{First, first_node, no_node, Along}
 
 pub at_head : {n : ℕ} {w bs : List ℕ} (key link node : ℕ) → IsBucket n w (bucket_of n key) bs → link ≡ head_of n (bucket_of n key) → node ≡ slice_index w link → WalkedBelow n w bs key link node

@@ -1,9 +1,8 @@
 -- Chains of buckets whose keys rise, and the place of a key in them.
-use Rattle.std.specs.Prelude.{◌≡◌, ℕ, ◌+◌, ◌*◌, ◌<◌, ◌≤◌, Bool, false, ◌==◌, ◌&&◌, nat_lt, List, [], ◌∷◌, ◌++◌, filter, length}
-use Rattle.std.specs.Ordering.{nat_cmp}
-use Rattle.std.specs.FinMap as finite
+use Rattle.std.specs.Prelude.{◌≡◌, ℕ, ◌+◌, ◌*◌, ◌<◌, List, [], ◌∷◌, ◌++◌, length}
 use Rattle.rom_model.specs.Space.{ShownSpace, Looks}
-use Rattle.rom_model.specs.Chains.{each_word, IsRising}
+use Rattle.rom_model.specs.Chains.{each_word}
+use Rattle.rom_model.specs.Rising.{IsRising, AreBelow, StartsAbove, starts_with}
 use Rattle.rom_model.specs.Links.{link_after, first_of}
 use Rattle.rom_model.specs.Region.{buckets, bucket_of}
 use Rattle.rom_bucket.specs.Walk.{head_of, IsBucket}
@@ -12,21 +11,6 @@ use Rattle.rom_bucket.specs.declared.rising.Sought.{Sought}
 -- the keys of each bucket rise along its chain
 abbrev pub KeysRise : ℕ → List ℕ → (ℕ → List ℕ) → Type 0
 KeysRise n words bucket = (i : ℕ) → i < buckets n → IsRising (each_word n words 0 (bucket i))
-
--- each of the numbers is below the key
-abbrev pub AreBelow : ℕ → List ℕ → Type 0
-AreBelow key [] = Unit {0}
-AreBelow key (x ∷ xs) = (x < key) × AreBelow key xs
-
--- the first of the numbers, where there is one, is not below the key
-abbrev pub StartsAbove : ℕ → List ℕ → Type 0
-StartsAbove key [] = Unit {0}
-StartsAbove key (x ∷ xs) = key ≤ x
-
--- whether the first is the key
-abbrev pub starts_with : ℕ → List ℕ → Bool
-starts_with key [] = false
-starts_with key (x ∷ xs) = x == key
 
 -- a way along the chain of these blocks, whose keys are below the key as far as it went, to that link and that node
 pub record WalkedBelow (n : ℕ) (words blocks : List ℕ) (key link node : ℕ) : Type 0 where
@@ -52,7 +36,3 @@ last_load (b ∷ blocks) = 1
 pub record Seeks {M : Type 0} (shown : ShownSpace M) (n key : ℕ) (sought : Sought) (old new : M) : Type 0 where
   pub is : (blocks : List ℕ) → IsBucket n (shown.image old) (bucket_of n key) blocks
       → (at : IsSought n (shown.image old) blocks key sought) × Looks shown (1 + 2 * length at.walked.front + last_load at.walked.back) old new
-
--- of the keys in the bucket of this one those that are below it
-abbrev pub keys_under : {V : Type 0} → ℕ → finite.FinMap nat_cmp V → ℕ → ℕ
-keys_under n kept key = length (filter (λ k. (bucket_of n k == bucket_of n key) && nat_lt k key) (finite.keys kept))

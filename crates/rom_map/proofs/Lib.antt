@@ -1,4 +1,4 @@
--- Lemmas on the map's blocks, on keys in buckets' chains with their values.
+-- Lemmas on the map's blocks, on keys in buckets' chains with their values and stamps.
 pub mod Keyed
 pub mod Finding
 pub mod Regions

@@ -3,7 +3,7 @@ use Rattle.std.proofs.Common.{◌≡◌, inl, inr, ℕ, ◌+◌, ◌-◌, ◌*�
 use Rattle.std.specs.Ordering.{nat_cmp}
 use Rattle.std.specs.FinMap as finite
 use Rattle.rom_model.specs.Space.{ChangesOnly}
-use Rattle.rom_model.specs.State.{State}
+use Rattle.rom_model.specs.State.{State, Stamped}
 use Rattle.rom_model.specs.Blocks.{AreWords, block_of}
 use Rattle.rom_model.specs.Chains.{times}
 use Rattle.rom_model.specs.Region.{Chains, IsMap, IsVersion, IsRegion, ChangesPart}
@@ -18,7 +18,7 @@ with_buckets p g = record p { bucket = g }
 
 -- where no words changed but the tree's
 module _ {n : ℕ} {w : List ℕ} {p : Chains} (w' : List ℕ) (only : ChangesOnly 17 (2 * 2 ^ n - 1) w w') where
-  pub map_stays : {pairs : finite.FinMap nat_cmp ℕ} → IsMap n w p pairs → IsMap n w' p pairs
+  pub map_stays : {pairs : finite.FinMap nat_cmp Stamped} → IsMap n w p pairs → IsMap n w' p pairs
   map_stays {pairs} map = map_frame n 0 0 [] w w' (tree_part n 0 0 w w' only) p (λ c some. refl) pairs (inr (omega arith)) (λ i lt. only.behind (block_of n 0 + i) (omega (arith, pow_positive n))) map
 
   pub version_stays : {k : ℕ} → IsVersion n w p k → IsVersion n w' p k
@@ -26,7 +26,7 @@ module _ {n : ℕ} {w : List ℕ} {p : Chains} (w' : List ℕ) (only : ChangesOn
 
 module _ {n : ℕ} {w : List ℕ} {p : Chains} {s : State} {k : ℕ} (is : IsRegion n w p s k) where
   -- where no words changed but the map's and the tree's
-  pub remapped : {taken : ℕ → Bool} (w' touched : List ℕ) (high : ℕ) → high ≤ 10 → (g : ℕ → List ℕ) (pairs : finite.FinMap nat_cmp ℕ) → ChangesPart n 9 high touched w w' → ((c : ℕ) → 0 < times c p.queue + times c p.set → times c touched ≡ 0)
+  pub remapped : {taken : ℕ → Bool} (w' touched : List ℕ) (high : ℕ) → high ≤ 10 → (g : ℕ → List ℕ) (pairs : finite.FinMap nat_cmp Stamped) → ChangesPart n 9 high touched w w' → ((c : ℕ) → 0 < times c p.queue + times c p.set → times c touched ≡ 0)
       → AreElements n taken (with_buckets p g) → AreWords n taken w' → IsMap n w' (with_buckets p g) pairs → IsVersion n w' (with_buckets p g) k → IsRegion n w' (with_buckets p g) (with_pairs s pairs) k
   remapped w' touched high most g pairs part away are tree map version = record {
     shape = record {

@@ -2,7 +2,7 @@
 use Rattle.std.proofs.Common.{◌≡◌, ⊎_elim, ℕ, ◌+◌, ◌<◌, ◌≤◌, List, [], ◌∷◌, ◌++◌, ◌∙◌, ap, arith}
 use Rattle.std.specs.FinMap as finite
 use Rattle.rom_model.specs.State.{State}
-use Rattle.rom_model.specs.Chains.{times, each_pair}
+use Rattle.rom_model.specs.Chains.{times, stamped_at, each_pair}
 use Rattle.rom_model.specs.Region.{Chains, buckets, bucket_of, map_blocks, IsMap, IsVersion, IsRegion, ChangesPart}
 use Rattle.rom_model.proofs.Times.{times_here, times_more, times-append}
 use Rattle.rom_model.proofs.Nodes.{pow_positive}
@@ -13,9 +13,10 @@ use Rattle.rom_bucket.specs.Link.{IsUnlinked}
 use Rattle.rom_bucket.specs.Buckets.{There}
 use Rattle.rom_bucket.specs.declared.walk.Place.{Place}
 use Rattle.rom_bucket.proofs.Keys.{in_all}
+use Rattle.rom_bucket.proofs.Ordered.{removed_rising}
 use Rattle.rom_bucket.proofs.Removed.{one_node_fewer, node_stays, stood_all, removed_buckets, removed_keyed, removed_low}
 use Rattle.rom_map.specs.Map.{with_bucket, table_block}
-use Rattle.rom_map.proofs.Keyed.{value_at, map_keys, map_pairs, map_of}
+use Rattle.rom_map.proofs.Keyed.{map_keys, map_pairs, map_of}
 
 module _ {n : ℕ} {w w' : List ℕ} {p : Chains} {s : State} {k key : ℕ} {place : Place} (le : 4 ≤ n) (is : IsRegion n w p s k) (within : bucket_of n key < buckets n) (t : There n w p.bucket key place) (un : IsUnlinked 9 place w w') where
   abbrev own : ℕ
@@ -36,23 +37,26 @@ module _ {n : ℕ} {w w' : List ℕ} {p : Chains} {s : State} {k key : ℕ} {pla
   stood : (c : ℕ) → 0 < times c (map_blocks n next) → 0 < times c (map_blocks n p)
   stood c some = stood_all le root (map_keys is) within t un c some
 
-  -- the bucket's other blocks keep their keys and values
+  -- the bucket's other blocks keep all words but the links
   pub pairs_stay : each_pair n w' (t.front ++ t.back) ≡ each_pair n w (t.front ++ t.back)
-  pairs_stay = pairs_same n w w' (t.front ++ t.back) (λ c j lt some.
+  pairs_stay = pairs_same n w w' (t.front ++ t.back) (λ c j link lt some.
       let among : 0 < times c (map_blocks n p) = in_all (map_keys is) own within c (omega (arith, some, times-append c t.front t.back, in_own c, times_more c t.block t.back)) in
-      node_stays le root (map_keys is) within t un c j among (omega (arith, lt)) (omega (arith, lt)))
+      node_stays le root (map_keys is) within t un c j among lt link)
+
+  still_has : (c : ℕ) → 0 < times c (map_blocks n next) → stamped_at n w' c ≡ stamped_at n w c
+  still_has c some =
+      let one = node_stays le root (map_keys is) within t un c 1 (stood c some) (omega arith) (omega arith) in
+      let three = node_stays le root (map_keys is) within t un c 3 (stood c some) (omega arith) (omega arith) in
+      λ i. record { value = one i; stamp = three i }
 
   pub removed_map : IsMap n w' next (finite.remove s.pairs key)
-  removed_map = map_of (removed_buckets le root (map_keys is) within t un) (
-      removed_keyed le root (map_keys is) within t un (value_at n w) (value_at n w') (λ c some. node_stays le root (map_keys is) within t un c 1 (stood c some) (omega arith) (omega arith))
-      ∙ ap (λ pairs. finite.remove pairs key) (map_pairs is)
-      )
+  removed_map = map_of (removed_buckets le root (map_keys is) within t un) (removed_keyed le root (map_keys is) within t un (stamped_at n w) (stamped_at n w') still_has ∙ ap (λ pairs. finite.remove pairs key) (map_pairs is))
 
   pub removed_version : IsVersion n w' next k
   removed_version = record {
     version = removed_low le root (map_keys is) within t un 1 (omega arith) (omega arith) ∙ is.version.version;
-    keys_differ = (removed_buckets le root (map_keys is) within t un).keys_differ;
-    fourth = λ c some. node_stays le root (map_keys is) within t un c 3 (stood c some) (omega arith) (omega arith) ∙ is.version.fourth c (stood c some);
+    rising = removed_rising le root (map_keys is) within t un is.version.rising;
+    stamps = λ c some. omega (arith, node_stays le root (map_keys is) within t un c 3 (stood c some) (omega arith) (omega arith), is.version.stamps c (stood c some));
   }
 
   pub removed_part : ChangesPart n 9 10 (table_block own ∷ p.bucket own) w w'

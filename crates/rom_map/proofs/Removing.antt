@@ -74,7 +74,7 @@ module _ {n : ℕ} {w : List ℕ} {p : Chains} {s : State} {k key : ℕ} {place 
           back = t.back;
           blocks = t.blocks;
           kept = λ j lt. only.behind (block_of n t.block + j) (omega (arith, pow_positive n)) ∙ gone.block_stays le (omega arith) (map_keys is) within t un j lt;
-          stay = pairs_same n w1 w2 (t.front ++ t.back) (λ c j lt some. only.behind (block_of n c + j) (omega (arith, pow_positive n))) ∙ pairs_stay le is within t un;
+          stay = pairs_same n w1 w2 (t.front ++ t.back) (λ c j link lt some. only.behind (block_of n c + j) (omega (arith, pow_positive n))) ∙ pairs_stay le is within t un;
           becomes = record {
             region = remapped is w2 touched 10 (omega arith) next.bucket (finite.remove s.pairs key) part away elements (given taken (2 ^ n + t.block) (region_disjoint le is) words node at held).1
                 (map_stays w2 only (removed_map le is within t un)) (version_stays w2 only (removed_version le is within t un));

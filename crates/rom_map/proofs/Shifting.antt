@@ -1,10 +1,8 @@
--- The region in which two keys have other values.
-use Rattle.std.proofs.Common.{◌≡◌, ◌≢◌, inl, inr, ℕ, ◌+◌, ◌<◌, ◌≤◌, List, ◌∷◌, length, refl, sym, ◌∙◌, ap, arith}
-use Rattle.std.specs.Prelude.{slice_index, slice_set, unwrap_or, Some}
-use Rattle.std.specs.FinMap as finite
-use Rattle.std.proofs.lemmas.Bool.{cases_lt}
-use Rattle.rom_model.specs.Space.{ChangesOnly}
-use Rattle.rom_model.specs.State.{State}
+-- The region in which two keys have other values and other stamps.
+use Rattle.std.proofs.Common.{◌≡◌, ◌≢◌, ◌⊎◌, inl, inr, ℕ, ◌+◌, ◌<◌, ◌≤◌, List, ◌∷◌, length, refl, sym, ◌∙◌, ap, arith}
+use Rattle.std.specs.Prelude.{slice_index}
+use Rattle.std.proofs.lemmas.Bool.{cases_eq, cases_lt}
+use Rattle.rom_model.specs.State.{State, written}
 use Rattle.rom_model.specs.Blocks.{block_of}
 use Rattle.rom_model.specs.Chains.{times}
 use Rattle.rom_model.specs.Links.{link_after}
@@ -13,15 +11,11 @@ use Rattle.rom_model.proofs.Times.{times_here, times-append}
 use Rattle.rom_bucket.specs.Walk.{head_of}
 use Rattle.rom_bucket.specs.Buckets.{There}
 use Rattle.rom_bucket.specs.declared.walk.Place.{Place}
-use Rattle.rom_bucket.proofs.Keys.{in_all, get_here}
-use Rattle.rom_map.specs.Map.{with_pairs}
+use Rattle.rom_bucket.proofs.Keys.{in_all}
+use Rattle.rom_map.specs.Map.{with_entry, with_pairs}
 use Rattle.rom_map.specs.Shift.{IsShifted, HasNode}
-use Rattle.rom_map.proofs.Keyed.{value_at, map_keys, map_pairs}
-use Rattle.rom_map.proofs.Replaced.{only, replaced}
-
--- a word that is not the one that differs
-pub outside : {w w' : List ℕ} (at j : ℕ) → ChangesOnly at 1 w w' → j ≢ at → slice_index w' j ≡ slice_index w j
-outside at j only ne = elim (cases_lt j at) [ inl less ↦ only.before j less | inr ge ↦ only.behind j (omega (arith, ge, ne)) ]
+use Rattle.rom_map.proofs.Keyed.{map_keys}
+use Rattle.rom_map.proofs.Replaced.{as_long, stays, replaced}
 
 -- a node as the place of its key
 module _ {n : ℕ} {w : List ℕ} {p : Chains} {s : State} {k key node : ℕ} (is : IsRegion n w p s k) (lt : bucket_of n key < buckets n) (has : HasNode n w p key node) where
@@ -47,55 +41,52 @@ module _ {n : ℕ} {w : List ℕ} {p : Chains} {s : State} {k key node : ℕ} (i
   pub inside : node + 4 ≤ length w
   inside = omega (arith, has.begins, there.within, is.shape.as_long)
 
-  pub value_here : (value : ℕ) → finite.get s.pairs key ≡ Some value → slice_index w (node + 1) ≡ value
-  value_here value has_it =
-      ap (λ b. slice_index w (b + 1)) has.begins
-      ∙ ap (λ o. unwrap_or o 0) (sym (get_here (map_keys is) key lt has.at.front has.at.block has.at.back has.at.blocks has.at.holds (value_at n w)) ∙ ap (λ pairs. finite.get pairs key) (map_pairs is) ∙ has_it)
-
-  -- where only the value of another node differs, it is the node still
-  abbrev pub stays : {w' : List ℕ} (at : ℕ) → ChangesOnly at 1 w w' → block_of n has.at.block + 0 ≢ at → HasNode n w' p key node
-  stays at only ne = record {
+  -- where its key's word stays, it is the node still
+  abbrev pub still_node : {w' : List ℕ} → slice_index w' (block_of n has.at.block + 0) ≡ slice_index w (block_of n has.at.block + 0) → HasNode n w' p key node
+  still_node same = record {
     at = record {
       front = has.at.front;
       block = has.at.block;
       back = has.at.back;
       blocks = has.at.blocks;
-      holds = outside at (block_of n has.at.block + 0) only ne ∙ has.at.holds;
+      holds = same ∙ has.at.holds;
     };
     begins = has.begins;
   }
 
 module _ {n : ℕ} {w : List ℕ} {p : Chains} {s : State} {k from to source target : ℕ} (least : 4 ≤ n) (is : IsRegion n w p s k) (differ : from ≢ to)
     (one_lt : bucket_of n from < buckets n) (two_lt : bucket_of n to < buckets n) (one : HasNode n w p from source) (two : HasNode n w p to target) where
-  pub apart : source ≢ target
-  apart e =
-      let same : one.at.block ≡ two.at.block = omega (arith, e, one.begins, two.begins) in
-      differ (sym one.at.holds ∙ ap (λ b. slice_index w (block_of n b + 0)) same ∙ two.at.holds)
+  -- they are nodes of different keys, and so of different blocks
+  pub apart : (source + 4 ≤ target) ⊎ (target + 4 ≤ source)
+  apart = elim (cases_eq one.at.block two.at.block) [
+    | inl same ↦ absurd (differ (sym one.at.holds ∙ ap (λ b. slice_index w (block_of n b + 0)) same ∙ two.at.holds))
+    | inr ne ↦ elim (cases_lt one.at.block two.at.block) [
+      | inl less ↦ inl (omega (arith, less, one.begins, two.begins))
+      | inr ge ↦ inr (omega (arith, ge, ne, one.begins, two.begins))
+    ]
+  ]
 
-  module _ (less more : ℕ) where
+  module _ (less more stamp : ℕ) (most : stamp ≤ k) where
     abbrev first : List ℕ
-    first = slice_set w (source + 1) less
+    first = with_entry w source less stamp
 
-    first_only : ChangesOnly (block_of n one.at.block + 1) 1 w first
-    first_only = only least is from less one_lt (place is one_lt one) (there is one_lt one) refl
+    first_stays : (j : ℕ) → j ≢ block_of n one.at.block + 1 → j ≢ block_of n one.at.block + 3 → slice_index first j ≡ slice_index w j
+    first_stays = stays least is from less stamp most one_lt (place is one_lt one) (there is one_lt one) refl
 
-    first_region : IsRegion n first p (with_pairs s (finite.insert s.pairs from less)) k
-    first_region = (replaced least is from less one_lt (place is one_lt one) (there is one_lt one) refl).region
+    first_region : IsRegion n first p (with_pairs s (written s.pairs stamp from less)) k
+    first_region = (replaced least is from less stamp most one_lt (place is one_lt one) (there is one_lt one) refl).region
 
     abbrev still : HasNode n first p to target
-    still = stays is two_lt two (block_of n one.at.block + 1) first_only (λ e. absurd (omega (arith, e)))
+    still = still_node is two_lt two (first_stays (block_of n two.at.block + 0) (omega arith) (omega arith))
 
-    module _ {w' : List ℕ} (now : w' ≡ slice_set first (target + 1) more) where
-      second_only : ChangesOnly (block_of n two.at.block + 1) 1 first w'
-      second_only = only least first_region to more two_lt (place first_region two_lt still) (there first_region two_lt still) now
-
-      pub shifted_region : IsRegion n w' p (with_pairs s (finite.insert (finite.insert s.pairs from less) to more)) k
-      shifted_region = (replaced least first_region to more two_lt (place first_region two_lt still) (there first_region two_lt still) now).region
+    module _ {w' : List ℕ} (now : w' ≡ with_entry first target more stamp) where
+      pub shifted_region : IsRegion n w' p (with_pairs s (written (written s.pairs stamp from less) stamp to more)) k
+      shifted_region = (replaced least first_region to more stamp most two_lt (place first_region two_lt still) (there first_region two_lt still) now).region
 
       pub shifted : IsShifted n w p from to w'
       shifted = record {
         source = one.at;
         target = two.at;
-        as_long = second_only.as_long ∙ first_only.as_long;
-        others = λ j not_one not_two. outside _ j second_only not_two ∙ outside _ j first_only not_one;
+        as_long = as_long least first_region to more stamp most two_lt (place first_region two_lt still) (there first_region two_lt still) now ∙ as_long least is from less stamp most one_lt (place is one_lt one) (there is one_lt one) refl;
+        others = λ j a b c d. stays least first_region to more stamp most two_lt (place first_region two_lt still) (there first_region two_lt still) now j c d ∙ first_stays j a b;
       }

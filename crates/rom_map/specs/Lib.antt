@@ -1,3 +1,4 @@
 -- The definitions that the contracts of this crate cite.
 pub mod Map
 pub mod Shift
+pub mod Sums

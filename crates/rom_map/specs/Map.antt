@@ -1,17 +1,27 @@
 -- What the calls on the map leave of a well-formed region.
-use Rattle.std.specs.Prelude.{◌≡◌, ℕ, ◌+◌, ◌*◌, ◌/◌, ◌^◌, ◌<◌, ◌==◌, if◌then◌else◌, Some, None, List, [], ◌∷◌, ◌++◌, slice_index}
+use Rattle.std.specs.Prelude.{◌≡◌, ◌≢◌, ℕ, ◌+◌, ◌*◌, ◌/◌, ◌^◌, ◌<◌, ◌==◌, if◌then◌else◌, Some, None, List, ◌∷◌, ◌++◌, length, slice_index, slice_set}
 use Rattle.std.specs.Ordering.{nat_cmp}
 use Rattle.std.specs.FinMap as map
-use Rattle.rom_model.specs.Space.{ShownSpace, Costs, Looks, ChangesOnly}
-use Rattle.rom_model.specs.State.{State, live, cap}
+use Rattle.rom_model.specs.Space.{ShownSpace, Costs, Looks}
+use Rattle.rom_model.specs.State.{State, Stamped, value_of, written, live, cap}
+use Rattle.rom_model.specs.Walks.{keys_under, end_loads}
 use Rattle.rom_model.specs.Blocks.{IsLowest, block_of}
-use Rattle.rom_model.specs.Chains.{times, each_pair}
+use Rattle.rom_model.specs.Chains.{times, each_word, stamped_at, each_pair}
+use Rattle.rom_model.specs.Rising.{AreBelow, StartsAbove}
 use Rattle.rom_model.specs.Region.{Chains, bucket_of, element_blocks, taken_by, IsRegion, Contents, PartBecomes}
 use Rattle.rom_map.specs.declared.map.Put.{Put}
 use Rattle.rom_map.specs.declared.map.Put.TheVariants.{New, Was, Full}
 
+-- how many loads it takes at most to find the value of a key, or that it has none
+abbrev pub get_loads : ℕ → map.FinMap nat_cmp Stamped → ℕ → ℕ
+get_loads n pairs key = 1 + 2 * keys_under n pairs key + end_loads n pairs key
+
+-- the words in which the node that begins there has this value and this stamp
+abbrev pub with_entry : List ℕ → ℕ → ℕ → ℕ → List ℕ
+with_entry words node value stamp = slice_set (slice_set words (node + 1) value) (node + 3) stamp
+
 -- the state with these pairs in its map
-abbrev pub with_pairs : State → map.FinMap nat_cmp ℕ → State
+abbrev pub with_pairs : State → map.FinMap nat_cmp Stamped → State
 with_pairs s pairs = record s { pairs = pairs }
 
 -- the chains with these blocks as that bucket's
@@ -31,54 +41,54 @@ pub record KeyBlock (n : ℕ) (words : List ℕ) (p : Chains) (key : ℕ) : Type
   pub holds : slice_index words (block_of n block + 0) ≡ key
 
 -- What a put tells, and the words that it leaves. There is one answer that fits.
-abbrev pub IsPut : ℕ → State → ℕ → ℕ → ℕ → Put → List ℕ → Type 0
-IsPut n s count key value New new = (map.get s.pairs key ≡ None) × (live s < cap n) × Contents n new (with_pairs s (map.insert s.pairs key value)) count
-IsPut n s count key value (Was before) new = (map.get s.pairs key ≡ Some before) × Contents n new (with_pairs s (map.insert s.pairs key value)) count
-IsPut n s count key value Full new = (map.get s.pairs key ≡ None) × (live s ≡ cap n)
+abbrev pub IsPut : ℕ → State → ℕ → ℕ → ℕ → ℕ → Put → List ℕ → Type 0
+IsPut n s count key value stamp New new = (value_of s key ≡ None) × (live s < cap n) × Contents n new (with_pairs s (written s.pairs stamp key value)) count
+IsPut n s count key value stamp (Was before) new = (value_of s key ≡ Some before) × Contents n new (with_pairs s (written s.pairs stamp key value)) count
+IsPut n s count key value stamp Full new = (value_of s key ≡ None) × (live s ≡ cap n)
 
--- The key stands in the first block that was free, which goes to the front of its bucket's chain, and
--- each other element keeps its block. No word differs but the map's size, the bucket's word in the
--- table with those beside it, the tree's, and those of the block.
-pub record IsAdded (n : ℕ) (old : List ℕ) (p : Chains) (s : State) (count key value : ℕ) (new : List ℕ) : Type 0 where
+-- The key stands with its value and its stamp in the first block that was free, between the keys of its
+-- bucket that are below it and those above. Each other element keeps its block, and those of the bucket
+-- all words but the links. No word differs but the map's size, the bucket's word in the table with those
+-- beside it, the tree's, those of the block, and those of the bucket's blocks before it.
+pub record IsAdded (n : ℕ) (old : List ℕ) (p : Chains) (s : State) (count key value stamp : ℕ) (new : List ℕ) : Type 0 where
   pub front : List ℕ
   pub block : ℕ
   pub back : List ℕ
   pub blocks : p.bucket (bucket_of n key) ≡ front ++ back
-  pub first : front ≡ []
+  pub below : AreBelow key (each_word n old 0 front)
+  pub above : StartsAbove (key + 1) (each_word n old 0 back)
   pub lowest : IsLowest n (taken_by n (element_blocks n p)) 0 (2 ^ n + block)
-  pub becomes : PartBecomes n 9 10 (table_block (bucket_of n key) ∷ block ∷ []) old new (with_bucket p (bucket_of n key) (front ++ block ∷ back))
-      (with_pairs s (map.insert s.pairs key value)) count
+  pub holds : slice_index new (block_of n block + 0) ≡ key
+  pub has : stamped_at n new block ≡ record { value = value; stamp = stamp }
+  pub stay : each_pair n new (front ++ back) ≡ each_pair n old (front ++ back)
+  pub becomes : PartBecomes n 9 10 (table_block (bucket_of n key) ∷ block ∷ front) old new (with_bucket p (bucket_of n key) (front ++ block ∷ back))
+      (with_pairs s (written s.pairs stamp key value)) count
 
--- The key's block has the value as its second word, and no other word differs.
-pub record IsReplaced (n : ℕ) (old : List ℕ) (p : Chains) (s : State) (count key value : ℕ) (new : List ℕ) : Type 0 where
+-- The key's block has the value as its word 1 and the stamp as its word 3, and no other word differs.
+pub record IsReplaced (n : ℕ) (old : List ℕ) (p : Chains) (s : State) (count key value stamp : ℕ) (new : List ℕ) : Type 0 where
   pub block : ℕ
   pub among : 0 < times block (p.bucket (bucket_of n key))
   pub holds : slice_index old (block_of n block + 0) ≡ key
-  pub region : IsRegion n new p (with_pairs s (map.insert s.pairs key value)) count
-  pub others : ChangesOnly (block_of n block + 1) 1 old new
+  pub has : stamped_at n new block ≡ record { value = value; stamp = stamp }
+  pub region : IsRegion n new p (with_pairs s (written s.pairs stamp key value)) count
+  pub as_long : length new ≡ length old
+  pub others : (k : ℕ) → k ≢ block_of n block + 1 → k ≢ block_of n block + 3 → slice_index new k ≡ slice_index old k
 
 -- what a put leaves, where it stores
-abbrev pub PutLeaves : ℕ → List ℕ → Chains → State → ℕ → ℕ → ℕ → Put → List ℕ → Type 0
-PutLeaves n old p s count key value New new = IsAdded n old p s count key value new
-PutLeaves n old p s count key value (Was before) new = IsReplaced n old p s count key value new
-PutLeaves n old p s count key value Full new = Unit {0}
+abbrev pub PutLeaves : ℕ → List ℕ → Chains → State → ℕ → ℕ → ℕ → ℕ → Put → List ℕ → Type 0
+PutLeaves n old p s count key value stamp New new = IsAdded n old p s count key value stamp new
+PutLeaves n old p s count key value stamp (Was before) new = IsReplaced n old p s count key value stamp new
+PutLeaves n old p s count key value stamp Full new = Unit {0}
 
--- What a put costs by its answer, where so many keys have the key's bucket. Nothing is stored where
--- the key had the value already, or there is no room.
-abbrev pub PutCosts : {M : Type 0} → ShownSpace M → ℕ → ℕ → ℕ → Put → M → M → Type 0
-PutCosts shown n beside value New old new = Costs shown (3 * n + 8 + 2 * beside) (n + 7) old new
-PutCosts shown n beside value (Was before) old new = Costs shown (1 + 2 * beside) 1 old new × (before ≡ value → Looks shown (1 + 2 * beside) old new)
-PutCosts shown n beside value Full old new = Looks shown (n + 2 + 2 * beside) old new
-
--- What a put costs where the key had a value, by how many blocks stand before the key's.
-abbrev pub AgainCosts : {M : Type 0} → ShownSpace M → ℕ → ℕ → Put → M → M → Type 0
-AgainCosts shown before value New old new = Unit {0}
-AgainCosts shown before value (Was had) old new = Costs shown (3 + 2 * before) 1 old new × (had ≡ value → Looks shown (3 + 2 * before) old new)
-AgainCosts shown before value Full old new = Unit {0}
+-- What a put costs by its answer, where it takes so many loads to find the key's value.
+abbrev pub PutCosts : {M : Type 0} → ShownSpace M → ℕ → ℕ → Put → M → M → Type 0
+PutCosts shown n loads New old new = Costs shown (3 * n + 6 + loads) (n + 7) old new
+PutCosts shown n loads (Was before) old new = Costs shown (1 + loads) 2 old new
+PutCosts shown n loads Full old new = Looks shown (n + 1 + loads) old new
 
 -- The key's block is no longer in its bucket's chain, but its words stay; and each other element keeps
--- its block, also those of the bucket. No word differs but the map's size, the bucket's word in the
--- table with those beside it, the tree's, and those of the bucket's blocks before.
+-- its block, and those of the bucket all words but the links. No word differs but the map's size, the
+-- bucket's word in the table with those beside it, the tree's, and those of the bucket's blocks before.
 pub record IsDeleted (n : ℕ) (old : List ℕ) (p : Chains) (s : State) (count key : ℕ) (new : List ℕ) : Type 0 where
   pub block : ℕ
   pub holds : slice_index old (block_of n block + 0) ≡ key

@@ -1,16 +1,15 @@
 //! The calls on a key of the map.
-ghost use Rattle.std.specs.Prelude.{◌≡◌, ℕ, ◌+◌, ◌*◌, IfSome, IfNone, length};
+ghost use Rattle.std.specs.Prelude.{◌≡◌, ℕ, ◌+◌, ◌*◌, ◌≤◌, IfSome, IfNone, slice_index};
 ghost use Rattle.std.specs.FinMap as map;
 ghost use Rattle.rom_model.specs.Space.{Costs, Looks, HasRoom, IsSparing};
-ghost use Rattle.rom_model.specs.State.{State};
-ghost use Rattle.rom_model.specs.Walks.{keys_beside};
+ghost use Rattle.rom_model.specs.State.{State, value_of};
 ghost use Rattle.rom_model.specs.Blocks.{IsOrder};
 ghost use Rattle.rom_model.specs.Region.{Chains, IsRegion, IsWellFormed, Contents};
-ghost use Rattle.rom_map.specs.Map.{with_pairs, KeyBlock, IsPut, PutLeaves, PutCosts, AgainCosts, IsDeleted};
+ghost use Rattle.rom_map.specs.Map.{get_loads, with_pairs, IsPut, PutLeaves, PutCosts, IsDeleted};
 
-use crate::entry::{find_entry, replace_value};
+use crate::entry::{find_entry, replace_entry};
 use rom_block::Blocks;
-use rom_bucket::{Node, find, link_first, unlink_node};
+use rom_bucket::{Node, find_rising, link_at, unlink_node};
 use rom_model::{Look, MAP_LEN, Space};
 
 /// What a put tells.
@@ -24,32 +23,29 @@ pub enum Put {
     Full,
 }
 
-/// Gives a key a value.
-pub fn map_put<M: Space>(space: &mut M, order: u32, key: u64, value: u64) -> Put
+/// Gives a key a value and a stamp, which is no more than the region's count.
+pub fn map_put<M: Space>(space: &mut M, order: u32, key: u64, value: u64, stamp: u64) -> Put
     requires order { IsOrder order }
     requires region { IsWellFormed order (M.shown.image space.old) }
+    requires stamp { stamp ≤ slice_index (M.shown.image space.old) 2 }
     requires room { HasRoom M.shown 31 space.old }
     ensures contents { (s : State) (k : ℕ) → Contents order (M.shown.image space.old) s k
-        → IsPut order s k key value result (M.shown.image space.new) }
+        → IsPut order s k key value stamp result (M.shown.image space.new) }
     ensures others { (p : Chains) (s : State) (k : ℕ) →
         IsRegion order (M.shown.image space.old) p s k
-        → PutLeaves order (M.shown.image space.old) p s k key value result
+        → PutLeaves order (M.shown.image space.old) p s k key value stamp result
         (M.shown.image space.new) }
     ensures region { IsWellFormed order (M.shown.image space.new) }
     ensures each { (s : State) (k : ℕ) → Contents order (M.shown.image space.old) s k
-        → PutCosts M.shown order (keys_beside order s.pairs key) value result space.old space.new }
+        → PutCosts M.shown order (get_loads order s.pairs key) result space.old space.new }
     ensures costs { (s : State) (k : ℕ) → Contents order (M.shown.image space.old) s k
-        → Costs M.shown (3 * order + 8 + 2 * keys_beside order s.pairs key) (order + 7)
+        → Costs M.shown (3 * order + 6 + get_loads order s.pairs key) (order + 7)
         space.old space.new }
-    ensures sooner { (p : Chains) (s : State) (k : ℕ) →
-        IsRegion order (M.shown.image space.old) p s k
-        → (at : KeyBlock order (M.shown.image space.old) p key)
-        → AgainCosts M.shown (length at.front) value result space.old space.new }
     ensures sparing { IsSparing M.shown space.old space.new }
 {
-    let place = find(space, order, key);
-    if place.node != 0 {
-        return Put::Was(replace_value(space, place.node, value));
+    let sought = find_rising(space, order, key);
+    if sought.found {
+        return Put::Was(replace_entry(space, sought.place.node, value, stamp));
     }
     let Some(node) = Blocks::take(space, order, 0) else {
         return Put::Full;
@@ -57,9 +53,9 @@ pub fn map_put<M: Space>(space: &mut M, order: u32, key: u64, value: u64) -> Put
     let added = Node {
         key,
         second: value,
-        last: 0,
+        last: stamp,
     };
-    link_first(space, order, MAP_LEN, node, added);
+    link_at(space, MAP_LEN, sought.place, node, added);
     Put::New
 }
 
@@ -70,7 +66,7 @@ pub fn map_del<M: Space>(space: &mut M, order: u32, key: u64) -> Option<u64>
     requires region { IsWellFormed order (M.shown.image space.old) }
     requires room { HasRoom M.shown 31 space.old }
     ensures was { (s : State) (k : ℕ) → Contents order (M.shown.image space.old) s k
-        → result ≡ map.get s.pairs key }
+        → result ≡ value_of s key }
     ensures contents { (s : State) (k : ℕ) → Contents order (M.shown.image space.old) s k
         → Contents order (M.shown.image space.new) (with_pairs s (map.remove s.pairs key)) k }
     ensures others { (p : Chains) (s : State) (k : ℕ) →
@@ -79,21 +75,17 @@ pub fn map_del<M: Space>(space: &mut M, order: u32, key: u64) -> Option<u64>
         (M.shown.image space.new)) }
     ensures region { IsWellFormed order (M.shown.image space.new) }
     ensures none { (s : State) (k : ℕ) → Contents order (M.shown.image space.old) s k
-        → IfNone result (Looks M.shown (1 + 2 * keys_beside order s.pairs key)
-        space.old space.new) }
+        → IfNone result (Looks M.shown (get_loads order s.pairs key) space.old space.new) }
     ensures costs { (s : State) (k : ℕ) → Contents order (M.shown.image space.old) s k
-        → Costs M.shown (2 * order + 3 + 2 * keys_beside order s.pairs key) (order + 3)
+        → Costs M.shown (2 * order + 2 + get_loads order s.pairs key) (order + 3)
         space.old space.new }
-    ensures sooner { (p : Chains) (s : State) (k : ℕ) →
-        IsRegion order (M.shown.image space.old) p s k
-        → (at : KeyBlock order (M.shown.image space.old) p key)
-        → Costs M.shown (2 * order + 5 + 2 * length at.front) (order + 3) space.old space.new }
     ensures sparing { IsSparing M.shown space.old space.new }
 {
-    let place = find(space, order, key);
-    if place.node == 0 {
+    let sought = find_rising(space, order, key);
+    if !sought.found {
         return None;
     }
+    let place = sought.place;
     let was = space.load(place.node + 1);
     unlink_node(space, MAP_LEN, place);
     Blocks::give(space, order, place.node, 0);
@@ -105,13 +97,9 @@ pub fn map_get<M: Look>(space: &mut M, order: u32, key: u64) -> Option<u64>
     requires order { IsOrder order }
     requires region { IsWellFormed order (M.shown.image space.old) }
     ensures is { (s : State) (k : ℕ) → Contents order (M.shown.image space.old) s k
-        → result ≡ map.get s.pairs key }
+        → result ≡ value_of s key }
     ensures looks { (s : State) (k : ℕ) → Contents order (M.shown.image space.old) s k
-        → Looks M.shown (1 + 2 * keys_beside order s.pairs key) space.old space.new }
-    ensures sooner { (p : Chains) (s : State) (k : ℕ) →
-        IsRegion order (M.shown.image space.old) p s k
-        → (at : KeyBlock order (M.shown.image space.old) p key)
-        → Looks M.shown (3 + 2 * length at.front) space.old space.new }
+        → Looks M.shown (get_loads order s.pairs key) space.old space.new }
 {
     find_entry(space, order, key).map(|entry| entry.value)
 }

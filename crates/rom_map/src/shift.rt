@@ -1,14 +1,13 @@
 //! Moving an amount from one key's value to another's.
-ghost use Rattle.std.specs.Prelude.{◌≡◌, ◌≢◌, ℕ, ◌+◌, ◌*◌, ◌^◌, ◌<◌, ◌≤◌, length, slice_index, slice_set};
+ghost use Rattle.std.specs.Prelude.{◌≡◌, ◌⊎◌, ℕ, ◌+◌, ◌^◌, ◌<◌, ◌≤◌, length, slice_index};
 ghost use Rattle.rom_model.specs.Space.{Costs, Looks, HasRoom, IsSparing};
 ghost use Rattle.rom_model.specs.State.{State};
-ghost use Rattle.rom_model.specs.Walks.{keys_beside};
 ghost use Rattle.rom_model.specs.Blocks.{IsOrder};
 ghost use Rattle.rom_model.specs.Region.{Chains, IsRegion, IsWellFormed, Contents};
-ghost use Rattle.rom_map.specs.Map.{KeyBlock};
+ghost use Rattle.rom_map.specs.Map.{get_loads, with_entry};
 ghost use Rattle.rom_map.specs.Shift.{IsMoved, MoveLeaves, KeepsUnlessMoved, IsPlan};
 
-use crate::entry::{Entry, find_entry, replace_value};
+use crate::entry::{Entry, find_entry, replace_entry};
 use rom_model::{Look, Space};
 
 /// What a move tells.
@@ -40,19 +39,10 @@ fn plan_move<M: Look>(space: &mut M, order: u32, from: u64, to: u64, amount: u64
     ensures is { (p : Chains) (s : State) (k : ℕ) → IsRegion order (M.shown.image space.old) p s k
         → IsPlan order (M.shown.image space.old) p s from to amount result }
     ensures looks { (s : State) (k : ℕ) → Contents order (M.shown.image space.old) s k
-        → Looks M.shown (2 + 2 * keys_beside order s.pairs from + 2 * keys_beside order s.pairs to)
+        → Looks M.shown (get_loads order s.pairs from + get_loads order s.pairs to)
         space.old space.new }
     ensures alone { from ≡ to → (s : State) (k : ℕ) → Contents order (M.shown.image space.old) s k
-        → Looks M.shown (1 + 2 * keys_beside order s.pairs from) space.old space.new }
-    ensures sooner { (p : Chains) (s : State) (k : ℕ) →
-        IsRegion order (M.shown.image space.old) p s k
-        → (a : KeyBlock order (M.shown.image space.old) p from)
-        → (b : KeyBlock order (M.shown.image space.old) p to)
-        → Looks M.shown (6 + 2 * length a.front + 2 * length b.front) space.old space.new }
-    ensures alone_sooner { from ≡ to
-        → (p : Chains) (s : State) (k : ℕ) → IsRegion order (M.shown.image space.old) p s k
-        → (at : KeyBlock order (M.shown.image space.old) p from)
-        → Looks M.shown (3 + 2 * length at.front) space.old space.new }
+        → Looks M.shown (get_loads order s.pairs from) space.old space.new }
 {
     let Some(source) = find_entry(space, order, from) else {
         return Plan::Stays(Moved::Absent);
@@ -84,63 +74,59 @@ fn plan_move<M: Look>(space: &mut M, order: u32, from: u64, to: u64, amount: u64
     )
 }
 
-/// Gives two nodes their values. One that stays is not stored.
-fn replace_both<M: Space>(space: &mut M, source: Entry, target: Entry)
+/// Gives two nodes their values and one stamp. Of these words one that stays is not stored.
+fn replace_both<M: Space>(space: &mut M, source: Entry, target: Entry, stamp: u64)
     requires source { source.node + 4 ≤ length (M.shown.image space.old) }
     requires target { target.node + 4 ≤ length (M.shown.image space.old) }
     requires small { length (M.shown.image space.old) < 2 ^ 63 }
-    requires room { HasRoom M.shown 2 space.old }
-    ensures image { M.shown.image space.new ≡ slice_set
-        (slice_set (M.shown.image space.old) (source.node + 1) source.value)
-        (target.node + 1) target.value }
-    ensures costs { Costs M.shown 2 2 space.old space.new }
-    ensures kept { slice_index (M.shown.image space.old) (source.node + 1) ≡ source.value
-        → slice_index (M.shown.image space.old) (target.node + 1) ≡ target.value
-        → Looks M.shown 2 space.old space.new }
-    ensures sparing { source.node ≢ target.node → IsSparing M.shown space.old space.new }
+    requires room { HasRoom M.shown 4 space.old }
+    ensures image { M.shown.image space.new ≡ with_entry
+        (with_entry (M.shown.image space.old) source.node source.value stamp)
+        target.node target.value stamp }
+    ensures costs { Costs M.shown 4 4 space.old space.new }
+    ensures sparing { (source.node + 4 ≤ target.node) ⊎ (target.node + 4 ≤ source.node)
+        → IsSparing M.shown space.old space.new }
 {
-    replace_value(space, source.node, source.value);
-    replace_value(space, target.node, target.value);
+    replace_entry(space, source.node, source.value, stamp);
+    replace_entry(space, target.node, target.value, stamp);
 }
 
 /// Moves an amount from one key's value to another's. It looks for each key once, and stores nothing
-/// unless the move is done; a value that stays is not stored either.
-pub fn map_move<M: Space>(space: &mut M, order: u32, from: u64, to: u64, amount: u64) -> Moved
+/// unless the move is done between two keys. Then both get the stamp, which is no more than the
+/// region's count; of their words one that stays is not stored either.
+pub fn map_move<M: Space>(
+    space: &mut M,
+    order: u32,
+    from: u64,
+    to: u64,
+    amount: u64,
+    stamp: u64,
+) -> Moved
     requires order { IsOrder order }
     requires region { IsWellFormed order (M.shown.image space.old) }
-    requires room { HasRoom M.shown 2 space.old }
+    requires stamp { stamp ≤ slice_index (M.shown.image space.old) 2 }
+    requires room { HasRoom M.shown 4 space.old }
     ensures contents { (s : State) (k : ℕ) → Contents order (M.shown.image space.old) s k
-        → IsMoved order s k from to amount result (M.shown.image space.new) }
+        → IsMoved order s k from to amount stamp result (M.shown.image space.new) }
     ensures region { IsWellFormed order (M.shown.image space.new) }
     ensures others { (p : Chains) (s : State) (k : ℕ) →
         IsRegion order (M.shown.image space.old) p s k
-        → MoveLeaves order (M.shown.image space.old) p s k from to amount result
+        → MoveLeaves order (M.shown.image space.old) p s k from to amount stamp result
         (M.shown.image space.new) }
     ensures costs { (s : State) (k : ℕ) → Contents order (M.shown.image space.old) s k
-        → Costs M.shown (4 + 2 * keys_beside order s.pairs from
-        + 2 * keys_beside order s.pairs to) 2
+        → Costs M.shown (4 + get_loads order s.pairs from + get_loads order s.pairs to) 4
         space.old space.new }
     ensures alone { from ≡ to → (s : State) (k : ℕ) → Contents order (M.shown.image space.old) s k
-        → Looks M.shown (1 + 2 * keys_beside order s.pairs from) space.old space.new }
-    ensures sooner { (p : Chains) (s : State) (k : ℕ) →
-        IsRegion order (M.shown.image space.old) p s k
-        → (a : KeyBlock order (M.shown.image space.old) p from)
-        → (b : KeyBlock order (M.shown.image space.old) p to)
-        → Costs M.shown (8 + 2 * length a.front + 2 * length b.front) 2 space.old space.new }
-    ensures alone_sooner { from ≡ to
-        → (p : Chains) (s : State) (k : ℕ) → IsRegion order (M.shown.image space.old) p s k
-        → (at : KeyBlock order (M.shown.image space.old) p from)
-        → Looks M.shown (3 + 2 * length at.front) space.old space.new }
+        → Looks M.shown (get_loads order s.pairs from) space.old space.new }
     ensures kept { (s : State) (k : ℕ) → Contents order (M.shown.image space.old) s k
-        → KeepsUnlessMoved M.shown (4 + 2 * keys_beside order s.pairs from
-        + 2 * keys_beside order s.pairs to)
-        amount result space.old space.new }
+        → KeepsUnlessMoved M.shown (get_loads order s.pairs from + get_loads order s.pairs to)
+        result space.old space.new }
     ensures sparing { IsSparing M.shown space.old space.new }
 {
     match plan_move(space, order, from, to, amount) {
         Plan::Stays(told) => told,
         Plan::Changes(source, target) => {
-            replace_both(space, source, target);
+            replace_both(space, source, target, stamp);
             Moved::Done
         }
     }

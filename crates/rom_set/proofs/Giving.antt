@@ -16,7 +16,8 @@ use Rattle.rom_model.proofs.Room.{times_members, tree_stays, region_disjoint}
 use Rattle.rom_block.specs.Taken.{IsTakenAt}
 use Rattle.rom_set.specs.Set.{with_blocks, with_members, IsRemoved}
 use Rattle.rom_model.specs.Links.{first_of}
-use Rattle.rom_set.specs.Walk.{starts_with, IsPlace}
+use Rattle.rom_model.specs.Rising.{starts_with}
+use Rattle.rom_set.specs.Walk.{IsPlace}
 use Rattle.rom_set.specs.Link.{MayUnlink, IsUnlinked}
 use Rattle.rom_set.specs.declared.walk.Place.{Place}
 use Rattle.rom_set.proofs.Places.{region_set}

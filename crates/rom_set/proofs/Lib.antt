@@ -1,4 +1,4 @@
--- Lemmas on rising numbers, and on the set's blocks.
+-- Lemmas on the sets of rising numbers, and on the set's blocks.
 pub mod Rising
 pub mod Passed
 pub mod Walking

@@ -6,7 +6,8 @@ use Rattle.std.proofs.lemmas.Bool.{cases_eq, cases_lt}
 use Rattle.std.proofs.lemmas.Grind.{get_or-set_at}
 use Rattle.rom_model.specs.Space.{ChangesOnly}
 use Rattle.rom_model.specs.Blocks.{block_of}
-use Rattle.rom_model.specs.Chains.{IsIn, times, Chain, each_word, HoldZero, IsRising}
+use Rattle.rom_model.specs.Chains.{IsIn, times, Chain, each_word, HoldZero}
+use Rattle.rom_model.specs.Rising.{IsRising}
 use Rattle.rom_model.specs.Region.{IsSet}
 use Rattle.rom_model.proofs.Times.{times_here, times_away, times-append}
 use Rattle.rom_model.proofs.Frames.{each_same}
@@ -14,7 +15,8 @@ use Rattle.rom_model.specs.Links.{link_after, first_of}
 use Rattle.rom_set.specs.Link.{MayLink, IsLinked}
 use Rattle.rom_set.specs.declared.walk.Place.{Place}
 use Rattle.rom_model.proofs.Links.{chain_back, chain_first, chain_moved, chain_relinked, each_append}
-use Rattle.rom_set.proofs.Rising.{above_next, rising_between, from_list_between}
+use Rattle.rom_model.proofs.Rising.{above_next, rising_between}
+use Rattle.rom_set.proofs.Rising.{from_list_between}
 use Rattle.rom_set.proofs.Links.{first_other, link_within, not_link, not_link_of, beside, set_part, set_tree}
 use Rattle.rom_set.proofs.Places.{place_rising, place_members}
 

@@ -7,9 +7,8 @@ use Rattle.std.specs.Cmp.{unsigned_tied, nat_cmp_total}
 use Rattle.std.specs.FinSet as set
 use Rattle.std.proofs.lemmas.Bool.{cases_eq, cases_lt}
 use Rattle.std.proofs.lemmas.Bool.Decides.{nat_tests}
-use Rattle.rom_model.specs.Chains.{IsRising}
+use Rattle.rom_model.specs.Rising.{IsRising, AreBelow}
 use Rattle.rom_model.specs.Walks.{keys_below}
-use Rattle.rom_set.specs.Walk.{AreBelow}
 
 -- how many of the list are below the key
 below : ℕ → List ℕ → ℕ

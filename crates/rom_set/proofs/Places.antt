@@ -3,7 +3,8 @@ use Rattle.std.proofs.Common.{◌≡◌, ℕ, ◌^◌, List, ◌++◌, sym, ◌�
 use Rattle.std.specs.Ordering.{nat_cmp}
 use Rattle.std.specs.FinSet as set
 use Rattle.rom_model.specs.State.{State}
-use Rattle.rom_model.specs.Chains.{each_word, IsRising}
+use Rattle.rom_model.specs.Chains.{each_word}
+use Rattle.rom_model.specs.Rising.{IsRising}
 use Rattle.rom_model.specs.Region.{Chains, IsSet, IsRegion}
 use Rattle.rom_model.proofs.Counting.{at_most}
 use Rattle.rom_model.proofs.Room.{times_members}

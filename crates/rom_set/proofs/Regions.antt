@@ -44,7 +44,7 @@ module _ {n : ℕ} {w : List ℕ} {p : Chains} {s : State} {k : ℕ} (le : 4 ≤
               within = are.within;
               tree = are.tree w' tree;
             };
-            version = record { version = version.version; keys_differ = version.keys_differ; fourth = version.fourth };
+            version = record { version = version.version; rising = version.rising; stamps = version.stamps };
           };
           others = part;
         }

@@ -1,5 +1,5 @@
--- Rising lists of numbers, and the sets of them.
-use Rattle.std.proofs.Common.{◌≡◌, inl, inr, ℕ, ◌+◌, ◌<◌, Bool, true, false, List, [], ◌∷◌, ◌++◌, length, refl, sym, ◌∙◌, ap, arith}
+-- The sets of rising lists of numbers.
+use Rattle.std.proofs.Common.{◌≡◌, inl, inr, ℕ, ◌+◌, Bool, true, false, List, [], ◌∷◌, ◌++◌, length, refl, sym, ◌∙◌, ap, arith}
 use Rattle.std.specs.Prelude.{◌==◌, ◌||◌, ◌&&◌, not}
 use Rattle.std.specs.Ordering.{nat_cmp, eq_by_cmp}
 use Rattle.std.specs.Cmp.{unsigned_tied, nat_cmp_total}
@@ -8,49 +8,11 @@ use Rattle.std.specs.FinSet as set
 use Rattle.std.proofs.lemmas.Bool.{cases_eq}
 use Rattle.std.proofs.lemmas.Bool.Decides.{nat_tests}
 use Rattle.std.proofs.lemmas.List.{length-map}
-use Rattle.rom_model.specs.Chains.{each_word, IsRising}
+use Rattle.rom_model.specs.Chains.{each_word}
+use Rattle.rom_model.specs.Rising.{IsRising, AreBelow, StartsAbove, starts_with}
 use Rattle.rom_model.specs.Region.{IsSet}
 use Rattle.rom_model.proofs.Contents.{len-rising}
-use Rattle.rom_set.specs.Walk.{AreBelow, StartsAbove, starts_with}
-
-rising_tail : (x : ℕ) (xs : List ℕ) → IsRising (x ∷ xs) → IsRising xs
-rising_tail x [] rising = tt
-rising_tail x (y ∷ ys) rising = rising.1
-
-pub rising_back : (xs ys : List ℕ) → IsRising (xs ++ ys) → IsRising ys
-rising_back [] ys rising = rising
-rising_back (x ∷ xs) ys rising = rising_back xs ys (rising_tail x (xs ++ ys) rising)
-
--- what follows in a rising list is greater
-rising_before : (x k : ℕ) (xs ys : List ℕ) → IsRising (x ∷ (xs ++ k ∷ ys)) → x < k
-rising_before x k [] ys rising = rising.0
-rising_before x k (z ∷ xs) ys rising = omega (arith, rising.0, rising_before z k xs ys rising.1)
-
-pub below_before : (k : ℕ) (xs ys : List ℕ) → IsRising (xs ++ k ∷ ys) → AreBelow k xs
-below_before k [] ys rising = tt
-below_before k (x ∷ xs) ys rising = (rising_before x k xs ys rising, below_before k xs ys (rising_tail x (xs ++ k ∷ ys) rising))
-
-pub above_behind : (k : ℕ) (ys : List ℕ) → IsRising (k ∷ ys) → StartsAbove (k + 1) ys
-above_behind k [] rising = tt
-above_behind k (y ∷ ys) rising = omega (arith, rising.0)
-
-pub above_next : (k : ℕ) (ys : List ℕ) → StartsAbove k ys → starts_with k ys ≡ false → StartsAbove (k + 1) ys
-above_next k [] above other = tt
-above_next k (y ∷ ys) above other = grind (arith, nat_tests)
-
--- one number more
-pub rising_between : (k : ℕ) (xs ys : List ℕ) → AreBelow k xs → StartsAbove (k + 1) ys → IsRising (xs ++ ys) → IsRising (xs ++ k ∷ ys)
-rising_between k [] [] below above rising = tt
-rising_between k [] (y ∷ ys) below above rising = (omega (arith, above), rising)
-rising_between k (x ∷ []) ys below above rising = (below.0, rising_between k [] ys tt above (rising_tail x ys rising))
-rising_between k (x ∷ z ∷ xs) ys below above rising = (rising.0, rising_between k (z ∷ xs) ys below.1 above rising.1)
-
--- one fewer
-pub rising_without : (k : ℕ) (xs ys : List ℕ) → IsRising (xs ++ k ∷ ys) → IsRising (xs ++ ys)
-rising_without k [] ys rising = rising_tail k ys rising
-rising_without k (x ∷ []) [] rising = tt
-rising_without k (x ∷ []) (y ∷ ys) rising = (omega (arith, rising.0, rising.1.0), rising.1.1)
-rising_without k (x ∷ z ∷ xs) ys rising = (rising.0, rising_without k (z ∷ xs) ys rising.1)
+use Rattle.rom_model.proofs.Rising.{rising_tail}
 
 swap : (a b : ℕ) → (a == b) ≡ (b == a)
 swap a b = grind (arith, nat_tests)

@@ -11,7 +11,8 @@ use Rattle.rom_model.proofs.Frames.{tree_part, set_frame, each_same}
 use Rattle.rom_model.proofs.Room.{times_members, new_block}
 use Rattle.rom_block.specs.Taken.{Takes}
 use Rattle.rom_set.specs.Set.{IsAdded}
-use Rattle.rom_set.specs.Walk.{AreBelow, StartsAbove, starts_with, IsPlace}
+use Rattle.rom_model.specs.Rising.{AreBelow, StartsAbove, starts_with}
+use Rattle.rom_set.specs.Walk.{IsPlace}
 use Rattle.rom_set.specs.Link.{MayLink, IsLinked}
 use Rattle.rom_set.specs.declared.walk.Place.{Place}
 use Rattle.rom_set.proofs.Places.{set_nodes}

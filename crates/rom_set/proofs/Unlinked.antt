@@ -4,7 +4,8 @@ use Rattle.std.specs.Prelude.{slice_index, slice_set}
 use Rattle.std.specs.FinSet as set
 use Rattle.std.proofs.lemmas.Grind.{get_or-set_at}
 use Rattle.rom_model.specs.Blocks.{block_of}
-use Rattle.rom_model.specs.Chains.{IsIn, times, Chain, each_word, HoldZero, IsRising}
+use Rattle.rom_model.specs.Chains.{IsIn, times, Chain, each_word, HoldZero}
+use Rattle.rom_model.specs.Rising.{IsRising}
 use Rattle.rom_model.specs.Region.{IsSet}
 use Rattle.rom_model.proofs.Times.{times_here, times_more, times-append}
 use Rattle.rom_model.proofs.Frames.{each_same}
@@ -12,7 +13,8 @@ use Rattle.rom_model.specs.Links.{link_after, first_of}
 use Rattle.rom_set.specs.Link.{MayUnlink, IsUnlinked}
 use Rattle.rom_set.specs.declared.walk.Place.{Place}
 use Rattle.rom_model.proofs.Links.{chain_back, chain_first, chain_moved, chain_relinked, each_append}
-use Rattle.rom_set.proofs.Rising.{rising_back, below_before, above_behind, rising_without, from_list_without}
+use Rattle.rom_model.proofs.Rising.{rising_back, below_before, above_behind, rising_without}
+use Rattle.rom_set.proofs.Rising.{from_list_without}
 use Rattle.rom_set.proofs.Links.{first_other, link_within, not_link, not_link_of, beside, set_part, set_tree}
 
 -- what the stores of an unlinking leave

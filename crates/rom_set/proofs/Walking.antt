@@ -6,14 +6,15 @@ use Rattle.std.specs.FinSet as set
 use Rattle.std.proofs.lemmas.Bool.Decides.{nat_tests}
 use Rattle.std.proofs.lemmas.List.{length-map}
 use Rattle.rom_model.specs.Blocks.{block_of}
-use Rattle.rom_model.specs.Chains.{times, Chain, each_word, IsRising}
+use Rattle.rom_model.specs.Chains.{times, Chain, each_word}
+use Rattle.rom_model.specs.Rising.{IsRising, AreBelow, StartsAbove, starts_with}
 use Rattle.rom_model.specs.Region.{IsSet}
 use Rattle.rom_model.specs.Walks.{keys_below}
 use Rattle.rom_model.proofs.Times.{times_here, times-append}
 use Rattle.rom_model.specs.Links.{first_of, AreNodes}
-use Rattle.rom_set.specs.Walk.{AreBelow, StartsAbove, starts_with, Walked, IsPlace}
+use Rattle.rom_set.specs.Walk.{Walked, IsPlace}
 use Rattle.rom_model.proofs.Links.{link_push, chain_back, chain_first, each_append}
-use Rattle.rom_set.proofs.Rising.{rising_back}
+use Rattle.rom_model.proofs.Rising.{below_push, rising_back}
 use Rattle.rom_set.proofs.Passed.{passed}
 
 -- the first block of a chain that is not empty
@@ -30,10 +31,6 @@ first_node n node (b ∷ bs) is some = record { block = b; behind = bs; are = re
 no_node : (n node : ℕ) (back : List ℕ) → node ≡ first_of n back → node ≡ 0 → back ≡ []
 no_node n node [] is none = refl
 no_node n node (b ∷ bs) is none = absurd (omega (arith, is, none))
-
-below_push : (key x : ℕ) (xs : List ℕ) → AreBelow key xs → x < key → AreBelow key (xs ++ x ∷ [])
-below_push key x [] all lt = (lt, tt)
-below_push key x (y ∷ ys) all lt = (all.0, below_push key x ys all.1 lt)
 
 positive : (m : ℕ) → 0 < m → (m == 0) ≡ false
 positive m some = grind (arith, nat_tests)

@@ -1,23 +1,9 @@
 -- The place of a number in the set's chain.
-use Rattle.std.specs.Prelude.{◌≡◌, ℕ, ◌<◌, ◌≤◌, Bool, false, ◌==◌, List, [], ◌∷◌, ◌++◌}
+use Rattle.std.specs.Prelude.{◌≡◌, ℕ, List, ◌++◌}
 use Rattle.rom_model.specs.Chains.{each_word}
+use Rattle.rom_model.specs.Rising.{AreBelow, StartsAbove, starts_with}
 use Rattle.rom_model.specs.Links.{link_after, first_of}
 use Rattle.rom_set.specs.declared.walk.Place.{Place}
-
--- each of the numbers is below the key
-abbrev pub AreBelow : ℕ → List ℕ → Type 0
-AreBelow key [] = Unit {0}
-AreBelow key (x ∷ xs) = (x < key) × AreBelow key xs
-
--- the first of the numbers, where there is one, is not below the key
-abbrev pub StartsAbove : ℕ → List ℕ → Type 0
-StartsAbove key [] = Unit {0}
-StartsAbove key (x ∷ xs) = key ≤ x
-
--- whether the first is the key
-abbrev pub starts_with : ℕ → List ℕ → Bool
-starts_with key [] = false
-starts_with key (x ∷ xs) = x == key
 
 -- A walk along the chain of these blocks came to that link word, which leads to that node or is 0: the
 -- keys that it passed are below the key.
