@@ -55,7 +55,7 @@ table_only n i = ap (λ b. (i == 16) || b) (sym (shut (nat_le (2 ^ n) i)))
 pub record Formatted (n : ℕ) (w : List ℕ) : Type 0 where
   pub sized : length w ≡ region_len n
   pub kind : slice_index w 0 ≡ 1
-  pub version : slice_index w 1 ≡ 1
+  pub version : slice_index w 1 ≡ 2
   pub table : slice_index w 8 ≡ block_of n 0
   pub zeros : (k : ℕ) → k ≤ 16 → k ≢ 0 → k ≢ 1 → k ≢ 8 → slice_index w k ≡ 0
   pub heads : (i : ℕ) → i < buckets n → slice_index w (block_of n 0 + i) ≡ 0
@@ -102,8 +102,8 @@ emptied n w is = (
     };
     version = record {
       version = is.version;
-      keys_differ = λ i key lt. omega arith;
-      fourth = λ b some. absurd (none b some);
+      rising = λ i lt. tt;
+      stamps = λ b some. absurd (none b some);
     };
   },
 )

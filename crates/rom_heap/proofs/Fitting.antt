@@ -8,7 +8,7 @@ use Rattle.std.specs.FinMap as finite
 use Rattle.std.proofs.lemmas.Bool.{cases_lt}
 use Rattle.std.proofs.lemmas.List.{take_more, take-append-drop}
 use Rattle.std.proofs.lemmas.Bool.Decides.{nat_tests}
-use Rattle.rom_model.specs.State.{State, cap, deq, del, one, state_after, replies_to, is_full, any_full}
+use Rattle.rom_model.specs.State.{State, Stamped, cap, value_of, written, deq, del, one, state_after, replies_to, is_full, any_full}
 use Rattle.rom_model.specs.declared.call.Single.{Single}
 use Rattle.rom_model.specs.declared.call.Single.TheVariants.{Enq, Deq, Add, Rem, Put, Del, Move}
 use Rattle.rom_model.specs.declared.call.SingleReply.{SingleReply}
@@ -20,7 +20,7 @@ use Rattle.rom_heap.specs.Fits.{is_there, given, next_room, IsRoom, LeavesRoom}
 use Rattle.rom_heap.specs.declared.fits.Room.{Room}
 use Rattle.rom_model.proofs.Nodes.{pow_small}
 use Rattle.rom_heap.proofs.Steps.{enq_room, enq_full, add_there, add_new, add_full, rem_there, rem_absent, put_was, put_new, put_full}
-use Rattle.rom_heap.proofs.Plan.{move_keeps}
+use Rattle.rom_heap.proofs.Plan.{has_value, move_keeps}
 
 -- no heap has room for more
 pub cap_small : (n : ℕ) → n ≤ 16 → cap n < 2 ^ 62
@@ -45,10 +45,10 @@ set_some m k there = elim (cases_lt 0 (set.len m)) [
   | inr le ↦ absurd (let no : true ≡ false = sym there ∙ (ap (λ x. set.contains x k) (set.empty_of_len m (omega (arith, le))) ∙ set.contains-empty nat_cmp k) in cc)
 ]
 
-map_some : (m : finite.FinMap nat_cmp ℕ) (k u : ℕ) → finite.get m k ≡ Some u → 0 < finite.len m
-map_some m k u there = elim (cases_lt 0 (finite.len m)) [
+map_some : (m : finite.FinMap nat_cmp Stamped) (k : ℕ) → is_some (finite.get m k) ≡ true → 0 < finite.len m
+map_some m k there = elim (cases_lt 0 (finite.len m)) [
   | inl lt ↦ lt
-  | inr le ↦ absurd (let no : Some u ≡ None = sym there ∙ (ap (λ x. finite.get x k) (finite.empty_of_len m (omega (arith, le))) ∙ finite.get-empty nat_cmp k) in cc)
+  | inr le ↦ absurd (let no : true ≡ false = sym there ∙ ap is_some (ap (λ x. finite.get x k) (finite.empty_of_len m (omega (arith, le))) ∙ finite.get-empty nat_cmp k) in cc)
 ]
 
 module _ (n : ℕ) (s : State) (j : ℕ) (room : Room) (r : IsRoom n s room) where
@@ -97,20 +97,27 @@ module _ (n : ℕ) (s : State) (j : ℕ) (room : Room) (r : IsRoom n s room) whe
   )
   rem_next k false is = by_done (one n s j (Rem k)) s reply.Absent (Some room) (rem_absent n s j k is) (refl, r)
 
-  len_put : (k v : ℕ) (o : Option ℕ) → finite.get s.pairs k ≡ o → finite.len (finite.insert s.pairs k v) ≡ cond (is_some o) (finite.len s.pairs) (finite.len s.pairs + 1)
-  len_put k v o is = finite.len-insert nat_cmp_total s.pairs k v ∙ ap (λ (p : Option ℕ). cond (is_some p) (finite.len s.pairs) (finite.len s.pairs + 1)) is
+  -- what a put writes
+  abbrev now : ℕ → Stamped
+  now v = record { value = v; stamp = j + 1 }
 
-  len_del : (k : ℕ) (o : Option ℕ) → finite.get s.pairs k ≡ o → finite.len (finite.remove s.pairs k) ≡ cond (is_some o) (finite.len s.pairs - 1) (finite.len s.pairs)
-  len_del k o is = finite.len-remove nat_cmp_total s.pairs k ∙ ap (λ (p : Option ℕ). cond (is_some p) (finite.len s.pairs - 1) (finite.len s.pairs)) is
+  there : (k : ℕ) (o : Option ℕ) → value_of s k ≡ o → is_some (finite.get s.pairs k) ≡ is_some o
+  there k o is = sym (has_value s k) ∙ ap is_some is
 
-  put_next : (k v : ℕ) (o : Option ℕ) → finite.get s.pairs k ≡ o → Outcome n (one n s j (Put k v)) (next_room (is_some o) (Put k v) room)
-  put_next k v (Some u) is = by_done (one n s j (Put k v)) (with_pairs s (finite.insert s.pairs k v)) (reply.Was u) (Some room) (put_was n s j k v u is) (refl, record { free = omega (arith, r.free, len_put k v (Some u) is); queue = r.queue })
+  len_put : (k : ℕ) (v : Stamped) (o : Option ℕ) → value_of s k ≡ o → finite.len (finite.insert s.pairs k v) ≡ cond (is_some o) (finite.len s.pairs) (finite.len s.pairs + 1)
+  len_put k v o is = finite.len-insert nat_cmp_total s.pairs k v ∙ ap (λ b. cond b (finite.len s.pairs) (finite.len s.pairs + 1)) (there k o is)
+
+  len_del : (k : ℕ) (o : Option ℕ) → value_of s k ≡ o → finite.len (finite.remove s.pairs k) ≡ cond (is_some o) (finite.len s.pairs - 1) (finite.len s.pairs)
+  len_del k o is = finite.len-remove nat_cmp_total s.pairs k ∙ ap (λ b. cond b (finite.len s.pairs - 1) (finite.len s.pairs)) (there k o is)
+
+  put_next : (k v : ℕ) (o : Option ℕ) → value_of s k ≡ o → Outcome n (one n s j (Put k v)) (next_room (is_some o) (Put k v) room)
+  put_next k v (Some u) is = by_done (one n s j (Put k v)) (with_pairs s (written s.pairs (j + 1) k v)) (reply.Was u) (Some room) (put_was n s j (j + 1) k v u refl is) (refl, record { free = omega (arith, r.free, len_put k (now v) (Some u) is); queue = r.queue })
   put_next k v None is = at_zero (Outcome n (one n s j (Put k v))) room.free None (Some (record { free = room.free - 1; queue = room.queue }))
       (λ zero. refused (one n s j (Put k v)) s reply.Full (put_full n s j k v is (omega (arith, r.free, zero))) refl)
-      (λ some. by_done (one n s j (Put k v)) (with_pairs s (finite.insert s.pairs k v)) reply.NoPrior (Some (record { free = room.free - 1; queue = room.queue })) (put_new n s j k v is (omega (arith, r.free, some))) (refl, record { free = omega (arith, r.free, some, len_put k v None is); queue = r.queue }))
+      (λ some. by_done (one n s j (Put k v)) (with_pairs s (written s.pairs (j + 1) k v)) reply.NoPrior (Some (record { free = room.free - 1; queue = room.queue })) (put_new n s j (j + 1) k v refl is (omega (arith, r.free, some))) (refl, record { free = omega (arith, r.free, some, len_put k (now v) None is); queue = r.queue }))
 
-  del_next : (k : ℕ) (o : Option ℕ) → finite.get s.pairs k ≡ o → Outcome n (del s k o) (next_room (is_some o) (Del k) room)
-  del_next k (Some u) is = (refl, record { free = omega (arith, r.free, map_some s.pairs k u is, len_del k (Some u) is); queue = r.queue })
+  del_next : (k : ℕ) (o : Option ℕ) → value_of s k ≡ o → Outcome n (del s k o) (next_room (is_some o) (Del k) room)
+  del_next k (Some u) is = (refl, record { free = omega (arith, r.free, map_some s.pairs k (there k (Some u) is), len_del k (Some u) is); queue = r.queue })
   del_next k None is = (refl, r)
 
   -- the room after an update is the known one, and where there is none it is refused
@@ -119,8 +126,8 @@ module _ (n : ℕ) (s : State) (j : ℕ) (room : Room) (r : IsRoom n s room) whe
   next_is Deq = deq_next s.queue refl
   next_is (Add k) = add_next k (set.contains s.members k) refl
   next_is (Rem k) = rem_next k (set.contains s.members k) refl
-  next_is (Put k v) = put_next k v (finite.get s.pairs k) refl
-  next_is (Del k) = del_next k (finite.get s.pairs k) refl
+  next_is (Put k v) = subst (λ b. Outcome n (one n s j (Put k v)) (next_room b (Put k v) room)) (has_value s k) (put_next k v (value_of s k) refl)
+  next_is (Del k) = subst (λ b. Outcome n (one n s j (Del k)) (next_room b (Del k) room)) (has_value s k) (del_next k (value_of s k) refl)
   next_is (Move a b d) =
       let k = move_keeps n s j a b d in
       (k.1, record { free = omega (arith, r.free, ap length k.0.queue, ap set.len k.0.members, k.0.len); queue = r.queue ∙ ap length (sym k.0.queue) })

@@ -46,7 +46,7 @@ replies_append n j (c ∷ xs) ys s = ap (λ rs. (one n s j c).1 ∷ rs) (replies
 module _ {M : Type 0} {shown : ShownSpace M} where
   pub does_none : {n : ℕ} {space : M} → DoesAll shown n [] [] space space
   does_none = record {
-    steps_are = λ s j k held. (refl, held);
+    steps_are = λ s j held. (refl, held);
     stores = record { loads_later = λ told. omega arith; stores_later = λ told. omega arith; most_stores = λ told. omega arith; limit = refl; rest = refl };
   }
 
@@ -54,12 +54,12 @@ module _ {M : Type 0} {shown : ShownSpace M} where
   does_more n calls told c r {new = new} long all last =
       let many = most_append n calls told c r long in
       record {
-        steps_are = λ s j k held.
-            let before = all.steps_are s j k held in
+        steps_are = λ s j held.
+            let before = all.steps_are s j held in
             let t : State = state_after n s j calls in
-            let after = last.step_is t j k before.1 in (
+            let after = last.step_is t j before.1 in (
               (λ i. before.0 i ++ after.0 i ∷ []) ∙ sym (replies_append n j calls (c ∷ []) s),
-              subst (λ (x : State). Contents n (shown.image new) x k) (sym (state_append n j calls (c ∷ []) s)) after.1,
+              subst (λ (x : State). Contents n (shown.image new) x (j + 1)) (sym (state_append n j calls (c ∷ []) s)) after.1,
             );
         stores = record {
           loads_later = λ told. omega (arith, all.stores.loads_later told, last.stores.loads_later told);

@@ -1,12 +1,12 @@
 -- What is known of updates before they are done is what they do.
 use Rattle.std.proofs.Common.{◌≡◌, ℕ, ◌+◌, ◌-◌, ◌^◌, Bool, true, false, cond, List, [], ◌∷◌, refl, sym, ap, ◌∙◌, Some, None}
-use Rattle.std.specs.Prelude.{Option, is_some, nat_lt, ◌==◌, ◌||◌, ◌&&◌, not, if◌then◌else◌}
+use Rattle.std.specs.Prelude.{Option, option_map, is_some, nat_lt, ◌==◌, ◌||◌, ◌&&◌, not, if◌then◌else◌}
 use Rattle.std.specs.Ordering.{nat_cmp, eq_by_cmp}
 use Rattle.std.specs.Cmp.{unsigned_tied, nat_cmp_total}
 use Rattle.std.specs.FinSet as set
 use Rattle.std.specs.FinMap as finite
 use Rattle.std.proofs.lemmas.Bool.{eqb-true}
-use Rattle.rom_model.specs.State.{State, has_room, deq, put, del, shift, transfer, one, state_after, replies_to, is_full, any_full}
+use Rattle.rom_model.specs.State.{State, Stamped, has_room, value_of, deq, put, del, shift, transfer, one, state_after, replies_to, is_full, any_full}
 use Rattle.rom_model.specs.declared.call.Single.{Single}
 use Rattle.rom_model.specs.declared.call.Single.TheVariants.{Enq, Deq, Add, Rem, Put, Del, Move}
 use Rattle.rom_model.specs.declared.call.SingleReply.{SingleReply}
@@ -57,6 +57,14 @@ map_tells_now key (Add k) was told = refl
 map_tells_now key (Rem k) was told = refl
 map_tells_now key (Move a b d) was told = refl
 
+-- a key has a value where it is in the map
+value_kept : (o : Option Stamped) → is_some (option_map (λ kept. kept.value) o) ≡ is_some o
+value_kept (Some kept) = refl
+value_kept None = refl
+
+pub has_value : (s : State) (key : ℕ) → is_some (value_of s key) ≡ is_some (finite.get s.pairs key)
+has_value s key = value_kept (finite.get s.pairs key)
+
 -- What a move leaves: the queue, the set, which keys there are, and how many.
 pub record KeepsKeys (s t : State) : Type 0 where
   pub queue : t.queue ≡ s.queue
@@ -68,31 +76,26 @@ keeps_all : (s : State) → KeepsKeys s s
 keeps_all s = record { queue = refl; members = refl; has = λ key. refl; len = refl }
 
 -- another value for a key that is there
-has_again : (b : Bool) (v : ℕ) (o : Option ℕ) → (b ≡ true → is_some o ≡ true) → is_some (cond b (Some v) o) ≡ is_some o
+has_again : (b : Bool) (v : Stamped) (o : Option Stamped) → (b ≡ true → is_some o ≡ true) → is_some (cond b (Some v) o) ≡ is_some o
 has_again true v o there = sym (there refl)
 has_again false v o there = refl
 
-keeps_value : (s : State) (k v u : ℕ) → finite.get s.pairs k ≡ Some u → KeepsKeys s (with_pairs s (finite.insert s.pairs k v))
-keeps_value s k v u is = record {
+keeps_value : (s : State) (k : ℕ) (v : Stamped) → is_some (finite.get s.pairs k) ≡ true → KeepsKeys s (with_pairs s (finite.insert s.pairs k v))
+keeps_value s k v is = record {
   queue = refl;
   members = refl;
   has = λ key. ap is_some (finite.get-insert nat_cmp_total s.pairs k v key) ∙ has_again (eq_by_cmp nat_cmp key k) v (finite.get s.pairs key) (λ same.
-      ap (λ q. is_some (finite.get s.pairs q)) (eqb-true key k (sym (unsigned_tied key k) ∙ same)) ∙ ap is_some is);
-  len = finite.len-insert nat_cmp_total s.pairs k v ∙ ap (λ (o : Option ℕ). cond (is_some o) (finite.len s.pairs) (finite.len s.pairs + 1)) is;
+      ap (λ q. is_some (finite.get s.pairs q)) (eqb-true key k (sym (unsigned_tied key k) ∙ same)) ∙ is);
+  len = finite.len-insert nat_cmp_total s.pairs k v ∙ ap (λ b. cond b (finite.len s.pairs) (finite.len s.pairs + 1)) is;
 }
 
 keeps_then : {s t u : State} → KeepsKeys s t → KeepsKeys t u → KeepsKeys s u
 keeps_then one two = record { queue = two.queue ∙ one.queue; members = two.members ∙ one.members; has = λ key. two.has key ∙ one.has key; len = two.len ∙ one.len }
 
-some_is : (o : Option ℕ) → is_some o ≡ true → (v : ℕ) × (o ≡ Some v)
-some_is (Some v) is = (v, refl)
-some_is None is = absurd (let no : false ≡ true = is in cc)
-
-keeps_two : (s : State) (a b x y u w : ℕ) → finite.get s.pairs a ≡ Some u → finite.get s.pairs b ≡ Some w → KeepsKeys s (with_pairs s (finite.insert (finite.insert s.pairs a x) b y))
-keeps_two s a b x y u w source target =
-    let one = keeps_value s a x u source in
-    let there = some_is (finite.get (finite.insert s.pairs a x) b) (one.has b ∙ ap is_some target) in
-    keeps_then one (keeps_value (with_pairs s (finite.insert s.pairs a x)) b y there.0 there.1)
+keeps_two : (s : State) (a b : ℕ) (x y : Stamped) → is_some (finite.get s.pairs a) ≡ true → is_some (finite.get s.pairs b) ≡ true → KeepsKeys s (with_pairs s (finite.insert (finite.insert s.pairs a x) b y))
+keeps_two s a b x y source target =
+    let one = keeps_value s a x source in
+    keeps_then one (keeps_value (with_pairs s (finite.insert s.pairs a x)) b y (one.has b ∙ target))
 
 -- a choice, whichever it is
 on_if : (P : Done → Type 0) (b : Bool) (x y : Done) → P x → P y → P (if b then x else y)
@@ -106,17 +109,18 @@ on_if_is P false x y one two = two refl
 abbrev pub Kept : State → Done → Type 0
 Kept s done = KeepsKeys s done.0 × (is_full done.1 ≡ false)
 
-shift_keeps : (s : State) (a b d u w : ℕ) → finite.get s.pairs a ≡ Some u → finite.get s.pairs b ≡ Some w → Kept s (shift s a b d u w)
-shift_keeps s a b d u w source target =
-    on_if (Kept s) (nat_lt u d) _ _ (keeps_all s, refl) (on_if (Kept s) (a == b) _ _ (keeps_all s, refl) (on_if (Kept s) (nat_lt (w + d) (2 ^ 64)) _ _ (keeps_two s a b (u - d) (w + d) u w source target, refl) (keeps_all s, refl)))
+shift_keeps : (s : State) (stamp a b d u w : ℕ) → is_some (finite.get s.pairs a) ≡ true → is_some (finite.get s.pairs b) ≡ true → Kept s (shift s stamp a b d u w)
+shift_keeps s stamp a b d u w source target =
+    on_if (Kept s) (nat_lt u d) _ _ (keeps_all s, refl) (on_if (Kept s) (a == b) _ _ (keeps_all s, refl)
+    (on_if (Kept s) (nat_lt (w + d) (2 ^ 64)) _ _ (keeps_two s a b (record { value = u - d; stamp = stamp }) (record { value = w + d; stamp = stamp }) source target, refl) (keeps_all s, refl)))
 
-transfer_keeps : (s : State) (a b d : ℕ) (o p : Option ℕ) → finite.get s.pairs a ≡ o → finite.get s.pairs b ≡ p → Kept s (transfer s a b d o p)
-transfer_keeps s a b d (Some u) (Some w) source target = shift_keeps s a b d u w source target
-transfer_keeps s a b d (Some u) None source target = (keeps_all s, refl)
-transfer_keeps s a b d None p source target = (keeps_all s, refl)
+transfer_keeps : (s : State) (stamp a b d : ℕ) (o p : Option ℕ) → value_of s a ≡ o → value_of s b ≡ p → Kept s (transfer s stamp a b d o p)
+transfer_keeps s stamp a b d (Some u) (Some w) source target = shift_keeps s stamp a b d u w (sym (has_value s a) ∙ ap is_some source) (sym (has_value s b) ∙ ap is_some target)
+transfer_keeps s stamp a b d (Some u) None source target = (keeps_all s, refl)
+transfer_keeps s stamp a b d None p source target = (keeps_all s, refl)
 
 pub move_keeps : (n : ℕ) (s : State) (j a b d : ℕ) → Kept s (one n s j (Move a b d))
-move_keeps n s j a b d = transfer_keeps s a b d (finite.get s.pairs a) (finite.get s.pairs b) refl refl
+move_keeps n s j a b d = transfer_keeps s (j + 1) a b d (value_of s a) (value_of s b) refl refl
 
 there_or : (b was : Bool) → (b ≡ true → was ≡ true) → was ≡ (b || was)
 there_or true was there = there refl
@@ -135,9 +139,9 @@ module _ (n : ℕ) (s : State) (j key : ℕ) where
   set_deq [] = λ kept. refl
   set_deq (v ∷ rest) = λ kept. refl
 
-  set_put : (k v : ℕ) (o : Option ℕ) → HasNumber (set.contains s.members key) (put n s k v o)
-  set_put k v (Some u) = λ kept. refl
-  set_put k v None = on_if (HasNumber (set.contains s.members key)) (has_room n s) _ _ (λ kept. refl) (λ full. never full)
+  set_put : (stamp k v : ℕ) (o : Option ℕ) → HasNumber (set.contains s.members key) (put n s stamp k v o)
+  set_put stamp k v (Some u) = λ kept. refl
+  set_put stamp k v None = on_if (HasNumber (set.contains s.members key)) (has_room n s) _ _ (λ kept. refl) (λ full. never full)
 
   set_del : (k : ℕ) (o : Option ℕ) → HasNumber (set.contains s.members key) (del s k o)
   set_del k (Some u) = λ kept. refl
@@ -154,15 +158,15 @@ module _ (n : ℕ) (s : State) (j key : ℕ) where
       let P : Done → Type 0 = HasNumber (not (key == k) && set.contains s.members key) in
       on_if_is P (set.contains s.members k) _ _ (λ there kept. set.contains-remove nat_cmp_total s.members k key ∙ ap (λ b. not b && set.contains s.members key) (unsigned_tied key k))
       (λ away kept. absent_and (key == k) (set.contains s.members key) (λ same. ap (set.contains s.members) (eqb-true key k same) ∙ away))
-  set_step (Put k v) = set_put k v (finite.get s.pairs k)
-  set_step (Del k) = set_del k (finite.get s.pairs k)
+  set_step (Put k v) = set_put (j + 1) k v (value_of s k)
+  set_step (Del k) = set_del k (value_of s k)
   set_step (Move a b d) = λ kept. ap (λ m. set.contains m key) (move_keeps n s j a b d).0.members
 
-some_or : (b : Bool) (v : ℕ) (o : Option ℕ) → is_some (cond b (Some v) o) ≡ (b || is_some o)
+some_or : (b : Bool) (v : Stamped) (o : Option Stamped) → is_some (cond b (Some v) o) ≡ (b || is_some o)
 some_or true v o = refl
 some_or false v o = refl
 
-none_and : (b : Bool) (o : Option ℕ) → is_some (cond b None o) ≡ (not b && is_some o)
+none_and : (b : Bool) (o : Option Stamped) → is_some (cond b None o) ≡ (not b && is_some o)
 none_and true o = refl
 none_and false o = refl
 
@@ -178,24 +182,24 @@ module _ (n : ℕ) (s : State) (j key : ℕ) where
   map_deq [] = λ kept. refl
   map_deq (v ∷ rest) = λ kept. refl
 
-  inserted : (k v : ℕ) → is_some (finite.get (finite.insert s.pairs k v) key) ≡ ((key == k) || had)
+  inserted : (k : ℕ) (v : Stamped) → is_some (finite.get (finite.insert s.pairs k v) key) ≡ ((key == k) || had)
   inserted k v = ap is_some (finite.get-insert nat_cmp_total s.pairs k v key) ∙ (some_or (eq_by_cmp nat_cmp key k) v (finite.get s.pairs key) ∙ ap (λ b. b || had) (unsigned_tied key k))
 
-  map_put : (k v : ℕ) (o : Option ℕ) → HasKey ((key == k) || had) (put n s k v o)
-  map_put k v (Some u) = λ kept. inserted k v
-  map_put k v None = on_if (HasKey ((key == k) || had)) (has_room n s) _ _ (λ kept. inserted k v) (λ full. never full)
+  map_put : (stamp k v : ℕ) (o : Option ℕ) → HasKey ((key == k) || had) (put n s stamp k v o)
+  map_put stamp k v (Some u) = λ kept. inserted k (record { value = v; stamp = stamp })
+  map_put stamp k v None = on_if (HasKey ((key == k) || had)) (has_room n s) _ _ (λ kept. inserted k (record { value = v; stamp = stamp })) (λ full. never full)
 
-  map_del : (k : ℕ) (o : Option ℕ) → finite.get s.pairs k ≡ o → HasKey (not (key == k) && had) (del s k o)
+  map_del : (k : ℕ) (o : Option ℕ) → value_of s k ≡ o → HasKey (not (key == k) && had) (del s k o)
   map_del k (Some u) is = λ kept. ap is_some (finite.get-remove nat_cmp_total s.pairs k key) ∙ (none_and (eq_by_cmp nat_cmp key k) (finite.get s.pairs key) ∙ ap (λ b. not b && had) (unsigned_tied key k))
-  map_del k None is = λ kept. absent_and (key == k) had (λ same. ap (λ q. is_some (finite.get s.pairs q)) (eqb-true key k same) ∙ ap is_some is)
+  map_del k None is = λ kept. absent_and (key == k) had (λ same. ap (λ q. is_some (finite.get s.pairs q)) (eqb-true key k same) ∙ (sym (has_value s k) ∙ ap is_some is))
 
   pub map_step : (c : Single) → HasKey (map_now key c had) (one n s j c)
   map_step (Enq v) = on_if (HasKey had) (has_room n s) _ _ (λ kept. refl) (λ full. never full)
   map_step Deq = map_deq s.queue
   map_step (Add k) = on_if (HasKey had) (set.contains s.members k) _ _ (λ kept. refl) (on_if (HasKey had) (has_room n s) _ _ (λ kept. refl) (λ full. never full))
   map_step (Rem k) = on_if (HasKey had) (set.contains s.members k) _ _ (λ kept. refl) (λ kept. refl)
-  map_step (Put k v) = map_put k v (finite.get s.pairs k)
-  map_step (Del k) = map_del k (finite.get s.pairs k) refl
+  map_step (Put k v) = map_put (j + 1) k v (value_of s k)
+  map_step (Del k) = map_del k (value_of s k) refl
   map_step (Move a b d) = λ kept. (move_keeps n s j a b d).0.has key
 
 neither : (a b : Bool) → (a || b) ≡ false → (a ≡ false) × (b ≡ false)

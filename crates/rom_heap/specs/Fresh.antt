@@ -5,6 +5,6 @@ use Rattle.rom_model.specs.Blocks.{block_of}
 -- The root words of an empty region that has counted no update, without the last, which is the tree's word 0: the kind, the version, the bucket table's offset, and zeros.
 pub record IsFreshRoot (n : ℕ) (words : List ℕ) : Type 0 where
   pub kind : slice_index words 0 ≡ 1
-  pub version : slice_index words 1 ≡ 1
+  pub version : slice_index words 1 ≡ 2
   pub table : slice_index words 8 ≡ block_of n 0
   pub zeros : (k : ℕ) → k < 16 → k ≢ 0 → k ≢ 1 → k ≢ 8 → slice_index words k ≡ 0

@@ -1,13 +1,23 @@
--- The laws of the object, which its trait asks for.
-use Rattle.std.specs.Prelude.{◌≡◌, ℕ, ◌≤◌, List, length, slice_index}
+-- The laws of the object, which its traits ask for.
+use Rattle.std.specs.Prelude.{◌≡◌, ℕ, ◌≤◌, ◌==◌, ◌&&◌, List, length, refl, slice_index}
 use Rattle.rom_model.specs.History.{LAST_COUNT}
 use Rattle.rom_model.specs.State.{State}
 use Rattle.rom_model.specs.Blocks.{region_len}
-use Rattle.rom_model.specs.Region.{Contents}
+use Rattle.rom_model.specs.Region.{Contents, OldContents}
 use Rattle.rom_model.proofs.Contents as contents
+use Rattle.rom_inspect.specs.Answers.{is_new}
 
 pub one_contents : (n : ℕ) (words : List ℕ) (s t : State) (j k : ℕ) → Contents n words s j → Contents n words t k → (s ≡ t) × (j ≡ k)
 one_contents n words s t j k one two = contents.one_contents one two
 
 pub contents_within : (n : ℕ) (words : List ℕ) (s : State) (k : ℕ) → Contents n words s k → (length words ≡ region_len n) × (slice_index words 2 ≡ k) × (k ≤ LAST_COUNT) × (slice_index words 0 ≡ 1)
 contents_within n words s k is = (is.1.shape.as_long, is.1.shape.root.count_is, is.1.shape.root.count_fits, is.1.shape.root.kind)
+
+pub one_earlier : (n : ℕ) (words : List ℕ) (s t : State) (j k : ℕ) → OldContents n words s j → OldContents n words t k → (s ≡ t) × (j ≡ k)
+one_earlier n words s t j k one two = contents.one_old one two
+
+pub earlier_within : (n : ℕ) (words : List ℕ) (s : State) (k : ℕ) → OldContents n words s k → (length words ≡ region_len n) × (slice_index words 2 ≡ k) × (k ≤ LAST_COUNT) × (slice_index words 0 ≡ 1) × (slice_index words 1 ≡ 1)
+earlier_within n words s k is = (is.1.shape.as_long, is.1.shape.root.count_is, is.1.shape.root.count_fits, is.1.shape.root.kind, is.1.version.version)
+
+pub next_is : (words : List ℕ) → is_new words ≡ ((slice_index words 0 == 1) && (slice_index words 1 == 2))
+next_is words = refl

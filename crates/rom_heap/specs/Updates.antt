@@ -25,9 +25,9 @@ most_stores n (Put k v) reply.NoPrior = (n + 1) + 4 + 1 + 1
 -- the tree, a link, and the size
 most_stores n call reply.Removed = (n + 1) + 1 + 1
 most_stores n (Del k) (reply.Was u) = (n + 1) + 1 + 1
--- one value, or two
-most_stores n (Put k v) (reply.Was u) = 1
-most_stores n call reply.Moved = 2
+-- one value with its stamp, or two
+most_stores n (Put k v) (reply.Was u) = 2
+most_stores n call reply.Moved = 4
 -- where nothing changes
 most_stores n call other = 0
 
@@ -43,14 +43,21 @@ most_of n (kind.Single c) (kind.Single r) = most_stores n c r
 most_of n (kind.Several calls) (kind.Several replies) = most_of_all n calls replies
 most_of n call other = 0
 
--- What an update of one structure does that is counted already: the reply and the state are those of it, and so many stores are made at most.
+-- The region is well-formed, and this is the stamp of the last update that it has counted.
+pub record HasStamp (n : ℕ) (words : List ℕ) (stamp : ℕ) : Type 0 where
+  pub state : State
+  pub place : ℕ
+  pub contents : Contents n words state (place + 1)
+  pub stamp_is : stamp ≡ place + 1
+
+-- What an update of one structure does that is counted already: the reply and the state are those of it at its place, and so many stores are made at most.
 pub record Does {M : Type 0} (shown : ShownSpace M) (n : ℕ) (call : Single) (told : SingleReply) (old new : M) : Type 0 where
-  pub step_is : (s : State) (j k : ℕ) → Contents n (shown.image old) s k → let after = one n s j call in (told ≡ after.1) × Contents n (shown.image new) after.0 k
+  pub step_is : (s : State) (j : ℕ) → Contents n (shown.image old) s (j + 1) → let after = one n s j call in (told ≡ after.1) × Contents n (shown.image new) after.0 (j + 1)
   pub stores : Stores shown (most_stores n call told) old new
 
--- So of several that are taken in order.
+-- So of several that are taken in order, all of them at one place.
 pub record DoesAll {M : Type 0} (shown : ShownSpace M) (n : ℕ) (calls : List Single) (told : List SingleReply) (old new : M) : Type 0 where
-  pub steps_are : (s : State) (j k : ℕ) → Contents n (shown.image old) s k → (told ≡ replies_to n s j calls) × Contents n (shown.image new) (state_after n s j calls) k
+  pub steps_are : (s : State) (j : ℕ) → Contents n (shown.image old) s (j + 1) → (told ≡ replies_to n s j calls) × Contents n (shown.image new) (state_after n s j calls) (j + 1)
   pub stores : Stores shown (most_of_all n calls told) old new
 
 -- So of an update, which is counted.

@@ -7,7 +7,7 @@ ghost use Rattle.rom_model.specs.Blocks.{IsOrder};
 ghost use Rattle.rom_model.specs.Region.{IsWellFormed, Contents};
 ghost use Rattle.rom_model.specs.declared.call.Query.TheVariants.{Len};
 
-use rom_map::{map_get, map_len, map_total};
+use rom_map::{map_fresh, map_get, map_len, map_total};
 use rom_model::{Answer, Look, Query};
 use rom_queue::{queue_front, queue_len};
 use rom_set::{set_has, set_len};
@@ -55,5 +55,6 @@ pub(crate) fn answer<M: Look>(space: &mut M, order: u32, query: &Query) -> Answe
         },
         Query::Len => sizes(space, order),
         Query::Total => Answer::Total(map_total(space, order)),
+        Query::Fresh(place) => Answer::Fresh(map_fresh(space, order, place)),
     }
 }

@@ -8,7 +8,7 @@ ghost use Rattle.rom_model.specs.History.{LAST_COUNT};
 ghost use Rattle.rom_model.specs.Blocks.{IsOrder};
 ghost use Rattle.rom_model.specs.Region.{IsWellFormed, Contents};
 ghost use Rattle.rom_model.specs.declared.call.Single.TheVariants as call;
-ghost use Rattle.rom_heap.specs.Updates.{Does, DoesAll, DoesNext, most_stores, most_of};
+ghost use Rattle.rom_heap.specs.Updates.{HasStamp, Does, DoesAll, DoesNext, most_stores, most_of};
 ghost use Rattle.rom_heap.specs.Fits.{IsGroupDone, GroupStores};
 
 use crate::fits::fits;
@@ -17,18 +17,20 @@ use rom_model::{COUNT, Call, Kind, Replies, Reply, Single, SingleReply, Space};
 use rom_queue::{queue_pop, queue_push};
 use rom_set::{Inserted, set_insert, set_remove};
 
-/// Counts one update more.
-fn raise_count<M: Space>(space: &mut M)
+/// Counts one update more, and tells the raised count, which is the update's stamp.
+fn raise_count<M: Space>(space: &mut M) -> u64
     requires long { COUNT < length (M.shown.image space.old) }
     requires within { slice_index (M.shown.image space.old) COUNT < LAST_COUNT }
     requires room { HasRoom M.shown 1 space.old }
+    ensures stamp { result ≡ slice_index (M.shown.image space.old) COUNT + 1 }
     ensures raised { slice_index (M.shown.image space.new) COUNT
         ≡ slice_index (M.shown.image space.old) COUNT + 1 }
     ensures others { ChangesOnly COUNT 1 (M.shown.image space.old) (M.shown.image space.new) }
     ensures counts { Counts M.shown 1 1 space.old space.new }
 {
-    let count = space.load(COUNT);
-    space.store(COUNT, count + 1);
+    let stamp = space.load(COUNT) + 1;
+    space.store(COUNT, stamp);
+    stamp
 }
 
 fn enq<M: Space>(space: &mut M, order: u32, value: u64) -> SingleReply
@@ -82,13 +84,13 @@ fn rem<M: Space>(space: &mut M, order: u32, key: u64) -> SingleReply
     }
 }
 
-fn put<M: Space>(space: &mut M, order: u32, key: u64, value: u64) -> SingleReply
+fn put<M: Space>(space: &mut M, order: u32, key: u64, value: u64, stamp: u64) -> SingleReply
     requires order { IsOrder order }
-    requires region { IsWellFormed order (M.shown.image space.old) }
+    requires region { HasStamp order (M.shown.image space.old) stamp }
     requires room { HasRoom M.shown 31 space.old }
     ensures does { Does M.shown order (call.Put key value) result space.old space.new }
 {
-    match map_put(space, order, key, value) {
+    match map_put(space, order, key, value, stamp) {
         Put::New => SingleReply::NoPrior,
         Put::Was(before) => SingleReply::Was(before),
         Put::Full => SingleReply::Full,
@@ -107,13 +109,20 @@ fn del<M: Space>(space: &mut M, order: u32, key: u64) -> SingleReply
     }
 }
 
-fn shift<M: Space>(space: &mut M, order: u32, from: u64, to: u64, amount: u64) -> SingleReply
+fn shift<M: Space>(
+    space: &mut M,
+    order: u32,
+    from: u64,
+    to: u64,
+    amount: u64,
+    stamp: u64,
+) -> SingleReply
     requires order { IsOrder order }
-    requires region { IsWellFormed order (M.shown.image space.old) }
+    requires region { HasStamp order (M.shown.image space.old) stamp }
     requires room { HasRoom M.shown 31 space.old }
     ensures does { Does M.shown order (call.Move from to amount) result space.old space.new }
 {
-    match map_move(space, order, from, to, amount) {
+    match map_move(space, order, from, to, amount, stamp) {
         Moved::Done => SingleReply::Moved,
         Moved::Absent => SingleReply::Absent,
         Moved::Short(value) => SingleReply::Short(value),
@@ -121,10 +130,11 @@ fn shift<M: Space>(space: &mut M, order: u32, from: u64, to: u64, amount: u64) -
     }
 }
 
-/// Does an update of one structure that is counted already.
-fn update<M: Space>(space: &mut M, order: u32, call: &Single) -> SingleReply
+/// Does an update of one structure that is counted already. What it writes of the map has this
+/// stamp.
+fn update<M: Space>(space: &mut M, order: u32, call: &Single, stamp: u64) -> SingleReply
     requires order { IsOrder order }
-    requires region { IsWellFormed order (M.shown.image space.old) }
+    requires region { HasStamp order (M.shown.image space.old) stamp }
     requires room { HasRoom M.shown 31 space.old }
     ensures does { Does M.shown order call.now result space.old space.new }
 {
@@ -133,23 +143,24 @@ fn update<M: Space>(space: &mut M, order: u32, call: &Single) -> SingleReply
         Single::Deq => deq(space, order),
         Single::Add(key) => add(space, order, key),
         Single::Rem(key) => rem(space, order, key),
-        Single::Put(key, value) => put(space, order, key, value),
+        Single::Put(key, value) => put(space, order, key, value, stamp),
         Single::Del(key) => del(space, order, key),
-        Single::Move(from, to, amount) => shift(space, order, from, to, amount),
+        Single::Move(from, to, amount) => shift(space, order, from, to, amount, stamp),
     }
 }
 
-/// Does the members of a group in order, which is counted already.
-fn update_all<M: Space>(space: &mut M, order: u32, calls: &[Single]) -> Replies
+/// Does the members of a group in order, which is counted already. What they write of the map has
+/// this one stamp.
+fn update_all<M: Space>(space: &mut M, order: u32, calls: &[Single], stamp: u64) -> Replies
     requires order { IsOrder order }
-    requires region { IsWellFormed order (M.shown.image space.old) }
+    requires region { HasStamp order (M.shown.image space.old) stamp }
     requires few { length calls.now ≤ 8 }
     requires room { HasRoom M.shown (31 * length calls.now) space.old }
     ensures does { DoesAll M.shown order calls.now result space.old space.new }
 {
     let mut replies = Replies::new();
     for call in calls {
-        replies.push(update(space, order, call));
+        replies.push(update(space, order, call, stamp));
     }
     replies
 }
@@ -166,8 +177,8 @@ fn apply_one<M: Space>(space: &mut M, order: u32, call: &Single) -> SingleReply
         (result ≡ after.1) × Contents order (M.shown.image space.new) after.0 (k + 1) }
     ensures stores { Stores M.shown (1 + most_stores order call.now result) space.old space.new }
 {
-    raise_count(space);
-    update(space, order, call)
+    let stamp = raise_count(space);
+    update(space, order, call, stamp)
 }
 
 /// Does the members of a group in order, or none of them where one would be refused. Which of the
@@ -185,11 +196,11 @@ fn apply_group<M: Space>(space: &mut M, order: u32, calls: &[Single]) -> Option<
         (ChangesOnly COUNT 1 (M.shown.image space.old) (M.shown.image space.new)) }
 {
     let fit = fits(space, order, calls);
-    raise_count(space);
+    let stamp = raise_count(space);
     if !fit {
         return None;
     }
-    Some(update_all(space, order, calls))
+    Some(update_all(space, order, calls, stamp))
 }
 
 /// Does an update.

@@ -3,7 +3,7 @@
 //! Nothing is done here of what the members do. Of each it is known how much room those before it
 //! leave, and whether its number or its key is there then: the last one before it that puts this
 //! number or key in, or takes it out, tells that, and where there is none, the region does.
-ghost use Rattle.std.specs.Prelude.{◌≡◌, ℕ, ◌^◌, ◌<◌, List, length, not, is_some, None, false};
+ghost use Rattle.std.specs.Prelude.{◌≡◌, ℕ, ◌^◌, ◌<◌, not, is_some, None, false};
 ghost use Rattle.std.specs.FinSet as set;
 ghost use Rattle.std.specs.FinMap as map;
 ghost use Rattle.rom_model.specs.State.{State, state_after, replies_to, any_full};

@@ -35,7 +35,7 @@ fn format_root<M: Space>(space: &mut M, order: u32)
 {
     store_zeros(space, 0, 16);
     space.store(KIND, 1);
-    space.store(VERSION, 1);
+    space.store(VERSION, 2);
     space.store(TABLE, blocks_at(order));
 }
 

@@ -8,26 +8,21 @@
 //! one of its members would be refused is found out by loads alone (`fits`), and then nothing but the
 //! count is stored. `free_elements` says how much room is left.
 //!
-//! The inspection takes any words and says whether they are a well-formed region, and if not, which
-//! word first breaks which rule. The root words come first, then the chains of the queue, of the set
-//! and of all buckets of the map, and at last the allocator's tree, whose taken blocks are then those
-//! that were reached. `Ok` is answered of well-formed regions alone and `Malformed` of the first break
-//! alone, and a well-formed region has no first break and any other words at most one. A walk ends and
-//! stays within the region, since each node that it reaches is marked and no marked one is reached
-//! again.
+//! An update first stores the raised count, which is then the stamp of each value of the map that it
+//! writes; the members of a group have one place in the history, and so one stamp. By the stamps
+//! `Query::Fresh` tells how many keys were written since.
+//!
+//! `Trio` implements `Renew` too, by which a region of version 1 becomes one of version 2. The
+//! inspections of both versions are those of `rom_inspect`, and what makes the one into the other is
+//! that of `rom_renew`.
 #![tactic(auto)]
 
 mod answer;
 mod apply;
 mod fits;
-mod follow;
 mod free;
 mod fresh;
-mod inspection;
-mod keys;
-mod parts;
 mod trio;
-mod walk;
 
 pub use free::free_elements;
 pub use trio::Trio;

@@ -3,19 +3,20 @@ ghost use Rattle.rom_model.specs.declared.group.TheConstants.{MAX_MEMBERS};
 ghost use Rattle.rom_model.specs.State.{State};
 ghost use Rattle.rom_model.specs.Region.{Contents};
 ghost use Rattle.rom_model.specs.Trio.{trio};
-ghost use Rattle.rom_heap.specs.Parts.{FirstBreak};
-ghost use Rattle.rom_heap.specs.Laws.{one_contents, contents_within};
+ghost use Rattle.rom_inspect.specs.Answers as told;
+ghost use Rattle.rom_heap.specs.Laws as laws;
 ghost use Rattle.rom_model.proofs.Tags.{call_only, reply_back, reply_only};
 
 use crate::answer::answer;
 use crate::apply::apply;
 use crate::fresh::format_region;
-use crate::inspection::inspect;
+use rom_inspect::{inspect, inspect_old};
 use rom_model::{
-    Answer, Args, Back, Call, Kind, Look, MAX_MEMBERS, Object, Query, Reply, Space, Unfit,
-    call_words, reply_words, words_call, words_reply,
+    Answer, Args, Back, Call, Kind, Look, MAX_MEMBERS, Object, Query, Renew, Reply, Space, Unfit,
+    VecSpace, call_words, reply_words, words_call, words_reply,
 };
-use std::alloc::Global;
+use rom_renew::renew_region;
+use std::alloc::{AllocError, Global};
 
 /// A queue, a set and a map of numbers.
 #[derive(Clone, Copy, Debug)]
@@ -48,7 +49,9 @@ impl Object for Trio {
 
     ghost Contents = { Contents };
 
-    ghost FirstBreak = { FirstBreak };
+    ghost Rejects = { told.Rejects };
+
+    ghost earlier = { told.earlier };
 
     fn weight_of(call: &Call) -> u64 {
         match call.kind() {
@@ -96,7 +99,23 @@ impl Object for Trio {
 
     ghost reply_only = { reply_only };
 
-    ghost one_contents = { one_contents };
+    ghost one_contents = { laws.one_contents };
 
-    ghost contents_within = { contents_within };
+    ghost contents_within = { laws.contents_within };
+}
+
+impl Renew for Trio {
+    fn inspect_old(alloc: Global, region: &[u64], order: u32) -> Result<(), Unfit> {
+        inspect_old(alloc, region, order)
+    }
+
+    fn renew(alloc: Global, space: &mut VecSpace, order: u32) -> Result<(), AllocError> {
+        renew_region(alloc, space, order)
+    }
+
+    ghost one_earlier = { laws.one_earlier };
+
+    ghost earlier_within = { laws.earlier_within };
+
+    ghost next_is = { laws.next_is };
 }

@@ -2,7 +2,7 @@ use Rattle.std.proofs.Common.{arith, ap, sym, subst, ◌∙◌, cond}
 use Rattle.rom_model.specs.Space.{Looks}
 use Rattle.rom_model.specs.State.{tell, value_at}
 use Rattle.rom_model.specs.Walks.{cost}
-use Rattle.rom_model.specs.declared.call.Answer.TheVariants.{Yes, No, Total}
+use Rattle.rom_model.specs.declared.call.Answer.TheVariants.{Yes, No, Total, Fresh}
 use Rattle.rom_model.proofs.Looks.{looks_most}
 use Rattle.rom_heap.proofs.Steps.{peek_some, peek_none}
 use Rattle.rom_heap.proofs.answer.answer.Goals as goal
@@ -48,3 +48,10 @@ returns-in-Total-clause-told g c s k held = ap Total (c.map_total.ensures.total 
 pub returns-in-Total-clause-looks : goal.returns-in-Total-clause-looks
 returns-in-Total-clause-looks g c s k held =
     subst (λ q. Looks g.M.Look.shown (cost c.args.order s q) c.args.space.now c.map_total.new.space) (sym c.in-Total.is) (looks_most g.M.Look.shown _ _ (omega arith) (c.map_total.ensures.looks s k held))
+
+pub returns-in-Fresh-clause-told : goal.returns-in-Fresh-clause-told
+returns-in-Fresh-clause-told g c s k held = ap Fresh (c.map_fresh.ensures.fresh s k held) ∙ sym (ap (tell s) c.in-Fresh.is)
+
+pub returns-in-Fresh-clause-looks : goal.returns-in-Fresh-clause-looks
+returns-in-Fresh-clause-looks g c s k held =
+    subst (λ q. Looks g.M.Look.shown (cost c.args.order s q) c.args.space.now c.map_fresh.new.space) (sym c.in-Fresh.is) (looks_most g.M.Look.shown _ _ (omega arith) (c.map_fresh.ensures.looks s k held))

@@ -15,8 +15,8 @@ loop-call-init g c = record {
 pub update-requires-clause-region : goal.update-requires-clause-region
 update-requires-clause-region g c =
     let r = c.requires.region in
-    let d = c.loop-call.invariant.does.steps_are r.state 0 r.count r.contents in
-    record { state = _; count = r.count; contents = d.1 }
+    let d = c.loop-call.invariant.does.steps_are r.state r.place r.contents in
+    record { state = _; place = r.place; contents = d.1; stamp_is = r.stamp_is }
 
 pub update-requires-clause-room : goal.update-requires-clause-room
 update-requires-clause-room g c =
