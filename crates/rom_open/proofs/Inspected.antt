@@ -1,15 +1,16 @@
 -- What an inspection tells of the words of a region.
-use Rattle.std.proofs.Common.{◌≡◌, ℕ, List, refl}
-use Rattle.rom_model.specs.declared.unfit.Break.{Break}
+use Rattle.std.proofs.Common.{◌≡◌, ℕ, List}
+use Rattle.rom_model.specs.Inspected.{IsReason}
 use Rattle.rom_model.specs.declared.unfit.Unfit.{Unfit}
-use Rattle.rom_model.specs.declared.unfit.Unfit.TheVariants.{Malformed, OutOfMemory}
-use Rattle.rom_open.specs.Refusals.{of_inspection, IsUnfit, IsMalformed}
+use Rattle.rom_model.specs.declared.unfit.Unfit.TheVariants.{Malformed, Old, OutOfMemory}
+use Rattle.rom_open.specs.Refusals.{of_inspection, IsRejected, IsUnfit}
 
-module _ {S : Type 0} (Contents : ℕ → List ℕ → S → ℕ → Type 0) (FirstBreak : ℕ → List ℕ → Break → Type 0) (order : ℕ) (region : List ℕ)
-    (none : (e : Break) → FirstBreak order region e → (s : S) (k : ℕ) → Contents order region s k → ⊥) (one : (e d : Break) → FirstBreak order region e → FirstBreak order region d → e ≡ d) where
-  malformed : (e : Break) → FirstBreak order region e → IsMalformed Contents FirstBreak order region e
-  malformed e first = record { first = first; only = λ other is. one other e is first; none = none e first }
+module _ {S : Type 0} (Contents : ℕ → List ℕ → S → ℕ → Type 0) (Rejects : ℕ → List ℕ → Unfit → Type 0) (order : ℕ) (region : List ℕ)
+    (none : (e : Unfit) → Rejects order region e → (s : S) (k : ℕ) → Contents order region s k → ⊥) (one : (e d : Unfit) → Rejects order region e → Rejects order region d → e ≡ d) where
+  rejected : (reason : Unfit) → Rejects order region reason → IsRejected Contents Rejects order region reason
+  rejected reason is = record { is = is; only = λ other also. one other reason also is; none = none reason is }
 
-  pub inspected : (unfit : Unfit) → ((e : Break) → unfit ≡ Malformed e.offset e.rule → FirstBreak order region e) → IsUnfit Contents FirstBreak order region (of_inspection unfit)
-  inspected (Malformed offset rule) first = let broken : Break = record { offset = offset; rule = rule } in malformed broken (first broken refl)
-  inspected OutOfMemory first = tt
+  pub inspected : (reason : Unfit) → IsReason (Rejects order region) reason → IsUnfit Contents Rejects order region (of_inspection reason)
+  inspected (Malformed offset rule) is = rejected (Malformed offset rule) is
+  inspected Old is = rejected Old is
+  inspected OutOfMemory said = tt

@@ -10,7 +10,7 @@ use Rattle.rom_header.specs.declared.fresh.FormatRefused.TheVariants as format
 use Rattle.rom_open.specs.Calls.{AreReads, AreSyncs, AreWrites, Calls, HasFaults, opening_reads, opening_syncs, opening_writes}
 use Rattle.rom_open.specs.Within.{CallsOfSomeOrder, WithinMaking, WithinOpening}
 use Rattle.rom_open.specs.declared.reasons.Why.{Why}
-use Rattle.rom_open.specs.declared.reasons.Why.TheVariants.{NotAHeap, BadVersion, BadOrder, BadState, TooSmall, Twins, Malformed, Device, OutOfMemory}
+use Rattle.rom_open.specs.declared.reasons.Why.TheVariants.{NotAHeap, BadVersion, BadOrder, BadState, TooSmall, Twins, OldRegion, NewRegion, Malformed, Device, OutOfMemory}
 
 -- exactly so many are at most as many as that and more
 adds_most : (k n before now : ℕ) → k ≤ n → Adds k before now → AtMost n before now
@@ -42,6 +42,8 @@ least_most n m = omega arith
 
 most_reads : {T : Type 0} (order state : ℕ) (result : Result T Why) (before now : ℕ) → AreReads order state result before now → AtMost (opening_reads order state) before now
 most_reads order state (Ok opened) before now reads = adds_most _ _ before now (same_most _) reads
+most_reads order state (Err OldRegion) before now reads = adds_most _ _ before now (same_most _) reads
+most_reads order state (Err NewRegion) before now reads = adds_most _ _ before now (same_most _) reads
 most_reads order state (Err (Malformed offset rule)) before now reads = adds_most _ _ before now (same_most _) reads
 most_reads order state (Err Device) before now reads = reads
 most_reads order state (Err OutOfMemory) before now reads = adds_most _ _ before now (same_most _) reads
@@ -54,6 +56,8 @@ most_reads order state (Err (BadState word)) before now reads = adds_most _ _ be
 
 most_writes : {T : Type 0} (order state : ℕ) (result : Result T Why) (before now : ℕ) → AreWrites order state result before now → AtMost (opening_writes order state) before now
 most_writes order state (Ok opened) before now writes = adds_most _ _ before now (same_most _) writes
+most_writes order state (Err OldRegion) before now writes = adds_most _ _ before now (same_most _) writes
+most_writes order state (Err NewRegion) before now writes = adds_most _ _ before now (same_most _) writes
 most_writes order state (Err (Malformed offset rule)) before now writes = adds_most _ _ before now (same_most _) writes
 most_writes order state (Err OutOfMemory) before now writes = adds_most _ _ before now (same_most _) writes
 most_writes order state (Err Device) before now writes = writes
@@ -66,6 +70,8 @@ most_writes order state (Err (BadState word)) before now writes = none_most _ be
 
 most_syncs : {T : Type 0} (state : ℕ) (result : Result T Why) (before now : ℕ) → AreSyncs state result before now → AtMost (opening_syncs state) before now
 most_syncs state (Ok opened) before now syncs = adds_most _ _ before now (same_most _) syncs
+most_syncs state (Err OldRegion) before now syncs = adds_most _ _ before now (same_most _) syncs
+most_syncs state (Err NewRegion) before now syncs = adds_most _ _ before now (same_most _) syncs
 most_syncs state (Err (Malformed offset rule)) before now syncs = adds_most _ _ before now (same_most _) syncs
 most_syncs state (Err OutOfMemory) before now syncs = adds_most _ _ before now (same_most _) syncs
 most_syncs state (Err Device) before now syncs = syncs
@@ -85,6 +91,8 @@ stops_opening (Err (BadVersion version)) before now failing same = inl same
 stops_opening (Err (BadOrder n)) before now failing same = inl same
 stops_opening (Err (BadState word)) before now failing same = inl same
 stops_opening (Err (TooSmall need have)) before now failing same = inl same
+stops_opening (Err OldRegion) before now failing same = inl same
+stops_opening (Err NewRegion) before now failing same = inl same
 stops_opening (Err (Malformed offset rule)) before now failing same = inl same
 stops_opening (Err OutOfMemory) before now failing same = inl same
 

@@ -6,7 +6,7 @@ use Rattle.rom_device.specs.Device.{ShownDevice}
 use Rattle.rom_header.specs.Layout.{STATE}
 use Rattle.rom_open.specs.Refusals.{named_order}
 use Rattle.rom_open.specs.declared.reasons.Why.{Why}
-use Rattle.rom_open.specs.declared.reasons.Why.TheVariants.{NotAHeap, BadVersion, BadOrder, BadState, TooSmall, Twins, Malformed, Device, OutOfMemory}
+use Rattle.rom_open.specs.declared.reasons.Why.TheVariants.{NotAHeap, BadVersion, BadOrder, BadState, TooSmall, Twins, OldRegion, NewRegion, Malformed, Device, OutOfMemory}
 
 -- whether the device has been recovered where a refusal says so
 abbrev pub is_late : Why → Bool
@@ -16,6 +16,8 @@ is_late (BadOrder n) = false
 is_late (BadState word) = false
 is_late (TooSmall need have) = false
 is_late (Twins offset main back) = false
+is_late OldRegion = true
+is_late NewRegion = true
 is_late (Malformed offset rule) = true
 is_late Device = false
 is_late OutOfMemory = true
@@ -34,6 +36,8 @@ HasFaults (Err (BadOrder n)) before now failing = now ≡ before
 HasFaults (Err (BadState word)) before now failing = now ≡ before
 HasFaults (Err (TooSmall need have)) before now failing = now ≡ before
 HasFaults (Err (Twins offset main back)) before now failing = StopsAtFault before now failing
+HasFaults (Err OldRegion) before now failing = now ≡ before
+HasFaults (Err NewRegion) before now failing = now ≡ before
 HasFaults (Err (Malformed offset rule)) before now failing = now ≡ before
 HasFaults (Err Device) before now failing = FailedLast before now failing
 HasFaults (Err OutOfMemory) before now failing = now ≡ before
@@ -53,6 +57,8 @@ opening_syncs state = if state == 0 then 1 else 3
 -- The reads that an opening made, by its answer: a header is read up to the word that is refused, and regions that differ at most up to that place. Where the device failed some may be missing.
 abbrev pub AreReads : {T : Type 0} → ℕ → ℕ → Result T Why → ℕ → ℕ → Type 0
 AreReads order state (Ok opened) before now = Adds (opening_reads order state) before now
+AreReads order state (Err OldRegion) before now = Adds (opening_reads order state) before now
+AreReads order state (Err NewRegion) before now = Adds (opening_reads order state) before now
 AreReads order state (Err (Malformed offset rule)) before now = Adds (opening_reads order state) before now
 AreReads order state (Err Device) before now = AtMost (opening_reads order state) before now
 AreReads order state (Err OutOfMemory) before now = Adds (opening_reads order state) before now
@@ -66,6 +72,8 @@ AreReads order state (Err (BadState word)) before now = Adds 4 before now
 -- the writes, likewise, of which there are none where the header or the regions are refused
 abbrev pub AreWrites : {T : Type 0} → ℕ → ℕ → Result T Why → ℕ → ℕ → Type 0
 AreWrites order state (Ok opened) before now = Adds (opening_writes order state) before now
+AreWrites order state (Err OldRegion) before now = Adds (opening_writes order state) before now
+AreWrites order state (Err NewRegion) before now = Adds (opening_writes order state) before now
 AreWrites order state (Err (Malformed offset rule)) before now = Adds (opening_writes order state) before now
 AreWrites order state (Err OutOfMemory) before now = Adds (opening_writes order state) before now
 AreWrites order state (Err Device) before now = AtMost (opening_writes order state) before now
@@ -79,6 +87,8 @@ AreWrites order state (Err (BadState word)) before now = now ≡ before
 -- the syncs, likewise, of which there is one where the regions differ, and none where the header is refused
 abbrev pub AreSyncs : {T : Type 0} → ℕ → Result T Why → ℕ → ℕ → Type 0
 AreSyncs state (Ok opened) before now = Adds (opening_syncs state) before now
+AreSyncs state (Err OldRegion) before now = Adds (opening_syncs state) before now
+AreSyncs state (Err NewRegion) before now = Adds (opening_syncs state) before now
 AreSyncs state (Err (Malformed offset rule)) before now = Adds (opening_syncs state) before now
 AreSyncs state (Err OutOfMemory) before now = Adds (opening_syncs state) before now
 AreSyncs state (Err Device) before now = AtMost (opening_syncs state) before now

@@ -32,7 +32,9 @@ NoneOrHolds Contents order state words = (slice_index words 0 ≢ MAGIC) ⊎ Hol
 -- Where no heap was made, the device failed where that is the reason, at its last call, and else it didn't.
 abbrev pub HasFaultsUnmade : NotFormatted → ℕ → ℕ → Bool → Type 0
 HasFaultsUnmade (Refused format.Device) before now failing = FailedLast before now failing
-HasFaultsUnmade other before now failing = now ≡ before
+HasFaultsUnmade (Refused format.AlreadyAHeap) before now failing = now ≡ before
+HasFaultsUnmade (Refused (format.TooSmall need have)) before now failing = now ≡ before
+HasFaultsUnmade OutOfMemory before now failing = now ≡ before
 
 -- A heap of this order and with this state was made on the device, and then worked on. Until it stood, a stop left what could be left before, or no heap, or the new one; once it stood, the new one alone; and since then that, or what has P.
 pub record IsMadeThen {D S : Type 0} (shown : ShownDevice D) (Contents : ℕ → List ℕ → S → ℕ → Type 0) (order : ℕ) (state : S) (P : List ℕ → Type 0) (was now : D) : Type 0 where

@@ -1,6 +1,5 @@
 -- Which words are refused, and why.
 use Rattle.std.specs.Prelude.{◌≡◌, ◌⊎◌, ℕ, List, slice_index, Err}
-use Rattle.rom_model.specs.declared.unfit.Break.{Break}
 use Rattle.rom_model.specs.declared.unfit.Unfit.{Unfit}
 use Rattle.rom_model.specs.declared.unfit.Unfit.TheVariants as unfit
 use Rattle.rom_header.specs.Headers.{IsAnswer, HasTooFew}
@@ -11,7 +10,7 @@ use Rattle.rom_recover.specs.Recovered.{DifferAt}
 use Rattle.rom_recover.specs.declared.recovery.RecoverRefused.{RecoverRefused}
 use Rattle.rom_recover.specs.declared.recovery.RecoverRefused.TheVariants as recovery
 use Rattle.rom_open.specs.declared.reasons.Why.{Why}
-use Rattle.rom_open.specs.declared.reasons.Why.TheVariants.{NotAHeap, BadVersion, BadOrder, BadState, TooSmall, Twins, Malformed, Device, OutOfMemory}
+use Rattle.rom_open.specs.declared.reasons.Why.TheVariants.{NotAHeap, BadVersion, BadOrder, BadState, TooSmall, Twins, OldRegion, NewRegion, Malformed, Device, OutOfMemory}
 
 -- the refusal of a header, of a recovery and of an inspection
 abbrev pub of_header : HeaderRefused → Why
@@ -28,6 +27,7 @@ of_recovery recovery.Device = Device
 
 abbrev pub of_inspection : Unfit → Why
 of_inspection (unfit.Malformed offset rule) = Malformed offset rule
+of_inspection unfit.Old = OldRegion
 of_inspection unfit.OutOfMemory = OutOfMemory
 
 -- the order that the header names
@@ -42,6 +42,8 @@ IsUnready words (BadOrder order) = IsAnswer words (Err (header.BadOrder order))
 IsUnready words (BadState state) = IsAnswer words (Err (header.BadState state))
 IsUnready words (TooSmall need have) = IsAnswer words (Err (header.TooSmall need have))
 IsUnready words (Twins offset main back) = IsHeap (named_order words) words × DifferAt (named_order words) words offset main back
+IsUnready words OldRegion = ⊥
+IsUnready words NewRegion = ⊥
 IsUnready words (Malformed offset rule) = ⊥
 IsUnready words Device = Unit {0}
 IsUnready words OutOfMemory = ⊥
@@ -54,23 +56,33 @@ NamesTooFew size (BadVersion version) = Unit {0}
 NamesTooFew size (BadOrder n) = Unit {0}
 NamesTooFew size (BadState word) = Unit {0}
 NamesTooFew size (Twins offset main back) = Unit {0}
+NamesTooFew size OldRegion = Unit {0}
+NamesTooFew size NewRegion = Unit {0}
 NamesTooFew size (Malformed offset rule) = Unit {0}
 NamesTooFew size Device = Unit {0}
 NamesTooFew size OutOfMemory = Unit {0}
 
--- The words of a region are not well-formed, and this is the first break of them.
-pub record IsMalformed {S : Type 0} (Contents : ℕ → List ℕ → S → ℕ → Type 0) (FirstBreak : ℕ → List ℕ → Break → Type 0) (order : ℕ) (region : List ℕ) (broken : Break) : Type 0 where
-  pub first : FirstBreak order region broken
-  pub only : (other : Break) → FirstBreak order region other → other ≡ broken
+-- The words of a region are not well-formed, and this is the one reason of them.
+pub record IsRejected {S : Type 0} (Contents : ℕ → List ℕ → S → ℕ → Type 0) (Rejects : ℕ → List ℕ → Unfit → Type 0) (order : ℕ) (region : List ℕ) (reason : Unfit) : Type 0 where
+  pub is : Rejects order region reason
+  pub only : (other : Unfit) → Rejects order region other → other ≡ reason
   pub none : (state : S) (count : ℕ) → Contents order region state count → ⊥
 
--- The refusal of a region: it is not well-formed, or there was no memory to see.
-abbrev pub IsUnfit : {S : Type 0} → (ℕ → List ℕ → S → ℕ → Type 0) → (ℕ → List ℕ → Break → Type 0) → ℕ → List ℕ → Why → Type 0
-IsUnfit Contents FirstBreak order region (Malformed offset rule) = IsMalformed Contents FirstBreak order region (record { offset = offset; rule = rule })
-IsUnfit Contents FirstBreak order region OutOfMemory = Unit {0}
-IsUnfit Contents FirstBreak order region other = ⊥
+-- The refusal of a region: it is of the version before, or else not well-formed, or there was no memory to see.
+abbrev pub IsUnfit : {S : Type 0} → (ℕ → List ℕ → S → ℕ → Type 0) → (ℕ → List ℕ → Unfit → Type 0) → ℕ → List ℕ → Why → Type 0
+IsUnfit Contents Rejects order region (Malformed offset rule) = IsRejected Contents Rejects order region (unfit.Malformed offset rule)
+IsUnfit Contents Rejects order region OldRegion = IsRejected Contents Rejects order region unfit.Old
+IsUnfit Contents Rejects order region OutOfMemory = Unit {0}
+IsUnfit Contents Rejects order region NewRegion = ⊥
+IsUnfit Contents Rejects order region NotAHeap = ⊥
+IsUnfit Contents Rejects order region (BadVersion version) = ⊥
+IsUnfit Contents Rejects order region (BadOrder n) = ⊥
+IsUnfit Contents Rejects order region (BadState word) = ⊥
+IsUnfit Contents Rejects order region (TooSmall need have) = ⊥
+IsUnfit Contents Rejects order region (Twins offset main back) = ⊥
+IsUnfit Contents Rejects order region Device = ⊥
 
--- The refusal of these words, of which the object says what a region stands for and what breaks one first. Header and regions are refused; or else they are accepted, and the region that counts is refused.
-abbrev pub IsRefusal : {S : Type 0} → (ℕ → List ℕ → S → ℕ → Type 0) → (ℕ → List ℕ → Break → Type 0) → List ℕ → Why → Type 0
-IsRefusal Contents FirstBreak words why =
-    IsUnready words why ⊎ ((region : List ℕ) × IsCurrentRegion (named_order words) words region × IsUnfit Contents FirstBreak (named_order words) region why)
+-- The refusal of these words, of which the object says what a region stands for and why one stands for nothing. Header and regions are refused; or else they are accepted, and the region that counts is refused.
+abbrev pub IsRefusal : {S : Type 0} → (ℕ → List ℕ → S → ℕ → Type 0) → (ℕ → List ℕ → Unfit → Type 0) → List ℕ → Why → Type 0
+IsRefusal Contents Rejects words why =
+    IsUnready words why ⊎ ((region : List ℕ) × IsCurrentRegion (named_order words) words region × IsUnfit Contents Rejects (named_order words) region why)

@@ -55,7 +55,7 @@ fn accept<D: Device, O: Object>(alloc: Global, device: &mut D) -> Result<Accepte
     ensures accepted { IsTrue D.shown.tells_words → IfOk result (λ accepted.
         IsCurrentRegion accepted.geometry (D.shown.words device.old) accepted.image.items) }
     ensures refused { IsTrue D.shown.tells_words →
-        IfErr result (IsRefusal O.Contents O.FirstBreak (D.shown.words device.old)) }
+        IfErr result (IsRefusal O.Contents O.Rejects (D.shown.words device.old)) }
     ensures fit { IfOk result (λ accepted.
         (s : O.State) × (k : ℕ) × O.Contents accepted.geometry accepted.image.items s k) }
     ensures sized { IfOk result (λ accepted.
@@ -101,7 +101,7 @@ fn accept<D: Device, O: Object>(alloc: Global, device: &mut D) -> Result<Accepte
 pub fn open_device<D: Device, O: Object>(alloc: Global, device: D) -> Result<Opened<D>, Refused<D>>
     // Where the device tells its words, the answer is exactly theirs.
     ensures answer { IsTrue D.shown.tells_words →
-        IsOpeningAnswer O.Contents O.FirstBreak (D.shown.words device) result }
+        IsOpeningAnswer O.Contents O.Rejects (D.shown.words device) result }
     ensures too_small { D.shown.size device < 8 →
         refusal_of result ≡ Err (TooSmall 8 (D.shown.size device)) }
     ensures sizes { IfErr result (λ refused. NamesTooFew (D.shown.size device) refused.why) }

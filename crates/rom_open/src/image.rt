@@ -12,7 +12,7 @@ use std::alloc::Global;
 pub fn inspect_image<O: Object>(alloc: Global, image: &[u64], geometry: Geometry) -> Result<(), Why>
     requires { length image.now ≡ region_len geometry }
     ensures fit { OnOk result ((s : O.State) × (k : ℕ) × O.Contents geometry image.now s k) }
-    ensures refused { IfErr result (IsUnfit O.Contents O.FirstBreak geometry image.now) }
+    ensures refused { IfErr result (IsUnfit O.Contents O.Rejects geometry image.now) }
 {
     O::inspect(alloc, image, geometry.order())?;
     Ok(())

@@ -3,9 +3,9 @@
 //! What the words of a device hold is an order, and a state and a count of the object: the header
 //! names the order and the region that counts, and that region stands for the state and the count.
 //! [`open_device`] opens the heap that stands there: it reads the header, recovers, keeps in memory the
-//! region that a recovery reads anyway, and has the object inspect it. [`format_device`] makes a new
-//! heap, with the object's empty state. Their contracts say what each refusal comes from, what is
-//! counted, and what a stop at any moment leaves.
+//! region that a recovery reads anyway, and has the object inspect it; [`make_ready`] is all of this but
+//! the inspection. [`format_device`] makes a new heap, with the object's empty state. Their contracts say
+//! what each refusal comes from, what is counted, and what a stop at any moment leaves.
 #![tactic(auto)]
 
 mod from_device;
@@ -16,4 +16,5 @@ mod reasons;
 
 pub use from_device::{Opened, Refused, open_device};
 pub use new_heap::{NotFormatted, format_device, write_heap};
+pub use ready::{Ready, make_ready};
 pub use reasons::Why;

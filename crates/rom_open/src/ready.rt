@@ -22,13 +22,17 @@ use std::alloc::Global;
 /// A heap that was recovered, without its device.
 #[derive(Drop)]
 pub struct Ready {
+    /// That of the order in word 2.
     pub geometry: Geometry,
     /// The words of main, if there was memory for them.
     pub image: Option<Vec<u64>>,
 }
 
 /// Reads the header and recovers the heap, with or without memory for an image, so that a header or
-/// regions that are refused are told before want of memory.
+/// regions that are refused are told before want of memory. No object has looked at the region yet.
+///
+/// It may be stopped at any moment and run again, as an opening may. A refusal by the header or the
+/// regions leaves every word; where the device failed it may be recovered in part.
 pub fn make_ready<D: Device>(alloc: Global, device: &mut D) -> Result<Ready, Why>
     ensures fits { IfOk result (λ ready. words_needed ready.geometry ≤ D.shown.size device.old) }
     ensures done { IsTrue D.shown.tells_words →

@@ -22,6 +22,12 @@ pub enum Why {
     /// The state is IDLE and the regions differ: the least offset at which they do, in words from a
     /// region's start, and the words there.
     Twins { offset: u64, main: u64, back: u64 },
+    /// The region that counts is of version 1. The device has been recovered. An upgrade makes it one of
+    /// version 2.
+    OldRegion,
+    /// The region that counts is of version 2 already, so there is nothing to upgrade. The device has been
+    /// recovered.
+    NewRegion,
     /// The region that counts is not well-formed: the first word that breaks a rule, in words from the
     /// region's start. The device has been recovered.
     Malformed { offset: u64, rule: Rule },
@@ -72,6 +78,7 @@ impl From<Unfit> for Why {
     fn from(unfit: Unfit) -> Why {
         match unfit {
             Unfit::Malformed { offset, rule } => Why::Malformed { offset, rule },
+            Unfit::Old => Why::OldRegion,
             Unfit::OutOfMemory => Why::OutOfMemory,
         }
     }

@@ -5,6 +5,8 @@ use Rattle.rom_model.specs.History.{LAST_COUNT}
 use Rattle.rom_model.specs.Machine.{Machine}
 use Rattle.rom_model.specs.declared.unfit.Break.{Break}
 use Rattle.rom_model.specs.declared.unfit.Rule.TheVariants.{Root}
+use Rattle.rom_model.specs.declared.unfit.Unfit.{Unfit}
+use Rattle.rom_model.specs.declared.unfit.Unfit.TheVariants.{Malformed, Old, OutOfMemory}
 use Rattle.rom_trial.specs.declared.counter.Add.{Add}
 use Rattle.rom_trial.specs.declared.counter.Query.{Query}
 use Rattle.rom_trial.specs.declared.counter.Sum.{Sum}
@@ -51,5 +53,8 @@ first_break words =
     then (if nat_le (slice_index words 2) LAST_COUNT then None else Some (record { offset = 2; rule = Root }))
     else Some (record { offset = 0; rule = Root })
 
-abbrev pub FirstBreak : ℕ → List ℕ → Break → Type 0
-FirstBreak order words e = first_break words ≡ Some e
+-- words are not accepted for their first break; there was no version before
+abbrev pub Rejects : ℕ → List ℕ → Unfit → Type 0
+Rejects order words (Malformed offset rule) = first_break words ≡ Some (record { offset = offset; rule = rule })
+Rejects order words Old = ⊥
+Rejects order words OutOfMemory = ⊥

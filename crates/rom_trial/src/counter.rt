@@ -1,7 +1,8 @@
 //! A sum that is kept in a region: the least object there is.
 ghost use Rattle.std.specs.Prelude.{◌≡◌, ℕ, ◌<◌, Option, Some};
 ghost use Rattle.rom_model.specs.Blocks.{region_len};
-ghost use Rattle.rom_trial.specs.Counter.{Contents, FirstBreak, counter};
+ghost use Rattle.rom_model.specs.Earlier.{no_earlier};
+ghost use Rattle.rom_trial.specs.Counter.{Contents, Rejects, counter};
 ghost use Rattle.rom_trial.specs.Laws.{call_only, contents_within, one_contents, reply_back, reply_only};
 
 use rom_model::{Args, Back, COUNT, KIND, LAST_COUNT, Look, Object, Rule, Space, Unfit};
@@ -62,7 +63,9 @@ impl Object for Counter {
 
     ghost Contents = { Contents };
 
-    ghost FirstBreak = { FirstBreak };
+    ghost Rejects = { Rejects };
+
+    ghost earlier = { no_earlier };
 
     fn weight_of(call: &Add) -> u64 {
         1

@@ -1,11 +1,12 @@
 //! A program that keeps a counter.
 ghost use Rattle.std.specs.Prelude.{◌≡◌, length};
+ghost use Rattle.rom_model.specs.Earlier.{no_earlier};
 ghost use Rattle.rom_run.specs.Plain.{command, scripts_of, use_of};
 ghost use Rattle.rom_run.specs.Played.{IsText};
 ghost use Rattle.rom_run.specs.Promise.{Promise};
 ghost use Rattle.rom_text.specs.Lines.{AreScripts};
 ghost use Rattle.rom_text.specs.Text.{texts_of};
-ghost use Rattle.rom_trial.specs.Counter.{Contents, FirstBreak, counter};
+ghost use Rattle.rom_trial.specs.Counter.{Contents, Rejects, counter};
 ghost use Rattle.rom_trial.specs.Language.{Reads, shown_sum};
 
 use crate::counter::Counter;
@@ -29,7 +30,7 @@ pub fn run_counter<R: Threads + Wait + Sync, D: Device + Send, S: Source, O: Sin
     gate: &G,
 ) -> Ended<D, S>
     requires { length scripts.items ≡ length (scripts_of (command words.now)) }
-    ensures promise { Promise counter Contents FirstBreak D.shown S.shown O.shown
+    ensures promise { Promise counter Contents Rejects no_earlier D.shown S.shown O.shown
         (AreScripts Reads S.shown) (IsText O.shown (texts_of shown_sum shown_sum))
         (use_of (command words.now)) device result.device scripts result.scripts out.old out.new
         result.status result.session }
