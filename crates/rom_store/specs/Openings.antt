@@ -2,7 +2,7 @@
 use Rattle.std.specs.Prelude.{◌≡◌, ℕ, List, [], Err, IsTrue}
 use Rattle.atomic_table.specs.Seated.{TableId}
 use Rattle.rom_model.specs.VecSpace.{words_of}
-use Rattle.rom_model.specs.declared.unfit.Break.{Break}
+use Rattle.rom_model.specs.declared.unfit.Unfit.{Unfit}
 use Rattle.rom_device.specs.Device.{IsSynced, Leaves, ShownDevice}
 use Rattle.rom_header.specs.Regions.{IsCurrentRegion}
 use Rattle.rom_recover.specs.Recovered.{IsDone, Mended}
@@ -40,15 +40,15 @@ pub record IsOpening {D S : Type 0} (shown : ShownDevice D) (Contents : ℕ → 
   pub faults_now : shown.faults c.twin.device ≡ begun.faults
 
 -- The heap on a device was not opened, for this reason, and the device is handed back.
-pub record HasBeenRefused {D S : Type 0} (shown : ShownDevice D) (Contents : ℕ → List ℕ → S → ℕ → Type 0) (FirstBreak : ℕ → List ℕ → Break → Type 0) (was now : D) (why : Why) : Type 0 where
+pub record HasBeenRefused {D S : Type 0} (shown : ShownDevice D) (Contents : ℕ → List ℕ → S → ℕ → Type 0) (Rejects : ℕ → List ℕ → Unfit → Type 0) (was now : D) (why : Why) : Type 0 where
   -- it is the first test that fails, and too few words are told by their number
-  pub refused : IsTrue shown.tells_words → IsRefusal Contents FirstBreak (shown.words was) why
+  pub refused : IsTrue shown.tells_words → IsRefusal Contents Rejects (shown.words was) why
   pub sizes : NamesTooFew (shown.size was) why
   -- the device has its length, of its words only the state and the two regions differ, and the same region counts wherever a stop is
   pub size : shown.size now ≡ shown.size was
   pub outside : IsTrue shown.tells_words → WithinHeap (named_order (shown.words was)) (shown.words was) (shown.words now)
   pub images : IsTrue shown.tells_images → Leaves shown (Mended (named_order (shown.words was)) (shown.words was)) was now
-  -- after a malformed region, or for want of memory, it has been recovered
+  -- after a region of version 1 or one that is malformed, or for want of memory, it has been recovered
   pub recovered : IsTrue shown.tells_words → IsTrue (is_late why) → IsDone (named_order (shown.words was)) (shown.words was) (shown.words now)
   pub certain : IsTrue (is_late why) → IsSynced shown now
   -- it was called as often as an opening calls it that ends so, which is no more than any does, and not after a call that failed

@@ -7,7 +7,7 @@ use Rattle.rom_model.specs.Lawful.{IsLawful}
 use Rattle.rom_model.specs.Machine.{Machine, on_words}
 use Rattle.rom_model.specs.Passes.{faults_after}
 use Rattle.rom_model.specs.declared.line.LineResult.{LineResult}
-use Rattle.rom_model.specs.declared.unfit.Break.{Break}
+use Rattle.rom_model.specs.declared.unfit.Unfit.{Unfit}
 use Rattle.rom_model.specs.declared.line.Step.{Step}
 use Rattle.rom_device.specs.Device.{Leaves, ShownDevice}
 use Rattle.rom_combine.specs.Costs.{WithinHeap}
@@ -40,9 +40,9 @@ pub record CanPlay {S X R A : Type 0} (Contents : ℕ → List ℕ → S → ℕ
   pub few : All (λ v. length v.items ≤ LAST_COUNT) scripts
 
 -- Why scripts were not played: there was no memory for what they are told, and the device was not called; or the heap was not opened.
-abbrev pub IsUnplayed : {D S : Type 0} → ShownDevice D → (ℕ → List ℕ → S → ℕ → Type 0) → (ℕ → List ℕ → Break → Type 0) → D → Unplayed D → Type 0
-IsUnplayed shown Contents FirstBreak was (NoRoom device) = device ≡ was
-IsUnplayed shown Contents FirstBreak was (Unopened refused) = HasBeenRefused shown Contents FirstBreak was refused.device refused.why
+abbrev pub IsUnplayed : {D S : Type 0} → ShownDevice D → (ℕ → List ℕ → S → ℕ → Type 0) → (ℕ → List ℕ → Unfit → Type 0) → D → Unplayed D → Type 0
+IsUnplayed shown Contents Rejects was (NoRoom device) = device ≡ was
+IsUnplayed shown Contents Rejects was (Unopened refused) = HasBeenRefused shown Contents Rejects was refused.device refused.why
 
 module _ {D S C Q R A : Type 0} (shown : ShownDevice D) (machine : Machine S C Q R A) (Contents : ℕ → List ℕ → S → ℕ → Type 0) (scripts : List (Vec (Step C Q))) (results : List (Vec (LineResult R A))) where
   -- What every session of scripts is. It has a story, and of each: what the lines were told is lawful; each image that a stop leaves now holds the published history, or that with the batch in doubt; the device went through the passes of the records, from one on of which First holds, and they have no more faults than it counts.

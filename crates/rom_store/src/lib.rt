@@ -38,6 +38,7 @@ pub use reading::Reading;
 pub use rom_combine::{Gate, NoGate};
 pub use rom_lr::{Note, Steps};
 pub use rom_open::{NotFormatted, Opened, Refused, Why, format_device, open_device, write_heap};
+pub use rom_upgrade::upgrade_device;
 pub use running::Played;
 pub use session::Session;
 pub use store::Store;

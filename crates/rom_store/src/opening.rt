@@ -191,7 +191,7 @@ pub fn open_store<D: Device + Send, O: Object>(
         CallsOfOrder D.shown (base_of o.key).order device o.device) }
 
     // Else the device is refused by the first test that fails, and handed back.
-    ensures refused { IfErr result (λ refused. HasBeenRefused D.shown O.Contents O.FirstBreak device
+    ensures refused { IfErr result (λ refused. HasBeenRefused D.shown O.Contents O.Rejects device
         refused.device refused.why) }
 {
     let Opened {

@@ -79,7 +79,7 @@ where
         (SessionImage O.Contents (on_words O.machine) story) device played.closed.device)) }
 
     // Else the device was not called for want of memory for the results, or the heap was not opened.
-    ensures unplayed { IfErr result (IsUnplayed D.shown O.Contents O.FirstBreak device) }
+    ensures unplayed { IfErr result (IsUnplayed D.shown O.Contents O.Rejects device) }
 {
     let Ok(rooms) = Rooms::for_scripts(alloc, scripts) else {
         return Err(Unplayed::NoRoom(device));

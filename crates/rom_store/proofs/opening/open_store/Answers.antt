@@ -100,7 +100,7 @@ returns-in_err-device-clause-refused g c =
     let words = shown.words c.args.device in
     let ensures = c.in_err-device.ensures in
     let is : c.from_residual.result ≡ Err refused = grind (arith, common_steps) in
-    subst (λ r. IfErr r (λ e. HasBeenRefused shown g.O.Object.Contents g.O.Object.FirstBreak c.args.device e.device e.why)) (sym is) record {
+    subst (λ r. IfErr r (λ e. HasBeenRefused shown g.O.Object.Contents g.O.Object.Rejects c.args.device e.device e.why)) (sym is) record {
       refused = ensures.answer;
       sizes = ensures.sizes;
       size = ensures.left.size;
