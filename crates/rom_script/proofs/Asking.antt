@@ -40,6 +40,7 @@ query_joined (query.Get k) = refl
 query_joined query.Peek = refl
 query_joined query.Len = refl
 query_joined query.Total = refl
+query_joined (query.Fresh place) = refl
 
 -- the name of an update is a word
 single_named : (c : Single) → is_word (single_phrase c).0 ≡ true
@@ -58,6 +59,7 @@ query_named (query.Get k) = refl
 query_named query.Peek = refl
 query_named query.Len = refl
 query_named query.Total = refl
+query_named (query.Fresh place) = refl
 
 -- the words of an update's line
 single_words : (c : Single) → line_words (single_line c) ≡ phrase_words (single_phrase c).0 (single_phrase c).1
@@ -93,6 +95,7 @@ query_fits (query.Get k) fits = (fits, tt)
 query_fits query.Peek fits = tt
 query_fits query.Len fits = tt
 query_fits query.Total fits = tt
+query_fits (query.Fresh place) fits = (fits, tt)
 
 fits_query : (q : Query) → NumbersFit (query_phrase q).1 → QueryFits q
 fits_query (query.Has k) fit = fit.0
@@ -100,6 +103,7 @@ fits_query (query.Get k) fit = fit.0
 fits_query query.Peek fit = tt
 fits_query query.Len fit = tt
 fits_query query.Total fit = tt
+fits_query (query.Fresh place) fit = fit.0
 
 -- no update of one structure and no query has more than three numbers
 single_is_short : (c : Single) → length (single_phrase c).1 ≤ 3
@@ -117,6 +121,7 @@ query_is_short (query.Get k) = omega arith
 query_is_short query.Peek = omega arith
 query_is_short query.Len = omega arith
 query_is_short query.Total = omega arith
+query_is_short (query.Fresh place) = omega arith
 
 -- such an update is asked for by its words alone
 pub update_reads : (line name numbers : List ℕ) (c : Single) → line_words line ≡ phrase_words name numbers → NumbersFit numbers → (name, numbers) ≡ single_phrase c → SingleFits c × (line ≡ single_line c)

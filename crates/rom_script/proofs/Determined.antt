@@ -28,7 +28,8 @@ answer_of w v =
     (if bytes_eq w (codes "value") then answer.Value v else
     (if bytes_eq w (codes "none") then answer.Missing else
     (if bytes_eq w (codes "head") then answer.Head v else
-    (if bytes_eq w (codes "empty") then answer.Empty else answer.Total v)))))
+    (if bytes_eq w (codes "empty") then answer.Empty else
+    (if bytes_eq w (codes "total") then answer.Total v else answer.Fresh v))))))
 
 -- what stands before `@` and a place, or before `#` and a front
 abbrev placed : List ℕ → ℕ → ℕ → ℕ → LineResult Reply Answer
@@ -178,6 +179,7 @@ answer_read (answer.Head v) n rest fits lt = numbered (codes "head") v 35 n rest
 answer_read answer.Empty n rest fits lt = bare (codes "empty") 35 n rest refl refl refl lt
 answer_read (answer.Sizes q s m) n rest fits lt = sizes_read q s m n rest fits lt
 answer_read (answer.Total t) n rest fits lt = numbered (codes "total") t 35 n rest refl refl refl fits lt
+answer_read (answer.Fresh c) n rest fits lt = numbered (codes "fresh") c 35 n rest refl refl refl (wide c fits) lt
 
 -- a result's line is read as the result
 result_read : (r : LineResult Reply Answer) (rest : List ℕ) → ResultFits trio_texts r → read (line_text (result_text trio_texts r) ++ rest) ≡ with_result r (read rest)

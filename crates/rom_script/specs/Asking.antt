@@ -28,6 +28,7 @@ query_phrase (query.Get k) = (codes "get", k ∷ [])
 query_phrase query.Peek = (codes "peek", [])
 query_phrase query.Len = (codes "len", [])
 query_phrase query.Total = (codes "total", [])
+query_phrase (query.Fresh place) = (codes "fresh", place ∷ [])
 
 -- They are those of the update. Of a group they never are: its line is no word with numbers behind it.
 abbrev pub AsksUpdate : List ℕ → List ℕ → Kind Single (List Single) → Type 0

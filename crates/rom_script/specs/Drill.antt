@@ -36,7 +36,7 @@ move_call callers q = Move (q % (4 * callers)) (q / 64 % (4 * callers)) (q % 100
 abbrev pub set_call : ℕ → ℕ → Call
 set_call caller q = if q / 8 % 2 == 0 then Add (8 * (caller - 1) + q % 8) else Rem (8 * (caller - 1) + q % 8)
 
--- one of the five queries, on any caller's keys and numbers
+-- one of five queries, on any caller's keys and numbers
 abbrev pub query : ℕ → ℕ → Query
 query callers q =
     if q % 5 == 0 then Get (q / 5 % (4 * callers)) else

@@ -46,6 +46,7 @@ query_line (query.Get k) = codes "get" ++ spaced k
 query_line query.Peek = codes "peek"
 query_line query.Len = codes "len"
 query_line query.Total = codes "total"
+query_line (query.Fresh place) = codes "fresh" ++ spaced place
 
 -- each number of an update of one structure has at most 64 bits
 abbrev pub SingleFits : Single → Type 0
@@ -77,6 +78,7 @@ QueryFits (query.Get k) = k < 2 ^ 64
 QueryFits query.Peek = Unit {0}
 QueryFits query.Len = Unit {0}
 QueryFits query.Total = Unit {0}
+QueryFits (query.Fresh place) = place < 2 ^ 64
 
 -- each number of a step has at most 64 bits
 abbrev pub StepFits : Step Call Query → Type 0

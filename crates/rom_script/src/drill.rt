@@ -49,7 +49,7 @@ fn set_call(caller: u64, q: u64) -> Call
     }
 }
 
-/// One of the five queries, on any caller's keys and numbers.
+/// One of five queries, on any caller's keys and numbers.
 fn query(callers: u64, q: u64) -> Query
     requires callers { (1 ≤ callers) × (callers ≤ 16) }
     ensures { result ≡ numbered.query callers q }

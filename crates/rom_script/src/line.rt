@@ -24,6 +24,7 @@ fn asked_query(name: &[u8], numbers: &[u64]) -> Option<Query>
         (b"peek", []) => Some(Query::Peek),
         (b"len", []) => Some(Query::Len),
         (b"total", []) => Some(Query::Total),
+        (b"fresh", [place]) => Some(Query::Fresh(*place)),
         _ => None,
     }
 }

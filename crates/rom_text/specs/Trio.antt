@@ -51,6 +51,7 @@ answer_text (answer.Head v) = codes "head " ++ decimal v
 answer_text answer.Empty = codes "empty"
 answer_text (answer.Sizes queue set map) = codes "queue " ++ decimal queue ++ codes " set " ++ decimal set ++ codes " map " ++ decimal map
 answer_text (answer.Total t) = codes "total " ++ decimal t
+answer_text (answer.Fresh c) = codes "fresh " ++ decimal c
 
 -- the numbers of a reply are words
 abbrev pub SingleFits : SingleReply → Type 0
@@ -68,11 +69,15 @@ ReplyFits r = KindFits (reply_kind r)
 
 -- the numbers of an answer are words, and a total has at most 128 bits
 abbrev pub AnswerFits : Answer → Type 0
+AnswerFits answer.Yes = Unit {0}
+AnswerFits answer.No = Unit {0}
 AnswerFits (answer.Value v) = v < 2 ^ 64
+AnswerFits answer.Missing = Unit {0}
 AnswerFits (answer.Head v) = v < 2 ^ 64
+AnswerFits answer.Empty = Unit {0}
 AnswerFits (answer.Sizes queue set map) = (queue < 2 ^ 64) × (set < 2 ^ 64) × (map < 2 ^ 64)
 AnswerFits (answer.Total t) = t < 2 ^ 128
-AnswerFits other = Unit {0}
+AnswerFits (answer.Fresh c) = c < 2 ^ 64
 
 -- how replies and answers are printed
 abbrev pub shown_single : ShownTold SingleReply

@@ -99,6 +99,7 @@ impl Told for Answer {
                 print_pieces(out, &["queue ", queue, " set ", set, " map ", map])
             }
             Answer::Total(t) => print_pieces(out, &["total ", digits.format(*t)]),
+            Answer::Fresh(c) => print_pieces(out, &["fresh ", digits.format(*c)]),
         }
     }
 }

@@ -5,17 +5,17 @@ use Rattle.std.specs.List.{list_all}
 use Rattle.std.specs.Str.{bytes_eq}
 use Rattle.std.proofs.lemmas.Bool.Decides.{nat_tests}
 use Rattle.std.proofs.lemmas.Slice.Eq.{bytes_eq-Decides}
-use Rattle.clap.specs.Walk.{Row, Text, nothing_held, walk_from}
+use Rattle.clap.specs.Walk.{Row, Text, all_of, nothing_held, walk_from}
 use Rattle.clap.specs.Simple.{Shape, subcommand_of}
 use Rattle.clap.specs.Takes.{takes}
 use Rattle.rom_words.specs.CommandLine.{HasValue, HasWords, command_line}
-use Rattle.rom_words.specs.Words.{Command, Try, Run, Format, Stat, Drill, are_scripts, both_of, command, command_of, drill_from, drill_of, format_of, is_full, number_within, run_of, said, stat_of, try_of}
+use Rattle.rom_words.specs.Words.{Command, Try, Run, Format, Stat, Upgrade, Drill, are_scripts, both_of, command, command_of, drill_from, drill_of, file_alone, format_of, is_full, number_within, run_of, said, stat_of, try_of, upgrade_of}
 use Rattle.rom_words.specs.Words as spec
 use Rattle.rom_words.proofs.Many.{Later, Then, later_ends, later_option, later_plain, then_ends, then_option, then_plain}
-use Rattle.rom_words.proofs.One.{Each, IsOption, One, one_begins, one_ends, one_option, one_plain, said_as, Want}
+use Rattle.rom_words.proofs.One.{Each, IsFirst, IsOption, One, one_begins, one_ends, one_option, one_plain, said_as, Want}
 use Rattle.rom_words.proofs.Rows.{Rests, row}
-use Rattle.rom_words.proofs.Shapes.{calls_of_drill, callers_of_drill, file_before_scripts, file_of_format, file_of_stat, has_drill, has_format, has_run, has_stat, has_try, its_rule, leaf, order_of_format, scripts_of_run, scripts_of_try, start_of_drill}
-use Rattle.rom_words.proofs.Taken.{its_rows, taken}
+use Rattle.rom_words.proofs.Shapes.{calls_of_drill, callers_of_drill, file_before_scripts, file_of_format, file_of_stat, file_of_upgrade, has_drill, has_format, has_run, has_stat, has_try, has_upgrade, its_rule, leaf, order_of_format, scripts_of_run, scripts_of_try, start_of_drill}
+use Rattle.rom_words.proofs.Taken.{HasSub, its_rows, taken}
 use Rattle.rom_words.proofs.Turns.{Ends, walks}
 
 -- `clap` takes the words, and has what the command names
@@ -30,18 +30,20 @@ nothing_rests s = record { rows_are = refl; settles = refl }
 
 -- ---- one plain word, and options
 
-stat_found : (words : List Text) (f : Text) → said words None ≡ Some (record { plain = f ∷ []; options = [] }) → Matches (Stat f) (codes "stat" ∷ words)
-stat_found words f e =
-    let s = leaf (codes "stat") in
-    let p = its_rule (codes "stat") 0 in
+-- a command of this name that takes a file alone
+file_found : (name : Text) (c : Command) (words : List Text) (f : Text) → HasSub command_line name (leaf name) → IsFirst (leaf name) (its_rule name 0) f →
+    ((rows : List Row) → all_of (its_rule name 0).id rows ≡ Some (f ∷ []) → HasWords c rows) → said words None ≡ Some (record { plain = f ∷ []; options = [] }) → Matches c (name ∷ words)
+file_found name c words f has first gives e =
+    let s = leaf name in
+    let p = its_rule name 0 in
     let ends : Ends s (One s p f []) words (walk_from nothing_held) =
-    walks s (One s p f []) (one_plain s p f (file_of_stat f) []) (one_option s p f (file_of_stat f) []) words nothing_held _ e (one_begins s p f [] nothing_held (nothing_rests s) tt tt) in
+    walks s (One s p f []) (one_plain s p f first []) (one_option s p f first []) words nothing_held _ e (one_begins s p f [] nothing_held (nothing_rests s) tt tt) in
     let o = one_ends s p f [] ends.position _ ends.last in
     record {
-      takes = taken command_line (codes "stat") s has_stat words ends.passes o.rows o.rests;
+      takes = taken command_line name s has words ends.passes o.rows o.rests;
       rows = o.rows;
-      its = its_rows command_line (codes "stat") s has_stat words ends.passes o.rows o.rests;
-      has = o.plain;
+      its = its_rows command_line name s has words ends.passes o.rows o.rests;
+      has = gives o.rows o.plain;
     }
 
 format_found : (words : List Text) (f v : Text) (n : ℕ) → said words None ≡ Some (record { plain = f ∷ []; options = (codes "order", v) ∷ [] }) → number_within 4 16 v ≡ Some n →
@@ -189,16 +191,28 @@ from_format words (f ∷ []) (o ∷ []) c e is = go (is_full f) (bytes_eq o.0 (c
         let named : o.0 ≡ codes "order" = (bytes_eq-Decides o.0 (codes "order")).0 t in
         given (Format f n) c _ is (format_found words f o.1 n (e ∙ ap (λ name. Some (record { plain = f ∷ []; options = (name, o.1) ∷ [] })) named) m)
 
+-- from one that takes a file alone
+from_file : (make : Text → Command) (name : Text) (words plain : List Text) (options : List (Text × Text)) (c : Command) →
+    ((f : Text) → said words None ≡ Some (record { plain = f ∷ []; options = [] }) → Matches (make f) (name ∷ words)) →
+    said words None ≡ Some (record { plain = plain; options = options }) → option_map make (file_alone plain options) ≡ Some c → Matches c (name ∷ words)
+from_file make name words [] options c found e is = cc
+from_file make name words (f ∷ g ∷ gs) options c found e is = cc
+from_file make name words (f ∷ []) (o ∷ os) c found e is = cc
+from_file make name words (f ∷ []) [] c found e is = go (is_full f) is
+  where
+    go : (a : Bool) → option_map make (cond a (Some f) None) ≡ Some c → Matches c (name ∷ words)
+    go false is = cc
+    go true is = given (make f) c _ is (found f e)
+
 from_stat : (words plain : List Text) (options : List (Text × Text)) (c : Command) → said words None ≡ Some (record { plain = plain; options = options }) → stat_of plain options ≡ Some c →
     Matches c (codes "stat" ∷ words)
-from_stat words [] options c e is = cc
-from_stat words (f ∷ g ∷ gs) options c e is = cc
-from_stat words (f ∷ []) (o ∷ os) c e is = cc
-from_stat words (f ∷ []) [] c e is = go (is_full f) is
-  where
-    go : (a : Bool) → cond a (Some (Stat f)) None ≡ Some c → Matches c (codes "stat" ∷ words)
-    go false is = cc
-    go true is = given (Stat f) c _ is (stat_found words f e)
+from_stat words plain options c =
+    from_file Stat (codes "stat") words plain options c (λ f. file_found (codes "stat") (Stat f) words f has_stat (file_of_stat f) (λ rows has. has))
+
+from_upgrade : (words plain : List Text) (options : List (Text × Text)) (c : Command) → said words None ≡ Some (record { plain = plain; options = options }) → upgrade_of plain options ≡ Some c →
+    Matches c (codes "upgrade" ∷ words)
+from_upgrade words plain options c =
+    from_file Upgrade (codes "upgrade") words plain options c (λ f. file_found (codes "upgrade") (Upgrade f) words f has_upgrade (file_of_upgrade f) (λ rows has. has))
 
 from_numbers : (words : List Text) (f a b : Text) (c : Command) (x y z : Option ℕ) →
     number_within 0 18446744073709551615 f ≡ x → number_within 1 16 a ≡ y → number_within 1 10000 b ≡ z → drill_from x y z ≡ Some c →
@@ -247,21 +261,24 @@ matched (name ∷ words) c e = go (said words None) refl e
     renamed : (other : Text) → bytes_eq name other ≡ true → Matches c (other ∷ words) → Matches c (name ∷ words)
     renamed other t m = subst (λ name. Matches c (name ∷ words)) (sym ((bytes_eq-Decides name other).0 t)) m
 
-    by_name : (s : spec.Said) → said words None ≡ Some s → (t u v w x : Bool) → bytes_eq name (codes "try") ≡ t → bytes_eq name (codes "run") ≡ u → bytes_eq name (codes "format") ≡ v →
-        bytes_eq name (codes "stat") ≡ w → bytes_eq name (codes "drill") ≡ x →
-        cond t (try_of s.plain s.options) (cond u (run_of s.plain s.options) (cond v (format_of s.plain s.options) (cond w (stat_of s.plain s.options) (cond x (drill_of s.plain s.options) None)))) ≡ Some c →
+    by_name : (s : spec.Said) → said words None ≡ Some s → (t u v w x y : Bool) → bytes_eq name (codes "try") ≡ t → bytes_eq name (codes "run") ≡ u → bytes_eq name (codes "format") ≡ v →
+        bytes_eq name (codes "stat") ≡ w → bytes_eq name (codes "upgrade") ≡ x → bytes_eq name (codes "drill") ≡ y →
+        cond t (try_of s.plain s.options) (cond u (run_of s.plain s.options) (cond v (format_of s.plain s.options) (cond w (stat_of s.plain s.options)
+        (cond x (upgrade_of s.plain s.options) (cond y (drill_of s.plain s.options) None))))) ≡ Some c →
         Matches c (name ∷ words)
-    by_name s is true u v w x k _ _ _ _ e = renamed (codes "try") k (from_try words s.plain s.options c is e)
-    by_name s is false true v w x _ k _ _ _ e = renamed (codes "run") k (from_run words s.plain s.options c is e)
-    by_name s is false false true w x _ _ k _ _ e = renamed (codes "format") k (from_format words s.plain s.options c is e)
-    by_name s is false false false true x _ _ _ k _ e = renamed (codes "stat") k (from_stat words s.plain s.options c is e)
-    by_name s is false false false false true _ _ _ _ k e = renamed (codes "drill") k (from_drill words s.plain s.options c is e)
-    by_name s is false false false false false _ _ _ _ _ e = cc
+    by_name s is true u v w x y k _ _ _ _ _ e = renamed (codes "try") k (from_try words s.plain s.options c is e)
+    by_name s is false true v w x y _ k _ _ _ _ e = renamed (codes "run") k (from_run words s.plain s.options c is e)
+    by_name s is false false true w x y _ _ k _ _ _ e = renamed (codes "format") k (from_format words s.plain s.options c is e)
+    by_name s is false false false true x y _ _ _ k _ _ e = renamed (codes "stat") k (from_stat words s.plain s.options c is e)
+    by_name s is false false false false true y _ _ _ _ k _ e = renamed (codes "upgrade") k (from_upgrade words s.plain s.options c is e)
+    by_name s is false false false false false true _ _ _ _ _ k e = renamed (codes "drill") k (from_drill words s.plain s.options c is e)
+    by_name s is false false false false false false _ _ _ _ _ _ e = cc
 
     go : (o : Option spec.Said) → said words None ≡ o → option_and_then (command_of name) o ≡ Some c → Matches c (name ∷ words)
     go None is e = cc
     go (Some s) is e =
-        by_name s is (bytes_eq name (codes "try")) (bytes_eq name (codes "run")) (bytes_eq name (codes "format")) (bytes_eq name (codes "stat")) (bytes_eq name (codes "drill")) refl refl refl refl refl e
+        by_name s is (bytes_eq name (codes "try")) (bytes_eq name (codes "run")) (bytes_eq name (codes "format")) (bytes_eq name (codes "stat")) (bytes_eq name (codes "upgrade")) (bytes_eq name (codes "drill"))
+        refl refl refl refl refl refl e
 
 pub taken_where_some : (words : List Text) → IsSome (command words) → takes command_line words ≡ true
 taken_where_some words some = go (command words) refl some

@@ -7,10 +7,9 @@ use Rattle.std.proofs.lemmas.List.{append_assoc, length-append, length-map, map-
 use Rattle.std.proofs.lemmas.List.Folds.{list_all-map}
 use Rattle.std.proofs.lemmas.Bool.{lt-ltb}
 use Rattle.std.proofs.lemmas.Bool.Decides.{nat_tests}
-use Rattle.std.proofs.lemmas.Slice.Eq.{bytes_eq-Decides}
 use Rattle.rom_words.specs.declared.said.Said.{Said}
 use Rattle.rom_words.specs.Wanted.{sort_at, texts, told}
-use Rattle.rom_words.specs.Words.{begins_with_dash, said, said_by, with_plain, with_option, Command, Run, Drill, are_scripts, both_of, command, command_of, drill_from, drill_of, format_of, is_full, number_within, run_of, stat_of, try_of}
+use Rattle.rom_words.specs.Words.{begins_with_dash, said, said_by, with_plain, with_option, Command, Run, Stat, Upgrade, Drill, are_scripts, both_of, command, command_of, drill_from, drill_of, file_alone, format_of, is_full, number_within, run_of, try_of}
 use Rattle.rom_words.specs.Words as spec
 
 -- what stands before, and then what is said
@@ -168,12 +167,12 @@ format_none (f ∷ []) (o ∷ p ∷ ps) h = refl
 format_none (f ∷ []) (o ∷ []) (inl h) = absurd (omega (arith, h))
 format_none (f ∷ []) (o ∷ []) (inr h) = absurd (omega (arith, h))
 
-stat_none : (plain : List (List ℕ)) (options : List (List ℕ × List ℕ)) → IsTooMuch plain options → stat_of plain options ≡ None
-stat_none [] options h = refl
-stat_none (f ∷ g ∷ gs) options h = refl
-stat_none (f ∷ []) (o ∷ os) h = refl
-stat_none (f ∷ []) [] (inl h) = absurd (omega (arith, h))
-stat_none (f ∷ []) [] (inr h) = absurd (omega (arith, h))
+file_none : (plain : List (List ℕ)) (options : List (List ℕ × List ℕ)) → IsTooMuch plain options → file_alone plain options ≡ None
+file_none [] options h = refl
+file_none (f ∷ g ∷ gs) options h = refl
+file_none (f ∷ []) (o ∷ os) h = refl
+file_none (f ∷ []) [] (inl h) = absurd (omega (arith, h))
+file_none (f ∷ []) [] (inr h) = absurd (omega (arith, h))
 
 drill_none : (plain : List (List ℕ)) (options : List (List ℕ × List ℕ)) → IsTooMuch plain options → drill_of plain options ≡ None
 drill_none [] options h = refl
@@ -193,8 +192,9 @@ too_much name s h =
     none_if (bytes_eq name (codes "try")) _ _ (try_none s.plain s.options h)
     (none_if (bytes_eq name (codes "run")) _ _ (run_none s.plain s.options h)
     (none_if (bytes_eq name (codes "format")) _ _ (format_none s.plain s.options h)
-    (none_if (bytes_eq name (codes "stat")) _ _ (stat_none s.plain s.options h)
-    (none_if (bytes_eq name (codes "drill")) _ _ (drill_none s.plain s.options h) refl))))
+    (none_if (bytes_eq name (codes "stat")) _ _ (ap (option_map Stat) (file_none s.plain s.options h))
+    (none_if (bytes_eq name (codes "upgrade")) _ _ (ap (option_map Upgrade) (file_none s.plain s.options h))
+    (none_if (bytes_eq name (codes "drill")) _ _ (drill_none s.plain s.options h) refl)))))
 
 -- words that say nothing, or too much, are no command
 pub unsaid : (name : List ℕ) (words : List (List ℕ)) → ((s : spec.Said) → said words None ≡ Some s → IsTooMuch s.plain s.options) → command (name ∷ words) ≡ None

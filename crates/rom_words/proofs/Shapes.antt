@@ -44,6 +44,10 @@ pub has_stat : HasSub command_line (codes "stat") (leaf (codes "stat"))
 unfolding clap_on_literals
 has_stat = record { simple = refl; bare = λ _. refl; passes = refl; met = refl; found = refl; top_defaults = refl; top_valid = λ _ _. refl; defaults = refl; no_defaults = (refl, tt); valid = λ _. refl }
 
+pub has_upgrade : HasSub command_line (codes "upgrade") (leaf (codes "upgrade"))
+unfolding clap_on_literals
+has_upgrade = record { simple = refl; bare = λ _. refl; passes = refl; met = refl; found = refl; top_defaults = refl; top_valid = λ _ _. refl; defaults = refl; no_defaults = (refl, tt); valid = λ _. refl }
+
 pub has_drill : HasSub command_line (codes "drill") (leaf (codes "drill"))
 unfolding clap_on_literals
 has_drill = record { simple = refl; bare = λ _. refl; passes = refl; met = refl; found = refl; top_defaults = refl; top_valid = λ _ _. refl; defaults = refl; no_defaults = (refl, (refl, (refl, tt))); valid = λ _. refl }
@@ -61,6 +65,9 @@ file_of_format f = record { single = record { own = refl; once = refl; takes = r
 
 pub file_of_stat : (f : Text) → IsFirst (leaf (codes "stat")) (its_rule (codes "stat") 0) f
 file_of_stat f = record { single = record { own = refl; once = refl; takes = refl; set = refl }; found = refl; passes = λ rows e. rw e; self = refl; untrailing = refl }
+
+pub file_of_upgrade : (f : Text) → IsFirst (leaf (codes "upgrade")) (its_rule (codes "upgrade") 0) f
+file_of_upgrade f = record { single = record { own = refl; once = refl; takes = refl; set = refl }; found = refl; passes = λ rows e. rw e; self = refl; untrailing = refl }
 
 pub start_of_drill : (f : Text) → IsFirst (leaf (codes "drill")) (its_rule (codes "drill") 0) f
 start_of_drill f = record { single = record { own = refl; once = refl; takes = refl; set = refl }; found = refl; passes = λ rows e. rw e; self = refl; untrailing = refl }

@@ -5,7 +5,7 @@ use Rattle.clap.specs.Matches.{matched_of, raw_values}
 use Rattle.clap.specs.declared.parser.matches.Found.{Found}
 use Rattle.clap.specs.Simple.{App, new_app, new_rule, on_top, with_rule, with_subcommand}
 use Rattle.clap.specs.declared.builder.action.ArgAction.TheVariants.{Set}
-use Rattle.rom_words.specs.Words.{Command, Try, Run, Format, Stat, Drill, number_within}
+use Rattle.rom_words.specs.Words.{Command, Try, Run, Format, Stat, Upgrade, Drill, number_within}
 
 -- a plain word
 abbrev pub plain_rule : Text → Rule
@@ -23,13 +23,18 @@ option_rule name = record (new_rule name) { long = Some name }
 abbrev pub bare_app : App
 bare_app = on_top (λ s. record s { no_binary_name = true; disable_help_flag = true; disable_help_subcommand = true }) (new_app (codes "romulus"))
 
+-- a command of this name with a file alone
+abbrev pub file_app : Text → App
+file_app name = with_rule (new_app name) (plain_rule (codes "FILE"))
+
 abbrev pub command_line : App
 command_line =
-    with_subcommand (with_subcommand (with_subcommand (with_subcommand (with_subcommand bare_app
+    with_subcommand (with_subcommand (with_subcommand (with_subcommand (with_subcommand (with_subcommand bare_app
     (with_rule (new_app (codes "try")) scripts_rule).top)
     (with_rule (with_rule (new_app (codes "run")) (plain_rule (codes "FILE"))) scripts_rule).top)
     (with_rule (with_rule (new_app (codes "format")) (plain_rule (codes "FILE"))) (option_rule (codes "order"))).top)
-    (with_rule (new_app (codes "stat")) (plain_rule (codes "FILE"))).top)
+    (file_app (codes "stat")).top)
+    (file_app (codes "upgrade")).top)
     (with_rule (with_rule (with_rule (new_app (codes "drill")) (plain_rule (codes "START"))) (option_rule (codes "callers"))) (option_rule (codes "calls"))).top
 
 -- the argument has this one value
@@ -46,6 +51,7 @@ HasWords (Try scripts) rows = all_of (codes "SCRIPT") rows ≡ Some scripts
 HasWords (Run file scripts) rows = HasValue rows (codes "FILE") file × (all_of (codes "SCRIPT") rows ≡ Some scripts)
 HasWords (Format file order) rows = HasValue rows (codes "FILE") file × HasNumber rows (codes "order") 4 16 order
 HasWords (Stat file) rows = HasValue rows (codes "FILE") file
+HasWords (Upgrade file) rows = HasValue rows (codes "FILE") file
 HasWords (Drill start callers calls) rows =
     HasNumber rows (codes "START") 0 18446744073709551615 start × HasNumber rows (codes "callers") 1 16 callers × HasNumber rows (codes "calls") 1 10000 calls
 

@@ -12,7 +12,7 @@ use Rattle.rom_words.specs.declared.words.Matched.TheVariants as matched
 use Rattle.rom_words.specs.declared.said.Said.{Said}
 use Rattle.rom_words.specs.declared.said.Sort.{Sort}
 use Rattle.rom_words.specs.declared.said.Sort.TheVariants as sort
-use Rattle.rom_words.specs.Words.{Command, Try, Run, Format, Stat, Drill}
+use Rattle.rom_words.specs.Words.{Command, Try, Run, Format, Stat, Upgrade, Drill}
 use Rattle.rom_words.specs.Words as spec
 
 -- the texts behind references
@@ -41,6 +41,7 @@ named (Some (asked.Try scripts)) = Some (Try (texts scripts.items))
 named (Some (asked.Run file scripts)) = Some (Run file.now (texts scripts.items))
 named (Some (asked.Format file order)) = Some (Format file.now order)
 named (Some (asked.Stat file)) = Some (Stat file.now)
+named (Some (asked.Upgrade file)) = Some (Upgrade file.now)
 named (Some (asked.Drill start callers calls)) = Some (Drill start callers calls)
 named None = None
 
@@ -50,6 +51,7 @@ given (matched.Try scripts) = Try scripts
 given (matched.Run file scripts) = Run file scripts
 given (matched.Format file order) = Format file order
 given (matched.Stat file) = Stat file
+given (matched.Upgrade file) = Upgrade file
 given (matched.Drill start callers calls) = Drill start callers calls
 
 -- an order that was found is one that there is
@@ -58,6 +60,7 @@ GivesOrder (matched.Try scripts) = Unit {0}
 GivesOrder (matched.Run file scripts) = Unit {0}
 GivesOrder (matched.Format file order) = IsOrder order
 GivesOrder (matched.Stat file) = Unit {0}
+GivesOrder (matched.Upgrade file) = Unit {0}
 GivesOrder (matched.Drill start callers calls) = Unit {0}
 
 -- where scripts or callers were found, there are 1 to 16, and each caller has 1 to 10,000 calls
@@ -66,6 +69,7 @@ GivesFew (matched.Try scripts) = (0 < length scripts) × (length scripts ≤ 16)
 GivesFew (matched.Run file scripts) = (0 < length scripts) × (length scripts ≤ 16)
 GivesFew (matched.Format file order) = Unit {0}
 GivesFew (matched.Stat file) = Unit {0}
+GivesFew (matched.Upgrade file) = Unit {0}
 GivesFew (matched.Drill start callers calls) = (0 < callers) × (callers ≤ 16) × (0 < calls) × (calls ≤ 10000)
 
 -- an order that is asked for is one that there is
@@ -74,6 +78,7 @@ AsksForOrder (asked.Try scripts) = Unit {0}
 AsksForOrder (asked.Run file scripts) = Unit {0}
 AsksForOrder (asked.Format file order) = IsOrder order
 AsksForOrder (asked.Stat file) = Unit {0}
+AsksForOrder (asked.Upgrade file) = Unit {0}
 AsksForOrder (asked.Drill start callers calls) = Unit {0}
 
 -- where scripts or callers are asked for, there are 1 to 16, and each caller has 1 to 10,000 calls
@@ -82,13 +87,15 @@ AsksForFew (asked.Try scripts) = (0 < length (texts scripts.items)) × (length (
 AsksForFew (asked.Run file scripts) = (0 < length (texts scripts.items)) × (length (texts scripts.items) ≤ 16)
 AsksForFew (asked.Format file order) = Unit {0}
 AsksForFew (asked.Stat file) = Unit {0}
+AsksForFew (asked.Upgrade file) = Unit {0}
 AsksForFew (asked.Drill start callers calls) = (0 < callers) × (callers ≤ 16) × (0 < calls) × (calls ≤ 10000)
 
--- `try` asks for the words of a heap of order 4, `drill` for those of order 12, `format` for a file that is lengthened to those of its order, and `run` and `stat` for a file that is there
+-- `try` asks for the words of a heap of order 4, `drill` for those of order 12, `format` for a file that is lengthened to those of its order, and `run`, `stat` and `upgrade` for a file that is there
 abbrev pub IsWanted : Option Command → DeviceWant → Type 0
 IsWanted (Some (Try scripts)) device = device ≡ Fresh 232
 IsWanted (Some (Run file scripts)) device = device ≡ Old file
 IsWanted (Some (Format file order)) device = device ≡ Made file (words_needed order)
 IsWanted (Some (Stat file)) device = device ≡ Old file
+IsWanted (Some (Upgrade file)) device = device ≡ Old file
 IsWanted (Some (Drill start callers calls)) device = device ≡ Fresh 49192
 IsWanted None device = device ≡ Nothing

@@ -14,6 +14,8 @@ pub data Command : Type 0 where
   Format : List ℕ → ℕ → Command
   -- print the sizes of the heap in the file
   Stat : List ℕ → Command
+  -- give the heap in the file, whose region is of version 1, one of version 2
+  Upgrade : List ℕ → Command
   -- run drawn calls on a new heap: where the drawing starts, how many callers there are, and how many calls each has
   Drill : ℕ → ℕ → ℕ → Command
 
@@ -111,10 +113,18 @@ format_of (file ∷ []) (option ∷ []) =
     if is_full file && bytes_eq option.0 (codes "order") then option_map (Format file) (number_within 4 16 option.1) else None
 format_of plain options = None
 
+-- the file that is the one plain word, where there is no option
+abbrev pub file_alone : List (List ℕ) → List (List ℕ × List ℕ) → Option (List ℕ)
+file_alone (file ∷ []) [] = if is_full file then Some file else None
+file_alone plain options = None
+
 -- behind `stat`
 abbrev pub stat_of : List (List ℕ) → List (List ℕ × List ℕ) → Option Command
-stat_of (file ∷ []) [] = if is_full file then Some (Stat file) else None
-stat_of plain options = None
+stat_of plain options = option_map Stat (file_alone plain options)
+
+-- behind `upgrade`
+abbrev pub upgrade_of : List (List ℕ) → List (List ℕ × List ℕ) → Option Command
+upgrade_of plain options = option_map Upgrade (file_alone plain options)
 
 abbrev pub drill_from : Option ℕ → Option ℕ → Option ℕ → Option Command
 drill_from (Some start) (Some callers) (Some calls) = Some (Drill start callers calls)
@@ -141,6 +151,7 @@ command_of name s =
     if bytes_eq name (codes "run") then run_of s.plain s.options else
     if bytes_eq name (codes "format") then format_of s.plain s.options else
     if bytes_eq name (codes "stat") then stat_of s.plain s.options else
+    if bytes_eq name (codes "upgrade") then upgrade_of s.plain s.options else
     if bytes_eq name (codes "drill") then drill_of s.plain s.options else None
 
 -- the command that the words are, if they are one
@@ -154,5 +165,6 @@ scripts_of (Some (Try scripts)) = scripts
 scripts_of (Some (Run file scripts)) = scripts
 scripts_of (Some (Format file order)) = []
 scripts_of (Some (Stat file)) = []
+scripts_of (Some (Upgrade file)) = []
 scripts_of (Some (Drill start callers calls)) = []
 scripts_of None = []

@@ -3,7 +3,7 @@ ghost use Rattle.std.specs.Prelude.{◌≡◌, ◌<◌, Some, false, codes, opti
 ghost use Rattle.clap.specs.Words.{app_of, first_value, found_of, kind_of, new_app, rule_of, subcommand_rows_of, with_rule};
 ghost use Rattle.clap.specs.Walk.{rows_of};
 ghost use Rattle.clap.specs.declared.builder.command.Command.TheViews.{out-Command};
-ghost use Rattle.rom_words.specs.CommandLine.{MatchesHave, bare_app, option_rule, plain_rule, scripts_rule, values_at};
+ghost use Rattle.rom_words.specs.CommandLine.{MatchesHave, bare_app, file_app, option_rule, plain_rule, scripts_rule, values_at};
 ghost use Rattle.rom_words.specs.CommandLine as line;
 ghost use Rattle.rom_words.specs.Wanted.{texts};
 ghost use Rattle.rom_words.specs.Words.{Command as Asks, command};
@@ -58,12 +58,12 @@ fn format_command<'a>(alloc: Global) -> Result<Command<'a>, AllocError>
         .arg(option(alloc, "order"))
 }
 
-fn stat_command<'a>(alloc: Global) -> Result<Command<'a>, AllocError>
-    ensures shape { IfOk result (λ c. app_of c ≡ with_rule (new_app (codes "stat"))
-        (plain_rule (codes "FILE"))) }
+/// A command that takes a file alone.
+fn file_command<'a>(alloc: Global, name: &'a str) -> Result<Command<'a>, AllocError>
+    ensures shape { IfOk result (λ c. app_of c ≡ file_app name.entry.now) }
     ensures local { IfOk result (λ c. (out-Command c).has_globals ≡ false) }
 {
-    Command::new(alloc, "stat").arg(Arg::new(alloc, "FILE"))
+    Command::new(alloc, name).arg(Arg::new(alloc, "FILE"))
 }
 
 fn drill_command<'a>(alloc: Global) -> Result<Command<'a>, AllocError>
@@ -98,7 +98,8 @@ fn command_line<'a>(alloc: Global) -> Result<Command<'a>, AllocError>
         .subcommand(try_command(alloc)?)?
         .subcommand(run_command(alloc)?)?
         .subcommand(format_command(alloc)?)?
-        .subcommand(stat_command(alloc)?)?
+        .subcommand(file_command(alloc, "stat")?)?
+        .subcommand(file_command(alloc, "upgrade")?)?
         .subcommand(drill_command(alloc)?)
 }
 

@@ -7,7 +7,7 @@ ghost use Rattle.clap.specs.Words.{first_value, found_of};
 ghost use Rattle.clap.specs.Walk.{rows_of};
 ghost use Rattle.rom_words.specs.CommandLine.{HasAsked};
 ghost use Rattle.rom_words.specs.Wanted.{AsksForFew, AsksForOrder, GivesFew, GivesOrder, IsWanted, given, named, texts, told};
-ghost use Rattle.rom_words.specs.Words.{both_of, command, drill_of, format_of, is_full, number_within, run_of, scripts_of, stat_of, try_of};
+ghost use Rattle.rom_words.specs.Words.{both_of, command, drill_of, file_alone, format_of, is_full, number_within, run_of, scripts_of, stat_of, try_of, upgrade_of};
 ghost use Rattle.rom_words.specs.Words as spec;
 
 use crate::command_line::{found_in, matches_of, name_at, names_at, text_at, texts_of};
@@ -44,6 +44,8 @@ pub enum Asked<'a> {
     },
     /// To print the sizes of the heap in this file.
     Stat(&'a str),
+    /// To give the heap in this file a region of version 2 in the place of one of version 1.
+    Upgrade(&'a str),
     /// To have callers run drawn calls on a new heap.
     Drill {
         start: u64,
@@ -111,15 +113,32 @@ fn read_format(said: Said<'_>) -> Option<Asked<'_>>
 }
 
 /// A file alone.
+fn read_file(said: Said<'_>) -> Option<&str>
+    ensures { option_map (λ f. f.now) result
+        ≡ file_alone (told said.entry).plain (told said.entry).options }
+{
+    match (said.plain.as_slice(), said.options.as_slice()) {
+        ([file], []) if !file.is_empty() => Some(*file),
+        _ => None,
+    }
+}
+
+/// The file whose heap's sizes are printed.
 fn read_stat(said: Said<'_>) -> Option<Asked<'_>>
     ensures named { named result ≡ stat_of (told said.entry).plain (told said.entry).options }
     ensures order { IfSome result AsksForOrder }
     ensures few { IfSome result AsksForFew }
 {
-    match (said.plain.as_slice(), said.options.as_slice()) {
-        ([file], []) if !file.is_empty() => Some(Asked::Stat(*file)),
-        _ => None,
-    }
+    Some(Asked::Stat(read_file(said)?))
+}
+
+/// The file whose heap gets a region of version 2.
+fn read_upgrade(said: Said<'_>) -> Option<Asked<'_>>
+    ensures named { named result ≡ upgrade_of (told said.entry).plain (told said.entry).options }
+    ensures order { IfSome result AsksForOrder }
+    ensures few { IfSome result AsksForFew }
+{
+    Some(Asked::Upgrade(read_file(said)?))
 }
 
 /// The values of two options of these names, in either order.
@@ -173,6 +192,7 @@ pub fn read_command(words: &Names) -> Option<Asked<'_>>
         "run" => read_run(said),
         "format" => read_format(said),
         "stat" => read_stat(said),
+        "upgrade" => read_upgrade(said),
         "drill" => read_drill(said),
         _ => None,
     }
@@ -202,6 +222,7 @@ enum Matched {
         order: u32,
     },
     Stat(Name),
+    Upgrade(Name),
     Drill {
         start: u64,
         callers: u64,
@@ -242,6 +263,7 @@ fn read_found(
             Ok(Matched::Format { file, order })
         }
         Asked::Stat(_) => Ok(Matched::Stat(name_at(alloc, found, "FILE")?)),
+        Asked::Upgrade(_) => Ok(Matched::Upgrade(name_at(alloc, found, "FILE")?)),
         Asked::Drill { .. } => {
             let start = number_at(found, "START", 0, u64::MAX);
             let callers = number_at(found, "callers", 1, 16);
@@ -292,6 +314,7 @@ pub fn files_of(alloc: Global, words: &Names) -> Result<Wanted, AllocError>
             )
         }
         Matched::Stat(file) => (DeviceWant::Old(file), none),
+        Matched::Upgrade(file) => (DeviceWant::Old(file), none),
         Matched::Drill { .. } => (fresh_of(DRILL_ORDER), none),
     };
     Ok(Wanted { device, scripts })

@@ -1,7 +1,7 @@
 use Rattle.std.proofs.Common.{◌≡◌, ◌∙◌, ◌<◌, ◌≤◌, length, codes, Some, ap, sym, subst}
 use Rattle.clap.specs.Words.{found_of}
 use Rattle.rom_words.specs.Wanted.{AsksForFew, named, texts}
-use Rattle.rom_words.specs.Words.{Try, Run, Format, Stat, Drill}
+use Rattle.rom_words.specs.Words.{Try, Run, Format, Stat, Upgrade, Drill}
 use Rattle.rom_words.specs.declared.words.Asked.TheVariants as asked
 use Rattle.rom_words.proofs.Values.{asked_for, is_there, number_first, the_same, value_first, values_all}
 use Rattle.rom_words.proofs.words.read_found.Goals as goal
@@ -35,6 +35,11 @@ pub name_at-requires-in-Stat : goal.name_at-requires-in-Stat
 name_at-requires-in-Stat c =
     let has = asked_for (found_of c.args.found.now) c.args.asked.now (asked.Stat c.in-Stat.field-0) c.in-Stat.is c.requires.matched in
     is_there _ _ (value_first (found_of c.args.found.now) (codes "FILE") c.in-Stat.field-0.now has)
+
+pub name_at-requires-in-Upgrade : goal.name_at-requires-in-Upgrade
+name_at-requires-in-Upgrade c =
+    let has = asked_for (found_of c.args.found.now) c.args.asked.now (asked.Upgrade c.in-Upgrade.field-0) c.in-Upgrade.is c.requires.matched in
+    is_there _ _ (value_first (found_of c.args.found.now) (codes "FILE") c.in-Upgrade.field-0.now has)
 
 pub number_at-start-requires : goal.number_at-start-requires
 number_at-start-requires c =
@@ -90,6 +95,12 @@ returns-in_ok-name_at-in-Stat-clause-named c =
     let has = asked_for (found_of c.args.found.now) c.args.asked.now (asked.Stat c.in-Stat.field-0) c.in-Stat.is c.requires.matched in
     let file : c.in_ok-name_at-in-Stat.field-0 ≡ c.in-Stat.field-0.now = the_same _ _ (sym c.in_ok-name_at-in-Stat.ensures ∙ value_first (found_of c.args.found.now) (codes "FILE") c.in-Stat.field-0.now has) in
     ap (λ file. Some (Stat file)) file ∙ ap (λ a. named (Some a)) (sym c.in-Stat.is)
+
+pub returns-in_ok-name_at-in-Upgrade-clause-named : goal.returns-in_ok-name_at-in-Upgrade-clause-named
+returns-in_ok-name_at-in-Upgrade-clause-named c =
+    let has = asked_for (found_of c.args.found.now) c.args.asked.now (asked.Upgrade c.in-Upgrade.field-0) c.in-Upgrade.is c.requires.matched in
+    let file : c.in_ok-name_at-in-Upgrade.field-0 ≡ c.in-Upgrade.field-0.now = the_same _ _ (sym c.in_ok-name_at-in-Upgrade.ensures ∙ value_first (found_of c.args.found.now) (codes "FILE") c.in-Upgrade.field-0.now has) in
+    ap (λ file. Some (Upgrade file)) file ∙ ap (λ a. named (Some a)) (sym c.in-Upgrade.is)
 
 pub returns-in-Drill-clause-named : goal.returns-in-Drill-clause-named
 returns-in-Drill-clause-named c =
