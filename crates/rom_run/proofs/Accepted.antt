@@ -1,8 +1,9 @@
 -- Words that hold a heap are not refused, nor are words in which one can be made; so with a session, or a heap that is made, none is refused.
-use Rattle.std.specs.Prelude.{◌≡◌, ℕ, ◌+◌, Bool, true, if◌then◌else◌, List, Option, Some, None, IfSome, IsTrue, Ok, Err, slice_index}
+use Rattle.std.specs.Prelude.{◌≡◌, ℕ, ◌+◌, Bool, if◌then◌else◌, List, Some, None, IfSome, IsTrue, Ok, Err, slice_index}
 use Rattle.std.proofs.Common.{refl, sym, ap, ◌∙◌, arith, subst, inl, inr}
 use Rattle.rom_model.specs.Blocks.{region_len}
-use Rattle.rom_model.specs.declared.unfit.Break.{Break}
+use Rattle.rom_model.specs.Earlier.{Earlier}
+use Rattle.rom_model.specs.declared.unfit.Unfit.{Unfit}
 use Rattle.rom_model.specs.Machine.{Machine}
 use Rattle.rom_model.specs.Story.{Story}
 use Rattle.rom_device.specs.Device.{ShownDevice, told_words}
@@ -19,13 +20,15 @@ use Rattle.rom_open.proofs.Holding.{holds_one}
 use Rattle.rom_open.specs.Refusals.{IsRefusal, IsUnfit, IsUnready, named_order}
 use Rattle.rom_open.specs.declared.new_heap.NotFormatted.TheVariants.{Refused}
 use Rattle.rom_open.specs.declared.reasons.Why.{Why}
-use Rattle.rom_open.specs.declared.reasons.Why.TheVariants.{NotAHeap, BadVersion, BadOrder, BadState, TooSmall, Twins, Malformed, Device, OutOfMemory}
+use Rattle.rom_upgrade.specs.Upgrading.{IsUnfitOld, IsUpgradeRefusal}
+use Rattle.rom_open.specs.declared.reasons.Why.TheVariants.{NotAHeap, BadVersion, BadOrder, BadState, TooSmall, Twins, OldRegion, NewRegion, Malformed, Device, OutOfMemory}
 use Rattle.rom_run.specs.Complete.{IsAtHand, IsRefusedByName}
 use Rattle.rom_run.specs.Keeping.{IsHeapRefused, IsOpening}
 use Rattle.rom_run.specs.Refusing.{refusal_status, unmade_status}
 use Rattle.rom_run.specs.Statuses.{number_of}
+use Rattle.rom_run.specs.Use.{HasOrder}
 use Rattle.rom_run.specs.declared.heap.Heap.{Heap}
-use Rattle.rom_run.specs.declared.heap.Heap.TheVariants.{New, Standing}
+use Rattle.rom_run.specs.declared.heap.Heap.TheVariants.{New, Standing, Upgraded}
 use Rattle.rom_run.specs.declared.status.Status.TheVariants.{HeapRefused}
 
 -- one region of the words counts
@@ -45,7 +48,7 @@ no_difference order words region offset main back (inl idle) differ =
 no_difference order words region offset main back (inr (inl busy)) differ = let idle = differ.idle in absurd (omega (arith, busy.0, idle))
 no_difference order words region offset main back (inr (inr busy)) differ = let idle = differ.idle in absurd (omega (arith, busy.0, idle))
 
-module _ {S : Type 0} (Contents : ℕ → List ℕ → S → ℕ → Type 0) (FirstBreak : ℕ → List ℕ → Break → Type 0) (order : ℕ) (words : List ℕ) (state : S) (count : ℕ) (held : Holds Contents order words state count) where
+module _ {S : Type 0} (Contents : ℕ → List ℕ → S → ℕ → Type 0) (order : ℕ) (words : List ℕ) (state : S) (count : ℕ) (held : Holds Contents order words state count) where
   -- neither header nor regions are refused
   ready : (why : Why) → refusal_status why ≡ HeapRefused → IsUnready words why → ⊥
   ready NotAHeap name is = is.1 held.current.heap.header.magic
@@ -63,16 +66,25 @@ module _ {S : Type 0} (Contents : ℕ → List ℕ → S → ℕ → Type 0) (Fi
       let need_is = short.2 in let few = short.3 in absurd (omega (arith, size, need_is, few, same, long))
   ready (Twins offset main back) name is =
       no_difference order words held.region offset main back held.current.counts (subst (λ (n : ℕ). DifferAt n words offset main back) held.current.heap.header.order_is is.1)
+  ready OldRegion name is = is
+  ready NewRegion name is = is
   ready (Malformed offset rule) name is = is
   ready Device name is = let no : 7 ≡ 3 = ap number_of name in absurd (omega (arith, no))
   ready OutOfMemory name is = is
 
-  -- nor is the region that counts
-  fit : (why : Why) (region : List ℕ) → refusal_status why ≡ HeapRefused → IsCurrentRegion (named_order words) words region → IsUnfit Contents FirstBreak (named_order words) region why → ⊥
-  fit (Malformed offset rule) region name current is =
+  -- the region that counts is not one that stands for nothing
+  stands : (region : List ℕ) → IsCurrentRegion (named_order words) words region → ((s : S) (k : ℕ) → Contents (named_order words) region s k → ⊥) → ⊥
+  stands region current none =
       let both = one_region words order (named_order words) held.region region held.current current in
-      is.none state count (subst (λ (l : List ℕ). Contents (named_order words) l state count) both.1 (subst (λ (n : ℕ). Contents n held.region state count) both.0 held.contents))
+      none state count (subst (λ (l : List ℕ). Contents (named_order words) l state count) both.1 (subst (λ (n : ℕ). Contents n held.region state count) both.0 held.contents))
+
+-- so it is not refused, in this version
+module _ {S : Type 0} (Contents : ℕ → List ℕ → S → ℕ → Type 0) (Rejects : ℕ → List ℕ → Unfit → Type 0) (order : ℕ) (words : List ℕ) (state : S) (count : ℕ) (held : Holds Contents order words state count) where
+  fit : (why : Why) (region : List ℕ) → refusal_status why ≡ HeapRefused → IsCurrentRegion (named_order words) words region → IsUnfit Contents Rejects (named_order words) region why → ⊥
+  fit (Malformed offset rule) region name current is = stands Contents order words state count held region current is.none
+  fit OldRegion region name current is = stands Contents order words state count held region current is.none
   fit OutOfMemory region name current is = let no : 6 ≡ 3 = ap number_of name in absurd (omega (arith, no))
+  fit NewRegion region name current is = is
   fit NotAHeap region name current is = is
   fit (BadVersion version) region name current is = is
   fit (BadOrder n) region name current is = is
@@ -81,9 +93,44 @@ module _ {S : Type 0} (Contents : ℕ → List ℕ → S → ℕ → Type 0) (Fi
   fit (Twins offset main back) region name current is = is
   fit Device region name current is = is
 
-  unrefused : (why : Why) → refusal_status why ≡ HeapRefused → IsRefusal Contents FirstBreak words why → ⊥
-  unrefused why name (inl is) = ready why name is
+  unrefused : (why : Why) → refusal_status why ≡ HeapRefused → IsRefusal Contents Rejects words why → ⊥
+  unrefused why name (inl is) = ready Contents order words state count held why name is
   unrefused why name (inr is) = fit why is.0 name is.1 is.2
+
+-- no words of the version before say that they are of the next one
+abbrev pub IsToldApart : {S : Type 0} → Earlier S → Type 0
+IsToldApart {S} earlier = (order : ℕ) (words : List ℕ) (state : S) (count : ℕ) → earlier.Contents order words state count → IsTrue (earlier.is_next words) → ⊥
+
+-- which is asked of a heap that is upgraded
+abbrev pub AreApart : {S : Type 0} → Earlier S → Heap → Type 0
+AreApart earlier (New order) = Unit {0}
+AreApart earlier Standing = Unit {0}
+AreApart earlier Upgraded = IsToldApart earlier
+
+-- a heap on which scripts are played is none such
+pub apart_played : {S : Type 0} (earlier : Earlier S) (heap : Heap) → HasOrder heap → AreApart earlier heap
+apart_played earlier (New order) is = tt
+apart_played earlier Standing is = tt
+apart_played earlier Upgraded is = absurd is
+
+-- an upgrade does not refuse words that hold something in the version before
+module _ {S : Type 0} (earlier : Earlier S) (apart : IsToldApart earlier) (order : ℕ) (words : List ℕ) (state : S) (count : ℕ) (held : Holds earlier.Contents order words state count) where
+  fit_before : (why : Why) (region : List ℕ) → refusal_status why ≡ HeapRefused → IsCurrentRegion (named_order words) words region → IsUnfitOld earlier (named_order words) region why → ⊥
+  fit_before (Malformed offset rule) region name current is = stands earlier.Contents order words state count held region current is.1.none
+  fit_before NewRegion region name current is = stands earlier.Contents order words state count held region current (λ s k stood. apart (named_order words) region s k stood is)
+  fit_before OutOfMemory region name current is = let no : 6 ≡ 3 = ap number_of name in absurd (omega (arith, no))
+  fit_before OldRegion region name current is = is
+  fit_before NotAHeap region name current is = is
+  fit_before (BadVersion version) region name current is = is
+  fit_before (BadOrder n) region name current is = is
+  fit_before (BadState word) region name current is = is
+  fit_before (TooSmall need have) region name current is = is
+  fit_before (Twins offset main back) region name current is = is
+  fit_before Device region name current is = is
+
+  unrefused_before : (why : Why) → refusal_status why ≡ HeapRefused → IsUpgradeRefusal earlier words why → ⊥
+  unrefused_before why name (inl is) = ready earlier.Contents order words state count held why name is
+  unrefused_before why name (inr is) = fit_before why is.0 name is.1 is.2
 
 -- where a heap can be made it is not refused
 unspared : (order : ℕ) (words : List ℕ) → IsFormatAnswer order words (Ok tt) → (why : FormatRefused) → unmade_status (Refused why) ≡ HeapRefused → IsFormatAnswer order words (Err why) → ⊥
@@ -91,22 +138,25 @@ unspared order words can format.AlreadyAHeap name is = can.0 is
 unspared order words can (format.TooSmall need have) name is = let long = can.1 in let a = is.1 in let b = is.2 in let c = is.3 in absurd (omega (arith, long, a, b, c))
 unspared order words can format.Device name is = let no : 7 ≡ 3 = ap number_of name in absurd (omega (arith, no))
 
-module _ {S : Type 0} (Contents : ℕ → List ℕ → S → ℕ → Type 0) (FirstBreak : ℕ → List ℕ → Break → Type 0) where
+module _ {S : Type 0} (Contents : ℕ → List ℕ → S → ℕ → Type 0) (Rejects : ℕ → List ℕ → Unfit → Type 0) (earlier : Earlier S) where
   -- a heap that is at hand is not refused by name
-  pub begins : (heap : Heap) (words : List ℕ) → IsAtHand Contents heap words → IsRefusedByName Contents FirstBreak heap words → ⊥
-  begins (New order) words can (why, name, is) = unspared order words can why name is
-  begins Standing words (order, state, count, held) (why, name, is) = unrefused Contents FirstBreak order words state count held why name is
+  pub begins : (heap : Heap) (words : List ℕ) → AreApart earlier heap → IsAtHand Contents earlier heap words → IsRefusedByName Contents Rejects earlier heap words → ⊥
+  begins (New order) words apart can (why, name, is) = unspared order words can why name is
+  begins Standing words apart (order, state, count, held) (why, name, is) = unrefused Contents Rejects order words state count held why name is
+  begins Upgraded words apart (order, state, count, held) (why, name, is) = unrefused_before earlier apart order words state count held why name is
 
   module _ {D : Type 0} (shown : ShownDevice D) (was : D) (tells : IsTrue shown.tells_words) where
     -- what is told is refused so
-    pub by_name : {K : Type 0} (sink : ShownSink K) (now : D) (old new : K) (heap : Heap) → IsHeapRefused shown sink Contents FirstBreak heap was now old new → IsRefusedByName Contents FirstBreak heap (shown.words was)
+    pub by_name : {K : Type 0} (sink : ShownSink K) (now : D) (old new : K) (heap : Heap) → IsHeapRefused shown sink Contents Rejects earlier heap was now old new → IsRefusedByName Contents Rejects earlier heap (shown.words was)
     by_name sink now old new (New order) is = (is.why, is.by_name, is.refused tells)
     by_name sink now old new Standing is = (is.why, is.by_name, is.refused tells)
+    by_name sink now old new Upgraded is = (is.why, is.by_name, is.refused tells)
 
     told : (P : List ℕ → Type 0) → IfSome (told_words shown was) P → P (shown.words was)
     told P is = subst (λ (b : Bool). IfSome (if b then Some (shown.words was) else None) P) tells is
 
     -- where a story began, its heap was at hand
-    pub at_hand : {C Q R A : Type 0} (machine : Machine S C Q R A) (heap : Heap) (story : Story S) → IsOpening machine Contents heap (told_words shown was) story → IsAtHand Contents heap (shown.words was)
+    pub at_hand : {C Q R A : Type 0} (machine : Machine S C Q R A) (heap : Heap) (story : Story S) → IsOpening machine Contents heap (told_words shown was) story → IsAtHand Contents earlier heap (shown.words was)
     at_hand machine (New order) story is = told (λ words. IsFormatAnswer order words (Ok tt)) is.0
     at_hand machine Standing story is = (story.order, story.opening, story.opening_count, told (λ words. Holds Contents story.order words story.opening story.opening_count) is)
+    at_hand machine Upgraded story is = absurd is

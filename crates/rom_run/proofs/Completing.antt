@@ -2,6 +2,7 @@
 use Rattle.std.specs.Prelude.{◌≡◌, ◌⊎◌, ◌||◌, ℕ, ◌+◌, ◌≤◌, Bool, true, false, IsTrue, if◌then◌else◌, List, [], ◌∷◌, Option, Some, None, IfSome, IsSome, IsNone}
 use Rattle.std.proofs.Common.{refl, sym, ◌∙◌, arith, subst, inl, inr}
 use Rattle.std.specs.List.{AllByRecursion, list_any}
+use Rattle.rom_model.specs.Earlier.{Earlier}
 use Rattle.rom_model.specs.Faulted.{RoseBy, faulted_lines}
 use Rattle.rom_model.specs.Faults.{Rose, counted}
 use Rattle.rom_model.specs.Lawful.{AreServed, Answers, IsLawful, Tells}
@@ -12,7 +13,7 @@ use Rattle.rom_model.specs.declared.line.Step.{Step}
 use Rattle.rom_model.specs.declared.line.Step.TheVariants as line
 use Rattle.rom_model.specs.declared.line.LineResult.{LineResult}
 use Rattle.rom_model.specs.declared.line.LineResult.TheVariants as outcome
-use Rattle.rom_model.specs.declared.unfit.Break.{Break}
+use Rattle.rom_model.specs.declared.unfit.Unfit.{Unfit}
 use Rattle.rom_model.proofs.Faulted.{faults_bounded}
 use Rattle.rom_device.specs.Device.{ShownDevice}
 use Rattle.rom_text.specs.Runs.{SourceFailed, SourceTooLong}
@@ -20,13 +21,13 @@ use Rattle.rom_text.specs.Streams.{ShownSink, ShownSource, WriteFailed}
 use Rattle.rom_text.specs.Text.{Texts}
 use Rattle.rom_store.specs.Sessions.{EachStory, SessionSeen}
 use Rattle.rom_combine.specs.Costs.{IsUnfailed}
-use Rattle.rom_run.proofs.Accepted.{at_hand, begins, by_name}
-use Rattle.rom_run.specs.Complete.{EndsWell, HasFewFaults, HasUnreadLine, IsAtHand, IsComplete, IsRefusedByName, IsRefusedExactly, NoneFailed, RefusesExactly, is_unread_line}
+use Rattle.rom_run.proofs.Accepted.{AreApart, at_hand, begins, by_name}
+use Rattle.rom_run.specs.Complete.{EndsWell, HasFewFaults, HasUnreadLine, IsAtHand, IsComplete, IsRefusedByName, IsRefusedExactly, NoneFailed, is_unread_line}
 use Rattle.rom_run.specs.Keeping.{CountsFaults}
 use Rattle.rom_run.specs.Played.{HasReplies, IsText}
 use Rattle.rom_run.specs.Statuses.{is_faulted, is_unread}
 use Rattle.rom_run.specs.declared.heap.Heap.{Heap}
-use Rattle.rom_run.specs.Use.{Drawn, HasNotRun, HasRun, IsStatus, Makes, Plays, Read, Shows, Use, heap_of}
+use Rattle.rom_run.specs.Use.{Drawn, HasNotRun, HasRun, IsStatus, Makes, Plays, Read, Shows, Upgrades, Use, heap_of}
 use Rattle.rom_run.specs.Working.{HasMade, HasNone, HasSession}
 
 -- ---- results and their status
@@ -126,7 +127,7 @@ module _ {S C Q R A D : Type 0} (machine : Machine S C Q R A) (Contents : ℕ �
 once_rose : (before now : ℕ) → now ≡ counted before → Rose before now
 once_rose before now is = omega (arith, is)
 
-module _ {S C Q R A D X K : Type 0} (machine : Machine S C Q R A) (Contents : ℕ → List ℕ → S → ℕ → Type 0) (FirstBreak : ℕ → List ℕ → Break → Type 0) (shown : ShownDevice D) (source : ShownSource X) (sink : ShownSink K)
+module _ {S C Q R A D X K : Type 0} (machine : Machine S C Q R A) (Contents : ℕ → List ℕ → S → ℕ → Type 0) (Rejects : ℕ → List ℕ → Unfit → Type 0) (earlier : Earlier S) (shown : ShownDevice D) (source : ShownSource X) (sink : ShownSink K)
     (AreRun : List X → List (List (Step C Q)) → Type 0) (Prints : Story S → List (List (LineResult R A)) → K → K → ℕ → Type 0) (was now : D) (before after : List X) (old new : K) where
   -- What is promised of a command besides.
   pub record Promised (asked : Option Use) (status : ℕ) (session : Option SessionSeen) : Type 0 where
@@ -134,8 +135,8 @@ module _ {S C Q R A D X K : Type 0} (machine : Machine S C Q R A) (Contents : �
     pub ran : HasRun asked status → IsSome session
     pub not_run : HasNotRun asked status → IsNone session
     pub story : IfSome asked (λ does. IfSome session (HasSession machine Contents shown (heap_of does) was now (HasReplies machine AreRun Prints before old new status)))
-    pub none : IfSome asked (λ does. IsNone session → HasNone machine Contents shown sink FirstBreak (heap_of does) was now old new status)
-    pub made : status ≡ 0 → HasMade machine Contents shown sink asked was now old new
+    pub none : IfSome asked (λ does. IsNone session → HasNone machine Contents shown sink Rejects earlier (heap_of does) was now old new status)
+    pub made : status ≡ 0 → HasMade machine Contents earlier shown sink asked was now old new
     pub source_failed : status ≡ 4 → SourceFailed source sink before after old new
     pub too_long : status ≡ 8 → SourceTooLong source sink before after old new
     pub sink_failed : status ≡ 5 → WriteFailed sink old new
@@ -146,7 +147,7 @@ module _ {S C Q R A D X K : Type 0} (machine : Machine S C Q R A) (Contents : �
     module _ (does : Use) (status : ℕ) where
       -- with 7 the device's count rose
       seven : (session : Option SessionSeen) → IfSome session (HasSession machine Contents shown (heap_of does) was now (HasReplies machine AreRun Prints before old new status)) →
-          (IsNone session → HasNone machine Contents shown sink FirstBreak (heap_of does) was now old new status) → status ≡ 7 → Rose (shown.faults was) (shown.faults now)
+          (IsNone session → HasNone machine Contents shown sink Rejects earlier (heap_of does) was now old new status) → status ≡ 7 → Rose (shown.faults was) (shown.faults now)
       seven None told none is = once_rose _ _ ((none refl).device_failed is).failed.once
       seven (Some z) told none is =
           let story = told.story.0 in let of = told.story.1 in let r = told.told story of in
@@ -160,9 +161,9 @@ module _ {S C Q R A D X K : Type 0} (machine : Machine S C Q R A) (Contents : �
           let story = told.story.0 in let of = told.story.1 in let r = told.told story of in
           (r.scripts, r.read, sym (as_scripts machine story 1 r.scripts r.results r.answered.lawful.served) ∙ unread story r.results old new (subst (λ n. Prints story r.results old new n) is r.printed))
 
-      module _ (session : Option SessionSeen) (p : Promised (Some does) status session) (tells : IsTrue shown.tells_words) (can : IsAtHand Contents (heap_of does) (shown.words was)) (none : NoneFailed shown source sink was now before after old new) where
+      module _ (session : Option SessionSeen) (p : Promised (Some does) status session) (tells : IsTrue shown.tells_words) (apart : AreApart earlier (heap_of does)) (can : IsAtHand Contents earlier (heap_of does) (shown.words was)) (none : NoneFailed shown source sink was now before after old new) where
         not_three : (status ≡ 3 → IsNone session) → status ≡ 3 → ⊥
-        not_three left is = begins Contents FirstBreak (heap_of does) (shown.words was) can (by_name Contents FirstBreak shown was tells sink now old new (heap_of does) ((p.none (left is)).heap_refused is))
+        not_three left is = begins Contents Rejects earlier (heap_of does) (shown.words was) apart can (by_name Contents Rejects earlier shown was tells sink now old new (heap_of does) ((p.none (left is)).heap_refused is))
 
         not_four : status ≡ 4 → ⊥
         not_four is = let f = p.source_failed is in none.of_sources f.script f.was f.now f.first.stood f.first.stands (once_rose _ _ f.failed.cause.once)
@@ -198,28 +199,29 @@ module _ {S C Q R A D X K : Type 0} (machine : Machine S C Q R A) (Contents : �
         of_heap left (inr (inr (inr is))) = absurd (not_seven is)
 
     -- So where it can begin, and no count of faults rises, it ends well.
-    complete : (asked : Option Use) (status : ℕ) (session : Option SessionSeen) → Promised asked status session → IsComplete shown source sink was now before after old new AreRun Contents asked status
-    complete (Some (Plays heap Read)) status session p tells can none =
-        of_read (Plays heap Read) status session p tells can none (λ is. p.not_run (inl is)) (λ is. p.ran (inr (inl is))) p.statuses
-    complete (Some (Plays heap Drawn)) status session p tells can none = of_drawn (Plays heap Drawn) status session p tells can none (λ is. p.not_run (inl is)) p.statuses
-    complete (Some (Makes order)) status session p tells can none = of_heap (Makes order) status session p tells can none (λ is. p.not_run tt) p.statuses
-    complete (Some Shows) status session p tells can none = of_heap Shows status session p tells can none (λ is. p.not_run (inl is)) p.statuses
-    complete None status session p tells can none = absurd can
+    complete : (asked : Option Use) (status : ℕ) (session : Option SessionSeen) → Promised asked status session → IfSome asked (λ does. AreApart earlier (heap_of does)) → IsComplete shown source sink was now before after old new AreRun Contents earlier asked status
+    complete (Some (Plays heap Read)) status session p apart tells can none =
+        of_read (Plays heap Read) status session p tells apart can none (λ is. p.not_run (inl is)) (λ is. p.ran (inr (inl is))) p.statuses
+    complete (Some (Plays heap Drawn)) status session p apart tells can none = of_drawn (Plays heap Drawn) status session p tells apart can none (λ is. p.not_run (inl is)) p.statuses
+    complete (Some (Makes order)) status session p apart tells can none = of_heap (Makes order) status session p tells apart can none (λ is. p.not_run tt) p.statuses
+    complete (Some Shows) status session p apart tells can none = of_heap Shows status session p tells apart can none (λ is. p.not_run (inl is)) p.statuses
+    complete (Some Upgrades) status session p apart tells can none = of_heap Upgrades status session p tells apart can none (λ is. p.not_run tt) p.statuses
+    complete None status session p apart tells can none = absurd can
 
     -- Likewise when its heap is refused.
     module _ (does : Use) (status : ℕ) (session : Option SessionSeen) (p : Promised (Some does) status session) (tells : IsTrue shown.tells_words) where
       -- with 3 it is refused by name
-      named : (status ≡ 3 → IsNone session) → status ≡ 3 → IsRefusedByName Contents FirstBreak (heap_of does) (shown.words was)
-      named left is = by_name Contents FirstBreak shown was tells sink now old new (heap_of does) ((p.none (left is)).heap_refused is)
+      named : (status ≡ 3 → IsNone session) → status ≡ 3 → IsRefusedByName Contents Rejects earlier (heap_of does) (shown.words was)
+      named left is = by_name Contents Rejects earlier shown was tells sink now old new (heap_of does) ((p.none (left is)).heap_refused is)
 
       -- with a session it was at hand
-      began : (z : Option SessionSeen) → IfSome z (HasSession machine Contents shown (heap_of does) was now (HasReplies machine AreRun Prints before old new status)) → IsSome z → IsAtHand Contents (heap_of does) (shown.words was)
+      began : (z : Option SessionSeen) → IfSome z (HasSession machine Contents shown (heap_of does) was now (HasReplies machine AreRun Prints before old new status)) → IsSome z → IsAtHand Contents earlier (heap_of does) (shown.words was)
       began None told some = absurd (let no : ⊥ = cc in no)
-      began (Some z) told some = let story = told.story.0 in at_hand Contents FirstBreak shown was tells machine (heap_of does) story (told.each story told.story.1).opening
+      began (Some z) told some = let story = told.story.0 in at_hand Contents Rejects earlier shown was tells machine (heap_of does) story (told.each story told.story.1).opening
 
-      module _ (refused : IsRefusedByName Contents FirstBreak (heap_of does) (shown.words was)) (unfailed : IsUnfailed shown was now) where
-        not_at_hand : IsAtHand Contents (heap_of does) (shown.words was) → ⊥
-        not_at_hand can = begins Contents FirstBreak (heap_of does) (shown.words was) can refused
+      module _ (apart : AreApart earlier (heap_of does)) (refused : IsRefusedByName Contents Rejects earlier (heap_of does) (shown.words was)) (unfailed : IsUnfailed shown was now) where
+        not_at_hand : IsAtHand Contents earlier (heap_of does) (shown.words was) → ⊥
+        not_at_hand can = begins Contents Rejects earlier (heap_of does) (shown.words was) apart can refused
 
         no_session : IsSome session → ⊥
         no_session some = not_at_hand (began session p.story some)
@@ -252,27 +254,32 @@ module _ {S C Q R A D X K : Type 0} (machine : Machine S C Q R A) (Contents : �
         of_one undone (inr (inr (inr is))) = absurd (no_fault is)
 
     -- So the status is 3 exactly where it is refused by name.
-    refuses : (asked : Option Use) (status : ℕ) (session : Option SessionSeen) → Promised asked status session → IsRefusedExactly Contents FirstBreak shown was now asked status
-    refuses (Some (Plays heap Read)) status session p tells = record {
+    refuses : (asked : Option Use) (status : ℕ) (session : Option SessionSeen) → Promised asked status session → IfSome asked (λ does. AreApart earlier (heap_of does)) → IsRefusedExactly Contents Rejects earlier shown was now asked status
+    refuses (Some (Plays heap Read)) status session p apart tells = record {
       only = named (Plays heap Read) status session p tells (λ is. p.not_run (inl is));
-      always = λ refused unfailed. of_scripts (Plays heap Read) status session p tells refused unfailed p.ran p.statuses;
+      always = λ refused unfailed. of_scripts (Plays heap Read) status session p tells apart refused unfailed p.ran p.statuses;
     }
-    refuses (Some (Plays heap Drawn)) status session p tells = record {
+    refuses (Some (Plays heap Drawn)) status session p apart tells = record {
       only = named (Plays heap Drawn) status session p tells (λ is. p.not_run (inl is));
-      always = λ refused unfailed. of_drill (Plays heap Drawn) status session p tells refused unfailed p.ran p.statuses;
+      always = λ refused unfailed. of_drill (Plays heap Drawn) status session p tells apart refused unfailed p.ran p.statuses;
     }
-    refuses (Some (Makes order)) status session p tells = record {
+    refuses (Some (Makes order)) status session p apart tells = record {
       only = named (Makes order) status session p tells (λ is. p.not_run tt);
-      always = λ refused unfailed. of_one (Makes order) status session p tells refused unfailed
-          (λ is. not_at_hand (Makes order) status session p tells refused unfailed ((p.made is).accepted tells)) p.statuses;
+      always = λ refused unfailed. of_one (Makes order) status session p tells apart refused unfailed
+          (λ is. not_at_hand (Makes order) status session p tells apart refused unfailed ((p.made is).accepted tells)) p.statuses;
     }
-    refuses (Some Shows) status session p tells = record {
+    refuses (Some Shows) status session p apart tells = record {
       only = named Shows status session p tells (λ is. p.not_run (inl is));
-      always = λ refused unfailed. of_one Shows status session p tells refused unfailed (λ is. no_session Shows status session p tells refused unfailed (p.ran is)) p.statuses;
+      always = λ refused unfailed. of_one Shows status session p tells apart refused unfailed (λ is. no_session Shows status session p tells apart refused unfailed (p.ran is)) p.statuses;
     }
-    refuses None status session p tells = tt
+    refuses (Some Upgrades) status session p apart tells = record {
+      only = named Upgrades status session p tells (λ is. p.not_run tt);
+      always = λ refused unfailed. of_one Upgrades status session p tells apart refused unfailed
+          (λ is. let made = p.made is in let held = made.held tells in not_at_hand Upgrades status session p tells apart refused unfailed (made.order, held.0, held.1, held.2)) p.statuses;
+    }
+    refuses None status session p apart tells = tt
 
     -- both
-    pub ends : (asked : Option Use) (status : ℕ) (session : Option SessionSeen) → Promised asked status session →
-        IsComplete shown source sink was now before after old new AreRun Contents asked status × IsRefusedExactly Contents FirstBreak shown was now asked status
-    ends asked status session p = (complete asked status session p, refuses asked status session p)
+    pub ends : (asked : Option Use) (status : ℕ) (session : Option SessionSeen) → Promised asked status session → IfSome asked (λ does. AreApart earlier (heap_of does)) →
+        IsComplete shown source sink was now before after old new AreRun Contents earlier asked status × IsRefusedExactly Contents Rejects earlier shown was now asked status
+    ends asked status session p apart = (complete asked status session p apart, refuses asked status session p apart)

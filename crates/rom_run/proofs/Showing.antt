@@ -1,8 +1,9 @@
 -- Why there is no heap, as it is told.
-use Rattle.std.specs.Prelude.{◌≡◌, ◌⊎◌, ℕ, List, IsTrue, codes, Result, Err}
-use Rattle.std.proofs.Common.{refl, arith, inl, inr}
+use Rattle.std.specs.Prelude.{◌≡◌, ◌≢◌, ◌⊎◌, ℕ, List, IsTrue, codes, Result, Err}
+use Rattle.std.proofs.Common.{refl, ap, arith, inl, inr}
+use Rattle.rom_model.specs.Earlier.{Earlier}
 use Rattle.rom_model.specs.Machine.{Machine}
-use Rattle.rom_model.specs.declared.unfit.Break.{Break}
+use Rattle.rom_model.specs.declared.unfit.Unfit.{Unfit}
 use Rattle.rom_device.specs.Device.{ShownDevice, Makes}
 use Rattle.rom_header.specs.Calls.{format_fault, format_reads, format_syncs, format_writes}
 use Rattle.rom_header.specs.Fresh.{HasTooFewFor, IsFormatAnswer}
@@ -18,11 +19,13 @@ use Rattle.rom_open.specs.declared.reasons.Why.{Why}
 use Rattle.rom_open.specs.declared.reasons.Why.TheVariants.{Device, OutOfMemory}
 use Rattle.rom_open.specs.Refusals.{IsRefusal, NamesTooFew}
 use Rattle.rom_open.specs.Within.{MakesNone, WithinMaking, WithinOpening}
+use Rattle.rom_upgrade.specs.Calls.{HasUpgradeFaults, UpgradeCalls, WithinUpgrade}
+use Rattle.rom_upgrade.specs.Upgrading.{IsUpgradeRefusal}
 use Rattle.rom_run.specs.Keeping.{HasDeviceFailed, IsLeft, IsUnmade}
 use Rattle.rom_run.specs.Refusing.{refusal_line, refusal_status, unmade_line, unmade_status}
 use Rattle.rom_run.specs.Statuses.{number_of}
 use Rattle.rom_run.specs.Working.{HasNone}
-use Rattle.rom_run.specs.declared.heap.Heap.TheVariants.{New, Standing}
+use Rattle.rom_run.specs.declared.heap.Heap.TheVariants.{New, Standing, Upgraded}
 use Rattle.rom_run.specs.declared.status.Status.TheVariants.{DeviceFailed, HeapRefused, NoMemory}
 
 module _ {D O : Type 0} (shown : ShownDevice D) (sink : ShownSink O) (was now : D) (old new : O) where
@@ -79,12 +82,12 @@ want_of_memory result (unmade.Refused format.AlreadyAHeap) status is told six = 
 want_of_memory result (unmade.Refused (format.TooSmall need have)) status is told six = absurd (omega (arith, told, six))
 want_of_memory result (unmade.Refused format.Device) status is told six = absurd (omega (arith, told, six))
 
-module _ {S C Q R A D K : Type 0} (machine : Machine S C Q R A) (Contents : ℕ → List ℕ → S → ℕ → Type 0) (shown : ShownDevice D) (sink : ShownSink K) (FirstBreak : ℕ → List ℕ → Break → Type 0) (was now : D) (old new : K) where
+module _ {S C Q R A D K : Type 0} (machine : Machine S C Q R A) (Contents : ℕ → List ℕ → S → ℕ → Type 0) (shown : ShownDevice D) (sink : ShownSink K) (Rejects : ℕ → List ℕ → Unfit → Type 0) (earlier : Earlier S) (was now : D) (old new : K) where
   -- there is none, since none was made
   pub none_made : (order : ℕ) (why : NotFormatted) →
       (IsTrue shown.tells_words → (w : FormatRefused) → why ≡ unmade.Refused w → IsFormatAnswer order (shown.words was) (Err w)) → ((w : FormatRefused) → why ≡ unmade.Refused w → HasTooFewFor order (shown.size was) w) →
-      MakesNone shown order why was now → HasFaultsUnmade why (shown.faults was) (shown.faults now) (shown.failing now) → (IsTrue shown.tells_images → IsLeft machine Contents shown (New order) was now) → (why ≡ unmade.OutOfMemory → now ≡ was) → WithinMaking shown order was now → IsTold sink old new (unmade_line why) →
-      HasNone machine Contents shown sink FirstBreak (New order) was now old new (number_of (unmade_status why))
+      MakesNone shown order why was now → HasFaultsUnmade why (shown.faults was) (shown.faults now) (shown.failing now) → (IsTrue shown.tells_images → IsLeft machine Contents shown earlier (New order) was now) → (why ≡ unmade.OutOfMemory → now ≡ was) → WithinMaking shown order was now → IsTold sink old new (unmade_line why) →
+      HasNone machine Contents shown sink Rejects earlier (New order) was now old new (number_of (unmade_status why))
   none_made order why answer sizes calls faults images memory within told = record {
     images = images;
     calls = within;
@@ -114,9 +117,9 @@ module _ {S C Q R A D K : Type 0} (machine : Machine S C Q R A) (Contents : ℕ 
       unremembered (unmade.Refused (format.TooSmall need have)) told six = absurd (omega (arith, six))
 
   -- or none was opened
-  pub none_opened : (why : Why) → (IsTrue shown.tells_words → IsRefusal Contents FirstBreak (shown.words was) why) → NamesTooFew (shown.size was) why →
-      HasFaults {T = Unit {0}} (Err why) (shown.faults was) (shown.faults now) (shown.failing now) → (IsTrue shown.tells_images → IsLeft machine Contents shown Standing was now) → (IsTrue shown.tells_words → Calls {T = Unit {0}} shown (shown.words was) was now (Err why)) → WithinOpening shown was now → IsTold sink old new (refusal_line why) →
-      HasNone machine Contents shown sink FirstBreak Standing was now old new (number_of (refusal_status why))
+  pub none_opened : (why : Why) → (IsTrue shown.tells_words → IsRefusal Contents Rejects (shown.words was) why) → NamesTooFew (shown.size was) why →
+      HasFaults {T = Unit {0}} (Err why) (shown.faults was) (shown.faults now) (shown.failing now) → (IsTrue shown.tells_images → IsLeft machine Contents shown earlier Standing was now) → (IsTrue shown.tells_words → Calls {T = Unit {0}} shown (shown.words was) was now (Err why)) → WithinOpening shown was now → IsTold sink old new (refusal_line why) →
+      HasNone machine Contents shown sink Rejects earlier Standing was now old new (number_of (refusal_status why))
   none_opened Device answer sizes faults images calls within told = record {
     images = images;
     calls = within;
@@ -137,9 +140,9 @@ module _ {S C Q R A D K : Type 0} (machine : Machine S C Q R A) (Contents : ℕ 
   }
   none_opened why answer sizes faults images calls within told = by_name why refl refl answer sizes calls faults told images
     where
-      by_name : (why : Why) → refusal_status why ≡ HeapRefused → number_of (refusal_status why) ≡ 3 → (IsTrue shown.tells_words → IsRefusal Contents FirstBreak (shown.words was) why) → NamesTooFew (shown.size was) why →
-          (IsTrue shown.tells_words → Calls {T = Unit {0}} shown (shown.words was) was now (Err why)) → HasFaults {T = Unit {0}} (Err why) (shown.faults was) (shown.faults now) (shown.failing now) → IsTold sink old new (refusal_line why) → (IsTrue shown.tells_images → IsLeft machine Contents shown Standing was now) →
-          HasNone machine Contents shown sink FirstBreak Standing was now old new (number_of (refusal_status why))
+      by_name : (why : Why) → refusal_status why ≡ HeapRefused → number_of (refusal_status why) ≡ 3 → (IsTrue shown.tells_words → IsRefusal Contents Rejects (shown.words was) why) → NamesTooFew (shown.size was) why →
+          (IsTrue shown.tells_words → Calls {T = Unit {0}} shown (shown.words was) was now (Err why)) → HasFaults {T = Unit {0}} (Err why) (shown.faults was) (shown.faults now) (shown.failing now) → IsTold sink old new (refusal_line why) → (IsTrue shown.tells_images → IsLeft machine Contents shown earlier Standing was now) →
+          HasNone machine Contents shown sink Rejects earlier Standing was now old new (number_of (refusal_status why))
       by_name why named three answer sizes calls faults told images = record {
         images = images;
         calls = within;
@@ -149,6 +152,48 @@ module _ {S C Q R A D K : Type 0} (machine : Machine S C Q R A) (Contents : ℕ 
         uncalled = λ six. tt;
         no_memory = λ six. absurd (omega (arith, three, six));
       }
+
+  -- or none was upgraded
+  pub none_upgraded : (why : Why) → (IsTrue shown.tells_words → IsUpgradeRefusal earlier (shown.words was) why) → NamesTooFew (shown.size was) why →
+      HasUpgradeFaults {T = Unit {0}} (Err why) (shown.faults was) (shown.faults now) (shown.failing now) → (IsTrue shown.tells_images → IsLeft machine Contents shown earlier Upgraded was now) →
+      (IsTrue shown.tells_words → UpgradeCalls {T = Unit {0}} shown (shown.words was) was now (Err why)) → WithinUpgrade shown was now → (why ≢ Device → WithinOpening shown was now) →
+      (IsTrue shown.tells_images → why ≢ Device → IsLeft machine Contents shown earlier Standing was now) → IsTold sink old new (refusal_line why) →
+      HasNone machine Contents shown sink Rejects earlier Upgraded was now old new (number_of (refusal_status why))
+  none_upgraded why answer sizes faults images calls within opened left told = record {
+    images = images;
+    calls = within;
+    heap_refused = λ three. record {
+      why = why;
+      by_name = named why three;
+      refused = answer;
+      sizes = sizes;
+      calls = calls;
+      within = opened (unfailed 3 why three (λ is. omega (arith, is)));
+      images = λ tells. left tells (unfailed 3 why three (λ is. omega (arith, is)));
+      faults = faults;
+      told = told;
+    };
+    device_failed = λ seven. opening_failed shown sink was now old new why _ refl seven faults told;
+    unfailed = λ six. same why six faults;
+    uncalled = λ six. opened (unfailed 6 why six (λ is. omega (arith, is)));
+    no_memory = λ six. remembered why six told;
+  }
+    where
+      named : (why : Why) → number_of (refusal_status why) ≡ 3 → refusal_status why ≡ HeapRefused
+      named Device three = absurd (omega (arith, three))
+      named OutOfMemory three = absurd (omega (arith, three))
+      named other three = refl
+
+      unfailed : (status : ℕ) (why : Why) → number_of (refusal_status why) ≡ status → status ≢ 7 → why ≢ Device
+      unfailed status why told other is = let seven : number_of (refusal_status why) ≡ 7 = ap (λ w. number_of (refusal_status w)) is in other (omega (arith, told, seven))
+
+      same : (why : Why) → number_of (refusal_status why) ≡ 6 → HasUpgradeFaults {T = Unit {0}} (Err why) (shown.faults was) (shown.faults now) (shown.failing now) → shown.faults now ≡ shown.faults was
+      same OutOfMemory six faults = faults
+      same other six faults = absurd (omega (arith, six))
+
+      remembered : (why : Why) → number_of (refusal_status why) ≡ 6 → IsTold sink old new (refusal_line why) → IsTold sink old new (codes "no memory")
+      remembered OutOfMemory six told = told
+      remembered other six told = absurd (omega (arith, six))
 
 -- the statuses where there is no heap
 pub unmade_ends : (why : NotFormatted) → (unmade_status why ≡ HeapRefused) ⊎ (unmade_status why ≡ NoMemory) ⊎ (unmade_status why ≡ DeviceFailed)

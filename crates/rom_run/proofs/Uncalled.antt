@@ -1,8 +1,9 @@
 -- Where the device was not called, all is as it was.
 use Rattle.std.specs.Prelude.{◌≡◌, ◌≢◌, ◌⊎◌, ℕ, List, codes}
 use Rattle.std.proofs.Common.{refl, ap, arith, inl, inr}
+use Rattle.rom_model.specs.Earlier.{Earlier}
 use Rattle.rom_model.specs.Machine.{Machine}
-use Rattle.rom_model.specs.declared.unfit.Break.{Break}
+use Rattle.rom_model.specs.declared.unfit.Unfit.{Unfit}
 use Rattle.rom_device.specs.Device.{ShownDevice}
 use Rattle.rom_device.proofs.Going.{leaves_none, runs_none}
 use Rattle.rom_header.specs.Layout.{words_needed}
@@ -13,7 +14,7 @@ use Rattle.rom_run.specs.Statuses.{number_of}
 use Rattle.rom_run.specs.Keeping.{IsCalledWithin}
 use Rattle.rom_run.specs.Working.{HasNone, IsDeviceKept}
 use Rattle.rom_run.specs.declared.heap.Heap.{Heap}
-use Rattle.rom_run.specs.declared.heap.Heap.TheVariants.{New, Standing}
+use Rattle.rom_run.specs.declared.heap.Heap.TheVariants.{New, Standing, Upgraded}
 use Rattle.rom_run.specs.declared.status.Status.{Status}
 use Rattle.rom_run.specs.declared.status.Status.TheVariants.{NoMemory, ScriptFailed, ScriptTooLong}
 
@@ -38,6 +39,11 @@ module _ {D : Type 0} (shown : ShownDevice D) (was : D) where
     idle = λ tells idle. record { size = refl; words = λ told. refl; images = λ told. runs_none shown _ (λ x. refl) was };
     stops = inl refl;
   }
+  within_uncalled Upgraded = record {
+    calls = λ tells. uncalled _ _ _;
+    by_order = inl (uncalled 4 0 0);
+    stops = inl refl;
+  }
 
   -- the device keeps its words
   pub kept_uncalled : (heap : Heap) → IsDeviceKept shown heap was was
@@ -51,11 +57,16 @@ module _ {D : Type 0} (shown : ShownDevice D) (was : D) where
     outside = λ told. record { as_long = refl; before = λ k lt other. refl; behind = λ k le. refl };
     spared = tt;
   }
+  kept_uncalled Upgraded = record {
+    size = refl;
+    outside = λ told. record { as_long = refl; before = λ k lt other. refl; behind = λ k le. refl };
+    spared = tt;
+  }
 
   -- and there is no session, with a status of neither a refused heap nor a device that failed
-  pub none_uncalled : {S C Q R A K : Type 0} (machine : Machine S C Q R A) (Contents : ℕ → List ℕ → S → ℕ → Type 0) (sink : ShownSink K) (FirstBreak : ℕ → List ℕ → Break → Type 0) (old new : K) (status : ℕ) →
-      status ≢ 3 → status ≢ 7 → (status ≡ 6 → IsTold sink old new (codes "no memory")) → (heap : Heap) → HasNone machine Contents shown sink FirstBreak heap was was old new status
-  none_uncalled machine Contents sink FirstBreak old new status unrefused unfailed told (New order) = record {
+  pub none_uncalled : {S C Q R A K : Type 0} (machine : Machine S C Q R A) (Contents : ℕ → List ℕ → S → ℕ → Type 0) (sink : ShownSink K) (Rejects : ℕ → List ℕ → Unfit → Type 0) (earlier : Earlier S) (old new : K) (status : ℕ) →
+      status ≢ 3 → status ≢ 7 → (status ≡ 6 → IsTold sink old new (codes "no memory")) → (heap : Heap) → HasNone machine Contents shown sink Rejects earlier heap was was old new status
+  none_uncalled machine Contents sink Rejects earlier old new status unrefused unfailed told (New order) = record {
     images = λ tells. leaves_none shown _ was;
     calls = within_uncalled (New order);
     heap_refused = λ three. absurd (unrefused three);
@@ -64,13 +75,22 @@ module _ {D : Type 0} (shown : ShownDevice D) (was : D) where
     uncalled = λ six. refl;
     no_memory = told;
   }
-  none_uncalled machine Contents sink FirstBreak old new status unrefused unfailed told Standing = record {
+  none_uncalled machine Contents sink Rejects earlier old new status unrefused unfailed told Standing = record {
     images = λ tells. leaves_none shown _ was;
     calls = within_uncalled Standing;
     heap_refused = λ three. absurd (unrefused three);
     device_failed = λ seven. absurd (unfailed seven);
     unfailed = λ six. refl;
     uncalled = λ six. tt;
+    no_memory = told;
+  }
+  none_uncalled machine Contents sink Rejects earlier old new status unrefused unfailed told Upgraded = record {
+    images = λ tells. leaves_none shown _ was;
+    calls = within_uncalled Upgraded;
+    heap_refused = λ three. absurd (unrefused three);
+    device_failed = λ seven. absurd (unfailed seven);
+    unfailed = λ six. refl;
+    uncalled = λ six. within_uncalled Standing;
     no_memory = told;
   }
 

@@ -1,6 +1,7 @@
 -- How a command ends where nothing fails, when its heap is refused, and how many lines of a caller tell of a fault.
 use Rattle.std.specs.Prelude.{◌≡◌, ◌⊎◌, ℕ, Bool, true, false, IsTrue, List, Option, Some, IfSome, IsSomeAnd, Ok, Err, slice_get}
 use Rattle.std.specs.List.{AllByRecursion, list_any}
+use Rattle.rom_model.specs.Earlier.{Earlier}
 use Rattle.rom_model.specs.Faulted.{RoseBy, faulted_lines}
 use Rattle.rom_model.specs.Faults.{Rose}
 use Rattle.rom_model.specs.Lawful.{IsLawful}
@@ -9,7 +10,7 @@ use Rattle.rom_model.specs.Story.{Story}
 use Rattle.rom_model.specs.declared.line.Step.{Step}
 use Rattle.rom_model.specs.declared.line.Step.TheVariants as line
 use Rattle.rom_model.specs.declared.line.LineResult.{LineResult}
-use Rattle.rom_model.specs.declared.unfit.Break.{Break}
+use Rattle.rom_model.specs.declared.unfit.Unfit.{Unfit}
 use Rattle.rom_device.specs.Device.{ShownDevice}
 use Rattle.rom_header.specs.Fresh.{IsFormatAnswer}
 use Rattle.rom_header.specs.Held.{Holds}
@@ -20,10 +21,11 @@ use Rattle.rom_text.specs.Streams.{ShownSink, ShownSource}
 use Rattle.rom_open.specs.Refusals.{IsRefusal}
 use Rattle.rom_open.specs.declared.new_heap.NotFormatted.TheVariants.{Refused}
 use Rattle.rom_open.specs.declared.reasons.Why.{Why}
+use Rattle.rom_upgrade.specs.Upgrading.{IsUpgradeRefusal}
 use Rattle.rom_run.specs.Refusing.{refusal_status, unmade_status}
 use Rattle.rom_run.specs.Use.{Use, heap_of}
 use Rattle.rom_run.specs.declared.heap.Heap.{Heap}
-use Rattle.rom_run.specs.declared.heap.Heap.TheVariants.{New, Standing}
+use Rattle.rom_run.specs.declared.heap.Heap.TheVariants.{New, Standing, Upgraded}
 use Rattle.rom_run.specs.declared.status.Status.TheVariants.{HeapRefused}
 
 module _ {S : Type 0} (Contents : ℕ → List ℕ → S → ℕ → Type 0) where
@@ -31,30 +33,33 @@ module _ {S : Type 0} (Contents : ℕ → List ℕ → S → ℕ → Type 0) whe
   abbrev pub HoldsSome : List ℕ → Type 0
   HoldsSome words = (order : ℕ) × (state : S) × (count : ℕ) × Holds Contents order words state count
 
-  -- A heap that is to be made does not stand, and there are words enough for it; one that is to be opened stands.
+module _ {S : Type 0} (Contents : ℕ → List ℕ → S → ℕ → Type 0) (earlier : Earlier S) where
+  -- A heap that is to be made does not stand, and there are words enough for it; one that is to be opened stands; and so does one that is to be upgraded, in the version before.
   abbrev pub IsAtHand : Heap → List ℕ → Type 0
   IsAtHand (New order) words = IsFormatAnswer order words (Ok tt)
-  IsAtHand Standing words = HoldsSome words
+  IsAtHand Standing words = HoldsSome Contents words
+  IsAtHand Upgraded words = HoldsSome earlier.Contents words
 
   -- there is a command, and its heap is at hand in these words of the device
   abbrev pub CanBegin : Option Use → List ℕ → Type 0
   CanBegin asked words = IsSomeAnd asked (λ does. IsAtHand (heap_of does) words)
 
-  module _ (FirstBreak : ℕ → List ℕ → Break → Type 0) where
-    -- For a reason that has a name, which no fault and no want of memory is, a heap isn't made in these words, or the one that is to stand in them isn't opened.
-    abbrev pub IsRefusedByName : Heap → List ℕ → Type 0
-    IsRefusedByName (New order) words = (why : FormatRefused) × (unmade_status (Refused why) ≡ HeapRefused) × IsFormatAnswer order words (Err why)
-    IsRefusedByName Standing words = (why : Why) × (refusal_status why ≡ HeapRefused) × IsRefusal Contents FirstBreak words why
+module _ {S : Type 0} (Contents : ℕ → List ℕ → S → ℕ → Type 0) (Rejects : ℕ → List ℕ → Unfit → Type 0) (earlier : Earlier S) where
+  -- For a reason that has a name, which no fault and no want of memory is, a heap isn't made in these words, or the one that is to stand in them isn't opened, or isn't upgraded.
+  abbrev pub IsRefusedByName : Heap → List ℕ → Type 0
+  IsRefusedByName (New order) words = (why : FormatRefused) × (unmade_status (Refused why) ≡ HeapRefused) × IsFormatAnswer order words (Err why)
+  IsRefusedByName Standing words = (why : Why) × (refusal_status why ≡ HeapRefused) × IsRefusal Contents Rejects words why
+  IsRefusedByName Upgraded words = (why : Why) × (refusal_status why ≡ HeapRefused) × IsUpgradeRefusal earlier words why
 
-    module _ {D : Type 0} (shown : ShownDevice D) (was now : D) where
-      -- With 3 the heap is refused by name; and where it is, and no call of the device fails, it is 3, unless a script can't be read or is too long (4, 8), or memory is short (6).
-      pub record RefusesExactly (heap : Heap) (status : ℕ) : Type 0 where
-        pub only : status ≡ 3 → IsRefusedByName heap (shown.words was)
-        pub always : IsRefusedByName heap (shown.words was) → IsUnfailed shown was now → (status ≡ 3) ⊎ (status ≡ 4) ⊎ (status ≡ 6) ⊎ (status ≡ 8)
+  module _ {D : Type 0} (shown : ShownDevice D) (was now : D) where
+    -- With 3 the heap is refused by name; and where it is, and no call of the device fails, it is 3, unless a script can't be read or is too long (4, 8), or memory is short (6).
+    pub record RefusesExactly (heap : Heap) (status : ℕ) : Type 0 where
+      pub only : status ≡ 3 → IsRefusedByName heap (shown.words was)
+      pub always : IsRefusedByName heap (shown.words was) → IsUnfailed shown was now → (status ≡ 3) ⊎ (status ≡ 4) ⊎ (status ≡ 6) ⊎ (status ≡ 8)
 
-      -- so of each command, where the device tells its words
-      abbrev pub IsRefusedExactly : Option Use → ℕ → Type 0
-      IsRefusedExactly asked status = IsTrue shown.tells_words → IfSome asked (λ does. RefusesExactly (heap_of does) status)
+    -- so of each command, where the device tells its words
+    abbrev pub IsRefusedExactly : Option Use → ℕ → Type 0
+    IsRefusedExactly asked status = IsTrue shown.tells_words → IfSome asked (λ does. RefusesExactly (heap_of does) status)
 
 -- the line is none
 abbrev pub is_unread_line : {C Q : Type 0} → Step C Q → Bool
@@ -79,8 +84,8 @@ module _ {D X K : Type 0} (shown : ShownDevice D) (source : ShownSource X) (sink
     EndsWell status = (status ≡ 0) ⊎ ((status ≡ 1) × HasUnreadLine AreRun before) ⊎ ((status ≡ 8) × SourceTooLong source sink before after old new) ⊎ (status ≡ 6)
 
     -- Where the device tells its words, the command can begin in them, and no count of faults rises, it ends well.
-    abbrev pub IsComplete : {S : Type 0} → (ℕ → List ℕ → S → ℕ → Type 0) → Option Use → ℕ → Type 0
-    IsComplete Contents asked status = IsTrue shown.tells_words → CanBegin Contents asked (shown.words was) → NoneFailed → EndsWell status
+    abbrev pub IsComplete : {S : Type 0} → (ℕ → List ℕ → S → ℕ → Type 0) → Earlier S → Option Use → ℕ → Type 0
+    IsComplete Contents earlier asked status = IsTrue shown.tells_words → CanBegin Contents earlier asked (shown.words was) → NoneFailed → EndsWell status
 
 module _ {S C Q R A : Type 0} (machine : Machine S C Q R A) {D : Type 0} (shown : ShownDevice D) where
   -- Of lawful results of the story, whatever they are, each caller's lines that tell of a fault are at most as many as the device's count of faults rose, short of its last value.

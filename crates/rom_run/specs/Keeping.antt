@@ -1,11 +1,12 @@
 -- What becomes of the device that a command works on, and why there is no heap to work on.
 use Rattle.std.specs.Prelude.{◌≡◌, ◌≤◌, ℕ, List, ◌++◌, IsTrue, codes, decimal, Option, IfSome, Ok, Err}
+use Rattle.rom_model.specs.Earlier.{Earlier}
 use Rattle.rom_model.specs.Faults.{FailedLast}
 use Rattle.rom_model.specs.Machine.{Machine, on_words}
 use Rattle.rom_model.specs.Passes.{faults_after}
 use Rattle.rom_model.specs.Space.{ChangesOnly}
 use Rattle.rom_model.specs.Story.{Story}
-use Rattle.rom_model.specs.declared.unfit.Break.{Break}
+use Rattle.rom_model.specs.declared.unfit.Unfit.{Unfit}
 use Rattle.rom_device.specs.Device.{ShownDevice, Does, Leaves, Stays}
 use Rattle.rom_header.specs.Fresh.{IsFormatAnswer, HasTooFewFor, IsRefused}
 use Rattle.rom_header.specs.Held.{Holds}
@@ -23,44 +24,52 @@ use Rattle.rom_open.specs.Within.{HasMadeHeap, HasOpened, MakesNone, WithinMakin
 use Rattle.rom_store.specs.Traced.{WentThrough}
 use Rattle.rom_open.specs.declared.new_heap.NotFormatted.TheVariants.{Refused}
 use Rattle.rom_open.specs.declared.reasons.Why.{Why}
+use Rattle.rom_upgrade.specs.Calls.{HasUpgradeFaults, UpgradeCalls, WithinUpgrade}
+use Rattle.rom_upgrade.specs.Upgrading.{IsUpgradeRefusal, UpgradeImage}
 use Rattle.rom_run.specs.Refusing.{refusal_line, refusal_status, unmade_line, unmade_status}
 use Rattle.rom_run.specs.declared.heap.Heap.{Heap}
-use Rattle.rom_run.specs.declared.heap.Heap.TheVariants.{New, Standing}
+use Rattle.rom_run.specs.declared.heap.Heap.TheVariants.{New, Standing, Upgraded}
 use Rattle.rom_run.specs.declared.status.Status.TheVariants.{HeapRefused}
 
--- Which words, where they are told, may differ afterwards: those of the heap that is made, or the state and the two regions of the one that the words name. No word behind is touched.
+-- Which words, where they are told, may differ afterwards: those of the heap that is made, or the state and the two regions of the one that the words name, which is opened or upgraded. No word behind is touched.
 abbrev pub IsKept : Heap → List ℕ → List ℕ → Type 0
 IsKept (New order) was now = ChangesOnly 0 (words_needed order) was now
 IsKept Standing was now = WithinHeap (named_order was) was now
+IsKept Upgraded was now = WithinHeap (named_order was) was now
 
 module _ {D : Type 0} (shown : ShownDevice D) where
-  -- The device is called no more often than to make a heap of that order, or to open the one that stands.
+  -- The device is called no more often than to make a heap of that order, to open the one that stands, or to upgrade it.
   abbrev pub IsCalledWithin : Heap → D → D → Type 0
   IsCalledWithin (New order) was now = WithinMaking shown order was now
   IsCalledWithin Standing was now = WithinOpening shown was now
+  IsCalledWithin Upgraded was now = WithinUpgrade shown was now
 
-  -- So, where there is a session on a heap of this order, before its first pass; and no call failed.
+  -- So, where there is a session on a heap of this order, before its first pass; and no call failed. On a heap that is upgraded there is none: an upgrade is no update, and leaves the count as it is.
   abbrev pub HasBegun : Heap → ℕ → D → D → Type 0
   HasBegun (New made) order was first = HasMadeHeap shown made was first
   HasBegun Standing order was first = HasOpened shown order was first
+  HasBegun Upgraded order was first = ⊥
 
 -- Of an object:
 module _ {S C Q R A : Type 0} (machine : Machine S C Q R A) (Contents : ℕ → List ℕ → S → ℕ → Type 0) where
-  -- The story begins with the empty state on a new heap, where none stood and there are words enough, as far as these are told; or with what the words hold.
+  -- The story begins with the empty state on a new heap, where none stood and there are words enough, as far as these are told; or with what the words hold. None begins on a heap that is upgraded.
   abbrev pub IsOpening : Heap → Option (List ℕ) → Story S → Type 0
   IsOpening (New order) words story = IfSome words (λ told. IsFormatAnswer order told (Ok tt)) × (story.order ≡ order) × (story.opening ≡ machine.empty) × (story.opening_count ≡ 0)
   IsOpening Standing words story = IfSome words (λ told. Holds Contents story.order told story.opening story.opening_count)
+  IsOpening Upgraded words story = ⊥
 
   module _ {D : Type 0} (shown : ShownDevice D) where
-    -- What a stop at any moment may leave, where there is no session: a heap that is made isn't there, or holds the empty state and the count 0; in one that stands the same region counts as before.
-    abbrev pub IsLeft : Heap → D → D → Type 0
-    IsLeft (New order) was now = Leaves shown (NoneOrHolds Contents order machine.empty) was now
-    IsLeft Standing was now = Leaves shown (Mended (named_order (shown.words was)) (shown.words was)) was now
+    -- What a stop at any moment may leave, where there is no session: a heap that is made isn't there, or holds the empty state and the count 0; in one that stands the same region counts as before; and one that is upgraded holds what it held, in the version before or in this one.
+    abbrev pub IsLeft : Earlier S → Heap → D → D → Type 0
+    IsLeft earlier (New order) was now = Leaves shown (NoneOrHolds Contents order machine.empty) was now
+    IsLeft earlier Standing was now = Leaves shown (Mended (named_order (shown.words was)) (shown.words was)) was now
+    IsLeft earlier Upgraded was now = Leaves shown (UpgradeImage Contents earlier (shown.words was)) was now
 
-    -- What it may leave, where there is one: what could be left before, or an image of the session. Until a heap that is made stands, it may leave none, and from then on none but such an image.
+    -- What it may leave, where there is one: what could be left before, or an image of the session. Until a heap that is made stands, it may leave none, and from then on none but such an image. On a heap that is upgraded there is no session.
     abbrev pub IsLeftBySession : Heap → D → D → Story S → Type 0
     IsLeftBySession (New order) was now story = IsMadeThen shown Contents order machine.empty (SessionImage Contents (on_words machine) story) was now
     IsLeftBySession Standing was now story = Leaves shown (SessionImage Contents (on_words machine) story) was now
+    IsLeftBySession Upgraded was now story = ⊥
 
     -- What a stop at the end may leave: the history, or that and the batch in doubt.
     abbrev pub IsHeldNow : D → Story S → Type 0
@@ -77,11 +86,13 @@ module _ {D : Type 0} (shown : ShownDevice D) where
   abbrev pub IsSpared : Heap → D → D → Type 0
   IsSpared (New order) was now = IsTrue shown.tells_words → IsRefused order (shown.words was) → Does shown Stays was now
   IsSpared Standing was now = Unit {0}
+  IsSpared Upgraded was now = Unit {0}
 
--- want of memory to make a heap comes before any call of the device
-abbrev pub IsUncalled : {D : Type 0} → Heap → D → D → Type 0
-IsUncalled (New order) was now = now ≡ was
-IsUncalled Standing was now = Unit {0}
+  -- Want of memory to make a heap comes before any call of the device, and to upgrade one before any but those of an opening.
+  abbrev pub IsUncalled : Heap → D → D → Type 0
+  IsUncalled (New order) was now = now ≡ was
+  IsUncalled Standing was now = Unit {0}
+  IsUncalled Upgraded was now = WithinOpening shown was now
 
 module _ {D K : Type 0} (shown : ShownDevice D) (sink : ShownSink K) where
   -- The heap isn't made, for this reason: the words and the length are refused so, the device was called just as often as it takes to find it, and the line names it.
@@ -102,23 +113,45 @@ module _ {D K : Type 0} (shown : ShownDevice D) (sink : ShownSink K) where
     pub images : IsTrue shown.tells_images → (i : List ℕ) → shown.leaves now i → Holds Contents order i empty 0
     pub told : IsTold sink old new (codes "formatted order " ++ decimal order)
 
+  -- A heap of the version before, of this order, is made one of this: the device held some state and some count in that version, and holds the same in this one, and so does whatever a stop leaves of it now.
+  pub record IsUpgraded {S : Type 0} (Contents : ℕ → List ℕ → S → ℕ → Type 0) (earlier : Earlier S) (was now : D) (old new : K) : Type 0 where
+    pub order : ℕ
+    pub fits : words_needed order ≤ shown.size was
+    pub held : IsTrue shown.tells_words → (state : S) × (count : ℕ) × Holds earlier.Contents order (shown.words was) state count
+    pub holds : IsTrue shown.tells_images → (state : S) (count : ℕ) → Holds earlier.Contents order (shown.words was) state count → Holds Contents order (shown.words now) state count
+    pub images : IsTrue shown.tells_images → (state : S) (count : ℕ) → Holds earlier.Contents order (shown.words was) state count → (i : List ℕ) → shown.leaves now i → Holds Contents order i state count
+    pub told : IsTold sink old new (codes "upgraded order " ++ decimal order)
+
   -- Of the device's calls the last one failed, and no other, and the line says so.
   pub record HasDeviceFailed (was now : D) (old new : K) : Type 0 where
     pub failed : FailedLast (shown.faults was) (shown.faults now) (shown.failing now)
     pub told : IsTold sink old new (codes "device failed")
 
-  module _ {S : Type 0} (Contents : ℕ → List ℕ → S → ℕ → Type 0) (FirstBreak : ℕ → List ℕ → Break → Type 0) where
+  module _ {S : Type 0} (Contents : ℕ → List ℕ → S → ℕ → Type 0) (Rejects : ℕ → List ℕ → Unfit → Type 0) (earlier : Earlier S) where
     -- The heap isn't opened, likewise.
     pub record IsUnopened (was now : D) (old new : K) : Type 0 where
       pub why : Why
       pub by_name : refusal_status why ≡ HeapRefused
-      pub refused : IsTrue shown.tells_words → IsRefusal Contents FirstBreak (shown.words was) why
+      pub refused : IsTrue shown.tells_words → IsRefusal Contents Rejects (shown.words was) why
       pub sizes : NamesTooFew (shown.size was) why
       pub calls : IsTrue shown.tells_words → Calls {T = Unit {0}} shown (shown.words was) was now (Err why)
       pub faults : HasFaults {T = Unit {0}} (Err why) (shown.faults was) (shown.faults now) (shown.failing now)
+      pub told : IsTold sink old new (refusal_line why)
+
+    -- The heap isn't upgraded, likewise, by what the version before says of the region that counts. It is as an opening leaves it, with no call more.
+    pub record IsNotUpgraded (was now : D) (old new : K) : Type 0 where
+      pub why : Why
+      pub by_name : refusal_status why ≡ HeapRefused
+      pub refused : IsTrue shown.tells_words → IsUpgradeRefusal earlier (shown.words was) why
+      pub sizes : NamesTooFew (shown.size was) why
+      pub calls : IsTrue shown.tells_words → UpgradeCalls {T = Unit {0}} shown (shown.words was) was now (Err why)
+      pub within : WithinOpening shown was now
+      pub images : IsTrue shown.tells_images → Leaves shown (Mended (named_order (shown.words was)) (shown.words was)) was now
+      pub faults : HasUpgradeFaults {T = Unit {0}} (Err why) (shown.faults was) (shown.faults now) (shown.failing now)
       pub told : IsTold sink old new (refusal_line why)
 
     -- why a heap is refused by name
     abbrev pub IsHeapRefused : Heap → D → D → K → K → Type 0
     IsHeapRefused (New order) was now old new = IsUnmade order was now old new
     IsHeapRefused Standing was now old new = IsUnopened was now old new
+    IsHeapRefused Upgraded was now old new = IsNotUpgraded was now old new

@@ -2,7 +2,7 @@
 use Rattle.std.specs.Prelude.{◌≡◌, ◌⊎◌, ℕ, Option, Some, None}
 use Rattle.rom_model.specs.Blocks.{IsOrder}
 use Rattle.rom_run.specs.declared.heap.Heap.{Heap}
-use Rattle.rom_run.specs.declared.heap.Heap.TheVariants.{New, Standing}
+use Rattle.rom_run.specs.declared.heap.Heap.TheVariants.{New, Standing, Upgraded}
 
 -- where the scripts come from that are played
 pub data Scripts : Type 0 where
@@ -18,16 +18,20 @@ pub data Use : Type 0 where
   Makes : ℕ → Use
   -- shows the heap that stands
   Shows : Use
+  -- makes the heap of version 1 that stands one of version 2
+  Upgrades : Use
 
 abbrev pub heap_of : Use → Heap
 heap_of (Plays heap scripts) = heap
 heap_of (Makes order) = New order
 heap_of Shows = Standing
+heap_of Upgrades = Upgraded
 
--- a heap is made of an order that there is
+-- scripts are played on a heap that is made of an order that there is, or on one that stands; on none that is only upgraded
 abbrev pub HasOrder : Heap → Type 0
 HasOrder (New order) = IsOrder order
 HasOrder Standing = Unit {0}
+HasOrder Upgraded = ⊥
 
 -- the statuses with which it may end
 abbrev pub IsStatus : Option Use → ℕ → Type 0
@@ -35,6 +39,7 @@ IsStatus (Some (Plays heap Read)) status = (status ≡ 0) ⊎ (status ≡ 1) ⊎
 IsStatus (Some (Plays heap Drawn)) status = (status ≡ 0) ⊎ (status ≡ 3) ⊎ (status ≡ 5) ⊎ (status ≡ 6) ⊎ (status ≡ 7)
 IsStatus (Some (Makes order)) status = (status ≡ 0) ⊎ (status ≡ 3) ⊎ (status ≡ 6) ⊎ (status ≡ 7)
 IsStatus (Some Shows) status = (status ≡ 0) ⊎ (status ≡ 3) ⊎ (status ≡ 6) ⊎ (status ≡ 7)
+IsStatus (Some Upgrades) status = (status ≡ 0) ⊎ (status ≡ 3) ⊎ (status ≡ 6) ⊎ (status ≡ 7)
 IsStatus None status = status ≡ 2
 
 -- With these it has played its scripts, or shown its heap, and leaves a session. With 7 it may have played: then an update was told that the device failed.
@@ -42,6 +47,7 @@ abbrev pub HasRun : Option Use → ℕ → Type 0
 HasRun (Some (Plays heap scripts)) status = (status ≡ 0) ⊎ (status ≡ 1) ⊎ (status ≡ 5)
 HasRun (Some (Makes order)) status = ⊥
 HasRun (Some Shows) status = status ≡ 0
+HasRun (Some Upgrades) status = ⊥
 HasRun None status = ⊥
 
 -- With these it has done neither, and leaves none.
@@ -49,13 +55,15 @@ abbrev pub HasNotRun : Option Use → ℕ → Type 0
 HasNotRun (Some (Plays heap scripts)) status = (status ≡ 3) ⊎ (status ≡ 4) ⊎ (status ≡ 6) ⊎ (status ≡ 8)
 HasNotRun (Some (Makes order)) status = Unit {0}
 HasNotRun (Some Shows) status = (status ≡ 3) ⊎ (status ≡ 6) ⊎ (status ≡ 7)
+HasNotRun (Some Upgrades) status = Unit {0}
 HasNotRun None status = Unit {0}
 
--- With these no call of the device has failed: none was made, or each was answered.
+-- With these no call of the device has failed: none was made, or each was answered. An upgrade is done before the last write, of IDLE; where that one fails, the next opening repairs it.
 abbrev pub HasNotFailed : Option Use → ℕ → Type 0
 HasNotFailed (Some (Plays heap scripts)) status = (status ≡ 4) ⊎ (status ≡ 6) ⊎ (status ≡ 8)
 HasNotFailed (Some (Makes order)) status = (status ≡ 0) ⊎ (status ≡ 6)
 HasNotFailed (Some Shows) status = (status ≡ 0) ⊎ (status ≡ 6)
+HasNotFailed (Some Upgrades) status = status ≡ 6
 HasNotFailed None status = Unit {0}
 
 -- With these every script was read to its end.

@@ -1,8 +1,9 @@
 -- What is promised of a heap that a command works on.
 use Rattle.std.specs.Prelude.{◌≡◌, ◌≤◌, ℕ, List, IsTrue, codes, Option, Some, None}
+use Rattle.rom_model.specs.Earlier.{Earlier}
 use Rattle.rom_model.specs.Machine.{Machine}
 use Rattle.rom_model.specs.Story.{Story}
-use Rattle.rom_model.specs.declared.unfit.Break.{Break}
+use Rattle.rom_model.specs.declared.unfit.Unfit.{Unfit}
 use Rattle.rom_device.specs.Device.{Leaves, ShownDevice, told_words}
 use Rattle.rom_header.specs.Held.{Holds}
 use Rattle.rom_header.specs.Layout.{words_needed}
@@ -13,8 +14,8 @@ use Rattle.rom_open.specs.AtRest.{IsAtRest}
 use Rattle.rom_open.specs.Refusals.{named_order}
 use Rattle.rom_open.specs.Within.{CallsOfOrder, WithinOpening}
 use Rattle.rom_store.specs.Sessions.{EachStory, HasStory, SessionSeen}
-use Rattle.rom_run.specs.Keeping.{CountsFaults, HasDeviceFailed, IsCalledWithin, IsHeapRefused, IsHeldNow, IsKept, IsLeft, IsLeftBySession, IsMade, IsOpening, IsSpared, IsUncalled}
-use Rattle.rom_run.specs.Use.{Makes, Plays, Shows, Use}
+use Rattle.rom_run.specs.Keeping.{CountsFaults, HasDeviceFailed, IsCalledWithin, IsHeapRefused, IsHeldNow, IsKept, IsLeft, IsLeftBySession, IsMade, IsOpening, IsSpared, IsUncalled, IsUpgraded}
+use Rattle.rom_run.specs.Use.{Makes, Plays, Shows, Upgrades, Use}
 use Rattle.rom_run.specs.declared.heap.Heap.{Heap}
 
 module _ {D : Type 0} (shown : ShownDevice D) where
@@ -39,15 +40,15 @@ module _ {S C Q R A : Type 0} (machine : Machine S C Q R A) (Contents : ℕ → 
     pub each : EachStory machine Contents session (IsSessionOn heap was now)
     pub told : EachStory machine Contents session P
 
-  module _ {K : Type 0} (sink : ShownSink K) (FirstBreak : ℕ → List ℕ → Break → Type 0) where
+  module _ {K : Type 0} (sink : ShownSink K) (Rejects : ℕ → List ℕ → Unfit → Type 0) (earlier : Earlier S) where
     -- There is no session: what a stop may leave, how often the device was called at most, and by the status why.
     pub record HasNone (heap : Heap) (was now : D) (old new : K) (status : ℕ) : Type 0 where
-      pub images : IsTrue shown.tells_images → IsLeft machine Contents shown heap was now
+      pub images : IsTrue shown.tells_images → IsLeft machine Contents shown earlier heap was now
       pub calls : IsCalledWithin shown heap was now
-      pub heap_refused : status ≡ 3 → IsHeapRefused shown sink Contents FirstBreak heap was now old new
+      pub heap_refused : status ≡ 3 → IsHeapRefused shown sink Contents Rejects earlier heap was now old new
       pub device_failed : status ≡ 7 → HasDeviceFailed shown sink was now old new
       pub unfailed : status ≡ 6 → shown.faults now ≡ shown.faults was
-      pub uncalled : status ≡ 6 → IsUncalled heap was now
+      pub uncalled : status ≡ 6 → IsUncalled shown heap was now
       pub no_memory : status ≡ 6 → IsTold sink old new (codes "no memory")
 
 -- A heap that is only shown is as it was: its words hold what the story begins with, under IDLE and in both regions; whatever a stop leaves, the same region counts as before; and the device was called no more often than to open it, by the words and by the order.
@@ -63,11 +64,13 @@ abbrev pub IsStill : {S D : Type 0} → (ℕ → List ℕ → S → ℕ → Type
 IsStill Contents shown (Some (Plays heap scripts)) was now story = Unit {0}
 IsStill Contents shown (Some (Makes order)) was now story = Unit {0}
 IsStill Contents shown (Some Shows) was now story = IsAsBefore Contents shown was now story
+IsStill Contents shown (Some Upgrades) was now story = Unit {0}
 IsStill Contents shown None was now story = Unit {0}
 
--- what is made by a command that is done
-abbrev pub HasMade : {S C Q R A D K : Type 0} → Machine S C Q R A → (ℕ → List ℕ → S → ℕ → Type 0) → ShownDevice D → ShownSink K → Option Use → D → D → K → K → Type 0
-HasMade machine Contents shown sink (Some (Plays heap scripts)) was now old new = Unit {0}
-HasMade machine Contents shown sink (Some (Makes order)) was now old new = IsMade shown sink Contents machine.empty order was now old new
-HasMade machine Contents shown sink (Some Shows) was now old new = Unit {0}
-HasMade machine Contents shown sink None was now old new = Unit {0}
+-- what is made by a command that is done, or upgraded
+abbrev pub HasMade : {S C Q R A D K : Type 0} → Machine S C Q R A → (ℕ → List ℕ → S → ℕ → Type 0) → Earlier S → ShownDevice D → ShownSink K → Option Use → D → D → K → K → Type 0
+HasMade machine Contents earlier shown sink (Some (Plays heap scripts)) was now old new = Unit {0}
+HasMade machine Contents earlier shown sink (Some (Makes order)) was now old new = IsMade shown sink Contents machine.empty order was now old new
+HasMade machine Contents earlier shown sink (Some Shows) was now old new = Unit {0}
+HasMade machine Contents earlier shown sink (Some Upgrades) was now old new = IsUpgraded shown sink Contents earlier was now old new
+HasMade machine Contents earlier shown sink None was now old new = Unit {0}

@@ -35,7 +35,7 @@ pub fn make_heap<O: Object, D: Device, K: Sink>(
     ensures made { number_of result ≡ 0 → IsMade D.shown K.shown O.Contents O.machine.empty order
         device.old device.new out.old out.new }
     ensures images { IsTrue D.shown.tells_images →
-        IsLeft O.machine O.Contents D.shown (New order) device.old device.new }
+        IsLeft O.machine O.Contents D.shown O.earlier (New order) device.old device.new }
     ensures heap_refused { number_of result ≡ 3 →
         IsUnmade D.shown K.shown order device.old device.new out.old out.new }
     ensures device_failed { number_of result ≡ 7 →

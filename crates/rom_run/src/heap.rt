@@ -7,4 +7,7 @@ pub enum Heap {
     New(u32),
     /// The one that the device has.
     Standing,
+    /// The one of version 1 that the device has, which becomes one of version 2. Contracts alone speak of
+    /// it: no scripts are played on such a heap.
+    Upgraded,
 }

@@ -6,7 +6,8 @@
 //! a session is left, that what was printed are the results of one history, what a stop leaves of the
 //! device at any moment, of each refusal the cause and the line, that it is done where nothing
 //! fails, and refused exactly where the heap's words are. The record has more uses, for programs with
-//! commands of their own (scripts that are drawn, a heap that is shown). So what `run_asked` does in
+//! commands of their own (scripts that are drawn, a heap that is shown, or one of version 1 that becomes
+//! one of version 2, which `upgrade_heap` does of an object that can). So what `run_asked` does in
 //! between is public too: each such function names its clauses, and the record holds the same, and what
 //! follows from them. A program that takes plain words alone is one call of `run_plain`.
 #![tactic(auto)]
@@ -24,6 +25,7 @@ mod scripted;
 mod standing;
 mod status;
 mod telling;
+mod upgrade;
 mod worked;
 
 pub use ended::Ended;
@@ -37,4 +39,5 @@ pub use scripted::play_sources;
 pub use standing::{OpenHeap, open_heap};
 pub use status::Status;
 pub use telling::tell;
+pub use upgrade::upgrade_heap;
 pub use worked::Worked;

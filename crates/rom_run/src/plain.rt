@@ -206,8 +206,8 @@ where
     O::Reply: Told + Drop + Send + Sync,
     O::Answer: Told + Drop + Send + Sync,
     requires { length scripts.items ≡ length (scripts_of (command words.now)) }
-    ensures promise { Promise O.machine O.Contents O.FirstBreak D.shown S.shown K.shown
-        (AreScripts L.Reads S.shown) (IsText K.shown (texts_of O.Reply.shown O.Answer.shown))
+    ensures promise { Promise O.machine O.Contents O.Rejects O.earlier D.shown S.shown
+        K.shown (AreScripts L.Reads S.shown) (IsText K.shown (texts_of O.Reply.shown O.Answer.shown))
         (use_of (command words.now)) device result.device scripts result.scripts out.old out.new
         result.status result.session }
 {

@@ -37,8 +37,8 @@ pub fn end_without_memory<O: Object, D: Device, K: Sink>(device: D, out: &mut K)
       status = Status.NoMemory;
       session = None;
     } }
-    ensures none { (heap : Heap) → HasNone O.machine O.Contents D.shown K.shown O.FirstBreak heap
-        device device out.old out.new 6 }
+    ensures none { (heap : Heap) → HasNone O.machine O.Contents D.shown K.shown O.Rejects
+        O.earlier heap device device out.old out.new 6 }
     ensures kept { (heap : Heap) → IsDeviceKept D.shown heap device device }
     ensures told { IsTold K.shown out.old out.new (codes "no memory") }
     ensures writing { StopsWriting K.shown out.old out.new }
@@ -72,7 +72,7 @@ fn end_unmade<D: Device, K: Sink>(unmade: Unmade<D>, out: &mut K) -> Worked<D>
     }
 }
 
-/// Prints why no heap was opened.
+/// Prints why no heap was opened or upgraded.
 pub(crate) fn end_unopened<D: Device, K: Sink>(refused: Refused<D>, out: &mut K) -> Worked<D>
     ensures worked { result ≡ record {
       device = refused.device;
@@ -154,8 +154,8 @@ where
     ensures kept { IfOk result (λ played.
         IsDeviceKept D.shown heap device played.closed.device) }
     ensures unprinted { OnOk result (out.new ≡ out.old) }
-    ensures none { IfErr result (λ worked. HasNone O.machine O.Contents D.shown K.shown O.FirstBreak
-        heap device worked.device out.old out.new (number_of worked.status)) }
+    ensures none { IfErr result (λ worked. HasNone O.machine O.Contents D.shown K.shown O.Rejects
+        O.earlier heap device worked.device out.old out.new (number_of worked.status)) }
     ensures none_kept { IfErr result (λ worked.
         IsDeviceKept D.shown heap device worked.device) }
     ensures none_statuses { IfErr result (λ worked. (worked.status ≡ Status.HeapRefused)
@@ -174,6 +174,7 @@ where
             Err(Unplayed::NoRoom(device)) => Err(end_without_memory::<O, D, K>(device, out)),
             Err(Unplayed::Unopened(refused)) => Err(end_unopened(refused, out)),
         },
+        Heap::Upgraded => unreachable!(),
     }
 }
 
@@ -212,8 +213,8 @@ where
     ensures session { IfSome result.session (HasSession O.machine O.Contents D.shown heap device
         result.device (HavePlayed O.machine K.shown (texts_of O.Reply.shown O.Answer.shown)
         (map (λ v. v.items) scripts.now) out.old out.new (number_of result.status))) }
-    ensures none { IsNone result.session → HasNone O.machine O.Contents D.shown K.shown O.FirstBreak
-        heap device result.device out.old out.new (number_of result.status) }
+    ensures none { IsNone result.session → HasNone O.machine O.Contents D.shown K.shown O.Rejects
+        O.earlier heap device result.device out.old out.new (number_of result.status) }
     ensures kept { IsDeviceKept D.shown heap device result.device }
     ensures sink_failed { number_of result.status ≡ 5 → WriteFailed K.shown out.old out.new }
     ensures writing { StopsWriting K.shown out.old out.new }

@@ -69,10 +69,10 @@ where
     ensures still { IfSome result.session (λ session. EachStory O.machine O.Contents session
         (IsStill O.Contents D.shown (use_of asked) device result.device)) }
     ensures none { IfSome (use_of asked) (λ does. IsNone result.session → HasNone O.machine
-        O.Contents D.shown K.shown O.FirstBreak (heap_of does) device result.device out.old out.new
-        result.status) }
-    ensures made { result.status ≡ 0 → HasMade O.machine O.Contents D.shown K.shown (use_of asked)
-        device result.device out.old out.new }
+        O.Contents D.shown K.shown O.Rejects O.earlier (heap_of does) device result.device out.old
+        out.new result.status) }
+    ensures made { result.status ≡ 0 → HasMade O.machine O.Contents O.earlier D.shown K.shown
+        (use_of asked) device result.device out.old out.new }
     ensures kept { IfSome (use_of asked) (λ does.
         IsDeviceKept D.shown (heap_of does) device result.device) }
     ensures uncalled { (result.status ≡ 2) ⊎ (result.status ≡ 4) ⊎ (result.status ≡ 8)
@@ -140,8 +140,8 @@ where
     O::Answer: Told + Drop + Send + Sync,
     requires order { IfSome asked IsAskedOf }
     requires sources { IfSome asked (HasSources (length scripts.items)) }
-    ensures promise { Promise O.machine O.Contents O.FirstBreak D.shown S.shown K.shown
-        (AreScripts L.Reads S.shown) (IsText K.shown (texts_of O.Reply.shown O.Answer.shown))
+    ensures promise { Promise O.machine O.Contents O.Rejects O.earlier D.shown S.shown
+        K.shown (AreScripts L.Reads S.shown) (IsText K.shown (texts_of O.Reply.shown O.Answer.shown))
         (use_of asked) device result.device scripts result.scripts out.old out.new result.status
         result.session }
 {

@@ -1,4 +1,4 @@
-//! What is told where a heap is not opened or not made.
+//! What is told where a heap is not opened, not made or not upgraded.
 ghost use Rattle.std.specs.Prelude.{◌≡◌, ◌++◌, codes, decimal};
 ghost use Rattle.rom_text.specs.Runs.{IsTold};
 ghost use Rattle.rom_run.specs.Refusing.{refusal_line, refusal_status, too_small_line, unmade_line, unmade_status};
@@ -27,6 +27,7 @@ fn rule_name(rule: Rule) -> &'static str
         Rule::Bucket => "bucket",
         Rule::Repeat => "repeat",
         Rule::Tree => "tree",
+        Rule::Stamp => "stamp",
     }
 }
 
@@ -84,7 +85,7 @@ fn tell_malformed<O: Sink>(out: &mut O, offset: u64, rule: Rule)
     );
 }
 
-/// Says why a heap is not opened.
+/// Says why a heap is not opened, or not upgraded.
 pub fn tell_refusal<O: Sink>(out: &mut O, why: Why)
     ensures told { IsTold O.shown out.old out.new (refusal_line why) }
     ensures rest { O.shown.rest out.new ≡ O.shown.rest out.old }
@@ -96,20 +97,30 @@ pub fn tell_refusal<O: Sink>(out: &mut O, why: Why)
         Why::BadState(state) => tell_number(out, "refused: state ", state),
         Why::TooSmall { need, have } => tell_too_small(out, need, have),
         Why::Twins { offset, main, back } => tell_twins(out, offset, main, back),
+        Why::OldRegion => tell(out, &["refused: region version 1"]),
+        Why::NewRegion => tell(out, &["refused: region version 2"]),
         Why::Malformed { offset, rule } => tell_malformed(out, offset, rule),
         Why::Device => tell(out, &["device failed"]),
         Why::OutOfMemory => tell(out, &["no memory"]),
     }
 }
 
-/// The status where a heap is not opened.
+/// The status where a heap is not opened, or not upgraded.
 pub fn refusal_status(why: Why) -> Status
     ensures { result ≡ refusing.refusal_status why }
 {
     match why {
         Why::Device => Status::DeviceFailed,
         Why::OutOfMemory => Status::NoMemory,
-        _ => Status::HeapRefused,
+        Why::NotAHeap
+        | Why::BadVersion(_)
+        | Why::BadOrder(_)
+        | Why::BadState(_)
+        | Why::TooSmall { .. }
+        | Why::Twins { .. }
+        | Why::OldRegion
+        | Why::NewRegion
+        | Why::Malformed { .. } => Status::HeapRefused,
     }
 }
 
@@ -141,7 +152,9 @@ pub fn unmade_status(why: NotFormatted) -> Status
 {
     match why {
         NotFormatted::Refused(FormatRefused::Device) => Status::DeviceFailed,
-        NotFormatted::Refused(_) => Status::HeapRefused,
+        NotFormatted::Refused(FormatRefused::AlreadyAHeap | FormatRefused::TooSmall { .. }) => {
+            Status::HeapRefused
+        }
         NotFormatted::OutOfMemory => Status::NoMemory,
     }
 }

@@ -54,8 +54,8 @@ where
         result.device (HasReplies O.machine (AreScripts L.Reads S.shown)
         (IsText K.shown (texts_of O.Reply.shown O.Answer.shown)) scripts.items out.old out.new
         result.status)) }
-    ensures none { IsNone result.session → HasNone O.machine O.Contents D.shown K.shown O.FirstBreak
-        heap device result.device out.old out.new result.status }
+    ensures none { IsNone result.session → HasNone O.machine O.Contents D.shown K.shown O.Rejects
+        O.earlier heap device result.device out.old out.new result.status }
     ensures kept { IsDeviceKept D.shown heap device result.device }
     ensures uncalled { (result.status ≡ 4) ⊎ (result.status ≡ 8) → result.device ≡ device }
     ensures unfailed { HasNotFailed (Some (Plays heap Read)) result.status →

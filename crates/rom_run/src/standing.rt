@@ -49,8 +49,8 @@ pub fn open_heap<O: Object, D: Device, K: Sink>(
     ensures kept { IfOk result (λ heap. IsDeviceKept D.shown Standing device heap.device) }
     ensures unfailed { IfOk result (λ heap. D.shown.faults heap.device ≡ D.shown.faults device) }
     ensures unprinted { OnOk result (out.new ≡ out.old) }
-    ensures none { IfErr result (λ worked. HasNone O.machine O.Contents D.shown K.shown O.FirstBreak
-        Standing device worked.device out.old out.new (number_of worked.status)) }
+    ensures none { IfErr result (λ worked. HasNone O.machine O.Contents D.shown K.shown O.Rejects
+        O.earlier Standing device worked.device out.old out.new (number_of worked.status)) }
     ensures none_kept { IfErr result (λ worked.
         IsDeviceKept D.shown Standing device worked.device) }
     ensures none_statuses { IfErr result (λ worked. (worked.status ≡ Status.HeapRefused)

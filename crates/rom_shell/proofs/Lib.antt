@@ -1,7 +1,8 @@
--- Lemmas on what is printed of a heap and of a drill, on the words of the command line, on counting, and on what is printed with which status.
+-- Lemmas on what is printed of a heap and of a drill, on the words of the command line, on counting, on what is printed with which status, and on the versions of a heap.
 pub mod Showing
 pub mod Ending
 pub mod Drilling
 pub mod Summing
 pub mod Replies
 pub mod Printed
+pub mod Apart

@@ -12,7 +12,7 @@ use Rattle.rom_text.specs.Streams.{ShownSink}
 use Rattle.rom_run.specs.Statuses.{is_faulted, is_unread}
 use Rattle.rom_run.proofs.Completing.{text_faulted, text_unread}
 use Rattle.rom_shell.specs.Run.{IsPrinted}
-use Rattle.rom_words.specs.Words.{Command, Try, Run, Format, Stat, Drill}
+use Rattle.rom_words.specs.Words.{Command, Try, Run, Format, Stat, Upgrade, Drill}
 
 seven_drill : (a : Bool) → ◌≡◌ {A = ℕ} 7 (if a then 7 else 0) → a ≡ true
 seven_drill true is = refl
@@ -29,6 +29,7 @@ module _ {O : Type 0} (sink : ShownSink O) where
   printed_faulted (Some (Run file scripts)) story results old new is = text_faulted sink trio_texts story results old new is
   printed_faulted (Some (Format file order)) story results old new is = absurd is
   printed_faulted (Some (Stat file)) story results old new is = let no = is.0 in absurd (omega (arith, no))
+  printed_faulted (Some (Upgrade file)) story results old new is = absurd is
   printed_faulted (Some (Drill start callers calls)) story results old new (inl is) = seven_drill _ is.0
   printed_faulted (Some (Drill start callers calls)) story results old new (inr is) = let no = is.0 in absurd (omega (arith, no))
   printed_faulted None story results old new is = absurd is
@@ -39,6 +40,7 @@ module _ {O : Type 0} (sink : ShownSink O) where
   printed_unread (Some (Run file scripts)) story results old new is = text_unread sink trio_texts story results old new is
   printed_unread (Some (Format file order)) story results old new is = absurd is
   printed_unread (Some (Stat file)) story results old new is = let no = is.0 in absurd (omega (arith, no))
+  printed_unread (Some (Upgrade file)) story results old new is = absurd is
   printed_unread (Some (Drill start callers calls)) story results old new (inl is) = absurd (one_drill _ is.0)
   printed_unread (Some (Drill start callers calls)) story results old new (inr is) = let no = is.0 in absurd (omega (arith, no))
   printed_unread None story results old new is = absurd is

@@ -10,7 +10,7 @@ use Rattle.rom_model.specs.State.{State}
 use Rattle.rom_model.specs.Story.{Story}
 use Rattle.rom_text.specs.Lines.{AreScripts}
 use Rattle.rom_run.specs.Played.{IsText}
-use Rattle.rom_run.specs.Use.{Use, Plays, Makes, Shows, Read, Drawn}
+use Rattle.rom_run.specs.Use.{Use, Plays, Makes, Shows, Upgrades, Read, Drawn}
 use Rattle.rom_run.specs.declared.heap.Heap.TheVariants.{New, Standing}
 use Rattle.rom_script.specs.Drill.{drill_scripts}
 use Rattle.rom_script.specs.Lines.{Reads}
@@ -18,7 +18,7 @@ use Rattle.rom_text.specs.Streams.{ShownSink, ShownSource}
 use Rattle.rom_script.specs.Trio.{trio_texts}
 use Rattle.rom_shell.specs.Drilled.{IsDrillText, drill_told}
 use Rattle.rom_shell.specs.Stat.{IsPut, stat_text}
-use Rattle.rom_words.specs.Words.{Command, Try, Run, Format, Stat, Drill}
+use Rattle.rom_words.specs.Words.{Command, Try, Run, Format, Stat, Upgrade, Drill}
 
 -- the use that it makes of its device's heap
 abbrev pub use_of : Option Command → Option Use
@@ -26,6 +26,7 @@ use_of (Some (Try scripts)) = Some (Plays (New 4) Read)
 use_of (Some (Run file scripts)) = Some (Plays Standing Read)
 use_of (Some (Format file order)) = Some (Makes order)
 use_of (Some (Stat file)) = Some Shows
+use_of (Some (Upgrade file)) = Some Upgrades
 use_of (Some (Drill start callers calls)) = Some (Plays (New 12) Drawn)
 use_of None = None
 
@@ -35,6 +36,7 @@ AreRun source (Some (Try names)) sources scripts = AreScripts Reads source sourc
 AreRun source (Some (Run file names)) sources scripts = AreScripts Reads source sources scripts
 AreRun source (Some (Format file order)) sources scripts = ⊥
 AreRun source (Some (Stat file)) sources scripts = (sources ≡ []) × (scripts ≡ [])
+AreRun source (Some (Upgrade file)) sources scripts = ⊥
 AreRun source (Some (Drill start callers calls)) sources scripts = (sources ≡ []) × (scripts ≡ drill_scripts start callers calls)
 AreRun source None sources scripts = ⊥
 
@@ -45,5 +47,6 @@ IsPrinted sink (Some (Run file scripts)) story results old new status = IsText s
 IsPrinted sink (Some (Format file order)) story results old new status = ⊥
 IsPrinted sink (Some (Stat file)) story results old new status =
     (status ≡ 0) × (results ≡ []) × IsPut sink old new (stat_text story.order story.opening story.opening_count)
+IsPrinted sink (Some (Upgrade file)) story results old new status = ⊥
 IsPrinted sink (Some (Drill start callers calls)) story results old new status = IsDrillText sink (drill_told start callers calls story) results old new status
 IsPrinted sink None story results old new status = ⊥

@@ -1,6 +1,6 @@
 //! Generated scripts on a new heap, of which five lines are told.
 ghost use Rattle.std.specs.Prelude.{◌≡◌, ◌⊎◌, ◌≤◌, ◌^◌, All, length, map, IfSome, IsNone, IsSome, Some};
-ghost use Rattle.rom_heap.specs.Parts.{FirstBreak};
+ghost use Rattle.rom_heap.specs.Answers.{Rejects, earlier};
 ghost use Rattle.rom_model.specs.Lawful.{IsLawful};
 ghost use Rattle.rom_model.specs.Region.{Contents};
 ghost use Rattle.rom_model.specs.Trio.{trio};
@@ -131,8 +131,8 @@ pub(crate) fn drill_heap<R: Threads + Wait + Sync, D: Device + Send, O: Sink, G:
     ensures session { IfSome result.session (HasSession trio Contents D.shown (New 12) device
         result.device (HaveDrilled O.shown start callers calls out.old out.new
         (number_of result.status))) }
-    ensures none { IsNone result.session → HasNone trio Contents D.shown O.shown FirstBreak (New 12)
-        device result.device out.old out.new (number_of result.status) }
+    ensures none { IsNone result.session → HasNone trio Contents D.shown O.shown Rejects earlier
+        (New 12) device result.device out.old out.new (number_of result.status) }
     ensures kept { IsDeviceKept D.shown (New 12) device result.device }
     ensures sink_failed { number_of result.status ≡ 5 → WriteFailed O.shown out.old out.new }
     ensures writing { StopsWriting O.shown out.old out.new }

@@ -1,6 +1,6 @@
 //! The top call: all that the program does.
 ghost use Rattle.std.specs.Prelude.{◌≡◌, ◌≢◌, ◌↔◌, ◌⊎◌, length, map, codes, None, IfSome, IsSome, IsNone};
-ghost use Rattle.rom_heap.specs.Parts.{FirstBreak};
+ghost use Rattle.rom_heap.specs.Answers.{Rejects, earlier};
 ghost use Rattle.rom_model.specs.Region.{Contents};
 ghost use Rattle.rom_model.specs.Trio.{trio};
 ghost use Rattle.rom_run.specs.Played.{HasReplies};
@@ -18,7 +18,7 @@ use crate::drill::drill_heap;
 use crate::stat::show_heap;
 use rom_device::Device;
 use rom_heap::Trio;
-use rom_run::{Ended, Heap, Status, make_heap, play_sources, tell};
+use rom_run::{Ended, Heap, Status, make_heap, play_sources, tell, upgrade_heap};
 use rom_script::TrioLines;
 use rom_store::Gate;
 use rom_text::{Names, Sink, Source};
@@ -48,9 +48,9 @@ fn run_command<R: Threads + Wait + Sync, D: Device + Send, S: Source, O: Sink, G
     ensures still { IfSome result.session (λ session. EachStory trio Contents session
         (IsStill Contents D.shown (use_of (command words.now)) device result.device)) }
     ensures none { IfSome (use_of (command words.now)) (λ does. IsNone result.session → HasNone trio
-        Contents D.shown O.shown FirstBreak (heap_of does) device result.device out.old out.new
+        Contents D.shown O.shown Rejects earlier (heap_of does) device result.device out.old out.new
         result.status) }
-    ensures made { result.status ≡ 0 → HasMade trio Contents D.shown O.shown
+    ensures made { result.status ≡ 0 → HasMade trio Contents earlier D.shown O.shown
         (use_of (command words.now)) device result.device out.old out.new }
     ensures kept { IfSome (use_of (command words.now)) (λ does.
         IsDeviceKept D.shown (heap_of does) device result.device) }
@@ -100,6 +100,9 @@ fn run_command<R: Threads + Wait + Sync, D: Device + Send, S: Source, O: Sink, G
             Ended::of(status, device, scripts, None)
         }
         Asked::Stat(_) => Ended::after(show_heap(alloc, device, out), scripts),
+        Asked::Upgrade(_) => {
+            Ended::after(upgrade_heap::<Trio, D, O>(alloc, device, out), scripts)
+        }
         Asked::Drill {
             start,
             callers,
@@ -131,7 +134,7 @@ pub fn run<R: Threads + Wait + Sync, D: Device + Send, S: Source, O: Sink, G: Ga
     requires { length scripts.items ≡ length (scripts_of (command words.now)) }
 
     // What the words ask for is done so, and printed so: the facts are the record's fields.
-    ensures promise { Promise trio Contents FirstBreak D.shown S.shown O.shown
+    ensures promise { Promise trio Contents Rejects earlier D.shown S.shown O.shown
         (AreRun S.shown (command words.now)) (IsPrinted O.shown (command words.now))
         (use_of (command words.now)) device result.device scripts result.scripts out.old out.new
         result.status result.session }

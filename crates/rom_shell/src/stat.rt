@@ -1,7 +1,7 @@
 //! The sizes of the heap on a device.
 ghost use Rattle.std.specs.Prelude.{◌≡◌, ◌≢◌, ◌⊎◌, ◌-◌, ◌++◌, ℕ, IsSome, IsNone, IfSome};
 ghost use Rattle.std.specs.List.{flat_map};
-ghost use Rattle.rom_heap.specs.Parts.{FirstBreak};
+ghost use Rattle.rom_heap.specs.Answers.{Rejects, earlier};
 ghost use Rattle.rom_model.specs.Blocks.{IsOrder};
 ghost use Rattle.rom_model.specs.Region.{Contents};
 ghost use Rattle.rom_model.specs.State.{State, cap, live};
@@ -112,8 +112,8 @@ pub(crate) fn show_heap<D: Device, O: Sink>(alloc: Global, device: D, out: &mut 
         result.device (IsShown O.shown out.old out.new)) }
     ensures still { IfSome result.session (λ session. EachStory trio Contents session
         (IsAsBefore Contents D.shown device result.device)) }
-    ensures none { IsNone result.session → HasNone trio Contents D.shown O.shown FirstBreak Standing
-        device result.device out.old out.new (number_of result.status) }
+    ensures none { IsNone result.session → HasNone trio Contents D.shown O.shown Rejects earlier
+        Standing device result.device out.old out.new (number_of result.status) }
     ensures kept { IsDeviceKept D.shown Standing device result.device }
     ensures unfailed { number_of result.status ≡ 0 →
         D.shown.faults result.device ≡ D.shown.faults device }

@@ -5,7 +5,7 @@ use Rattle.rom_run.proofs.play.end_without_memory.Goals as goal
 pub returns-clause-none : goal.returns-clause-none
 returns-clause-none g c =
     let o = g.O.Object in
-    none_uncalled g.D.Device.shown c.args.device o.machine o.Contents g.K.Sink.shown o.FirstBreak c.args.out.now c.tell.new.out 6 (λ three. omega (arith, three)) (λ seven. omega (arith, seven)) (λ six. c.tell.ensures.told)
+    none_uncalled g.D.Device.shown c.args.device o.machine o.Contents g.K.Sink.shown o.Rejects o.earlier c.args.out.now c.tell.new.out 6 (λ three. omega (arith, three)) (λ seven. omega (arith, seven)) (λ six. c.tell.ensures.told)
 
 pub returns-clause-kept : goal.returns-clause-kept
 returns-clause-kept g c = kept_uncalled g.D.Device.shown c.args.device

@@ -9,7 +9,7 @@ returns-in-Err-clause-none g c =
     let ended = c.end_unmade.ensures in
     let failed = c.in-Err.ensures in
     rw (c.in-New.is, ended.worked)
-    (none_made o.machine o.Contents g.D.Device.shown g.K.Sink.shown o.FirstBreak c.args.device c.in-Err.unmade.device c.args.out.now c.end_unmade.new.out c.in-New.order c.in-Err.unmade.why
+    (none_made o.machine o.Contents g.D.Device.shown g.K.Sink.shown o.Rejects o.earlier c.args.device c.in-Err.unmade.device c.args.out.now c.end_unmade.new.out c.in-New.order c.in-Err.unmade.why
     failed.refused failed.unmade_sizes failed.unmade_calls failed.unmade_faults failed.unmade_images failed.memory failed.unmade_within ended.told)
 
 pub returns-in-Err-Unopened-clause-none : goal.returns-in-Err-Unopened-clause-none
@@ -17,9 +17,9 @@ returns-in-Err-Unopened-clause-none g c =
     let o = g.O.Object in
     let ended = c.end_unopened.ensures in
     let left = c.in-Err-Unopened.refused in
-    let failed : HasBeenRefused g.D.Device.shown o.Contents o.FirstBreak c.args.device left.device left.why = search rules in
+    let failed : HasBeenRefused g.D.Device.shown o.Contents o.Rejects c.args.device left.device left.why = search rules in
     rw (c.in-Standing.is, ended.worked)
-    (none_opened o.machine o.Contents g.D.Device.shown g.K.Sink.shown o.FirstBreak c.args.device left.device c.args.out.now c.end_unopened.new.out left.why
+    (none_opened o.machine o.Contents g.D.Device.shown g.K.Sink.shown o.Rejects o.earlier c.args.device left.device c.args.out.now c.end_unopened.new.out left.why
     failed.refused failed.sizes failed.faults failed.images failed.calls failed.within ended.told)
 
 pub returns-in-Err-clause-none_statuses : goal.returns-in-Err-clause-none_statuses

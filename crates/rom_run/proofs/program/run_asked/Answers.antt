@@ -1,9 +1,21 @@
+use Rattle.std.specs.Prelude.{Option, Some, None, IfSome}
+use Rattle.rom_model.specs.Earlier.{Earlier}
 use Rattle.rom_text.specs.Lines.{AreScripts}
 use Rattle.rom_text.specs.Text.{texts_of}
-use Rattle.rom_run.specs.Asked.{use_of}
+use Rattle.rom_run.specs.Asked.{IsAskedOf, use_of}
 use Rattle.rom_run.specs.Played.{IsText}
+use Rattle.rom_run.specs.Use.{heap_of}
+use Rattle.rom_run.specs.declared.program.Asked.{Asked}
+use Rattle.rom_run.specs.declared.program.Asked.TheVariants.{Play, Make}
+use Rattle.rom_run.proofs.Accepted.{AreApart, apart_played}
 use Rattle.rom_run.proofs.Completing.{ends, few_faults, text_faulted, text_unread}
 use Rattle.rom_run.proofs.program.run_asked.Goals as goal
+
+-- no command of these upgrades a heap
+apart_asked : {S : Type 0} (earlier : Earlier S) (asked : Option Asked) → IfSome asked IsAskedOf → IfSome (use_of asked) (λ does. AreApart earlier (heap_of does))
+apart_asked earlier (Some (Play heap)) order = apart_played earlier heap order
+apart_asked earlier (Some (Make order)) is = tt
+apart_asked earlier None order = tt
 
 -- three of the promises follow from the others
 pub returns : goal.returns
@@ -14,7 +26,7 @@ returns g c =
     let texts = texts_of g.O.Reply.Told.shown g.O.Answer.Told.shown in
     let is = c.run_command.ensures in
     let ended = c.run_command.result in
-    let both = ends o.machine o.Contents o.FirstBreak g.D.Device.shown source sink (AreScripts g.L.Lines.Reads source) (IsText sink texts)
+    let both = ends o.machine o.Contents o.Rejects o.earlier g.D.Device.shown source sink (AreScripts g.L.Lines.Reads source) (IsText sink texts)
     c.args.device ended.device c.args.scripts.items ended.scripts.items c.args.out.now c.run_command.new.out (text_faulted sink texts) (text_unread sink texts)
     (use_of c.args.asked) ended.status ended.session
     (record {
@@ -27,7 +39,8 @@ returns g c =
       source_failed = is.source_failed;
       too_long = is.too_long;
       sink_failed = is.sink_failed;
-    }) in
+    })
+    (apart_asked o.earlier c.args.asked c.requires.order) in
     record {
       promise = record {
         statuses = is.statuses;

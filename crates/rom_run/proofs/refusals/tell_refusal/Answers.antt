@@ -21,6 +21,12 @@ returns-in-TooSmall-clause-told g c = subst (λ why. IsTold g.O.Sink.shown c.arg
 pub returns-in-Twins-clause-told : goal.returns-in-Twins-clause-told
 returns-in-Twins-clause-told g c = subst (λ why. IsTold g.O.Sink.shown c.args.out.now c.tell_twins.new.out (refusal_line why)) (sym c.in-Twins.is) c.tell_twins.ensures.told
 
+pub returns-in-OldRegion-clause-told : goal.returns-in-OldRegion-clause-told
+returns-in-OldRegion-clause-told g c = subst (λ why. IsTold g.O.Sink.shown c.args.out.now c.tell-in-OldRegion.new.out (refusal_line why)) (sym c.in-OldRegion.is) c.tell-in-OldRegion.ensures.told
+
+pub returns-in-NewRegion-clause-told : goal.returns-in-NewRegion-clause-told
+returns-in-NewRegion-clause-told g c = subst (λ why. IsTold g.O.Sink.shown c.args.out.now c.tell-in-NewRegion.new.out (refusal_line why)) (sym c.in-NewRegion.is) c.tell-in-NewRegion.ensures.told
+
 pub returns-in-Malformed-clause-told : goal.returns-in-Malformed-clause-told
 returns-in-Malformed-clause-told g c = subst (λ why. IsTold g.O.Sink.shown c.args.out.now c.tell_malformed.new.out (refusal_line why)) (sym c.in-Malformed.is) c.tell_malformed.ensures.told
 

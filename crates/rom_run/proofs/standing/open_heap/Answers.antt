@@ -98,7 +98,7 @@ returns-in-Err-clause-none g c =
     let ended = c.end_unopened.ensures in
     let failed = c.in-Err.ensures in
     rw ended.worked
-    (none_opened o.machine o.Contents g.D.Device.shown g.K.Sink.shown o.FirstBreak c.args.device c.in-Err.refused.device c.args.out.now c.end_unopened.new.out c.in-Err.refused.why
+    (none_opened o.machine o.Contents g.D.Device.shown g.K.Sink.shown o.Rejects o.earlier c.args.device c.in-Err.refused.device c.args.out.now c.end_unopened.new.out c.in-Err.refused.why
     failed.answer failed.sizes failed.faults failed.images failed.calls failed.within ended.told)
 
 pub returns-in-Err-clause-none_kept : goal.returns-in-Err-clause-none_kept

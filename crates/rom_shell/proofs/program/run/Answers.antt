@@ -1,10 +1,11 @@
-use Rattle.rom_heap.specs.Parts.{FirstBreak}
+use Rattle.rom_heap.specs.Answers.{Rejects, earlier}
 use Rattle.rom_model.specs.Region.{Contents}
 use Rattle.rom_model.specs.Trio.{trio}
 use Rattle.rom_script.proofs.Determined.{text_determines}
 use Rattle.rom_run.proofs.Completing.{ends, few_faults}
 use Rattle.rom_shell.specs.Run.{AreRun, IsPrinted, use_of}
 use Rattle.rom_words.specs.Words.{command}
+use Rattle.rom_shell.proofs.Apart.{apart_asked}
 use Rattle.rom_shell.proofs.Printed.{printed_faulted, printed_unread}
 use Rattle.rom_shell.proofs.program.run.Goals as goal
 
@@ -17,7 +18,7 @@ returns-clause-promise g c =
     let asked = command c.args.words.now in
     let is = c.run_command.ensures in
     let ended = c.run_command.result in
-    let both = ends trio Contents FirstBreak shown source sink (AreRun source asked) (IsPrinted sink asked)
+    let both = ends trio Contents Rejects earlier shown source sink (AreRun source asked) (IsPrinted sink asked)
     c.args.device ended.device c.args.scripts.items ended.scripts.items c.args.out.now c.run_command.new.out (printed_faulted sink asked) (printed_unread sink asked)
     (use_of asked) ended.status ended.session
     (record {
@@ -30,7 +31,8 @@ returns-clause-promise g c =
       source_failed = is.source_failed;
       too_long = is.too_long;
       sink_failed = is.sink_failed;
-    }) in
+    })
+    (apart_asked asked) in
     record {
       statuses = is.statuses;
       ran = is.ran;

@@ -1,7 +1,7 @@
 use Rattle.std.proofs.Common.{◌≡◌, ◌∙◌, length, [], Some, ap, arith, subst, sym}
 use Rattle.rom_run.specs.Statuses.{number_of}
 use Rattle.rom_words.specs.Wanted.{named, texts}
-use Rattle.rom_words.specs.Words.{Try, Run, Format, Stat, Drill, command, scripts_of}
+use Rattle.rom_words.specs.Words.{Try, Run, Format, Stat, Upgrade, Drill, command, scripts_of}
 use Rattle.rom_shell.proofs.Replies.{drilled_session, no_source, shown_session}
 use Rattle.rom_shell.proofs.program.run_command.Goals as goal
 
@@ -52,6 +52,16 @@ returns-in-Stat-clause-story g c =
     let worked = c.show_heap.result in
     rw (sym is, c.after.ensures)
     (shown_session g.D.Device.shown g.S.Source.shown g.O.Sink.shown c.args.device worked.device c.args.scripts.items c.args.out.now c.show_heap.new.out none c.in-Stat.field-0.now (number_of worked.status) worked.session c.show_heap.ensures.not_run c.show_heap.ensures.session)
+
+pub returns-in-Upgrade-clause-none : goal.returns-in-Upgrade-clause-none
+returns-in-Upgrade-clause-none g c =
+    let is : Some (Upgrade c.in-Upgrade.field-0.now) ≡ command c.args.words.now = subst (λ a. named (Some a) ≡ command c.args.words.now) c.in-Upgrade.is c.in-Some.ensures.named in
+    rw (sym is, c.after-in-Upgrade.ensures) (λ none. c.upgrade_heap.ensures.none)
+
+pub returns-in-Upgrade-clause-made : goal.returns-in-Upgrade-clause-made
+returns-in-Upgrade-clause-made g c =
+    let is : Some (Upgrade c.in-Upgrade.field-0.now) ≡ command c.args.words.now = subst (λ a. named (Some a) ≡ command c.args.words.now) c.in-Upgrade.is c.in-Some.ensures.named in
+    rw (sym is, c.after-in-Upgrade.ensures) c.upgrade_heap.ensures.made
 
 pub returns-in-Drill-clause-story : goal.returns-in-Drill-clause-story
 returns-in-Drill-clause-story g c =

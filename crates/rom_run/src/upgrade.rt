@@ -1,0 +1,51 @@
+//! A heap of version 1 on a device, made one of version 2.
+ghost use Rattle.std.specs.Prelude.{◌≡◌, ◌⊎◌, IsNone};
+ghost use Rattle.rom_text.specs.Streams.{StopsWriting};
+ghost use Rattle.rom_run.specs.Keeping.{IsUpgraded};
+ghost use Rattle.rom_run.specs.Statuses.{number_of};
+ghost use Rattle.rom_run.specs.Working.{HasNone, IsDeviceKept};
+ghost use Rattle.rom_run.specs.declared.heap.Heap.TheVariants.{Upgraded};
+
+use crate::play::end_unopened;
+use crate::status::Status;
+use crate::telling::tell;
+use crate::worked::Worked;
+use itoa::Buffer;
+use rom_device::Device;
+use rom_model::Renew;
+use rom_text::Sink;
+use rom_upgrade::upgrade_device;
+use std::alloc::Global;
+
+/// Gives the heap of version 1 on the device a region of version 2, with the same state and the same
+/// count, and prints so or why not. There is no session: an upgrade is no update.
+pub fn upgrade_heap<O: Renew, D: Device, K: Sink>(
+    alloc: Global,
+    device: D,
+    out: &mut K,
+) -> Worked<D>
+    ensures statuses { (number_of result.status ≡ 0) ⊎ (number_of result.status ≡ 3)
+        ⊎ (number_of result.status ≡ 6) ⊎ (number_of result.status ≡ 7) }
+    ensures none_ran { IsNone result.session }
+    ensures none { HasNone O.machine O.Contents D.shown K.shown O.Rejects O.earlier Upgraded device
+        result.device out.old out.new (number_of result.status) }
+    ensures made { number_of result.status ≡ 0 → IsUpgraded D.shown K.shown O.Contents O.earlier
+        device result.device out.old out.new }
+    ensures kept { IsDeviceKept D.shown Upgraded device result.device }
+    ensures unfailed { number_of result.status ≡ 6 →
+        D.shown.faults result.device ≡ D.shown.faults device }
+    ensures writing { StopsWriting K.shown out.old out.new }
+    ensures rest { K.shown.rest out.new ≡ K.shown.rest out.old }
+{
+    match upgrade_device::<D, O>(alloc, device) {
+        Ok((device, order)) => {
+            tell(out, &["upgraded order ", Buffer::new().format(order)]);
+            Worked {
+                device,
+                status: Status::Done,
+                session: None,
+            }
+        }
+        Err(refused) => end_unopened(refused, out),
+    }
+}
