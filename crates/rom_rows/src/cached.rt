@@ -26,16 +26,16 @@ const WORDS: u64 = 232;
 /// Of a heap at rest: the words and a sync.
 const OPENING: u64 = WORDS + 1;
 
-/// A pass of three calls until COPYING is certain: MUTATING, 18 words of main and COPYING, with a sync
+/// A pass of three calls until COPYING is certain: MUTATING, 19 words of main and COPYING, with a sync
 /// after each.
-const COMMIT: u64 = 1 + 18 + 1 + 3;
+const COMMIT: u64 = 1 + 19 + 1 + 3;
 
 /// The rest of it: the same words of back, and a sync. IDLE waits.
-const FINISH: u64 = 18 + 1;
+const FINISH: u64 = 19 + 1;
 
-/// A pass until COPYING is certain that puts another value under a key: IDLE before it, and two words of
-/// main, the value and the count.
-const NEXT_COMMIT: u64 = 1 + 1 + 2 + 1 + 3;
+/// A pass until COPYING is certain that puts another value under a key: IDLE before it, and three words
+/// of main, the value, its stamp and the count.
+const NEXT_COMMIT: u64 = 1 + 1 + 3 + 1 + 3;
 
 /// What is done on a device. An update is two passes, of three calls and of one.
 #[derive(Clone, Copy, Debug)]
@@ -277,7 +277,7 @@ fn a_heap_behind_a_cache_is_as_it_was_told(rt: HostRuntime) -> Result<(), Fail> 
         }
     }
     // One call of the two passes fails, and those after it do not.
-    for nth in 1..48 {
+    for nth in 1..52 {
         let fault = trip(CallKind::Write, nth, nth % 2 == 0);
         tries(&rt, &rows[3], AMPLE, &[fault], nth % 3)?;
     }

@@ -12,7 +12,7 @@ use std::sync::Wait;
 use std::test::Fail;
 
 /// How many words of a region the three calls store to.
-const CHANGED: u64 = 18;
+const CHANGED: u64 = 19;
 
 /// How many calls a pass has made once COPYING is written, before its sync. First MUTATING is written
 /// and synced, then the words of main that the three calls stored to.

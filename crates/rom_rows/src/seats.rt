@@ -83,6 +83,6 @@ fn a_caller_that_learns_what_another_read_can_read(rt: HostRuntime) -> Result<()
     let version = shared.load(&mut second, VERSION);
     shared.leave(&mut second);
     assert_eq!(rt; (read, side), (Side::Main, Side::Main));
-    assert_eq!(rt; version, 1);
+    assert_eq!(rt; version, 2);
     Ok(())
 }

@@ -27,14 +27,24 @@ const STAT: Row = Row {
     ..PLAIN
 };
 
+const UPGRADE: Row = Row {
+    words: &["upgrade", "F"],
+    device: Words::Aged,
+    ..PLAIN
+};
+
 const TRY: Row = Row {
     words: &["try", "a"],
     text: Text::OneHistory(0),
     ..PLAIN
 };
 
-static HEAPS: [Row; 8] = [
+static HEAPS: [Row; 10] = [
     FORMAT,
+    Row {
+        text: Text::Is("upgraded order 9\n"),
+        ..UPGRADE
+    },
     Row {
         text: Text::Is("order 9\ncount 0\nqueue 0 set 0 map 0\nfree 480\ntotal 0\n"),
         ..STAT
@@ -49,6 +59,10 @@ static HEAPS: [Row; 8] = [
         device: Words::Zeros(786_472),
         text: Text::Is("formatted order 16\n"),
         ..FORMAT
+    },
+    Row {
+        text: Text::Is("upgraded order 16\n"),
+        ..UPGRADE
     },
     Row {
         text: Text::Is("order 16\ncount 0\nqueue 0 set 0 map 0\nfree 61440\ntotal 0\n"),

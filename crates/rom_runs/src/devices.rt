@@ -150,7 +150,7 @@ const BROKEN_HEAP: Row = Row {
 };
 
 /// Regions that are none, of a heap at rest: both alike, new or with 9 in the queue, with some words changed.
-static BROKEN: [Row; 15] = [
+static BROKEN: [Row; 18] = [
     Row {
         device: Words::Regions(&[(17, 5)]),
         text: Text::Is("refused: malformed at 17, rule tree\n"),
@@ -266,7 +266,24 @@ static BROKEN: [Row; 15] = [
     },
     Row {
         device: Words::Regions(&[(48, 52), (52, 5), (53, 7), (54, 56), (56, 5), (57, 8)]),
-        text: Text::Is("refused: malformed at 56, rule repeat\n"),
+        text: Text::Is("refused: malformed at 56, rule order\n"),
+        ..BROKEN_HEAP
+    },
+    // Two keys of one bucket that fall, and a stamp above the count.
+    Row {
+        device: Words::Regions(&[(48, 52), (52, 5), (54, 56)]),
+        text: Text::Is("refused: malformed at 56, rule order\n"),
+        ..BROKEN_HEAP
+    },
+    Row {
+        device: Words::Regions(&[(2, 3), (48, 52), (52, 5), (55, 4)]),
+        text: Text::Is("refused: malformed at 55, rule stamp\n"),
+        ..BROKEN_HEAP
+    },
+    // A version that there is not.
+    Row {
+        device: Words::Regions(&[(1, 3)]),
+        text: Text::Is("refused: malformed at 1, rule root\n"),
         ..BROKEN_HEAP
     },
     // A block that is taken and that nothing leads to.

@@ -7,7 +7,7 @@ const HEADER: [u64; 8] = [0x524F_4D55_4C55_5331, 1, 4, 0, 0, 0, 0, 0];
 
 /// A new region up to its blocks, whose words are 0: the root, and then the tree.
 const ROOT_AND_TREE: [u64; 48] = [
-    1, 1, 0, 0, 0, 0, 0, 0, 48, 0, 0, 0, 0, 0, 0, 0, 0, 4, 3, 4, 2, 3, 3, 3, 1, 2, 2, 2, 2, 2, 2,
+    1, 2, 0, 0, 0, 0, 0, 0, 48, 0, 0, 0, 0, 0, 0, 0, 0, 4, 3, 4, 2, 3, 3, 3, 1, 2, 2, 2, 2, 2, 2,
     2, 0, 1, 1, 1, 1, 1, 1, 1, 1, 1, 1, 1, 1, 1, 1, 1,
 ];
 
@@ -47,5 +47,15 @@ pub fn words_of(alloc: Global, device: &Words, kept: &[u64]) -> Result<Vec<u64>,
             Ok(words)
         }
         Words::Kept => kept.to_vec(alloc),
+        Words::Aged => {
+            let mut words = kept.to_vec(alloc)?;
+            let region = kept.len().saturating_sub(8) / 2;
+            for at in [9, region.saturating_add(9)] {
+                if let Some(version) = words.get_mut(at) {
+                    *version = 1;
+                }
+            }
+            Ok(words)
+        }
     }
 }

@@ -11,10 +11,10 @@ use std::test::Fail;
 use std::thread::Threads;
 
 /// The number of words of a device of order 4.
-const WORDS: usize = 232;
+pub const WORDS: usize = 232;
 
 /// No run of a test makes so many calls.
-const BEYOND: u64 = 4000;
+pub const BEYOND: u64 = 4000;
 
 /// Room for each text.
 const ROOM: u64 = 1024;
@@ -75,7 +75,7 @@ const OPENING: Row = Row {
 const OPENED: [&str; 1] = ["order 4\ncount 1\nqueue 1 set 0 map 0\nfree 14\ntotal 0\n"];
 
 /// Runs a row.
-fn run_row<R: Threads + Wait + Sync + AllocGlobal>(rt: &R, row: &Row) -> Result<Found, Fail> {
+pub fn run_row<R: Threads + Wait + Sync + AllocGlobal>(rt: &R, row: &Row) -> Result<Found, Fail> {
     let scripts = scripts_of(rt.alloc(), row)?;
     let words = words_of(rt.alloc(), &row.device, &[])?;
     ran(rt, row, words, scripts.as_slice(), ROOM)

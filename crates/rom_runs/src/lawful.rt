@@ -100,7 +100,7 @@ impl Caller {
         let Some((call, text)) = self.update_at(place) else {
             return Ok(None);
         };
-        let reply = model.apply(alloc, &call)?;
+        let reply = model.apply(alloc, &call, place)?;
         let right = reply_text(alloc, &reply, place)?.as_str() == text;
         self.at = self.at.saturating_add(1);
         Ok(Some(right))

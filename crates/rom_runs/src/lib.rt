@@ -37,4 +37,6 @@ mod scripts;
 #[cfg(test)]
 mod texts;
 #[cfg(test)]
+mod upgrades;
+#[cfg(test)]
 mod words;

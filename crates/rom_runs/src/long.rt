@@ -37,11 +37,13 @@ fn update_of(alloc: Global, number: u64) -> Result<String, AllocError> {
 
 fn query_of(alloc: Global, number: u64) -> Result<String, AllocError> {
     let key = (number >> 8) % 5;
-    match (number >> 32) % 5 {
+    let place = (number >> 8) % (2 * UPDATES);
+    match (number >> 32) % 6 {
         0 => format!(in alloc; "has {key}\n"),
         1 => format!(in alloc; "get {key}\n"),
         2 => format!(in alloc; "peek\n"),
         3 => format!(in alloc; "len\n"),
+        4 => format!(in alloc; "fresh {place}\n"),
         _ => format!(in alloc; "total\n"),
     }
 }

@@ -9,12 +9,23 @@ use std::collections::VecDeque;
 /// How many elements a heap of order 4 has room for.
 const ROOM: usize = 15;
 
+/// A key of the map.
+#[derive(Clone, Copy)]
+struct Pair {
+    key: u64,
+    value: u64,
+    /// One more than the place at which the value was written.
+    stamp: u64,
+}
+
 /// The elements, each list in no order but the queue's.
 #[derive(Drop)]
 pub struct Model {
     queue: VecDeque<u64>,
     set: Vec<u64>,
-    map: Vec<(u64, u64)>,
+    map: Vec<Pair>,
+    /// What the update under way stamps the values with that it writes.
+    stamp: u64,
 }
 
 impl Model {
@@ -24,6 +35,7 @@ impl Model {
             queue: VecDeque::with_capacity(alloc, ROOM)?,
             set: Vec::with_capacity(alloc, ROOM)?,
             map: Vec::with_capacity(alloc, ROOM)?,
+            stamp: 0,
         })
     }
 
@@ -35,9 +47,9 @@ impl Model {
     }
 
     fn value(&self, key: u64) -> Option<u64> {
-        for (other, value) in &self.map {
-            if *other == key {
-                return Some(*value);
+        for pair in &self.map {
+            if pair.key == key {
+                return Some(pair.value);
             }
         }
         None
@@ -45,9 +57,10 @@ impl Model {
 
     /// Gives a key that is there another value.
     fn set_value(&mut self, key: u64, value: u64) {
-        for (other, old) in self.map.iter_mut() {
-            if *other == key {
-                *old = value;
+        let stamp = self.stamp;
+        for pair in self.map.iter_mut() {
+            if pair.key == key {
+                *pair = Pair { key, value, stamp };
             }
         }
     }
@@ -60,14 +73,15 @@ impl Model {
         if self.is_full() {
             return Ok(SingleReply::Full);
         }
-        self.map.push((key, value))?;
+        let stamp = self.stamp;
+        self.map.push(Pair { key, value, stamp })?;
         Ok(SingleReply::NoPrior)
     }
 
     fn del(&mut self, key: u64) -> SingleReply {
         match self.value(key) {
             Some(old) => {
-                self.map.retain(|pair| pair.0 != key);
+                self.map.retain(|pair| pair.key != key);
                 SingleReply::Was(old)
             }
             None => SingleReply::NoPrior,
@@ -139,6 +153,7 @@ impl Model {
         }
         copy.set.extend_from_slice(&self.set)?;
         copy.map.extend_from_slice(&self.map)?;
+        copy.stamp = self.stamp;
         Ok(copy)
     }
 
@@ -160,8 +175,9 @@ impl Model {
         Ok(Reply::All(replies))
     }
 
-    /// Does an update.
-    pub fn apply(&mut self, alloc: Global, call: &Call) -> Result<Reply, AllocError> {
+    /// Does an update at this place.
+    pub fn apply(&mut self, alloc: Global, call: &Call, place: u64) -> Result<Reply, AllocError> {
+        self.stamp = place.saturating_add(1);
         match call.kind() {
             Kind::Single(single) => Ok(Reply::plain(self.one(&single)?)),
             Kind::Several(group) => self.several(alloc, &group),
@@ -188,10 +204,14 @@ impl Model {
             },
             Query::Total => {
                 let mut sum = 0u128;
-                for (_, value) in &self.map {
-                    sum = sum.wrapping_add(u128::from(*value));
+                for pair in &self.map {
+                    sum = sum.wrapping_add(u128::from(pair.value));
                 }
                 Answer::Total(sum)
+            }
+            Query::Fresh(place) => {
+                let fresh = self.map.iter().filter(|pair| pair.stamp > place);
+                Answer::Fresh(fresh.count() as u64)
             }
         }
     }

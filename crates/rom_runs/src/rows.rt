@@ -44,6 +44,8 @@ pub enum Words {
     Torn(usize, usize, &'static [(usize, u64)]),
     /// Those that the row before left.
     Kept,
+    /// The same of a new heap, both regions of which say that they are of version 1.
+    Aged,
 }
 
 /// What a sink has room for.

@@ -40,12 +40,26 @@ const GROUPED: &str = "14 * enq 1\ntx add 1 ; add 2\nhas 1\ntx deq ; add 1 ; add
 const GROUPED_TOLD: &str =
     "caller 1\nqueued @0\nqueued @1\nqueued @2\nqueued @3\nqueued @4\nqueued @5\nqueued @6\nqueued @7\nqueued @8\nqueued @9\nqueued @10\nqueued @11\nqueued @12\nqueued @13\nfull @14\nno #15\nall head 1 ; added ; present @15\ncount 16\n";
 
+/// Values that are written, one of them twice, and how many keys have one since a place.
+const FRESH: &str = "put 1 5\nput 2 6\nput 1 7\nfresh 0\nfresh 2\nfresh 3\n";
+
+const FRESH_TOLD: &str =
+    "caller 1\nnone @0\nnone @1\nwas 5 @2\nfresh 2 #3\nfresh 1 #3\nfresh 0 #3\ncount 3\n";
+
+/// A move writes both values, also of nothing; to the same key, or one that is short, it writes none. The
+/// members of a group write at one place.
+const STAMPED: &str =
+    "put 1 5\nput 2 6\nput 3 7\nmove 1 2 0\nfresh 3\nmove 3 3 7\nmove 1 2 9\nfresh 4\ntx put 3 1 ; put 4 2 ; del 1\nfresh 6\nfresh 7\nput 4 2\nfresh 7\n";
+
+const STAMPED_TOLD: &str =
+    "caller 1\nnone @0\nnone @1\nnone @2\nmoved @3\nfresh 2 #4\nmoved @4\nshort 5 @5\nfresh 0 #6\nall was 7 ; none ; was 5 @6\nfresh 2 #7\nfresh 0 #7\nwas 2 @7\nfresh 1 #8\ncount 8\n";
+
 const TRIED: Row = Row {
     words: &["try", "script"],
     ..PLAIN
 };
 
-static SCRIPTS: [Row; 15] = [
+static SCRIPTS: [Row; 18] = [
     Row {
         scripts: &[""],
         text: Text::Is("caller 1\ncount 0\n"),
@@ -123,6 +137,22 @@ static SCRIPTS: [Row; 15] = [
         scripts: &["tx enq 1\ntx enq 1 ; peek\ntx enq 1;deq\n"],
         status: 1,
         text: Text::Is("caller 1\nunread\nunread\nunread\ncount 0\n"),
+        ..TRIED
+    },
+    Row {
+        scripts: &[FRESH],
+        text: Text::Is(FRESH_TOLD),
+        ..TRIED
+    },
+    Row {
+        scripts: &[STAMPED],
+        text: Text::Is(STAMPED_TOLD),
+        ..TRIED
+    },
+    Row {
+        scripts: &["fresh\nfresh 01\nfresh 1 2\nfresh 18446744073709551615\n"],
+        status: 1,
+        text: Text::Is("caller 1\nunread\nunread\nunread\nfresh 0 #0\ncount 0\n"),
         ..TRIED
     },
 ];

@@ -38,6 +38,7 @@ fn query_of(command: &str) -> Option<Query> {
         "peek" => Some(Query::Peek),
         "len" => Some(Query::Len),
         "total" => Some(Query::Total),
+        "fresh" => Some(Query::Fresh(first)),
         _ => None,
     }
 }
@@ -121,5 +122,6 @@ pub fn answer_text(alloc: Global, answer: &Answer, front: u64) -> Result<String,
             format!(in alloc; "queue {queue} set {set} map {map} #{front}")
         }
         Answer::Total(sum) => format!(in alloc; "total {sum} #{front}"),
+        Answer::Fresh(keys) => format!(in alloc; "fresh {keys} #{front}"),
     }
 }

@@ -21,7 +21,7 @@ enum Want {
     Made(&'static str, u64),
 }
 
-static NO_COMMANDS: [&[&str]; 57] = [
+static NO_COMMANDS: [&[&str]; 62] = [
     &["format", "F"],
     &["format", "F", "--order"],
     &["format", "F", "--order", "3"],
@@ -47,6 +47,11 @@ static NO_COMMANDS: [&[&str]; 57] = [
     &["stat", "-x"],
     &["stat", "F", "--order", "4"],
     &["stat", "--", ""],
+    &["upgrade"],
+    &["upgrade", "F", "G"],
+    &["upgrade", "-x"],
+    &["upgrade", "F", "--order", "4"],
+    &["Upgrade", "F"],
     &[],
     &["--"],
     &["--", "stat", "F"],
@@ -98,7 +103,7 @@ static NO_COMMANDS: [&[&str]; 57] = [
 ];
 
 /// Words, the device that they name, and their scripts.
-static COMMANDS: [(&[&str], Want, &[&str]); 23] = [
+static COMMANDS: [(&[&str], Want, &[&str]); 26] = [
     (&["format", "F", "--order", "4"], Want::Made("F", 232), &[]),
     (&["format", "F", "--order=4"], Want::Made("F", 232), &[]),
     (&["format", "--order", "4", "F"], Want::Made("F", 232), &[]),
@@ -132,6 +137,9 @@ static COMMANDS: [(&[&str], Want, &[&str]); 23] = [
     (&["stat", "F", "--"], Want::Old("F"), &[]),
     (&["stat", "--", "--F"], Want::Old("--F"), &[]),
     (&["stat", "a=b"], Want::Old("a=b"), &[]),
+    (&["upgrade", "F"], Want::Old("F"), &[]),
+    (&["upgrade", "--", "-F"], Want::Old("-F"), &[]),
+    (&["upgrade", "-"], Want::Old("-"), &[]),
     (&["try", "--", "-x"], Want::Fresh(232), &["-x"]),
     (
         &["try", "a", "--", "--order", "4"],

@@ -6,12 +6,12 @@ ghost use Rattle.rom_model.specs.State.{State, empty};
 ghost use Rattle.rom_model.specs.Region.{Contents};
 ghost use Rattle.rom_counted.specs.Counted.{Begins};
 
-use crate::regions::{BROKEN, FRESH, QUEUED, region};
+use crate::regions::{BROKEN, BROKEN_OLD, FRESH, OLD, OLD_PAIRS, QUEUED, region};
 use rom_counted::Counted;
 use rom_heap::Trio;
 use rom_model::{
-    Answer, Args, Back, Call, Group, Object, Query, Reply, Single, SingleReply, Unfit, VecSpace,
-    new_region,
+    Answer, Args, Back, Call, Group, Object, Query, Renew, Reply, Rule, Single, SingleReply, Unfit,
+    VecSpace, new_region,
 };
 use std::alloc::Global;
 use std::marker::Brand;
@@ -39,7 +39,7 @@ const FIFTEEN: [Single; 15] = [
 
 /// Updates on a new heap of order 4, one more and what it is told, and the words that are then others
 /// than in a new region.
-const UPDATES: [(&[Single], Single, SingleReply, Option<&[(usize, u64)]>); 13] = [
+const UPDATES: [(&[Single], Single, SingleReply, Option<&[(usize, u64)]>); 16] = [
     (&[], Single::Enq(9), SingleReply::Queued, Some(&QUEUED)),
     (
         &[Single::Enq(9)],
@@ -71,9 +71,34 @@ const UPDATES: [(&[Single], Single, SingleReply, Option<&[(usize, u64)]>); 13] =
         &[],
         Single::Put(5, 7),
         SingleReply::NoPrior,
-        Some(&[(2, 1), (9, 1), (24, 0), (33, 0), (48, 52), (52, 5), (53, 7)]),
+        Some(&[
+            (2, 1),
+            (9, 1),
+            (24, 0),
+            (33, 0),
+            (48, 52),
+            (52, 5),
+            (53, 7),
+            (55, 1),
+        ]),
     ),
-    // Two keys of one bucket, of which the one that came last is the first.
+    // The same value again: the stamp is another.
+    (
+        &[Single::Put(5, 7)],
+        Single::Put(5, 7),
+        SingleReply::Was(7),
+        Some(&[
+            (2, 2),
+            (9, 1),
+            (24, 0),
+            (33, 0),
+            (48, 52),
+            (52, 5),
+            (53, 7),
+            (55, 2),
+        ]),
+    ),
+    // Two keys of one bucket, which rise, whichever came last.
     (
         &[Single::Put(0, 1)],
         Single::Put(5, 2),
@@ -86,11 +111,56 @@ const UPDATES: [(&[Single], Single, SingleReply, Option<&[(usize, u64)]>); 13] =
             (25, 1),
             (33, 0),
             (34, 0),
-            (48, 56),
+            (48, 52),
             (53, 1),
+            (54, 56),
+            (55, 1),
             (56, 5),
             (57, 2),
+            (59, 2),
+        ]),
+    ),
+    (
+        &[Single::Put(5, 2)],
+        Single::Put(0, 1),
+        SingleReply::NoPrior,
+        Some(&[
+            (2, 2),
+            (9, 2),
+            (20, 1),
+            (24, 0),
+            (25, 1),
+            (33, 0),
+            (34, 0),
+            (48, 56),
+            (52, 5),
+            (53, 2),
+            (55, 1),
+            (57, 1),
             (58, 52),
+            (59, 2),
+        ]),
+    ),
+    // A move of nothing writes both stamps.
+    (
+        &[Single::Put(0, 1), Single::Put(5, 2)],
+        Single::Move(0, 5, 0),
+        SingleReply::Moved,
+        Some(&[
+            (2, 3),
+            (9, 2),
+            (20, 1),
+            (24, 0),
+            (25, 1),
+            (33, 0),
+            (34, 0),
+            (48, 52),
+            (53, 1),
+            (54, 56),
+            (55, 3),
+            (56, 5),
+            (57, 2),
+            (59, 3),
         ]),
     ),
     // The words of a block that was given back stay.
@@ -106,8 +176,11 @@ const UPDATES: [(&[Single], Single, SingleReply, Option<&[(usize, u64)]>); 13] =
             (34, 0),
             (48, 56),
             (53, 1),
+            (54, 56),
+            (55, 1),
             (56, 5),
             (57, 2),
+            (59, 2),
         ]),
     ),
     // Two numbers, of which the smaller one came last.
@@ -211,7 +284,16 @@ fn regions_of_order_4_are_inspected(rt: HostRuntime) {
         (true, &[]),
         (
             false,
-            &[(2, 1), (9, 1), (24, 0), (33, 0), (48, 52), (52, 5), (53, 7)],
+            &[
+                (2, 1),
+                (9, 1),
+                (24, 0),
+                (33, 0),
+                (48, 52),
+                (52, 5),
+                (53, 7),
+                (55, 1),
+            ],
         ),
         (true, &[(56, 7), (111, 9)]),
     ];
@@ -224,6 +306,27 @@ fn regions_of_order_4_are_inspected(rt: HostRuntime) {
         let want = Err(Unfit::Malformed { offset, rule });
         assert_eq!(rt; Trio::inspect(rt.alloc(), &words, 4), want);
     }
+    // Only the first words tell that a region is old, whatever else it is.
+    for changes in [[OLD].as_slice(), &[OLD, (3, 53)], &OLD_PAIRS] {
+        let words = region(false, changes);
+        assert_eq!(rt; Trio::inspect(rt.alloc(), &words, 4), Err(Unfit::Old));
+    }
+}
+
+#[test]
+fn regions_of_version_1_are_inspected(rt: HostRuntime) {
+    for changes in [[OLD].as_slice(), &OLD_PAIRS] {
+        let words = region(false, changes);
+        assert_eq!(rt; Trio::inspect_old(rt.alloc(), &words, 4), Ok(()));
+    }
+    for (changes, offset, rule) in BROKEN_OLD {
+        let words = region(false, changes);
+        let want = Err(Unfit::Malformed { offset, rule });
+        assert_eq!(rt; Trio::inspect_old(rt.alloc(), &words, 4), want);
+    }
+    let rule = Rule::Root;
+    let want = Err(Unfit::Malformed { offset: 1, rule });
+    assert_eq!(rt; Trio::inspect_old(rt.alloc(), &FRESH, 4), want);
 }
 
 /// How many elements a heap of order 16 has room for.
@@ -263,9 +366,9 @@ fn the_most_stores_of_each_update(rt: HostRuntime) -> Result<(), Fail> {
         (Call::Deq, CAP - 1, Call::Add(5), Reply::Added, 24),
         (Call::Add(5), CAP - 1, Call::Rem(5), Reply::Removed, 20),
         (Call::Deq, CAP - 1, Call::Put(70000, 9), Reply::NoPrior, 24),
-        (Call::Deq, CAP, Call::Put(1000, 9), Reply::Was(1), 2),
+        (Call::Deq, CAP, Call::Put(1000, 9), Reply::Was(1), 3),
         (Call::Deq, CAP, Call::Del(1000), Reply::Was(1), 20),
-        (Call::Deq, CAP, Call::Move(1000, 2000, 1), Reply::Moved, 3),
+        (Call::Deq, CAP, Call::Move(1000, 2000, 1), Reply::Moved, 5),
         (Call::Deq, CAP, Call::Add(5), Reply::Full, 1),
     ];
     for (first, keys, call, reply, stores) in rows {
@@ -326,6 +429,7 @@ fn loads_of_each_query(rt: HostRuntime) -> Result<(), Fail> {
         (Call::Deq, Query::Peek, Answer::Empty, 1),
         (Call::Enq(7), Query::Len, sizes, 3),
         (Call::Deq, Query::Total, Answer::Total(3), 16384 + 2 * 3),
+        (Call::Deq, Query::Fresh(2), Answer::Fresh(2), 16384 + 2 * 3),
     ];
     for (first, query, answer, loads) in rows {
         let space = filled(rt.alloc(), first, 3)?;

@@ -34,6 +34,8 @@ mod recover;
 #[cfg(test)]
 mod regions;
 #[cfg(test)]
+mod renew;
+#[cfg(test)]
 mod rule;
 #[cfg(test)]
 mod script;

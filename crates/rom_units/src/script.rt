@@ -13,7 +13,7 @@ const DEQ: Line = Line::Update(Call::Deq);
 
 const PEEK: Line = Line::Ask(Query::Peek);
 
-const LINES: [(&[u8], Line); 54] = [
+const LINES: [(&[u8], Line); 58] = [
     (b"enq 7", ENQ_7),
     (b"deq", DEQ),
     (b"add 10", Line::Update(Call::Add(10))),
@@ -29,6 +29,13 @@ const LINES: [(&[u8], Line); 54] = [
     (b"peek", PEEK),
     (b"len", Line::Ask(Query::Len)),
     (b"total", Line::Ask(Query::Total)),
+    (b"fresh 0", Line::Ask(Query::Fresh(0))),
+    (
+        b"fresh 18446744073709551615",
+        Line::Ask(Query::Fresh(18446744073709551615)),
+    ),
+    (b"fresh", Line::Unread),
+    (b"fresh 1 2", Line::Unread),
     (b"put 18446744073709551616 1", Line::Unread),
     (b"put 1 100000000000000000000", Line::Unread),
     (b"enq 007", Line::Unread),

@@ -72,7 +72,7 @@ const GROUPS: [(&[SingleReply], &str); 4] = [
     ),
 ];
 
-const ANSWERS: [(Answer, u64, &str); 9] = [
+const ANSWERS: [(Answer, u64, &str); 10] = [
     (Answer::Yes, 1, "yes #1"),
     (Answer::No, 4, "no #4"),
     (Answer::Value(7), 1, "value 7 #1"),
@@ -94,6 +94,7 @@ const ANSWERS: [(Answer, u64, &str); 9] = [
         "total 36893488147419103230 #2",
     ),
     (Answer::Yes, u64::MAX, "yes #18446744073709551615"),
+    (Answer::Fresh(12), 30, "fresh 12 #30"),
 ];
 
 #[test]
