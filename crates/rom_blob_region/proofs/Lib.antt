@@ -1,0 +1,23 @@
+-- Lemmas on keys with bytes.
+pub mod Lowest
+pub mod Worked
+pub mod Beside
+pub mod Held
+pub mod Places
+pub mod Fetching
+pub mod Keeping
+pub mod Bodies
+pub mod Giving
+pub mod Cutting
+pub mod Reserving
+pub mod Adding
+pub mod Setting
+pub mod Replacing
+pub mod Filling
+pub mod Spending
+pub mod Crowding
+pub mod Bounding
+pub mod Recounting
+pub mod Emptied
+pub mod Single
+pub mod Texts

@@ -1,0 +1,25 @@
+//! One query.
+ghost use Rattle.std.specs.Prelude.{◌≡◌, ℕ};
+ghost use Rattle.rom_model.specs.Space.{Looks};
+ghost use Rattle.rom_model.specs.Blocks.{IsOrder};
+ghost use Rattle.rom_blob_region.specs.State.{BlobState, tell, cost};
+ghost use Rattle.rom_blob_region.specs.Region.{Contents};
+
+use crate::call::{BlobAnswer, BlobQuery};
+use crate::fetch::{count_blobs, fetch_blob};
+use rom_model::Look;
+
+/// Answers a query.
+pub fn answer_blob<M: Look>(space: &mut M, order: u32, query: &BlobQuery) -> BlobAnswer
+    requires order { IsOrder order }
+    requires region { (s : BlobState) × (k : ℕ) × Contents order (M.shown.image space.old) s k }
+    ensures told { (s : BlobState) (k : ℕ) → Contents order (M.shown.image space.old) s k
+        → result ≡ tell s query.now }
+    ensures looks { (s : BlobState) (k : ℕ) → Contents order (M.shown.image space.old) s k
+        → Looks M.shown (cost order s query.now) space.old space.new }
+{
+    match *query {
+        BlobQuery::Fetch(key) => fetch_blob(space, order, key),
+        BlobQuery::Size => count_blobs(space, order),
+    }
+}
