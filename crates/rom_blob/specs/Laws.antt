@@ -1,0 +1,20 @@
+-- The laws of the object, which its trait asks for.
+use Rattle.std.specs.Prelude.{◌≡◌, ℕ, ◌≤◌, List, length, slice_index, Some}
+use Rattle.rom_model.specs.History.{LAST_COUNT}
+use Rattle.rom_model.specs.Blocks.{region_len}
+use Rattle.rom_blob_region.specs.State.{BlobState, step}
+use Rattle.rom_blob_region.specs.Region.{Contents}
+use Rattle.rom_blob_region.specs.declared.call.BlobCall.{BlobCall}
+use Rattle.rom_blob_region.specs.declared.call.BlobReply.{BlobReply}
+use Rattle.rom_blob_region.proofs.Single as single
+use Rattle.rom_blob.specs.Codes.{words_call, reply_words, words_reply}
+use Rattle.rom_blob.specs.Tags as tags
+
+pub reply_back : (order : ℕ) (s : BlobState) (count : ℕ) (words : List ℕ) (call : BlobCall) → words_call words ≡ Some call → let told : BlobReply = (step order s count call).1 in words_reply (reply_words told) ≡ Some told
+reply_back order s count words call is = tags.reply_back (step order s count call).1
+
+pub one_contents : (n : ℕ) (words : List ℕ) (s t : BlobState) (j k : ℕ) → Contents n words s j → Contents n words t k → (s ≡ t) × (j ≡ k)
+one_contents n words s t j k one two = single.one_contents one two
+
+pub contents_within : (n : ℕ) (words : List ℕ) (s : BlobState) (k : ℕ) → Contents n words s k → (length words ≡ region_len n) × (slice_index words 2 ≡ k) × (k ≤ LAST_COUNT) × (slice_index words 0 ≡ 2)
+contents_within n words s k is = single.contents_within is

@@ -1,0 +1,49 @@
+-- What the lines of a script ask keys with bytes for.
+use Rattle.std.specs.Prelude.{◌≡◌, ℕ, ◌^◌, ◌<◌, List, [], ◌∷◌, codes, decimal}
+use Rattle.rom_model.specs.declared.line.Step.{Step}
+use Rattle.rom_model.specs.declared.line.Step.TheVariants.{Update, Ask, Unread}
+use Rattle.rom_text.specs.Phrases.{line_words}
+use Rattle.rom_blob_region.specs.Texts.{AreBytes, bytes_text}
+use Rattle.rom_blob_region.specs.declared.call.BlobCall.{BlobCall}
+use Rattle.rom_blob_region.specs.declared.call.BlobCall.TheVariants as call
+use Rattle.rom_blob_region.specs.declared.call.BlobQuery.{BlobQuery}
+use Rattle.rom_blob_region.specs.declared.call.BlobQuery.TheVariants as query
+
+-- The words with which a call is written: its name, the key in digits, and its bytes, where it has some to give.
+abbrev pub call_line : BlobCall → List (List ℕ)
+call_line (call.Set key bytes) = codes "set" ∷ decimal key ∷ bytes_text bytes ∷ []
+call_line (call.Cut key) = codes "cut" ∷ decimal key ∷ []
+
+-- those of a query
+abbrev pub query_line : BlobQuery → List (List ℕ)
+query_line (query.Fetch key) = codes "fetch" ∷ decimal key ∷ []
+query_line query.Size = codes "size" ∷ []
+
+-- the key has at most 64 bits, and the bytes are at most 256
+abbrev pub CallFits : BlobCall → Type 0
+CallFits (call.Set key bytes) = (key < 2 ^ 64) × AreBytes bytes
+CallFits (call.Cut key) = key < 2 ^ 64
+
+abbrev pub QueryFits : BlobQuery → Type 0
+QueryFits (query.Fetch key) = key < 2 ^ 64
+QueryFits query.Size = Unit {0}
+
+-- these words are those of a call, or of none
+abbrev pub IsCall : List (List ℕ) → BlobCall → Type 0
+IsCall words call = CallFits call × (words ≡ call_line call)
+
+abbrev pub IsNoCall : List (List ℕ) → Type 0
+IsNoCall words = (call : BlobCall) → CallFits call → words ≡ call_line call → ⊥
+
+-- those of a query, or of none
+abbrev pub IsQuery : List (List ℕ) → BlobQuery → Type 0
+IsQuery words query = QueryFits query × (words ≡ query_line query)
+
+abbrev pub IsNoQuery : List (List ℕ) → Type 0
+IsNoQuery words = (query : BlobQuery) → QueryFits query → words ≡ query_line query → ⊥
+
+-- The words of the line, which are what stands between its spaces, are those of the step, or of no call and of no query.
+abbrev pub Reads : List ℕ → Step BlobCall BlobQuery → Type 0
+Reads line (Update call) = IsCall (line_words line) call
+Reads line (Ask query) = IsQuery (line_words line) query
+Reads line Unread = IsNoCall (line_words line) × IsNoQuery (line_words line)

@@ -1,0 +1,99 @@
+//! The object.
+ghost use Rattle.rom_model.specs.Earlier.{no_earlier};
+ghost use Rattle.rom_blob_region.specs.State.{BlobState};
+ghost use Rattle.rom_blob_region.specs.Region.{Contents};
+ghost use Rattle.rom_blob_inspect.specs.Answers.{Rejects};
+ghost use Rattle.rom_blob.specs.Blobs.{blobs};
+ghost use Rattle.rom_blob.specs.Laws.{contents_within, one_contents, reply_back};
+ghost use Rattle.rom_blob.specs.Tags.{call_only, reply_only};
+
+use crate::codes;
+use rom_blob_inspect::inspect_blobs;
+use rom_blob_region::{
+    BlobAnswer, BlobCall, BlobQuery, BlobReply, answer_blob, apply_blob, format_blobs,
+};
+use rom_model::{Args, Back, Look, Object, Space, Unfit};
+use std::alloc::Global;
+
+/// Keys with up to 256 bytes each.
+#[derive(Clone, Copy, Debug)]
+pub struct Blobs;
+
+impl Object for Blobs {
+    ghost KIND = { 2 };
+
+    const KIND: u64 = 2;
+
+    ghost STORES = { 128 };
+
+    const STORES: u64 = 128;
+
+    ghost WEIGHT = { 1 };
+
+    const WEIGHT: u64 = 1;
+
+    ghost State = { BlobState };
+
+    type Call = BlobCall;
+
+    type Query = BlobQuery;
+
+    type Reply = BlobReply;
+
+    type Answer = BlobAnswer;
+
+    ghost machine = { blobs };
+
+    ghost Contents = { Contents };
+
+    ghost Rejects = { Rejects };
+
+    ghost earlier = { no_earlier };
+
+    fn weight_of(call: &BlobCall) -> u64 {
+        1
+    }
+
+    fn call_words(call: &BlobCall) -> Args {
+        codes::call_words(call)
+    }
+
+    fn words_call(words: &Args) -> Option<BlobCall> {
+        codes::words_call(words)
+    }
+
+    fn reply_words(reply: &BlobReply) -> Back {
+        codes::reply_words(reply)
+    }
+
+    fn words_reply(words: &Back) -> Option<BlobReply> {
+        codes::words_reply(words)
+    }
+
+    fn format<M: Space>(space: &mut M, order: u32) {
+        format_blobs(space, order);
+    }
+
+    fn apply<M: Space>(space: &mut M, order: u32, call: &BlobCall) -> BlobReply {
+        apply_blob(space, order, call)
+    }
+
+    #[inline(always)]
+    fn answer<M: Look>(space: &mut M, order: u32, query: &BlobQuery) -> BlobAnswer {
+        answer_blob(space, order, query)
+    }
+
+    fn inspect(alloc: Global, region: &[u64], order: u32) -> Result<(), Unfit> {
+        inspect_blobs(alloc, region, order)
+    }
+
+    ghost call_only = { call_only };
+
+    ghost reply_back = { reply_back };
+
+    ghost reply_only = { reply_only };
+
+    ghost one_contents = { one_contents };
+
+    ghost contents_within = { contents_within };
+}

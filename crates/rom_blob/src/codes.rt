@@ -1,0 +1,91 @@
+//! The words that stand for calls and replies. A tag comes first, then the numbers, and of a call that
+//! gives bytes these come last, in as few words as hold them.
+ghost use Rattle.std.specs.Prelude.{◌≡◌, ◌<◌, ◌≤◌, ◌∷◌, ℕ, length, slice_index, Some};
+ghost use Rattle.rom_blob_region.specs.declared.call.BlobCall.TheVariants.{Set};
+ghost use Rattle.rom_blob.specs.Codes as codes;
+
+use rom_blob_region::{BlobCall, BlobReply};
+use rom_bytes::Chunk;
+use rom_model::{Args, Back};
+
+/// The words of a call that gives a key bytes.
+fn set_words(key: u64, bytes: &Chunk) -> Args
+    ensures words { result ≡ codes.call_words (Set key bytes.now) }
+    ensures few { length bytes.now ≤ 256 }
+    ensures small { (k : ℕ) → slice_index bytes.now k < 256 }
+{
+    let len = bytes.len();
+    let mut words = Args::of(&[1, key, len]);
+    for i in 0..(len + 7) / 8 {
+        words.extend(&[bytes.word(i)]);
+    }
+    words
+}
+
+/// The words of a call.
+pub fn call_words(call: &BlobCall) -> Args
+    ensures words { result ≡ codes.call_words call.now }
+    ensures back { codes.words_call result ≡ Some call.now }
+{
+    match call {
+        BlobCall::Set(key, bytes) => set_words(*key, bytes),
+        BlobCall::Cut(key) => Args::of(&[2, *key]),
+    }
+}
+
+/// The call that gives a key the bytes whose number and words these are.
+fn read_set(key: u64, words: &[u64]) -> Option<BlobCall>
+    ensures { result ≡ codes.set_call key words.now }
+{
+    match words {
+        [len, words @ ..] => Some(BlobCall::Set(key, Chunk::of_words(words, *len)?)),
+        [] => None,
+    }
+}
+
+/// The call that takes a key out, where no word is left.
+fn read_cut(key: u64, words: &[u64]) -> Option<BlobCall>
+    ensures { result ≡ codes.cut_call key words.now }
+{
+    match words {
+        [] => Some(BlobCall::Cut(key)),
+        [_, ..] => None,
+    }
+}
+
+/// The call that the words are those of. It is `None` exactly where they are no call's.
+pub fn words_call(words: &Args) -> Option<BlobCall>
+    ensures { result ≡ codes.words_call words.now }
+{
+    match words.as_slice() {
+        [1, key, words @ ..] => read_set(*key, words),
+        [2, key, words @ ..] => read_cut(*key, words),
+        _ => None,
+    }
+}
+
+/// The words of a reply.
+pub fn reply_words(reply: &BlobReply) -> Back
+    ensures words { result ≡ codes.reply_words reply.now }
+    ensures back { codes.words_reply result ≡ Some reply.now }
+{
+    match reply {
+        BlobReply::New => Back::of(&[1]),
+        BlobReply::Was(len) => Back::of(&[2, *len]),
+        BlobReply::Full => Back::of(&[3]),
+        BlobReply::NoPrior => Back::of(&[4]),
+    }
+}
+
+/// The reply that the words are those of. It is `None` exactly where they are no reply's.
+pub fn words_reply(words: &Back) -> Option<BlobReply>
+    ensures { result ≡ codes.words_reply words.now }
+{
+    match words.as_slice() {
+        [1] => Some(BlobReply::New),
+        [2, len] => Some(BlobReply::Was(*len)),
+        [3] => Some(BlobReply::Full),
+        [4] => Some(BlobReply::NoPrior),
+        _ => None,
+    }
+}

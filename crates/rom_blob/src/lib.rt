@@ -1,0 +1,35 @@
+//! Keys with up to 256 bytes each, kept in a heap with the promise of a program: the object, its
+//! language and one call.
+//!
+//! `Blobs` implements `Object`, by which all below knows it; `BlobLines` says how its calls and queries
+//! are written. `run_blob` does all that the program does, and its contract carries the promise of the
+//! whole, in the record that the program of a queue, a set and a map promises too: each printed reply
+//! is what the keys and their bytes give at its printed place in one history, each update once and in
+//! its caller's order, each read from one committed state; what a stop leaves of the device at any
+//! moment is told by that history, and opens again; each refusal is told by its cause, and a heap is
+//! refused exactly where its words are not a well-formed region, by the first test that does not hold;
+//! and where nothing fails the command is done. No two lists of results have one text.
+//!
+//! The states are those of `rom_blob_region`, block by block. `full` is answered only where the blocks
+//! of the keys that are there leave so little room, and a query makes no more than so many loads: the
+//! clauses `crowded` of `apply_blob` and `looks` of `answer_blob`, which `Blobs` calls, say how much
+//! and how many. They are handed on here.
+#![tactic(auto)]
+
+mod blobs;
+mod bytes;
+mod codes;
+mod language;
+mod program;
+
+pub use blobs::Blobs;
+pub use codes::{call_words, reply_words, words_call, words_reply};
+pub use language::BlobLines;
+pub use program::run_blob;
+pub use rom_blob_region::{
+    BlobAnswer, BlobCall, BlobQuery, BlobReply, answer_blob, apply_blob, format_blobs,
+};
+pub use rom_bytes::Chunk;
+pub use rom_run::{Ended, Status, plain_files as files_of};
+pub use rom_store::{NoGate, Session};
+pub use rom_text::{DeviceWant, Wanted};
