@@ -1,0 +1,21 @@
+-- Lemmas on search trees, and on what their calls leave in the words of a region.
+pub mod Choice
+pub mod Order
+pub mod Members
+pub mod Heights
+pub mod Sorted
+pub mod Placed
+pub mod High
+pub mod Frame
+pub mod Joined
+pub mod Sides
+pub mod Turned
+pub mod Balancing
+pub mod Room
+pub mod Attaching
+pub mod Detaching
+pub mod Finding
+pub mod Inside
+pub mod Walked
+pub mod Filled
+pub mod Revalued

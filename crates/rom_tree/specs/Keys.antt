@@ -1,0 +1,16 @@
+-- Entries whose keys rise.
+use Rattle.std.specs.Prelude.{ℕ, ◌<◌, List, [], ◌∷◌}
+
+-- each key is below this one, or above it
+abbrev pub KeysBelow : ℕ → List (ℕ × ℕ) → Type 0
+KeysBelow q [] = Unit {0}
+KeysBelow q (e ∷ es) = (e.0 < q) × KeysBelow q es
+
+abbrev pub KeysAbove : ℕ → List (ℕ × ℕ) → Type 0
+KeysAbove q [] = Unit {0}
+KeysAbove q (e ∷ es) = (q < e.0) × KeysAbove q es
+
+-- the keys rise
+abbrev pub KeysRise : List (ℕ × ℕ) → Type 0
+KeysRise [] = Unit {0}
+KeysRise (e ∷ es) = KeysAbove e.0 es × KeysRise es

@@ -1,0 +1,118 @@
+//! Walks down the tree.
+ghost use Rattle.std.specs.Prelude.{◌≡◌, ◌≢◌, ℕ, ◌+◌, ◌-◌, ◌*◌, ◌≤◌, length, IfSome};
+ghost use Rattle.rom_model.specs.Space.{Looks};
+ghost use Rattle.rom_model.specs.Blocks.{IsOrder, region_len};
+ghost use Rattle.rom_tree.specs.Tree.{Tree, entries};
+ghost use Rattle.rom_tree.specs.Nodes.{IsTree, HasTree, level_at};
+ghost use Rattle.rom_tree.specs.Keys.{KeysRise};
+ghost use Rattle.rom_tree.specs.Find.{IsFound, HasOrdered};
+ghost use Rattle.rom_tree.specs.Query.{inside, total};
+ghost use Rattle.rom_tree.specs.Near.{IsNear};
+
+use crate::node::{LEFT, RIGHT, VALUE};
+use rom_model::Look;
+
+/// Where the node of a key begins, in the tree whose top node begins there, or 0.
+pub fn find_node<M: Look>(space: &mut M, order: u32, top: u64, key: u64) -> u64
+    requires order { IsOrder order }
+    requires sized { length (M.shown.image space.old) ≡ region_len order }
+    requires tree { HasTree order (M.shown.image space.old) top }
+    ensures found { (t : Tree) → IsTree order (M.shown.image space.old) top t → KeysRise (entries t)
+        → IsFound order (M.shown.image space.old) t key result }
+    ensures within { result ≢ 0 → result + 8 ≤ length (M.shown.image space.old) }
+    ensures level { result ≢ 0 → 1 ≤ level_at (M.shown.image space.old) top }
+    ensures looks { Looks M.shown (2 * level_at (M.shown.image space.old) top) space.old space.new }
+    ensures soon { result ≢ 0 → Looks M.shown (2 * level_at (M.shown.image space.old) top - 1) space.old space.new }
+{
+    if top == 0 {
+        return 0;
+    }
+    let there = space.load(top);
+    if there == key {
+        return top;
+    }
+    if key < there {
+        let left = space.load(top + LEFT);
+        return find_node(space, order, left, key);
+    }
+    let right = space.load(top + RIGHT);
+    find_node(space, order, right, key)
+}
+
+/// A node and its key.
+#[derive(Clone, Copy)]
+pub struct Near {
+    pub node: u64,
+    pub key: u64,
+}
+
+/// The node of the least key that is at least this one.
+pub fn find_from<M: Look>(space: &mut M, order: u32, top: u64, key: u64) -> Option<Near>
+    requires order { IsOrder order }
+    requires sized { length (M.shown.image space.old) ≡ region_len order }
+    requires tree { HasTree order (M.shown.image space.old) top }
+    ensures found { (t : Tree) → IsTree order (M.shown.image space.old) top t → KeysRise (entries t)
+        → IsNear (M.shown.image space.old) t key result }
+    ensures within { IfSome result (λ near. near.node + 8 ≤ length (M.shown.image space.old)) }
+    ensures looks { Looks M.shown (2 * level_at (M.shown.image space.old) top) space.old space.new }
+{
+    if top == 0 {
+        return None;
+    }
+    let there = space.load(top);
+    if there < key {
+        let right = space.load(top + RIGHT);
+        return find_from(space, order, right, key);
+    }
+    let left = space.load(top + LEFT);
+    match find_from(space, order, left, key) {
+        Some(near) => Some(near),
+        None => Some(Near {
+            node: top,
+            key: there,
+        }),
+    }
+}
+
+/// How many keys lie in a range, and the sum of their values.
+#[derive(Clone, Copy)]
+pub struct Sum {
+    pub count: u64,
+    pub sum: u128,
+}
+
+/// The keys from `low` to `high`, both included.
+pub fn sum_between<M: Look>(space: &mut M, order: u32, top: u64, low: u64, high: u64) -> Sum
+    requires order { IsOrder order }
+    requires sized { length (M.shown.image space.old) ≡ region_len order }
+    requires tree { HasOrdered order (M.shown.image space.old) top }
+    ensures count { (t : Tree) → IsTree order (M.shown.image space.old) top t → KeysRise (entries t)
+        → result.count ≡ length (inside low high (entries t)) }
+    ensures sum { (t : Tree) → IsTree order (M.shown.image space.old) top t → KeysRise (entries t)
+        → result.sum ≡ total (inside low high (entries t)) }
+    ensures small { result.sum ≤ result.count * 0xFFFF_FFFF_FFFF_FFFF }
+    ensures looks { Looks M.shown ((result.count + 1) * (2 * level_at (M.shown.image space.old) top))
+        space.old space.new }
+{
+    if top == 0 {
+        return Sum { count: 0, sum: 0 };
+    }
+    let there = space.load(top);
+    if there < low {
+        let higher = space.load(top + RIGHT);
+        return sum_between(space, order, higher, low, high);
+    }
+    if high < there {
+        let lower = space.load(top + LEFT);
+        return sum_between(space, order, lower, low, high);
+    }
+    let value = space.load(top + VALUE);
+    let left = space.load(top + LEFT);
+    let right = space.load(top + RIGHT);
+    let before = sum_between(space, order, left, low, high);
+    let behind = sum_between(space, order, right, low, high);
+    Sum {
+        count: before.count + behind.count + 1,
+        sum: before.sum + behind.sum + value as u128,
+    }
+}
