@@ -1,0 +1,49 @@
+-- The laws of the object, which its trait asks for.
+use Rattle.std.specs.Prelude.{◌≡◌, ℕ, ◌+◌, ◌≤◌, List, length, Some, slice_index}
+use Rattle.std.proofs.Common.{refl, sym, ap, ◌∙◌, arith}
+use Rattle.std.specs.FinMap as map
+use Rattle.rom_model.specs.History.{LAST_COUNT}
+use Rattle.rom_model.specs.Blocks.{region_len}
+use Rattle.rom_tree.specs.Tree.{Tree, Leaf, Node, entries}
+use Rattle.rom_tree.specs.Nodes.{Stands, node_at, root}
+use Rattle.rom_order.specs.declared.call.OrderCall.{OrderCall}
+use Rattle.rom_order.specs.declared.call.OrderReply.{OrderReply}
+use Rattle.rom_order.specs.Codes as codes
+use Rattle.rom_order.specs.State.{Pairs, step}
+use Rattle.rom_order.specs.Region.{Contents}
+use Rattle.rom_order.specs.Tagged as tagged
+
+-- two trees that stand where one link leads are one
+pub one_tree : (n : ℕ) (w : List ℕ) (t u : Tree) → root n t ≡ root n u → Stands n w t → Stands n w u → t ≡ u
+one_tree n w Leaf Leaf same p q = refl
+one_tree n w Leaf (Node c j u x y) same p q = absurd (omega (arith, same))
+one_tree n w (Node b k v l r) Leaf same p q = absurd (omega (arith, same))
+one_tree n w (Node b k v l r) (Node c j u x y) same p q =
+    let at : node_at n b ≡ node_at n c = same in
+    let block : b ≡ c = omega (arith, at) in
+    let key : k ≡ j = sym p.0.key_is ∙ ap (λ a. slice_index w a) at ∙ q.0.key_is in
+    let value : v ≡ u = sym p.0.value_is ∙ ap (λ a. slice_index w (a + 1)) at ∙ q.0.value_is in
+    let left : l ≡ x = one_tree n w l x (sym p.1.left_is ∙ ap (λ a. slice_index w (a + 2)) at ∙ q.1.left_is) p.2 q.2 in
+    let right : r ≡ y = one_tree n w r y (sym p.1.right_is ∙ ap (λ a. slice_index w (a + 3)) at ∙ q.1.right_is) p.3 q.3 in
+    λ i. Node (block i) (key i) (value i) (left i) (right i)
+
+-- a region stands for one map and one count
+same_contents : {n : ℕ} {w : List ℕ} {s t : Pairs} {j k : ℕ} → Contents n w s j → Contents n w t k → (s ≡ t) × (j ≡ k)
+same_contents {n} {w} {s} {t} one two =
+    let tree = one_tree n w one.0 two.0 (sym one.1.top.at_is ∙ two.1.top.at_is) one.1.top.stands two.1.top.stands in
+    (map.same_entries_map s t (one.1.entries_are ∙ ap (λ x. entries x) tree ∙ sym two.1.entries_are), sym one.1.count_is ∙ two.1.count_is)
+
+pub one_contents : (n : ℕ) (words : List ℕ) (s t : Pairs) (j k : ℕ) → Contents n words s j → Contents n words t k → (s ≡ t) × (j ≡ k)
+one_contents n words s t j k one two = same_contents one two
+
+pub contents_within : (n : ℕ) (words : List ℕ) (s : Pairs) (k : ℕ) → Contents n words s k → (length words ≡ region_len n) × (slice_index words 2 ≡ k) × (k ≤ LAST_COUNT) × (slice_index words 0 ≡ 3)
+contents_within n words s k is = (is.1.as_long, is.1.count_is, is.1.count_fits, is.1.kind)
+
+pub call_only : (words : List ℕ) (call : OrderCall) → codes.words_call words ≡ Some call → codes.call_words call ≡ words
+call_only words call is = tagged.call_only words call is
+
+pub reply_back : (n : ℕ) (s : Pairs) (count : ℕ) (words : List ℕ) (call : OrderCall) → codes.words_call words ≡ Some call → let told = (step n s count call).1 in codes.words_reply (codes.reply_words told) ≡ Some told
+reply_back n s count words call is = tagged.reply_back (step n s count call).1
+
+pub reply_only : (words : List ℕ) (reply : OrderReply) → codes.words_reply words ≡ Some reply → codes.reply_words reply ≡ words
+reply_only words reply is = tagged.reply_only words reply is

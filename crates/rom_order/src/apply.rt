@@ -1,0 +1,72 @@
+//! One update, and one answer.
+ghost use Rattle.std.specs.Prelude.{◌≡◌, ◌+◌, ◌<◌, ℕ, length, slice_index};
+ghost use Rattle.rom_model.specs.Space.{ChangesOnly, Counts, HasRoom, Looks, Stores};
+ghost use Rattle.rom_model.specs.History.{LAST_COUNT};
+ghost use Rattle.rom_model.specs.Blocks.{IsOrder};
+ghost use Rattle.rom_order.specs.State.{Pairs, step, tell, cost};
+ghost use Rattle.rom_order.specs.Region.{Contents, IsWellFormed};
+
+use crate::call::{OrderAnswer, OrderCall, OrderQuery, OrderReply};
+use crate::ordered::{order_del, order_from, order_get, order_put, order_range};
+use rom_model::{COUNT, Look, Space};
+
+/// Counts one update more.
+fn raise_count<M: Space>(space: &mut M)
+    requires long { COUNT < length (M.shown.image space.old) }
+    requires within { slice_index (M.shown.image space.old) COUNT < LAST_COUNT }
+    requires room { HasRoom M.shown 1 space.old }
+    ensures raised { slice_index (M.shown.image space.new) COUNT
+        ≡ slice_index (M.shown.image space.old) COUNT + 1 }
+    ensures others { ChangesOnly COUNT 1 (M.shown.image space.old) (M.shown.image space.new) }
+    ensures counts { Counts M.shown 1 1 space.old space.new }
+{
+    let count = space.load(COUNT);
+    space.store(COUNT, count + 1);
+}
+
+/// Does an update that is counted already.
+fn update<M: Space>(space: &mut M, order: u32, call: &OrderCall) -> OrderReply
+    requires order { IsOrder order }
+    requires region { IsWellFormed order (M.shown.image space.old) }
+    requires room { HasRoom M.shown 255 space.old }
+    ensures done { (s : Pairs) (k j : ℕ) → Contents order (M.shown.image space.old) s k
+        → let after = step order s j call.now in
+        (result ≡ after.1) × Contents order (M.shown.image space.new) after.0 k }
+    ensures stores { Stores M.shown 255 space.old space.new }
+{
+    match *call {
+        OrderCall::Put(key, value) => order_put(space, order, key, value),
+        OrderCall::Del(key) => order_del(space, order, key),
+    }
+}
+
+/// Does an update. The raised count is stored first, also where nothing else changes.
+pub(crate) fn apply<M: Space>(space: &mut M, order: u32, call: &OrderCall) -> OrderReply
+    requires order { IsOrder order }
+    requires region { (s : Pairs) × (k : ℕ) × Contents order (M.shown.image space.old) s k
+        × (k < LAST_COUNT) }
+    requires room { HasRoom M.shown 256 space.old }
+    ensures done { (s : Pairs) (k : ℕ) → Contents order (M.shown.image space.old) s k
+        → let after = step order s k call.now in
+        (result ≡ after.1) × Contents order (M.shown.image space.new) after.0 (k + 1) }
+    ensures stores { Stores M.shown 256 space.old space.new }
+{
+    raise_count(space);
+    update(space, order, call)
+}
+
+/// Answers a query. Nothing is stored.
+pub(crate) fn answer<M: Look>(space: &mut M, order: u32, query: &OrderQuery) -> OrderAnswer
+    requires order { IsOrder order }
+    requires region { IsWellFormed order (M.shown.image space.old) }
+    ensures told { (s : Pairs) (k : ℕ) → Contents order (M.shown.image space.old) s k
+        → result ≡ tell s query.now }
+    ensures looks { (s : Pairs) (k : ℕ) → Contents order (M.shown.image space.old) s k
+        → Looks M.shown (cost order s query.now) space.old space.new }
+{
+    match *query {
+        OrderQuery::Get(key) => order_get(space, order, key),
+        OrderQuery::From(key) => order_from(space, order, key),
+        OrderQuery::Range(low, high) => order_range(space, order, low, high),
+    }
+}

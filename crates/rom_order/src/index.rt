@@ -1,0 +1,97 @@
+//! The object.
+ghost use Rattle.rom_model.specs.Earlier.{no_earlier};
+ghost use Rattle.rom_order.specs.State.{Pairs};
+ghost use Rattle.rom_order.specs.Region.{Contents};
+ghost use Rattle.rom_order.specs.Index.{index};
+ghost use Rattle.rom_order.specs.Inspection.{Rejects};
+ghost use Rattle.rom_order.specs.Laws.{one_contents, contents_within, call_only, reply_back, reply_only};
+
+use crate::apply::{answer, apply};
+use crate::call::{OrderAnswer, OrderCall, OrderQuery, OrderReply};
+use crate::codes::{call_words, reply_words, words_call, words_reply};
+use crate::fresh::format_region;
+use crate::inspection::inspect;
+use rom_model::{Args, Back, Look, Object, Space, Unfit};
+use std::alloc::Global;
+
+/// A map from numbers to numbers, in the order of its keys.
+#[derive(Clone, Copy, Debug)]
+pub struct Ordered;
+
+impl Object for Ordered {
+    ghost KIND = { 3 };
+
+    const KIND: u64 = 3;
+
+    ghost STORES = { 256 };
+
+    const STORES: u64 = 256;
+
+    ghost WEIGHT = { 1 };
+
+    const WEIGHT: u64 = 1;
+
+    ghost State = { Pairs };
+
+    type Call = OrderCall;
+
+    type Query = OrderQuery;
+
+    type Reply = OrderReply;
+
+    type Answer = OrderAnswer;
+
+    ghost machine = { index };
+
+    ghost Contents = { Contents };
+
+    ghost Rejects = { Rejects };
+
+    ghost earlier = { no_earlier };
+
+    fn weight_of(call: &OrderCall) -> u64 {
+        1
+    }
+
+    fn call_words(call: &OrderCall) -> Args {
+        call_words(call)
+    }
+
+    fn words_call(words: &Args) -> Option<OrderCall> {
+        words_call(words)
+    }
+
+    fn reply_words(reply: &OrderReply) -> Back {
+        reply_words(reply)
+    }
+
+    fn words_reply(words: &Back) -> Option<OrderReply> {
+        words_reply(words)
+    }
+
+    fn format<M: Space>(space: &mut M, order: u32) {
+        format_region(space, order);
+    }
+
+    fn apply<M: Space>(space: &mut M, order: u32, call: &OrderCall) -> OrderReply {
+        apply(space, order, call)
+    }
+
+    fn answer<M: Look>(space: &mut M, order: u32, query: &OrderQuery) -> OrderAnswer {
+        answer(space, order, query)
+    }
+
+    fn inspect(alloc: Global, region: &[u64], order: u32) -> Result<(), Unfit> {
+        inspect(alloc, region, order)
+    }
+
+    ghost call_only = { call_only };
+
+    ghost reply_back = { reply_back };
+
+    ghost reply_only = { reply_only };
+
+    ghost one_contents = { one_contents };
+
+    ghost contents_within = { contents_within };
+}
