@@ -4,12 +4,13 @@ ghost use Rattle.rom_model.specs.Earlier.{no_earlier};
 ghost use Rattle.rom_run.specs.Plain.{command, scripts_of, use_of};
 ghost use Rattle.rom_run.specs.Played.{IsText};
 ghost use Rattle.rom_run.specs.Promise.{Promise};
+ghost use Rattle.rom_text.specs.Determines.{TextDetermines};
 ghost use Rattle.rom_text.specs.Lines.{AreScripts};
 ghost use Rattle.rom_blob_region.specs.Region.{Contents};
 ghost use Rattle.rom_blob_inspect.specs.Answers.{Rejects};
 ghost use Rattle.rom_blob.specs.Blobs.{blobs};
 ghost use Rattle.rom_blob.specs.Lines.{Reads};
-ghost use Rattle.rom_blob.specs.Texts.{TextDetermines, blob_texts};
+ghost use Rattle.rom_blob.specs.Texts.{blob_texts};
 
 use crate::blobs::Blobs;
 use crate::language::BlobLines;
@@ -46,7 +47,7 @@ pub fn run_blob<R: Threads + Wait + Sync, D: Device + Send, S: Source, O: Sink, 
         result.device scripts result.scripts out.old out.new result.status result.session }
 
     // A text is that of one list of results and one count.
-    ensures determined { TextDetermines }
+    ensures determined { TextDetermines blob_texts }
 {
     run_plain::<Blobs, BlobLines, D, S, O, R, G>(rt, alloc, words, device, scripts, out, gate)
 }

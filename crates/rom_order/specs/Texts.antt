@@ -1,7 +1,6 @@
 -- What a run of a program of an ordered index prints.
-use Rattle.std.specs.Prelude.{◌≡◌, ℕ, ◌^◌, ◌<◌, List, ◌++◌, codes, decimal}
-use Rattle.rom_model.specs.declared.line.LineResult.{LineResult}
-use Rattle.rom_text.specs.Text.{AreOfType, ShownTold, Texts, text, texts_of}
+use Rattle.std.specs.Prelude.{ℕ, ◌^◌, ◌<◌, List, ◌++◌, codes, decimal}
+use Rattle.rom_text.specs.Text.{ShownTold, Texts, texts_of}
 use Rattle.rom_order.specs.declared.call.OrderReply.{OrderReply}
 use Rattle.rom_order.specs.declared.call.OrderReply.TheVariants as reply
 use Rattle.rom_order.specs.declared.call.OrderAnswer.{OrderAnswer}
@@ -40,7 +39,3 @@ shown_answer = record { text = answer_text; Fits = AnswerFits }
 
 abbrev pub order_texts : Texts OrderReply OrderAnswer
 order_texts = texts_of shown_reply shown_answer
-
--- The printed lines determine their results: what has the same text are the same results with the same count.
-abbrev pub TextDetermines : Type 0
-TextDetermines = (rs qs : List (List (LineResult OrderReply OrderAnswer))) (m n : ℕ) → AreOfType order_texts rs → AreOfType order_texts qs → m < 2 ^ 64 → n < 2 ^ 64 → text order_texts rs m ≡ text order_texts qs n → (rs ≡ qs) × (m ≡ n)

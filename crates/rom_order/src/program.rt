@@ -4,12 +4,13 @@ ghost use Rattle.rom_model.specs.Earlier.{no_earlier};
 ghost use Rattle.rom_run.specs.Plain.{command, scripts_of, use_of};
 ghost use Rattle.rom_run.specs.Played.{IsText};
 ghost use Rattle.rom_run.specs.Promise.{Promise};
+ghost use Rattle.rom_text.specs.Determines.{TextDetermines};
 ghost use Rattle.rom_text.specs.Lines.{AreScripts};
 ghost use Rattle.rom_order.specs.Region.{Contents};
 ghost use Rattle.rom_order.specs.Inspection.{Rejects};
 ghost use Rattle.rom_order.specs.Index.{index};
 ghost use Rattle.rom_order.specs.Lines.{Reads};
-ghost use Rattle.rom_order.specs.Texts.{TextDetermines, order_texts};
+ghost use Rattle.rom_order.specs.Texts.{order_texts};
 
 use crate::index::Ordered;
 use crate::language::OrderLines;
@@ -46,7 +47,7 @@ pub fn run_order<R: Threads + Wait + Sync, D: Device + Send, S: Source, O: Sink,
         result.device scripts result.scripts out.old out.new result.status result.session }
 
     // A text is that of one list of results and one count.
-    ensures determined { TextDetermines }
+    ensures determined { TextDetermines order_texts }
 {
     run_plain::<Ordered, OrderLines, D, S, O, R, G>(rt, alloc, words, device, scripts, out, gate)
 }

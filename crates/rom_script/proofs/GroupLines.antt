@@ -1,9 +1,9 @@
 -- The lines of groups, word by word.
-use Rattle.std.specs.Prelude.{◌≡◌, ℕ, ◌+◌, ◌^◌, ◌<◌, ◌≤◌, ◌%◌, length, ◌==◌, true, nat_lt, if◌then◌else◌, List, [], ◌∷◌, ◌++◌, drop, slice_index, codes, decimal}
+use Rattle.std.specs.Prelude.{◌≡◌, ℕ, ◌+◌, ◌^◌, ◌<◌, ◌≤◌, ◌%◌, length, ◌==◌, true, nat_lt, if◌then◌else◌, List, [], ◌∷◌, ◌++◌, slice_index, codes, decimal}
 use Rattle.std.proofs.Common.{refl, ap, ◌∙◌, arith}
 use Rattle.std.proofs.lemmas.Bool.{lt-ltb}
 use Rattle.std.proofs.lemmas.Fmt.{decimal_by_steps}
-use Rattle.std.proofs.lemmas.List.{append_assoc}
+use Rattle.std.proofs.lemmas.List.{append_assoc, append-nil}
 use Rattle.std.proofs.lemmas.List.Concat.{flat_map-cons}
 use Rattle.std.specs.List.{AllByRecursion, flat_map}
 use Rattle.std.specs.Str.{bytes_eq}
@@ -29,23 +29,18 @@ single_of w v =
     (if bytes_eq w (codes "moved") then told.Moved else
     (if bytes_eq w (codes "short") then told.Short v else told.Over)))))))))))
 
--- the number behind a mark
-abbrev pub behind : List ℕ → ℕ
-behind w = digits_value 10 (drop 1 w)
-
--- what a line with `all` says, from its last word back: the number before which a word comes, the replies, and the place
+-- what the words behind `all` say, from the last one back: the number before which a word comes, and the replies
 abbrev pub Seen : Type 0
-Seen = ℕ × List SingleReply × ℕ
+Seen = ℕ × List SingleReply
 
--- a word before those: digits, a semicolon, the place, or the word of a reply
+-- a word before those: digits, a semicolon, or the word of a reply
 abbrev with_word : List ℕ → Seen → Seen
 with_word w seen =
-    if nat_lt (slice_index w 0) 58 then (digits_value 10 w, seen.1, seen.2) else
-    (if slice_index w 0 == 59 then seen else
-    (if slice_index w 0 == 64 then (0, [], behind w) else (0, single_of w seen.0 ∷ seen.1, seen.2)))
+    if nat_lt (slice_index w 0) 58 then (digits_value 10 w, seen.1) else
+    (if slice_index w 0 == 59 then seen else (0, single_of w seen.0 ∷ seen.1))
 
 abbrev pub seen_in : List (List ℕ) → Seen
-seen_in [] = (0, [], 0)
+seen_in [] = (0, [])
 seen_in (w ∷ ws) = with_word w (seen_in ws)
 
 -- a number's first digit
@@ -61,12 +56,11 @@ digit_first v lt =
     let has : HasFirst v (decimal v) = decimal_by_steps HasFirst (λ n small. (omega arith, omega (arith, small))) (λ n ds much has. first_stays n ds (48 + n % 10) has) v lt in
     lt-ltb (slice_index (decimal v) 0) 58 (omega (arith, has.1))
 
-number_seen : (v : ℕ) (seen : Seen) → v < 2 ^ 64 → with_word (decimal v) seen ≡ (v, seen.1, seen.2)
+number_seen : (v : ℕ) (seen : Seen) → v < 2 ^ 64 → with_word (decimal v) seen ≡ (v, seen.1)
 number_seen v seen lt =
-    ap (λ t. if t then (digits_value 10 (decimal v), seen.1, seen.2) else
-    (if slice_index (decimal v) 0 == 59 then seen else
-    (if slice_index (decimal v) 0 == 64 then (0, [], behind (decimal v)) else (0, single_of (decimal v) seen.0 ∷ seen.1, seen.2)))) (digit_first v lt)
-    ∙ ap (λ m. (m, seen.1, seen.2)) (decimal_read v (wide v lt))
+    ap (λ t. if t then (digits_value 10 (decimal v), seen.1) else
+    (if slice_index (decimal v) 0 == 59 then seen else (0, single_of (decimal v) seen.0 ∷ seen.1))) (digit_first v lt)
+    ∙ ap (λ m. (m, seen.1)) (decimal_read v (wide v lt))
 
 -- the first word of a reply, and those behind it
 abbrev first_word : SingleReply → List ℕ
@@ -90,14 +84,14 @@ with_number (told.Was v) ws = decimal v ∷ ws
 with_number (told.Short v) ws = decimal v ∷ ws
 with_number other ws = ws
 
--- the words of the replies behind the first, and the place; and of all
-abbrev more_words : List SingleReply → ℕ → List (List ℕ)
-more_words [] n = (64 ∷ decimal n) ∷ []
-more_words (r ∷ replies) n = (59 ∷ []) ∷ first_word r ∷ with_number r (more_words replies n)
+-- the words of the replies behind the first; and of all
+abbrev more_words : List SingleReply → List (List ℕ)
+more_words [] = []
+more_words (r ∷ replies) = (59 ∷ []) ∷ first_word r ∷ with_number r (more_words replies)
 
-abbrev pub group_words : List SingleReply → ℕ → List (List ℕ)
-group_words [] n = (64 ∷ decimal n) ∷ []
-group_words (r ∷ replies) n = first_word r ∷ with_number r (more_words replies n)
+abbrev pub group_words : List SingleReply → List (List ℕ)
+group_words [] = []
+group_words (r ∷ replies) = first_word r ∷ with_number r (more_words replies)
 
 -- the text of a reply and what follows it
 reply_spaced : (r : SingleReply) (rest : List ℕ) (ws : List (List ℕ)) → ((w : List ℕ) → w ++ rest ≡ with_spaces w ws) → single_text r ++ rest ≡ with_spaces (first_word r) (with_number r ws)
@@ -115,45 +109,40 @@ reply_spaced told.NoPrior rest ws is = is (codes "none")
 reply_spaced told.Moved rest ws is = is (codes "moved")
 reply_spaced told.Over rest ws is = is (codes "over")
 
-listed_spaced : (replies : List SingleReply) (n : ℕ) (w : List ℕ) → w ++ (flat_map next_text replies ++ (codes " @" ++ decimal n)) ≡ with_spaces w (more_words replies n)
-listed_spaced [] n w = refl
-listed_spaced (r ∷ replies) n w =
-    let tail : List ℕ = codes " @" ++ decimal n in
-    let parts : flat_map next_text (r ∷ replies) ++ tail ≡ codes " ; " ++ (single_text r ++ (flat_map next_text replies ++ tail)) =
-    ap (λ (t : List ℕ). t ++ tail) (flat_map-cons next_text r replies) ∙ append_assoc (codes " ; " ++ single_text r) (flat_map next_text replies) tail in
-    ap (λ t. w ++ t) (parts ∙ ap (λ t. codes " ; " ++ t) (reply_spaced r (flat_map next_text replies ++ tail) (more_words replies n) (listed_spaced replies n)))
+listed_spaced : (replies : List SingleReply) (w : List ℕ) → w ++ flat_map next_text replies ≡ with_spaces w (more_words replies)
+listed_spaced [] w = append-nil w
+listed_spaced (r ∷ replies) w =
+    let parts : flat_map next_text (r ∷ replies) ≡ codes " ; " ++ (single_text r ++ flat_map next_text replies) =
+    flat_map-cons next_text r replies ∙ append_assoc (codes " ; ") (single_text r) (flat_map next_text replies) in
+    ap (λ t. w ++ t) (parts ∙ ap (λ t. codes " ; " ++ t) (reply_spaced r (flat_map next_text replies) (more_words replies) (listed_spaced replies)))
 
-pub all_spaced : (replies : List SingleReply) (n : ℕ) → all_text replies ++ (codes " @" ++ decimal n) ≡ with_spaces (codes "all") (group_words replies n)
-all_spaced [] n = refl
-all_spaced (r ∷ replies) n =
-    ap (λ t. codes "all " ++ t) (append_assoc (single_text r) (flat_map next_text replies) (codes " @" ++ decimal n) ∙ reply_spaced r (flat_map next_text replies ++ (codes " @" ++ decimal n)) (more_words replies n) (listed_spaced replies n))
+pub all_spaced : (replies : List SingleReply) → all_text replies ≡ with_spaces (codes "all") (group_words replies)
+all_spaced [] = refl
+all_spaced (r ∷ replies) = ap (λ t. codes "all " ++ t) (reply_spaced r (flat_map next_text replies) (more_words replies) (listed_spaced replies))
 
--- these words say the replies and the place
-reply_seen : (r : SingleReply) (ws : List (List ℕ)) (replies : List SingleReply) (n : ℕ) → SingleFits r → seen_in ws ≡ (0, replies, n) → seen_in (first_word r ∷ with_number r ws) ≡ (0, r ∷ replies, n)
-reply_seen (told.Head v) ws replies n fits is = ap (λ s. with_word (codes "head") (with_word (decimal v) s)) is ∙ ap (with_word (codes "head")) (number_seen v (0, replies, n) fits)
-reply_seen (told.Was v) ws replies n fits is = ap (λ s. with_word (codes "was") (with_word (decimal v) s)) is ∙ ap (with_word (codes "was")) (number_seen v (0, replies, n) fits)
-reply_seen (told.Short v) ws replies n fits is = ap (λ s. with_word (codes "short") (with_word (decimal v) s)) is ∙ ap (with_word (codes "short")) (number_seen v (0, replies, n) fits)
-reply_seen told.Queued ws replies n fits is = ap (with_word (codes "queued")) is
-reply_seen told.Full ws replies n fits is = ap (with_word (codes "full")) is
-reply_seen told.Empty ws replies n fits is = ap (with_word (codes "empty")) is
-reply_seen told.Added ws replies n fits is = ap (with_word (codes "added")) is
-reply_seen told.Present ws replies n fits is = ap (with_word (codes "present")) is
-reply_seen told.Removed ws replies n fits is = ap (with_word (codes "removed")) is
-reply_seen told.Absent ws replies n fits is = ap (with_word (codes "absent")) is
-reply_seen told.NoPrior ws replies n fits is = ap (with_word (codes "none")) is
-reply_seen told.Moved ws replies n fits is = ap (with_word (codes "moved")) is
-reply_seen told.Over ws replies n fits is = ap (with_word (codes "over")) is
+-- these words say the replies
+reply_seen : (r : SingleReply) (ws : List (List ℕ)) (replies : List SingleReply) → SingleFits r → seen_in ws ≡ (0, replies) → seen_in (first_word r ∷ with_number r ws) ≡ (0, r ∷ replies)
+reply_seen (told.Head v) ws replies fits is = ap (λ s. with_word (codes "head") (with_word (decimal v) s)) is ∙ ap (with_word (codes "head")) (number_seen v (0, replies) fits)
+reply_seen (told.Was v) ws replies fits is = ap (λ s. with_word (codes "was") (with_word (decimal v) s)) is ∙ ap (with_word (codes "was")) (number_seen v (0, replies) fits)
+reply_seen (told.Short v) ws replies fits is = ap (λ s. with_word (codes "short") (with_word (decimal v) s)) is ∙ ap (with_word (codes "short")) (number_seen v (0, replies) fits)
+reply_seen told.Queued ws replies fits is = ap (with_word (codes "queued")) is
+reply_seen told.Full ws replies fits is = ap (with_word (codes "full")) is
+reply_seen told.Empty ws replies fits is = ap (with_word (codes "empty")) is
+reply_seen told.Added ws replies fits is = ap (with_word (codes "added")) is
+reply_seen told.Present ws replies fits is = ap (with_word (codes "present")) is
+reply_seen told.Removed ws replies fits is = ap (with_word (codes "removed")) is
+reply_seen told.Absent ws replies fits is = ap (with_word (codes "absent")) is
+reply_seen told.NoPrior ws replies fits is = ap (with_word (codes "none")) is
+reply_seen told.Moved ws replies fits is = ap (with_word (codes "moved")) is
+reply_seen told.Over ws replies fits is = ap (with_word (codes "over")) is
 
-place_seen : (n : ℕ) → n < 2 ^ 64 → seen_in ((64 ∷ decimal n) ∷ []) ≡ (0, [], n)
-place_seen n lt = ap (λ m. (0, [], m)) (decimal_read n (wide n lt))
+more_seen : (replies : List SingleReply) → AllByRecursion SingleFits replies → seen_in (more_words replies) ≡ (0, replies)
+more_seen [] fits = refl
+more_seen (r ∷ replies) fits = reply_seen r (more_words replies) replies fits.0 (more_seen replies fits.1)
 
-more_seen : (replies : List SingleReply) (n : ℕ) → AllByRecursion SingleFits replies → n < 2 ^ 64 → seen_in (more_words replies n) ≡ (0, replies, n)
-more_seen [] n fits lt = place_seen n lt
-more_seen (r ∷ replies) n fits lt = reply_seen r (more_words replies n) replies n fits.0 (more_seen replies n fits.1 lt)
-
-pub group_seen : (replies : List SingleReply) (n : ℕ) → AllByRecursion SingleFits replies → n < 2 ^ 64 → seen_in (group_words replies n) ≡ (0, replies, n)
-group_seen [] n fits lt = place_seen n lt
-group_seen (r ∷ replies) n fits lt = reply_seen r (more_words replies n) replies n fits.0 (more_seen replies n fits.1 lt)
+pub group_seen : (replies : List SingleReply) → AllByRecursion SingleFits replies → seen_in (group_words replies) ≡ (0, replies)
+group_seen [] fits = refl
+group_seen (r ∷ replies) fits = reply_seen r (more_words replies) replies fits.0 (more_seen replies fits.1)
 
 number_words : (r : SingleReply) (ws : List (List ℕ)) → AllAreWords ws → AllAreWords (first_word r ∷ with_number r ws)
 number_words (told.Head v) ws all = (refl, (decimal_is_a_word v, all))
@@ -170,10 +159,10 @@ number_words told.NoPrior ws all = (refl, all)
 number_words told.Moved ws all = (refl, all)
 number_words told.Over ws all = (refl, all)
 
-more_are_words : (replies : List SingleReply) (n : ℕ) → AllAreWords (more_words replies n)
-more_are_words [] n = (decimal_is_a_word n, tt)
-more_are_words (r ∷ replies) n = (refl, number_words r (more_words replies n) (more_are_words replies n))
+more_are_words : (replies : List SingleReply) → AllAreWords (more_words replies)
+more_are_words [] = tt
+more_are_words (r ∷ replies) = (refl, number_words r (more_words replies) (more_are_words replies))
 
-pub group_are_words : (replies : List SingleReply) (n : ℕ) → AllAreWords (group_words replies n)
-group_are_words [] n = (decimal_is_a_word n, tt)
-group_are_words (r ∷ replies) n = number_words r (more_words replies n) (more_are_words replies n)
+pub group_are_words : (replies : List SingleReply) → AllAreWords (group_words replies)
+group_are_words [] = tt
+group_are_words (r ∷ replies) = number_words r (more_words replies) (more_are_words replies)

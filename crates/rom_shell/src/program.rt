@@ -7,9 +7,10 @@ ghost use Rattle.rom_run.specs.Played.{HasReplies};
 ghost use Rattle.rom_run.specs.Promise.{Promise};
 ghost use Rattle.rom_run.specs.Use.{HasNotFailed, HasNotRun, HasRead, HasRun, IsStatus, heap_of};
 ghost use Rattle.rom_run.specs.Working.{HasMade, HasNone, HasSession, IsDeviceKept, IsStill};
+ghost use Rattle.rom_text.specs.Determines.{TextDetermines};
 ghost use Rattle.rom_text.specs.Runs.{AreAskedOnce, AreAtEnd, AreWithin, IsTold, SourceFailed, SourceTooLong};
 ghost use Rattle.rom_text.specs.Streams.{StopsWriting, WriteFailed};
-ghost use Rattle.rom_script.specs.Trio.{TextDetermines};
+ghost use Rattle.rom_script.specs.Trio.{trio_texts};
 ghost use Rattle.rom_shell.specs.Run.{AreRun, IsPrinted, use_of};
 ghost use Rattle.rom_words.specs.Words.{command, scripts_of};
 ghost use Rattle.rom_store.specs.Sessions.{EachStory};
@@ -140,7 +141,7 @@ pub fn run<R: Threads + Wait + Sync, D: Device + Send, S: Source, O: Sink, G: Ga
         result.status result.session }
 
     // A text is that of one list of results and one count.
-    ensures determined { TextDetermines }
+    ensures determined { TextDetermines trio_texts }
 {
     run_command(rt, alloc, words, device, scripts, out, gate)
 }

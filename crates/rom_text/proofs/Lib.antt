@@ -7,5 +7,7 @@ pub mod Pieces
 pub mod Handing
 pub mod Steps
 pub mod Reading
+pub mod Naming
+pub mod Determined
 pub mod Phrases
 pub mod RunText

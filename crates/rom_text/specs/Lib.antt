@@ -6,6 +6,7 @@ pub mod Adapts
 pub mod Phrases
 pub mod Lines
 pub mod Text
+pub mod Determines
 pub mod Trio
 pub mod Runs
 pub mod Gathered
