@@ -3,3 +3,4 @@ pub mod Words
 pub mod Digits
 pub mod Asking
 pub mod Determined
+pub mod Crowds

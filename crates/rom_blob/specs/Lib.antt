@@ -2,6 +2,7 @@
 pub mod Codes
 pub mod Tags
 pub mod Blobs
+pub mod Crowded
 pub mod Laws
 pub mod Lines
 pub mod Texts

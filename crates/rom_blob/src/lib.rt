@@ -10,10 +10,10 @@
 //! refused exactly where its words are not a well-formed region, by the first test that does not hold;
 //! and where nothing fails the command is done. No two lists of results have one text.
 //!
-//! The states are those of `rom_blob_region`, block by block. `full` is answered only where the blocks
-//! of the keys that are there leave so little room, and a query makes no more than so many loads: the
-//! clauses `crowded` of `apply_blob` and `looks` of `answer_blob`, which `Blobs` calls, say how much
-//! and how many. They are handed on here.
+//! The states are those of `rom_blob_region`, block by block. `full` is told only where the blocks of the
+//! keys that are there have so many units that there may be none for the bytes: a clause of `run_blob`,
+//! of each update of its history, and of `apply_blob`. How many loads a query makes at most is the
+//! clause `looks` of `answer_blob`. `Blobs` calls both, and they are handed on here.
 #![tactic(auto)]
 
 mod blobs;

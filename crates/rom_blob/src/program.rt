@@ -1,14 +1,16 @@
 //! The top call: all that a program of keys with bytes does.
-ghost use Rattle.std.specs.Prelude.{◌≡◌, length};
+ghost use Rattle.std.specs.Prelude.{◌≡◌, IfSome, length};
 ghost use Rattle.rom_model.specs.Earlier.{no_earlier};
 ghost use Rattle.rom_run.specs.Plain.{command, scripts_of, use_of};
 ghost use Rattle.rom_run.specs.Played.{IsText};
 ghost use Rattle.rom_run.specs.Promise.{Promise};
+ghost use Rattle.rom_store.specs.Sessions.{EachStory};
 ghost use Rattle.rom_text.specs.Determines.{TextDetermines};
 ghost use Rattle.rom_text.specs.Lines.{AreScripts};
 ghost use Rattle.rom_blob_region.specs.Region.{Contents};
 ghost use Rattle.rom_blob_inspect.specs.Answers.{Rejects};
 ghost use Rattle.rom_blob.specs.Blobs.{blobs};
+ghost use Rattle.rom_blob.specs.Crowded.{IsFullWhereCrowded};
 ghost use Rattle.rom_blob.specs.Lines.{Reads};
 ghost use Rattle.rom_blob.specs.Texts.{blob_texts};
 
@@ -45,6 +47,9 @@ pub fn run_blob<R: Threads + Wait + Sync, D: Device + Send, S: Source, O: Sink, 
     ensures promise { Promise blobs Contents Rejects no_earlier D.shown S.shown O.shown
         (AreScripts Reads S.shown) (IsText O.shown blob_texts) (use_of (command words.now)) device
         result.device scripts result.scripts out.old out.new result.status result.session }
+
+    // An update is told `full` only where so many units are in use that there may be no room for it.
+    ensures crowded { IfSome result.session (λ seen. EachStory blobs Contents seen IsFullWhereCrowded) }
 
     // A text is that of one list of results and one count.
     ensures determined { TextDetermines blob_texts }

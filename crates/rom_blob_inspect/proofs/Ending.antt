@@ -2,7 +2,7 @@
 use Rattle.std.proofs.Common.{◌≡◌, inl, inr, ℕ, zero, suc, ◌+◌, ◌<◌, ◌≤◌, Bool, List, [], ◌∷◌, ◌++◌, length, refl, sym, ◌∙◌, ap, subst, arith}
 use Rattle.std.specs.Prelude.{Result, Ok, Err}
 use Rattle.std.proofs.lemmas.Bool.{cases_lt}
-use Rattle.rom_model.specs.Blocks.{region_len}
+use Rattle.rom_model.specs.Blocks.{IsOrder, region_len}
 use Rattle.rom_model.specs.Region.{buckets}
 use Rattle.rom_model.specs.declared.unfit.Rule.TheVariants.{Count}
 use Rattle.rom_model.specs.declared.unfit.Break.{Break}
@@ -43,8 +43,8 @@ module _ (n : ℕ) (w : List ℕ) where
     keys_ended units count marks (Err e) one long are is = inr (tt, sym root, inr (units, one, inl (is ∙ ap (λ (x : ℕ). checked (is_word w 3 Count x ∷ [])) long)))
 
     -- after the tree
-    pub tree_ended : (units : List ℕ) (r : Result (Unit {0}) Unfit) → 4 ≤ n → length w ≡ region_len n → OneByOne n w (buckets n) (Ok units) → checked (size_tests w units) ≡ Ok tt → IsTreeAnswer n (taken_with (held n w units)) w r → IsInspected n w r
-    tree_ended units (Ok done) le long one size tree = well_formed n w le long root units one size tree
-    tree_ended units (Err (Malformed offset rule)) le long one size tree = inr (tt, sym root, inr (units, one, inr (tt, sym size, tree)))
-    tree_ended units (Err Old) le long one size tree = tree
-    tree_ended units (Err OutOfMemory) le long one size tree = tt
+    pub tree_ended : (units : List ℕ) (r : Result (Unit {0}) Unfit) → IsOrder n → length w ≡ region_len n → OneByOne n w (buckets n) (Ok units) → checked (size_tests w units) ≡ Ok tt → IsTreeAnswer n (taken_with (held n w units)) w r → IsInspected n w r
+    tree_ended units (Ok done) o long one size tree = well_formed n w o long root units one size tree
+    tree_ended units (Err (Malformed offset rule)) o long one size tree = inr (tt, sym root, inr (units, one, inr (tt, sym size, tree)))
+    tree_ended units (Err Old) o long one size tree = tree
+    tree_ended units (Err OutOfMemory) o long one size tree = tt

@@ -3,7 +3,7 @@ use Rattle.std.proofs.Common.{◌≡◌, inl, inr, ℕ, zero, suc, ◌+◌, ◌-
 use Rattle.std.specs.Prelude.{Ok, slice_index, nat_le}
 use Rattle.std.proofs.lemmas.Bool.{cases_eq, eqb-true, leb-true}
 use Rattle.rom_model.specs.History.{LAST_COUNT}
-use Rattle.rom_model.specs.Blocks.{AreWords, block_of, region_len}
+use Rattle.rom_model.specs.Blocks.{IsOrder, AreWords, block_of, region_len}
 use Rattle.rom_model.specs.Chains.{times, Chain, each_word}
 use Rattle.rom_model.specs.Region.{buckets, all_of}
 use Rattle.rom_model.specs.declared.unfit.Rule.TheVariants.{Root, Count}
@@ -110,7 +110,10 @@ rooted n w is =
       high_zeros = λ k lo hi. (let at : k ≡ 9 + (k - 9) = omega arith in ap (λ i. slice_index w i) at) ∙ held_zeros w 9 8 Root e.rest (k - 9) (omega arith);
     }
 
-module _ (n : ℕ) (w : List ℕ) (le : 4 ≤ n) (long : length w ≡ region_len n) (root : checked (root_tests n w) ≡ Ok tt) (m : List ℕ) (one : OneByOne n w (buckets n) (Ok m)) (size : checked (size_tests w m) ≡ Ok tt) (tree : AreWords n (taken_with (held n w m)) w) where
+module _ (n : ℕ) (w : List ℕ) (o : IsOrder n) (long : length w ≡ region_len n) (root : checked (root_tests n w) ≡ Ok tt) (m : List ℕ) (one : OneByOne n w (buckets n) (Ok m)) (size : checked (size_tests w m) ≡ Ok tt) (tree : AreWords n (taken_with (held n w m)) w) where
+  abbrev le : 4 ≤ n
+  le = o.least
+
   abbrev walked : AreWalked n w (buckets n) m
   walked = all_walked n w (buckets n) m one
 
@@ -148,6 +151,7 @@ module _ (n : ℕ) (w : List ℕ) (le : 4 ≤ n) (long : length w ≡ region_len
     (
       bucket,
       record {
+        order = o;
         as_long = long;
         root = rooted n w root;
         keys = keys;

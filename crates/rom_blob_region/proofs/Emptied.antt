@@ -4,7 +4,7 @@ use Rattle.std.specs.Prelude.{slice_index, Option, None, Some, MatchOption}
 use Rattle.std.specs.FinMap as finite
 use Rattle.std.proofs.lemmas.Bool.{cases_eq, cases_lt}
 use Rattle.rom_model.specs.Space.{ChangesOnly}
-use Rattle.rom_model.specs.Blocks.{IsNode, IsDisjoint, IsLowest, NoneFree, AreWords, nothing, taking, up, block_of, region_len}
+use Rattle.rom_model.specs.Blocks.{IsOrder, IsNode, IsDisjoint, IsLowest, NoneFree, AreWords, nothing, taking, up, block_of, region_len}
 use Rattle.rom_model.specs.Chains.{times}
 use Rattle.rom_model.specs.Region.{buckets, all_of}
 use Rattle.rom_model.proofs.Nodes.{pow_positive, up_least}
@@ -49,7 +49,7 @@ no_members n = all_empty (buckets n)
 
 -- what the stores of a format leave
 pub record Formatted (n : ℕ) (w : List ℕ) : Type 0 where
-  pub least : 4 ≤ n
+  pub order : IsOrder n
   pub sized : length w ≡ region_len n
   pub kind : slice_index w 0 ≡ 2
   pub version : slice_index w 1 ≡ 1
@@ -62,6 +62,7 @@ pub emptied : (n : ℕ) (w : List ℕ) → Formatted n w → Contents n w no_blo
 emptied n w is = (
   λ i. [],
   record {
+    order = is.order;
     as_long = is.sized;
     root = record {
       kind = is.kind;
@@ -86,7 +87,7 @@ emptied n w is = (
       different = λ x. omega arith;
       beside = refl;
       disjoint = record {
-        nodes = λ i there. (4, n - 4, omega (arith, is.least), subst (λ z. IsNode 4 z) (sym (only_table i there)) table_is_node);
+        nodes = λ i there. (4, n - 4, omega (arith, is.order.least), subst (λ z. IsNode 4 z) (sym (only_table i there)) table_is_node);
         apart = λ i k there. beside i k (only_table i there);
       };
     };
@@ -107,13 +108,13 @@ emptied n w is = (
     beside i k at = taken_none [] (up (suc k) i) (λ e. absurd (omega (arith, e, up_least k i, at))) refl
 
 -- after the root words, the tree, the bucket table's block and its words
-module _ (n : ℕ) (w w1 w2 w3 w4 : List ℕ) (least : 4 ≤ n) (sized : length w ≡ region_len n) (one : ChangesOnly 0 16 w w1) (two : ChangesOnly 16 (2 * 2 ^ n) w1 w2) (three : ChangesOnly 17 (2 * 2 ^ n - 1) w2 w3) (four : ChangesOnly (block_of n 0) (buckets n) w3 w4) where
+module _ (n : ℕ) (w w1 w2 w3 w4 : List ℕ) (order : IsOrder n) (sized : length w ≡ region_len n) (one : ChangesOnly 0 16 w w1) (two : ChangesOnly 16 (2 * 2 ^ n) w1 w2) (three : ChangesOnly 17 (2 * 2 ^ n - 1) w2 w3) (four : ChangesOnly (block_of n 0) (buckets n) w3 w4) where
   root_stays : (k : ℕ) → k < 16 → slice_index w4 k ≡ slice_index w1 k
   root_stays k lt = four.before k (omega (arith, lt)) ∙ three.before k (omega (arith, lt)) ∙ two.before k lt
 
   pub formatted : IsFreshRoot n w1 → slice_index w2 16 ≡ 0 → AreWords n (taking 16 nothing) w3 → ((i : ℕ) → i < buckets n → slice_index w4 (block_of n 0 + i) ≡ 0) → Formatted n w4
   formatted root last tree heads = record {
-    least = least;
+    order = order;
     sized = four.as_long ∙ three.as_long ∙ two.as_long ∙ one.as_long ∙ sized;
     kind = root_stays 0 (omega arith) ∙ root.kind;
     version = root_stays 1 (omega arith) ∙ root.version;

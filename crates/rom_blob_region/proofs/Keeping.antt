@@ -4,7 +4,7 @@ use Rattle.std.specs.Prelude.{slice_index}
 use Rattle.std.specs.FinMap as finite
 use Rattle.std.proofs.lemmas.Bool.{cases_eq, cases_lt}
 use Rattle.rom_model.specs.Space.{ChangesOnly}
-use Rattle.rom_model.specs.Blocks.{IsDisjoint, AreWords, taking, block_of, region_len}
+use Rattle.rom_model.specs.Blocks.{IsOrder, IsDisjoint, AreWords, taking, block_of, region_len}
 use Rattle.rom_model.specs.Chains.{times}
 use Rattle.rom_model.specs.Region.{buckets, bucket_of}
 use Rattle.rom_model.proofs.Nodes.{pow_positive}
@@ -27,6 +27,7 @@ use Rattle.rom_blob_region.proofs.Places.{Same, blob_same, own_word, has_node, i
 
 -- what a region has but for the tree
 pub record HasKeys (n : ℕ) (w : List ℕ) (f : ℕ → List ℕ) (s : BlobState) (count : ℕ) : Type 0 where
+  pub order : IsOrder n
   pub as_long : length w ≡ region_len n
   pub root : IsBlobRoot n w count
   pub keys : AreBuckets n 3 w f
@@ -38,10 +39,10 @@ abbrev pub held : ℕ → List ℕ → (ℕ → List ℕ) → List ℕ
 held n w f = held_by (blob_at n w) (nodes_of n f)
 
 pub has_keys : {n : ℕ} {w : List ℕ} {f : ℕ → List ℕ} {s : BlobState} {count : ℕ} → IsBlobs n w f s count → HasKeys n w f s count
-has_keys is = record { as_long = is.as_long; root = is.root; keys = is.keys; blobs = is.blobs; state_is = is.state_is }
+has_keys is = record { order = is.order; as_long = is.as_long; root = is.root; keys = is.keys; blobs = is.blobs; state_is = is.state_is }
 
 pub whole : {n : ℕ} {w : List ℕ} {f : ℕ → List ℕ} {s : BlobState} {count : ℕ} → HasKeys n w f s count → AreApart n (held n w f) → AreWords n (taken_with (held n w f)) w → IsBlobs n w f s count
-whole is apart tree = record { as_long = is.as_long; root = is.root; keys = is.keys; blobs = is.blobs; state_is = is.state_is; apart = apart; tree = tree }
+whole is apart tree = record { order = is.order; as_long = is.as_long; root = is.root; keys = is.keys; blobs = is.blobs; state_is = is.state_is; apart = apart; tree = tree }
 
 -- the root where these words stay
 root_same : (n : ℕ) (w w' : List ℕ) (count : ℕ) → ((k : ℕ) → k ≤ 16 → k ≢ 3 → slice_index w' k ≡ slice_index w k) → IsBlobRoot n w count → IsBlobRoot n w' count
@@ -75,6 +76,7 @@ module _ {n : ℕ} {w w' : List ℕ} {f : ℕ → List ℕ} {s : BlobState} {cou
     -- where all that belongs to the keys stays
     pub same_keys : HasKeys n w' f s count
     same_keys = record {
+      order = is.order;
       as_long = long ∙ is.as_long;
       root = root_same n w w' count (λ k le ne. root k le) is.root;
       keys = buckets_same w' heads (root 3 (omega arith)) (λ c some. (stay c some).node 0 (omega arith)) (λ c some. (stay c some).node 2 (omega arith)) is.keys;
@@ -195,6 +197,7 @@ module _ {n : ℕ} {w : List ℕ} {f : ℕ → List ℕ} {s : BlobState} {count 
 
   pub cut_keys : HasKeys n w' left (finite.remove s key) count
   cut_keys = record {
+    order = is.order;
     as_long = un.as_long ∙ is.as_long;
     root = root_same n w w' count (λ k small ne. removed.removed_low le (omega arith) is.keys within t un k (omega (arith, small, pow_positive n)) ne) is.root;
     keys = removed.removed_buckets le (omega arith) is.keys within t un;
@@ -251,6 +254,7 @@ module _ {n : ℕ} {w : List ℕ} {f : ℕ → List ℕ} {s : BlobState} {count 
 
   pub link_keys : HasKeys n w' more (finite.insert s node.key (blob_at n w' block)) count
   link_keys = record {
+    order = is.order;
     as_long = linked.as_long ∙ is.as_long;
     root = root_same n w w' count (λ k small ne. added.added_root may front linked k small ne) is.root;
     keys = added.added_buckets may front linked;
@@ -335,6 +339,7 @@ module _ {n : ℕ} {w : List ℕ} {f : ℕ → List ℕ} {s : BlobState} {count 
 
   pub again_keys : HasKeys n w' f (finite.insert s key (blob_at n w' t.block)) count
   again_keys = record {
+    order = is.order;
     as_long = long ∙ is.as_long;
     root = root_same n w w' count (λ k small ne. again_low k (omega (arith, small, pow_positive n))) is.root;
     keys = buckets_same w' again_heads (again_low 3 (omega arith)) (λ c some. word_stays c 0 some (omega arith) (omega arith) (omega arith)) (λ c some. word_stays c 2 some (omega arith) (omega arith) (omega arith)) is.keys;

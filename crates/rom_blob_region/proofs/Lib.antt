@@ -16,6 +16,7 @@ pub mod Replacing
 pub mod Filling
 pub mod Spending
 pub mod Crowding
+pub mod Ranges
 pub mod Bounding
 pub mod Recounting
 pub mod Emptied

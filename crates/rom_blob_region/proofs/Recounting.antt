@@ -34,6 +34,7 @@ module _ {n : ℕ} {w w' : List ℕ} {f : ℕ → List ℕ} {s : BlobState} {k :
 
   recounted : IsBlobs n w' f s (k + 1)
   recounted = record {
+    order = is.order;
     as_long = only.as_long ∙ is.as_long;
     root = record {
       kind = only.before 0 (omega arith) ∙ is.root.kind;

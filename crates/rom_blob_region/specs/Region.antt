@@ -1,6 +1,6 @@
 -- The words of a well-formed region of keys with bytes, and the state and the count that they stand for.
 use Rattle.std.specs.Prelude.{◌≡◌, ◌≢◌, ℕ, ◌+◌, ◌-◌, ◌*◌, ◌/◌, ◌^◌, ◌<◌, ◌≤◌, ◌==◌, List, [], ◌∷◌, ◌++◌, Some, None, if◌then◌else◌, length, slice_index}
-use Rattle.rom_model.specs.Blocks.{IsNode, IsDisjoint, AreWords, block_of, block_at, region_len}
+use Rattle.rom_model.specs.Blocks.{IsOrder, IsNode, IsDisjoint, AreWords, block_of, block_at, region_len}
 use Rattle.rom_model.specs.Chains.{times}
 use Rattle.rom_model.specs.History.{LAST_COUNT}
 use Rattle.rom_bucket.specs.Buckets.{nodes_of, AreBuckets, keyed}
@@ -55,8 +55,9 @@ pub record AreApart (n : ℕ) (blocks : List ℕ) : Type 0 where
   pub beside : times 16 blocks ≡ 0
   pub disjoint : IsDisjoint n (taken_with blocks)
 
--- A well-formed region with these chains. The order n is 4 to 16.
+-- A well-formed region with these chains. Its order is one of those that there are, 4 to 16.
 pub record IsBlobs (n : ℕ) (words : List ℕ) (bucket : ℕ → List ℕ) (s : BlobState) (count : ℕ) : Type 0 where
+  pub order : IsOrder n
   pub as_long : length words ≡ region_len n
   pub root : IsBlobRoot n words count
   pub keys : AreBuckets n 3 words bucket

@@ -7,9 +7,9 @@
 //! query is told, block by block: a key keeps its node as long as it stays, bytes keep their block while
 //! its order fits, a new block is the lowest that is free, chosen while the old one is still taken, and an
 //! update that finds no block changes nothing but the count. They promise too that an update is refused
-//! only where the blocks of the keys that are there leave so little room, and how many loads a query and
-//! how many stores an update makes at most. They hold over any space of words. How replies and answers
-//! are printed stands here too.
+//! only where the blocks of the keys that are there have a number of units that depends on how many bytes
+//! it brings, and how many loads a query and how many stores an update makes at most. They hold over any
+//! space of words. How replies and answers are printed stands here too.
 #![tactic(auto)]
 
 mod answer;

@@ -16,4 +16,4 @@ returns c =
     let many : c.in-Ok.marks.len ≡ length after = omega (arith, c.in-Ok.marks.ok.0, c.in-Ok.ensures.as_long, all.4.as_long) in
     let same : c.deref.result.now ≡ after = c.deref.ensures.value ∙ (ap (λ (k : ℕ). take k (after ++ drop (length after) c.in-Ok.marks.items)) many ∙ take-append_seam after (drop (length after) c.in-Ok.marks.items)) in
     let marked : IsMarked T c.deref.result.now = subst (λ (ms : List Bool). IsMarked T ms) (sym same) all.4.marked in
-    tree_ended n w all.2 all.0 c.inspect_marked.result c.requires.order.least c.requires.sized all.1 all.3 (c.inspect_marked.ensures T marked)
+    tree_ended n w all.2 all.0 c.inspect_marked.result c.requires.order c.requires.sized all.1 all.3 (c.inspect_marked.ensures T marked)

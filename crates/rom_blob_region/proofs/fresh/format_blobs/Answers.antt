@@ -29,7 +29,7 @@ returns-clause-made g c =
     let z = c.store_zeros.ensures in
     let only : ChangesOnly (block_of n 0) (buckets n) w3 w4 = subst (λ a. ChangesOnly a (buckets n) w3 w4) from (subst (λ a. ChangesOnly c.blocks_at.result a w3 w4) len z.others) in
     let r = c.format_root.ensures in
-    emptied n w4 (formatted n w w1 w2 w3 w4 c.requires.order.least c.requires.sized r.others c.format.ensures.others c.take.ensures.others only r.root c.format.ensures.zero
+    emptied n w4 (formatted n w w1 w2 w3 w4 c.requires.order c.requires.sized r.others c.format.ensures.others c.take.ensures.others only r.root c.format.ensures.zero
     (table_taken n w3 c.take.result c.requires.order.least (c.take.ensures.taken nothing (nothing_disjoint n) c.format.ensures.words))
     (λ i lt. z.zeros (block_of n 0 + i) (omega (arith, from)) (omega (arith, from, len, lt))))
 

@@ -8,6 +8,7 @@ use Rattle.rom_blob_region.specs.State.{BlobState, set_blob}
 use Rattle.rom_blob_region.specs.Region.{Contents, IsBlobs}
 use Rattle.rom_blob_region.proofs.Fetching.{looked, stays, gone, spot}
 use Rattle.rom_blob_region.proofs.Bounding.{full_bound}
+use Rattle.rom_blob_region.proofs.Ranges.{contents_ranged}
 use Rattle.rom_blob_region.proofs.Spending.{stores_then}
 use Rattle.rom_blob_region.proofs.set.set_blob.Goals as goal
 
@@ -68,9 +69,9 @@ returns-clause-stores g c = stores_then 72 (omega arith) (looked c.requires.orde
 pub returns-then-place-eq0-clause-crowded : goal.returns-then-place-eq0-clause-crowded
 returns-then-place-eq0-clause-crowded g c s k held full =
     let done = returns-then-place-eq0-clause-done g c s k held in
-    full_bound c.requires.order held.1 c.args.key c.args.bytes.now (sym done.0 ∙ full)
+    full_bound c.args.order s c.requires.order.least (contents_ranged held) c.args.key c.args.bytes.now (sym done.0 ∙ full)
 
 pub returns-clause-crowded : goal.returns-clause-crowded
 returns-clause-crowded g c s k held full =
     let done = returns-clause-done g c s k held in
-    full_bound c.requires.order held.1 c.args.key c.args.bytes.now (sym done.0 ∙ full)
+    full_bound c.args.order s c.requires.order.least (contents_ranged held) c.args.key c.args.bytes.now (sym done.0 ∙ full)
