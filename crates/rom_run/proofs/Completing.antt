@@ -18,13 +18,12 @@ use Rattle.rom_model.proofs.Faulted.{faults_bounded}
 use Rattle.rom_device.specs.Device.{ShownDevice}
 use Rattle.rom_text.specs.Runs.{SourceFailed, SourceTooLong}
 use Rattle.rom_text.specs.Streams.{ShownSink, ShownSource, WriteFailed}
-use Rattle.rom_text.specs.Text.{Texts}
 use Rattle.rom_store.specs.Sessions.{EachStory, SessionSeen}
 use Rattle.rom_combine.specs.Costs.{IsUnfailed}
 use Rattle.rom_run.proofs.Accepted.{AreApart, at_hand, begins, by_name}
 use Rattle.rom_run.specs.Complete.{EndsWell, HasFewFaults, HasUnreadLine, IsAtHand, IsComplete, IsRefusedByName, IsRefusedExactly, NoneFailed, is_unread_line}
 use Rattle.rom_run.specs.Keeping.{CountsFaults}
-use Rattle.rom_run.specs.Played.{HasReplies, IsText}
+use Rattle.rom_run.specs.Played.{HasReplies, IsOutput, ShownOutput}
 use Rattle.rom_run.specs.Statuses.{is_faulted, is_unread}
 use Rattle.rom_run.specs.declared.heap.Heap.{Heap}
 use Rattle.rom_run.specs.Use.{Drawn, HasNotRun, HasRun, IsStatus, Makes, Plays, Read, Shows, Upgrades, Use, heap_of}
@@ -61,15 +60,15 @@ one_of true b is = absurd (omega (arith, is))
 one_of false true is = refl
 one_of false false is = absurd (omega (arith, is))
 
--- the text of a run has the status 7 where an update is told of a fault, and 1 where a line is unread
-module _ {S K R A : Type 0} (sink : ShownSink K) (texts : Texts R A) (story : Story S) (results : List (List (LineResult R A))) (old new : K) where
-  pub text_faulted : IsText sink texts story results old new 7 → list_any (λ rs. list_any is_faulted rs) results ≡ true
-  text_faulted (inl is) = seven_of _ _ is.0
-  text_faulted (inr is) = let no = is.0 in absurd (omega (arith, no))
+-- what is printed has the status 7 where an update is told of a fault, and 1 where a line is unread
+module _ {S K R A : Type 0} (sink : ShownSink K) (output : ShownOutput R A) (story : Story S) (results : List (List (LineResult R A))) (old new : K) where
+  pub output_faulted : IsOutput sink output story results old new 7 → list_any (λ rs. list_any is_faulted rs) results ≡ true
+  output_faulted (inl is) = seven_of _ _ is.0
+  output_faulted (inr is) = let no = is.0 in absurd (omega (arith, no))
 
-  pub text_unread : IsText sink texts story results old new 1 → list_any (λ rs. list_any is_unread rs) results ≡ true
-  text_unread (inl is) = one_of _ _ is.0
-  text_unread (inr is) = let no = is.0 in absurd (omega (arith, no))
+  pub output_unread : IsOutput sink output story results old new 1 → list_any (λ rs. list_any is_unread rs) results ≡ true
+  output_unread (inl is) = one_of _ _ is.0
+  output_unread (inr is) = let no = is.0 in absurd (omega (arith, no))
 
 module _ {S C Q R A : Type 0} (machine : Machine S C Q R A) (story : Story S) where
   -- a result is unread where its line is none

@@ -2,13 +2,14 @@
 use Rattle.std.specs.Prelude.{◌≡◌, ℕ, List, IfSome, codes, Option, Some, None}
 use Rattle.std.proofs.Common.{arith}
 use Rattle.rom_model.specs.Machine.{Machine}
+use Rattle.rom_model.specs.Story.{Story}
+use Rattle.rom_model.specs.declared.line.LineResult.{LineResult}
 use Rattle.rom_model.specs.declared.line.Step.{Step}
 use Rattle.rom_device.specs.Device.{ShownDevice}
 use Rattle.rom_text.specs.Runs.{IsTold}
 use Rattle.rom_text.specs.Streams.{ShownSink, ShownSource}
-use Rattle.rom_text.specs.Text.{Texts}
 use Rattle.rom_store.specs.Sessions.{SessionSeen}
-use Rattle.rom_run.specs.Played.{HasReplies, HavePlayed, IsText}
+use Rattle.rom_run.specs.Played.{HasReplies, HavePlayed}
 use Rattle.rom_run.specs.Reading.{IsUnread}
 use Rattle.rom_run.specs.Statuses.{number_of}
 use Rattle.rom_run.specs.Working.{HasSession}
@@ -17,12 +18,12 @@ use Rattle.rom_run.specs.declared.status.Status.{Status}
 use Rattle.rom_run.specs.declared.status.Status.TheVariants.{NoMemory}
 
 -- what was printed of scripts that were read from these sources
-pub replies_of : {S C Q R A D X K : Type 0} (machine : Machine S C Q R A) (Contents : ℕ → List ℕ → S → ℕ → Type 0) (shown : ShownDevice D) (sink : ShownSink K) (texts : Texts R A) (AreRun : List X → List (List (Step C Q)) → Type 0)
+pub replies_of : {S C Q R A D X K : Type 0} (machine : Machine S C Q R A) (Contents : ℕ → List ℕ → S → ℕ → Type 0) (shown : ShownDevice D) (Prints : Story S → List (List (LineResult R A)) → K → K → ℕ → Type 0) (AreRun : List X → List (List (Step C Q)) → Type 0)
     (heap : Heap) (was now : D) (sources : List X) (scripts : List (List (Step C Q))) (old new : K) (status : ℕ) (session : Option SessionSeen) → AreRun sources scripts →
-    IfSome session (HasSession machine Contents shown heap was now (HavePlayed machine sink texts scripts old new status)) →
-    IfSome session (HasSession machine Contents shown heap was now (HasReplies machine AreRun (IsText sink texts) sources old new status))
-replies_of machine Contents shown sink texts AreRun heap was now sources scripts old new status None read played = tt
-replies_of machine Contents shown sink texts AreRun heap was now sources scripts old new status (Some z) read played = record {
+    IfSome session (HasSession machine Contents shown heap was now (HavePlayed machine Prints scripts old new status)) →
+    IfSome session (HasSession machine Contents shown heap was now (HasReplies machine AreRun Prints sources old new status))
+replies_of machine Contents shown Prints AreRun heap was now sources scripts old new status None read played = tt
+replies_of machine Contents shown Prints AreRun heap was now sources scripts old new status (Some z) read played = record {
   story = played.story;
   each = played.each;
   told = λ story of. let p = played.told story of in record { scripts = scripts; results = p.results; read = read; answered = p.answered; printed = p.printed };

@@ -1,9 +1,10 @@
 -- What is printed of the results of scripts.
-use Rattle.std.specs.Prelude.{◌≡◌, ◌≤◌, ◌⊎◌, ℕ, List}
+use Rattle.std.specs.Prelude.{◌≡◌, ◌+◌, ◌≤◌, ◌⊎◌, ℕ, List, length}
 use Rattle.rom_model.specs.History.{LAST_COUNT}
 use Rattle.rom_model.specs.Lawful.{IsLawful}
 use Rattle.rom_model.specs.Machine.{Machine}
 use Rattle.rom_model.specs.Story.{Story, count}
+use Rattle.rom_model.specs.declared.entry.Entry.{Entry}
 use Rattle.rom_model.specs.declared.line.LineResult.{LineResult}
 use Rattle.rom_model.specs.declared.line.Step.{Step}
 use Rattle.rom_text.specs.Runs.{IsCutShort, IsWritten}
@@ -11,11 +12,25 @@ use Rattle.rom_text.specs.Streams.{ShownSink}
 use Rattle.rom_text.specs.Text.{AreOfType, Texts, text}
 use Rattle.rom_run.specs.Statuses.{status_of}
 
--- The whole text is printed, and its numbers are of their types, and the status is that of the results; or some of it, where the sink failed.
-abbrev pub IsRunText : {K R A : Type 0} → ShownSink K → Texts R A → List (List (LineResult R A)) → ℕ → K → K → ℕ → Type 0
-IsRunText sink texts results n old new status =
-    ((status ≡ status_of results) × AreOfType texts results × IsWritten sink old new (text texts results n))
-    ⊎ ((status ≡ 5) × IsCutShort sink old new (text texts results n))
+-- What a program prints of a session, of which it tells where the count stood at the opening, the history since, and the results of its scripts.
+pub record ShownOutput (R A : Type 0) : Type 1 where
+  -- its bytes
+  pub text : ℕ → List Entry → List (List (LineResult R A)) → List ℕ
+  -- the numbers that it tells are of their types
+  pub Fits : ℕ → List Entry → List (List (LineResult R A)) → Type 0
+
+-- All of it is printed, and its numbers are of their types, and the status is that of the results; or some of it from its front, where the sink failed.
+abbrev pub IsOutput : {S K R A : Type 0} → ShownSink K → ShownOutput R A → Story S → List (List (LineResult R A)) → K → K → ℕ → Type 0
+IsOutput sink output story results old new status =
+    ((status ≡ status_of results) × output.Fits story.opening_count story.history results × IsWritten sink old new (output.text story.opening_count story.history results))
+    ⊎ ((status ≡ 5) × IsCutShort sink old new (output.text story.opening_count story.history results))
+
+-- the text of a run: the results of each caller, and the count of all updates
+abbrev pub text_output : {R A : Type 0} → Texts R A → ShownOutput R A
+text_output texts = record { text = λ opening history results. text texts results (opening + length history); Fits = λ opening history results. AreOfType texts results }
+
+abbrev pub IsText : {S K R A : Type 0} → ShownSink K → Texts R A → Story S → List (List (LineResult R A)) → K → K → ℕ → Type 0
+IsText sink texts story results old new status = IsOutput sink (text_output texts) story results old new status
 
 module _ {S C Q R A : Type 0} (machine : Machine S C Q R A) where
   -- The results of these scripts are those of one history, which is the story's.
@@ -23,11 +38,12 @@ module _ {S C Q R A : Type 0} (machine : Machine S C Q R A) where
     pub lawful : IsLawful machine story scripts results
     pub within : count story ≤ LAST_COUNT
 
-  -- And they are printed.
-  pub record HavePlayed {K : Type 0} (sink : ShownSink K) (texts : Texts R A) (scripts : List (List (Step C Q))) (old new : K) (status : ℕ) (story : Story S) : Type 0 where
-    pub results : List (List (LineResult R A))
-    pub answered : AreAnswered story scripts results
-    pub printed : IsRunText sink texts results (count story) old new status
+  module _ {K : Type 0} (Prints : Story S → List (List (LineResult R A)) → K → K → ℕ → Type 0) where
+    -- And so much is printed of them.
+    pub record HavePlayed (scripts : List (List (Step C Q))) (old new : K) (status : ℕ) (story : Story S) : Type 0 where
+      pub results : List (List (LineResult R A))
+      pub answered : AreAnswered story scripts results
+      pub printed : Prints story results old new status
 
   -- What was printed are the results of one history, which is the story's, of the scripts that were run.
   pub record HasReplies {X K : Type 0} (AreRun : List X → List (List (Step C Q)) → Type 0) (Prints : Story S → List (List (LineResult R A)) → K → K → ℕ → Type 0) (sources : List X) (old new : K) (status : ℕ) (story : Story S) : Type 0 where
@@ -36,7 +52,3 @@ module _ {S C Q R A : Type 0} (machine : Machine S C Q R A) where
     pub read : AreRun sources scripts
     pub answered : AreAnswered story scripts results
     pub printed : Prints story results old new status
-
--- The text of a run, with the story's count.
-abbrev pub IsText : {S K R A : Type 0} → ShownSink K → Texts R A → Story S → List (List (LineResult R A)) → K → K → ℕ → Type 0
-IsText sink texts story results old new status = IsRunText sink texts results (count story) old new status

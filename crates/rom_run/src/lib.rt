@@ -15,6 +15,7 @@
 mod ended;
 mod format;
 mod heap;
+mod output;
 mod plain;
 mod play;
 mod program;
@@ -31,6 +32,7 @@ mod worked;
 pub use ended::Ended;
 pub use format::make_heap;
 pub use heap::Heap;
+pub use output::{Output, ResultText};
 pub use plain::{Plain, plain_files, read_plain, run_plain};
 pub use play::{end_of, end_without_memory, play_heap, play_lines};
 pub use program::{Asked, run_asked};

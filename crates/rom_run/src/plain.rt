@@ -14,6 +14,7 @@ ghost use Rattle.rom_run.specs.Promise.{Promise};
 
 use crate::ended::Ended;
 use crate::heap::Heap;
+use crate::output::ResultText;
 use crate::program::{Asked, run_asked};
 use rom_device::Device;
 use rom_header::Geometry;
@@ -212,5 +213,5 @@ where
         result.status result.session }
 {
     let asked = asked_by(words);
-    run_asked::<O, L, D, S, K, R, G>(rt, alloc, asked, device, scripts, out, gate)
+    run_asked::<O, L, ResultText, D, S, K, R, G>(rt, alloc, asked, device, scripts, out, gate)
 }

@@ -1,12 +1,10 @@
 //! Scripts on a heap, whichever it is.
-ghost use Rattle.std.specs.Prelude.{◌≡◌, ◌⊎◌, ◌<◌, ◌≤◌, All, List, length, map, codes, IfErr, IfOk, IfSome, IsNone, IsSome, OnOk, None, Some};
+ghost use Rattle.std.specs.Prelude.{◌≡◌, ◌⊎◌, ◌<◌, ◌≤◌, All, length, map, codes, IfErr, IfOk, IfSome, IsNone, IsSome, OnOk, None, Some};
 ghost use Rattle.rom_model.specs.History.{LAST_COUNT};
 ghost use Rattle.rom_model.specs.Lawful.{IsLawful};
-ghost use Rattle.rom_model.specs.declared.line.Step.{Step};
 ghost use Rattle.rom_text.specs.Runs.{IsTold};
 ghost use Rattle.rom_text.specs.Streams.{StopsWriting, WriteFailed};
-ghost use Rattle.rom_text.specs.Text.{texts_of};
-ghost use Rattle.rom_run.specs.Played.{HavePlayed};
+ghost use Rattle.rom_run.specs.Played.{HavePlayed, IsOutput};
 ghost use Rattle.rom_run.specs.Refusing.{refusal_line, unmade_line};
 ghost use Rattle.rom_run.specs.Refusing as refusing;
 ghost use Rattle.rom_run.specs.Statuses.{number_of};
@@ -16,6 +14,7 @@ ghost use Rattle.rom_run.specs.declared.heap.Heap.{Heap};
 ghost use Rattle.rom_store.specs.Sessions.{EachStory};
 
 use crate::heap::Heap;
+use crate::output::Output;
 use crate::refusals::{refusal_status, tell_refusal, tell_unmade, unmade_status};
 use crate::results::tell_results;
 use crate::status::Status;
@@ -25,7 +24,7 @@ use rom_device::Device;
 use rom_model::{Object, Step};
 use rom_open::Refused;
 use rom_store::{Gate, Played, Unmade, Unplayed, play, play_new};
-use rom_text::{Sink, Told};
+use rom_text::Sink;
 use std::alloc::Global;
 use std::sync::Wait;
 use std::thread::Threads;
@@ -92,29 +91,30 @@ pub(crate) fn end_unopened<D: Device, K: Sink>(refused: Refused<D>, out: &mut K)
     }
 }
 
-/// Prints what the scripts were told, and ends the session.
-pub fn end_of<O: Object, D: Device, K: Sink>(
+/// Prints what an output is of these scripts and of what they were told, and ends the session.
+pub fn end_of<O: Object, T: Output<O>, D: Device, K: Sink>(
     played: Played<D, O, O::Reply, O::Answer>,
+    scripts: &[Vec<Step<O::Call, O::Query>>],
     out: &mut K,
 ) -> Worked<D>
 where
-    O::Reply: Told + Drop,
-    O::Answer: Told + Drop,
+    O::Reply: Drop,
+    O::Answer: Drop,
+    requires { length scripts.now ≤ 16 }
     ensures device { result.device ≡ played.closed.device }
     ensures session { result.session ≡ Some played.closed.session }
     ensures statuses { (result.status ≡ Status.Done) ⊎ (result.status ≡ Status.Unread)
         ⊎ (result.status ≡ Status.SinkFailed) ⊎ (result.status ≡ Status.DeviceFailed) }
-    ensures played { (scripts : List (List (Step O.Call O.Query))) →
-        EachStory O.machine O.Contents played.closed.session (λ story.
-        IsLawful O.machine story scripts (map (λ v. v.items) played.results.items)
-        → HavePlayed O.machine K.shown (texts_of O.Reply.shown O.Answer.shown) scripts out.old
-        out.new (number_of result.status) story) }
+    ensures played { EachStory O.machine O.Contents played.closed.session (λ story.
+        IsLawful O.machine story (map (λ v. v.items) scripts.now)
+        (map (λ v. v.items) played.results.items) → HavePlayed O.machine (IsOutput K.shown T.shown)
+        (map (λ v. v.items) scripts.now) out.old out.new (number_of result.status) story) }
     ensures sink_failed { result.status ≡ Status.SinkFailed → WriteFailed K.shown out.old out.new }
     ensures writing { StopsWriting K.shown out.old out.new }
     ensures rest { K.shown.rest out.new ≡ K.shown.rest out.old }
 {
     let Played { results, closed } = played;
-    let status = tell_results(out, &results, closed.count());
+    let status = tell_results::<O, T, K>(out, scripts, &results, closed.count());
     let (device, session) = closed.parts();
     Worked {
         device,
@@ -178,10 +178,11 @@ where
     }
 }
 
-/// Opens or makes the heap, runs the scripts on it, one caller each, and prints what they were told,
-/// or why there is no heap.
+/// Opens or makes the heap, runs the scripts on it, one caller each, and prints what an output is of
+/// what they were told, or why there is no heap.
 pub fn play_lines<
     O: Object + Send + Sync,
+    T: Output<O>,
     D: Device + Send,
     K: Sink,
     R: Threads + Wait + Sync,
@@ -198,8 +199,8 @@ pub fn play_lines<
 where
     O::Call: Send + Sync,
     O::Query: Send + Sync,
-    O::Reply: Told + Drop + Send + Sync,
-    O::Answer: Told + Drop + Send + Sync,
+    O::Reply: Drop + Send + Sync,
+    O::Answer: Drop + Send + Sync,
     requires order { HasOrder heap }
     requires callers { (0 < length scripts.now) × (length scripts.now ≤ 16) }
     requires few { All (λ v. length v.items ≤ LAST_COUNT) scripts.now }
@@ -211,7 +212,7 @@ where
     ensures not_run { (number_of result.status ≡ 3) ⊎ (number_of result.status ≡ 6) →
         IsNone result.session }
     ensures session { IfSome result.session (HasSession O.machine O.Contents D.shown heap device
-        result.device (HavePlayed O.machine K.shown (texts_of O.Reply.shown O.Answer.shown)
+        result.device (HavePlayed O.machine (IsOutput K.shown T.shown)
         (map (λ v. v.items) scripts.now) out.old out.new (number_of result.status))) }
     ensures none { IsNone result.session → HasNone O.machine O.Contents D.shown K.shown O.Rejects
         O.earlier heap device result.device out.old out.new (number_of result.status) }
@@ -221,7 +222,7 @@ where
     ensures rest { K.shown.rest out.new ≡ K.shown.rest out.old }
 {
     match play_heap::<O, D, K, R, G>(rt, alloc, heap, device, scripts, out, gate) {
-        Ok(played) => end_of(played, out),
+        Ok(played) => end_of::<O, T, D, K>(played, scripts, out),
         Err(worked) => worked,
     }
 }

@@ -2,25 +2,25 @@
 ghost use Rattle.std.specs.Prelude.{◌≡◌, ◌≢◌, ◌↔◌, ◌⊎◌, length, map, codes, IfSome, IsSome, IsNone, None};
 ghost use Rattle.rom_run.specs.Asked.{HasSources, IsAskedOf, use_of};
 ghost use Rattle.rom_text.specs.Lines.{AreScripts};
-ghost use Rattle.rom_run.specs.Played.{HasReplies, IsText};
+ghost use Rattle.rom_run.specs.Played.{HasReplies, IsOutput};
 ghost use Rattle.rom_run.specs.Promise.{Promise};
 ghost use Rattle.rom_run.specs.Use.{HasNotFailed, HasNotRun, HasRead, HasRun, IsStatus, heap_of};
 ghost use Rattle.rom_run.specs.Working.{HasMade, HasNone, HasSession, IsDeviceKept, IsStill};
 ghost use Rattle.rom_text.specs.Runs.{AreAskedOnce, AreAtEnd, AreWithin, IsTold, SourceFailed, SourceTooLong};
 ghost use Rattle.rom_text.specs.Streams.{StopsWriting, WriteFailed};
-ghost use Rattle.rom_text.specs.Text.{texts_of};
 ghost use Rattle.rom_store.specs.Sessions.{EachStory};
 
 use crate::ended::Ended;
 use crate::format::make_heap;
 use crate::heap::Heap;
+use crate::output::Output;
 use crate::scripted::play_sources;
 use crate::status::Status;
 use crate::telling::tell;
 use rom_device::Device;
 use rom_model::Object;
 use rom_store::Gate;
-use rom_text::{Lines, Sink, Source, Told};
+use rom_text::{Lines, Sink, Source};
 use std::alloc::Global;
 use std::sync::Wait;
 use std::thread::Threads;
@@ -38,6 +38,7 @@ pub enum Asked {
 fn run_command<
     O: Object + Send + Sync,
     L: Lines<O>,
+    T: Output<O>,
     D: Device + Send,
     S: Source,
     K: Sink,
@@ -55,8 +56,8 @@ fn run_command<
 where
     O::Call: Send + Sync,
     O::Query: Send + Sync,
-    O::Reply: Told + Drop + Send + Sync,
-    O::Answer: Told + Drop + Send + Sync,
+    O::Reply: Drop + Send + Sync,
+    O::Answer: Drop + Send + Sync,
     requires order { IfSome asked IsAskedOf }
     requires sources { IfSome asked (HasSources (length scripts.items)) }
     ensures statuses { IsStatus (use_of asked) result.status }
@@ -64,8 +65,8 @@ where
     ensures not_run { HasNotRun (use_of asked) result.status → IsNone result.session }
     ensures story { IfSome (use_of asked) (λ does. IfSome result.session (HasSession O.machine
         O.Contents D.shown (heap_of does) device result.device (HasReplies O.machine
-        (AreScripts L.Reads S.shown) (IsText K.shown (texts_of O.Reply.shown O.Answer.shown))
-        scripts.items out.old out.new result.status))) }
+        (AreScripts L.Reads S.shown) (IsOutput K.shown T.shown) scripts.items out.old out.new
+        result.status))) }
     ensures still { IfSome result.session (λ session. EachStory O.machine O.Contents session
         (IsStill O.Contents D.shown (use_of asked) device result.device)) }
     ensures none { IfSome (use_of asked) (λ does. IsNone result.session → HasNone O.machine
@@ -109,7 +110,7 @@ where
             Ended::of(status, device, scripts, None)
         }
         Asked::Play(heap) => {
-            play_sources::<O, L, D, S, K, R, G>(rt, alloc, heap, device, scripts, out, gate)
+            play_sources::<O, L, T, D, S, K, R, G>(rt, alloc, heap, device, scripts, out, gate)
         }
     }
 }
@@ -119,6 +120,7 @@ where
 pub fn run_asked<
     O: Object + Send + Sync,
     L: Lines<O>,
+    T: Output<O>,
     D: Device + Send,
     S: Source,
     K: Sink,
@@ -136,14 +138,13 @@ pub fn run_asked<
 where
     O::Call: Send + Sync,
     O::Query: Send + Sync,
-    O::Reply: Told + Drop + Send + Sync,
-    O::Answer: Told + Drop + Send + Sync,
+    O::Reply: Drop + Send + Sync,
+    O::Answer: Drop + Send + Sync,
     requires order { IfSome asked IsAskedOf }
     requires sources { IfSome asked (HasSources (length scripts.items)) }
     ensures promise { Promise O.machine O.Contents O.Rejects O.earlier D.shown S.shown
-        K.shown (AreScripts L.Reads S.shown) (IsText K.shown (texts_of O.Reply.shown O.Answer.shown))
-        (use_of asked) device result.device scripts result.scripts out.old out.new result.status
+        K.shown (AreScripts L.Reads S.shown) (IsOutput K.shown T.shown) (use_of asked) device result.device scripts result.scripts out.old out.new result.status
         result.session }
 {
-    run_command::<O, L, D, S, K, R, G>(rt, alloc, asked, device, scripts, out, gate)
+    run_command::<O, L, T, D, S, K, R, G>(rt, alloc, asked, device, scripts, out, gate)
 }

@@ -1,15 +1,18 @@
 //! What scripts were told, printed.
-ghost use Rattle.std.specs.Prelude.{◌≡◌, ◌⊎◌, map};
+ghost use Rattle.std.specs.Prelude.{◌≡◌, ◌⊎◌, ◌≤◌, length, map};
 ghost use Rattle.std.specs.List.{list_any};
-ghost use Rattle.rom_text.specs.Text.{texts_of};
+ghost use Rattle.rom_model.specs.Lawful.{IsLawful};
+ghost use Rattle.rom_model.specs.Story.{Story};
+ghost use Rattle.rom_model.specs.Story as stories;
 ghost use Rattle.rom_text.specs.Streams.{StopsWriting, WriteFailed};
-ghost use Rattle.rom_run.specs.Played.{IsRunText};
+ghost use Rattle.rom_run.specs.Played.{IsOutput};
 ghost use Rattle.rom_run.specs.Statuses.{number_of};
 ghost use Rattle.rom_run.specs.Statuses as statuses;
 
+use crate::output::Output;
 use crate::status::Status;
-use rom_model::{LineResult, Updated};
-use rom_text::{Sink, Told, print_run};
+use rom_model::{LineResult, Object, Step, Updated};
+use rom_text::Sink;
 
 fn is_unread<R, A>(told: &LineResult<R, A>) -> bool
     ensures { result ≡ statuses.is_unread told.now }
@@ -61,21 +64,25 @@ fn status_of<R, A>(results: &[Vec<LineResult<R, A>>]) -> Status
     }
 }
 
-/// Prints the results of all scripts, and the count at closing.
-pub fn tell_results<R: Told, A: Told, O: Sink>(
-    out: &mut O,
-    results: &[Vec<LineResult<R, A>>],
+/// Prints what an output is of the results of all scripts, and the count at closing.
+pub(crate) fn tell_results<O: Object, T: Output<O>, K: Sink>(
+    out: &mut K,
+    scripts: &[Vec<Step<O::Call, O::Query>>],
+    results: &[Vec<LineResult<O::Reply, O::Answer>>],
     count: u64,
 ) -> Status
-    ensures printed { IsRunText O.shown (texts_of R.shown A.shown)
-        (map (λ v. v.items) results.now) count out.old out.new (number_of result) }
+    requires { length scripts.now ≤ 16 }
+    ensures printed { (story : Story O.State) → count ≡ stories.count story →
+        IsLawful O.machine story (map (λ v. v.items) scripts.now) (map (λ v. v.items) results.now)
+        → IsOutput K.shown T.shown story (map (λ v. v.items) results.now) out.old out.new
+        (number_of result) }
     ensures statuses { (result ≡ Status.Done) ⊎ (result ≡ Status.Unread)
         ⊎ (result ≡ Status.SinkFailed) ⊎ (result ≡ Status.DeviceFailed) }
-    ensures sink_failed { result ≡ Status.SinkFailed → WriteFailed O.shown out.old out.new }
-    ensures writing { StopsWriting O.shown out.old out.new }
-    ensures rest { O.shown.rest out.new ≡ O.shown.rest out.old }
+    ensures sink_failed { result ≡ Status.SinkFailed → WriteFailed K.shown out.old out.new }
+    ensures writing { StopsWriting K.shown out.old out.new }
+    ensures rest { K.shown.rest out.new ≡ K.shown.rest out.old }
 {
-    match print_run(out, results, count) {
+    match T::print(out, scripts, results, count) {
         Err(_) => Status::SinkFailed,
         Ok(()) => status_of(results),
     }

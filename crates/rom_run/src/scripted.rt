@@ -1,31 +1,32 @@
 //! Scripts of sources, on a heap.
 ghost use Rattle.std.specs.Prelude.{◌≡◌, ◌≢◌, ◌⊎◌, ◌<◌, ◌≤◌, length, map, codes, IfSome, IsNone, IsSome, None, Some};
 ghost use Rattle.rom_text.specs.Lines.{AreScripts};
-ghost use Rattle.rom_run.specs.Played.{HasReplies, IsText};
+ghost use Rattle.rom_run.specs.Played.{HasReplies, IsOutput};
 ghost use Rattle.rom_run.specs.Use.{HasNotFailed, HasNotRun, HasOrder, HasRead, HasRun, IsStatus, Plays, Read};
 ghost use Rattle.rom_run.specs.Working.{HasNone, HasSession, IsDeviceKept};
 ghost use Rattle.rom_text.specs.Runs.{AreAskedOnce, AreAtEnd, AreWithin, IsTold, SourceFailed, SourceTooLong};
 ghost use Rattle.rom_text.specs.Streams.{StopsWriting, WriteFailed};
-ghost use Rattle.rom_text.specs.Text.{texts_of};
 
 use crate::ended::Ended;
 use crate::heap::Heap;
+use crate::output::Output;
 use crate::play::play_lines;
 use crate::script::read_scripts;
 use rom_device::Device;
 use rom_model::Object;
 use rom_store::Gate;
-use rom_text::{Lines, Sink, Source, Told};
+use rom_text::{Lines, Sink, Source};
 use std::alloc::Global;
 use std::sync::Wait;
 use std::thread::Threads;
 
 /// Reads all scripts, then opens or makes the heap and runs them on it, one caller each, and prints
-/// what they were told; or prints why they are not run. The device is not called before all are
-/// read.
+/// what an output is of what they were told; or prints why they are not run. The device is not called
+/// before all are read.
 pub fn play_sources<
     O: Object + Send + Sync,
     L: Lines<O>,
+    T: Output<O>,
     D: Device + Send,
     S: Source,
     K: Sink,
@@ -43,8 +44,8 @@ pub fn play_sources<
 where
     O::Call: Send + Sync,
     O::Query: Send + Sync,
-    O::Reply: Told + Drop + Send + Sync,
-    O::Answer: Told + Drop + Send + Sync,
+    O::Reply: Drop + Send + Sync,
+    O::Answer: Drop + Send + Sync,
     requires order { HasOrder heap }
     requires callers { (0 < length scripts.items) × (length scripts.items ≤ 16) }
     ensures statuses { IsStatus (Some (Plays heap Read)) result.status }
@@ -52,8 +53,7 @@ where
     ensures not_run { HasNotRun (Some (Plays heap Read)) result.status → IsNone result.session }
     ensures session { IfSome result.session (HasSession O.machine O.Contents D.shown heap device
         result.device (HasReplies O.machine (AreScripts L.Reads S.shown)
-        (IsText K.shown (texts_of O.Reply.shown O.Answer.shown)) scripts.items out.old out.new
-        result.status)) }
+        (IsOutput K.shown T.shown) scripts.items out.old out.new result.status)) }
     ensures none { IsNone result.session → HasNone O.machine O.Contents D.shown K.shown O.Rejects
         O.earlier heap device result.device out.old out.new result.status }
     ensures kept { IsDeviceKept D.shown heap device result.device }
@@ -77,7 +77,7 @@ where
 {
     match read_scripts::<O, L, S, K>(alloc, &mut scripts, out) {
         Ok(lines) => Ended::after(
-            play_lines::<O, D, K, R, G>(rt, alloc, heap, device, &lines, out, gate),
+            play_lines::<O, T, D, K, R, G>(rt, alloc, heap, device, &lines, out, gate),
             scripts,
         ),
         Err(status) => Ended::of(status, device, scripts, None),

@@ -19,7 +19,7 @@ use crate::drill::drill_heap;
 use crate::stat::show_heap;
 use rom_device::Device;
 use rom_heap::Trio;
-use rom_run::{Ended, Heap, Status, make_heap, play_sources, tell, upgrade_heap};
+use rom_run::{Ended, Heap, ResultText, Status, make_heap, play_sources, tell, upgrade_heap};
 use rom_script::TrioLines;
 use rom_store::Gate;
 use rom_text::{Names, Sink, Source};
@@ -85,13 +85,13 @@ fn run_command<R: Threads + Wait + Sync, D: Device + Send, S: Source, O: Sink, G
     match asked {
         Asked::Try(_) => {
             let heap = Heap::New(TRY_ORDER);
-            play_sources::<Trio, TrioLines, D, S, O, R, G>(
+            play_sources::<Trio, TrioLines, ResultText, D, S, O, R, G>(
                 rt, alloc, heap, device, scripts, out, gate,
             )
         }
         Asked::Run { .. } => {
             let heap = Heap::Standing;
-            play_sources::<Trio, TrioLines, D, S, O, R, G>(
+            play_sources::<Trio, TrioLines, ResultText, D, S, O, R, G>(
                 rt, alloc, heap, device, scripts, out, gate,
             )
         }

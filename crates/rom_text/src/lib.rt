@@ -30,7 +30,7 @@ pub use lines::{Lines, line_end, lines_in};
 pub use memory::{Bytes, Collect};
 pub use names::{Name, Names};
 pub use phrase::{Phrase, read_number, read_phrase, read_within};
-pub use print::{print_answer, print_number, print_pieces, print_text, print_update};
+pub use print::{print_answer, print_bytes, print_number, print_pieces, print_text, print_update};
 pub use read::{ReadRefused, read_bytes};
 pub use report::print_run;
 pub use script::read_script;

@@ -11,7 +11,7 @@ use itoa::Buffer;
 use rom_model::Updated;
 
 /// Prints bytes.
-fn print_bytes<O: Sink>(out: &mut O, bytes: &[u8]) -> Result<(), IoFailed>
+pub fn print_bytes<O: Sink>(out: &mut O, bytes: &[u8]) -> Result<(), IoFailed>
     ensures prints { Prints O.shown out.old out.new result bytes.now }
 {
     let mut at = 0;

@@ -1,14 +1,13 @@
 use Rattle.std.specs.Prelude.{Option, Some, None, IfSome}
 use Rattle.rom_model.specs.Earlier.{Earlier}
 use Rattle.rom_text.specs.Lines.{AreScripts}
-use Rattle.rom_text.specs.Text.{texts_of}
 use Rattle.rom_run.specs.Asked.{IsAskedOf, use_of}
-use Rattle.rom_run.specs.Played.{IsText}
+use Rattle.rom_run.specs.Played.{IsOutput}
 use Rattle.rom_run.specs.Use.{heap_of}
 use Rattle.rom_run.specs.declared.program.Asked.{Asked}
 use Rattle.rom_run.specs.declared.program.Asked.TheVariants.{Play, Make}
 use Rattle.rom_run.proofs.Accepted.{AreApart, apart_played}
-use Rattle.rom_run.proofs.Completing.{ends, few_faults, text_faulted, text_unread}
+use Rattle.rom_run.proofs.Completing.{ends, few_faults, output_faulted, output_unread}
 use Rattle.rom_run.proofs.program.run_asked.Goals as goal
 
 -- no command of these upgrades a heap
@@ -23,11 +22,11 @@ returns g c =
     let o = g.O.Object in
     let source = g.S.Source.shown in
     let sink = g.K.Sink.shown in
-    let texts = texts_of g.O.Reply.Told.shown g.O.Answer.Told.shown in
+    let output = g.T.Output.shown in
     let is = c.run_command.ensures in
     let ended = c.run_command.result in
-    let both = ends o.machine o.Contents o.Rejects o.earlier g.D.Device.shown source sink (AreScripts g.L.Lines.Reads source) (IsText sink texts)
-    c.args.device ended.device c.args.scripts.items ended.scripts.items c.args.out.now c.run_command.new.out (text_faulted sink texts) (text_unread sink texts)
+    let both = ends o.machine o.Contents o.Rejects o.earlier g.D.Device.shown source sink (AreScripts g.L.Lines.Reads source) (IsOutput sink output)
+    c.args.device ended.device c.args.scripts.items ended.scripts.items c.args.out.now c.run_command.new.out (output_faulted sink output) (output_unread sink output)
     (use_of c.args.asked) ended.status ended.session
     (record {
       statuses = is.statuses;

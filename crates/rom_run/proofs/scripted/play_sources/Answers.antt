@@ -1,6 +1,6 @@
 use Rattle.std.proofs.Common.{◌≡◌, map}
-use Rattle.rom_text.specs.Text.{texts_of}
 use Rattle.rom_text.specs.Lines.{AreScripts}
+use Rattle.rom_run.specs.Played.{IsOutput}
 use Rattle.rom_run.specs.Statuses.{number_of}
 use Rattle.rom_run.proofs.Replies.{replies_of, unread_memory}
 use Rattle.rom_run.proofs.Uncalled.{none_uncalled, unread_otherwise}
@@ -14,7 +14,7 @@ returns-in-Ok-clause-session g c =
     let read = rw c.deref_mut.ensures.value at c.in-Ok.ensures.lines in
     let played = rw (c.deref.ensures.value, unprinted) at c.play_lines.ensures.session in
     rw c.after.ensures
-    (replies_of o.machine o.Contents g.D.Device.shown g.K.Sink.shown (texts_of g.O.Reply.Told.shown g.O.Answer.Told.shown) (AreScripts g.L.Lines.Reads g.S.Source.shown)
+    (replies_of o.machine o.Contents g.D.Device.shown (IsOutput g.K.Sink.shown g.T.Output.shown) (AreScripts g.L.Lines.Reads g.S.Source.shown)
     c.args.heap c.args.device worked.device c.args.scripts.items (map (λ v. v.items) c.in-Ok.lines.items) c.args.out.now c.play_lines.new.out (number_of worked.status) worked.session read played)
 
 pub returns-in-Err-clause-none : goal.returns-in-Err-clause-none

@@ -1,0 +1,60 @@
+//! What is printed of the results of scripts: the text of a run, or what a program says it to be.
+ghost use Rattle.std.specs.Prelude.{◌≡◌, ◌≤◌, length, map, OnOk};
+ghost use Rattle.rom_model.specs.Faults.{HasCause};
+ghost use Rattle.rom_model.specs.Lawful.{IsLawful};
+ghost use Rattle.rom_model.specs.Story.{Story};
+ghost use Rattle.rom_model.specs.Story as stories;
+ghost use Rattle.rom_text.specs.Streams.{Prints};
+ghost use Rattle.rom_text.specs.Text.{texts_of};
+ghost use Rattle.rom_run.specs.Played.{ShownOutput, text_output};
+
+use rom_model::{LineResult, Object, Step};
+use rom_text::{IoFailed, Sink, Told, print_run};
+
+/// What a program prints of scripts that were played on an object.
+pub trait Output<O: Object> {
+    /// What it shows of itself: its bytes, and that its numbers are of their types.
+    ghost shown: { ShownOutput O.Reply O.Answer };
+
+    /// Prints it of these scripts and what each of their lines was told, where the heap has done so
+    /// many updates. It takes no memory. After `IoFailed` the sink has taken some of it, from its
+    /// front.
+    fn print<K: Sink>(
+        out: &mut K,
+        scripts: &[Vec<Step<O::Call, O::Query>>],
+        results: &[Vec<LineResult<O::Reply, O::Answer>>],
+        count: u64,
+    ) -> Result<(), IoFailed>
+        requires { length scripts.now ≤ 16 }
+        ensures prints { (story : Story O.State) → count ≡ stories.count story →
+            IsLawful O.machine story (map (λ v. v.items) scripts.now)
+            (map (λ v. v.items) results.now) → Prints K.shown out.old out.new result
+            (shown.text story.opening_count story.history (map (λ v. v.items) results.now)) }
+        ensures of_type { OnOk result ((story : Story O.State) → count ≡ stories.count story →
+            IsLawful O.machine story (map (λ v. v.items) scripts.now)
+            (map (λ v. v.items) results.now) →
+            shown.Fits story.opening_count story.history (map (λ v. v.items) results.now)) }
+        ensures cause { HasCause (K.shown.faults out.old) (K.shown.faults out.new)
+            (K.shown.failing out.new) result }
+        ensures rest { K.shown.rest out.new ≡ K.shown.rest out.old };
+}
+
+/// The text of a run: what each line was told, by its caller, and the count at closing.
+pub struct ResultText;
+
+impl<O: Object> Output<O> for ResultText
+where
+    O::Reply: Told,
+    O::Answer: Told,
+{
+    ghost shown = { text_output (texts_of O.Reply.shown O.Answer.shown) };
+
+    fn print<K: Sink>(
+        out: &mut K,
+        scripts: &[Vec<Step<O::Call, O::Query>>],
+        results: &[Vec<LineResult<O::Reply, O::Answer>>],
+        count: u64,
+    ) -> Result<(), IoFailed> {
+        print_run(out, results, count)
+    }
+}
