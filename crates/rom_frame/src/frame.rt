@@ -1,0 +1,135 @@
+//! A frame: an entry of a history as bytes.
+ghost use Rattle.std.specs.Prelude.{◌≡◌, ◌*◌, ◌^◌, ◌<◌, ◌≤◌, All, List, ℕ, [], ◌++◌, length, take, Some, IfSome, IsSome, OnOk, OnErr};
+ghost use Rattle.byteorder.specs.Endian.{little_number};
+ghost use Rattle.rom_model.specs.Groups.{HasFewReplies, HasSize};
+ghost use Rattle.rom_model.specs.Singles.{kind_of, reply_kind};
+ghost use Rattle.rom_frame.specs.Frames.{IsOfWords, bytes_of, frame, words_of};
+
+use byteorder::{ByteOrder, LittleEndian};
+use rom_model::{Args, Back, Call, Reply, Words, call_words, reply_words, words_call, words_reply};
+use std::alloc::AllocError;
+
+/// The most words of a frame: four, those of a call and those of a reply.
+const MOST_WORDS: usize = 64;
+
+/// The most bytes of a frame, which are those of 64 words.
+pub const MOST_BYTES: usize = 512;
+
+/// An update that was done: its place in the history, its call and its reply.
+#[derive(Clone, Copy, Debug, PartialEq, Eq)]
+pub struct Frame {
+    pub place: u64,
+    pub call: Call,
+    pub reply: Reply,
+}
+
+impl Frame {
+    /// The words of the frame.
+    fn words(&self) -> Words<MOST_WORDS>
+        ensures words { result ≡ words_of self.now }
+        ensures members { HasSize (kind_of self.now.call) }
+        ensures replies { HasFewReplies (reply_kind self.now.reply) }
+    {
+        let args = call_words(&self.call);
+        let reply = reply_words(&self.reply);
+        let mut words = Words::of(&[4 + args.len() + reply.len(), self.place, args.len()]);
+        words.extend(args.as_slice());
+        words.extend(&[reply.len()]);
+        words.extend(reply.as_slice());
+        words
+    }
+
+    /// Puts the bytes of the frame at the start of these, and says how many they are.
+    pub fn fill(&self, bytes: &mut [u8; MOST_BYTES]) -> usize
+        ensures within { result ≤ 512 }
+        ensures frame { take result bytes.new ≡ frame self.now }
+        ensures of_words { IsOfWords self.now }
+    {
+        put(self.words().as_slice(), bytes)
+    }
+
+    /// The frame that has these words, where there is one.
+    fn of_words(words: &[u64]) -> Option<Frame>
+        ensures { (f : Frame) → IsOfWords f → words.now ≡ words_of f → result ≡ Some f }
+    {
+        if words.len() < 4 || words[2] > 40 {
+            return None;
+        }
+        let middle = 3 + words[2] as usize;
+        if words.len() <= middle || words.len() > middle + 21 {
+            return None;
+        }
+        let call = words_call(&Args::of(&words[3..middle]))?;
+        let reply = words_reply(&Back::of(&words[middle + 1..]))?;
+        Some(Frame {
+            place: words[1],
+            call,
+            reply,
+        })
+    }
+
+    /// The frame that has these bytes, where there is one.
+    fn of_bytes(bytes: &[u8]) -> Option<Frame>
+        ensures { (f : Frame) → IsOfWords f → bytes.now ≡ frame f → result ≡ Some f }
+    {
+        if bytes.len() > MOST_BYTES || bytes.len() % 8 != 0 {
+            return None;
+        }
+        let mut words = [0; MOST_WORDS];
+        let len = bytes.len() / 8;
+        LittleEndian::read_u64_into(bytes, &mut words[..len]);
+        Frame::of_words(&words[..len])
+    }
+}
+
+/// Puts the bytes of words at the start of these, and says how many they are.
+fn put(words: &[u64], bytes: &mut [u8; MOST_BYTES]) -> usize
+    requires few { length words.now ≤ 64 }
+    ensures within { result ≤ 512 }
+    ensures bytes { take result bytes.new ≡ bytes_of words.now }
+    ensures small { All (λ w. w < 2 ^ 64) words.now }
+{
+    let len = 8 * words.len();
+    LittleEndian::write_u64_into(words, &mut bytes[..len]);
+    len
+}
+
+/// Appends the frame of an update that was done at that place. After an error the vector is as before.
+pub fn write_frame(
+    place: u64,
+    call: &Call,
+    reply: &Reply,
+    out: &mut Vec<u8>,
+) -> Result<(), AllocError>
+    ensures written { OnOk result (out.new.items ≡ out.old.items ++ frame record { place = place; call = call.now; reply = reply.now }) }
+    ensures unchanged { OnErr result (out.new.items ≡ out.old.items) }
+{
+    let frame = Frame {
+        place,
+        call: *call,
+        reply: *reply,
+    };
+    let mut bytes = [0; MOST_BYTES];
+    let len = frame.fill(&mut bytes);
+    out.extend_from_slice(&bytes[..len])
+}
+
+/// The update whose frame the message is, from its first byte to its last. The first word of a frame
+/// says how many words it has.
+pub fn read_frame(message: &[u8]) -> Option<Frame>
+    ensures frame { IfSome result (λ f. message.now ≡ frame f) }
+    ensures whole { (f : Frame) → IsOfWords f → message.now ≡ frame f → result ≡ Some f }
+    ensures torn { (f : Frame) (rest : List ℕ) → IsOfWords f → message.now ++ rest ≡ frame f → IsSome result → rest ≡ [] }
+    ensures of_words { IfSome result IsOfWords }
+    ensures first { IfSome result (λ f. length message.now ≡ 8 * little_number 8 message.now) }
+    ensures within { IfSome result (λ f. length message.now ≤ 512) }
+{
+    let frame = Frame::of_bytes(message)?;
+    let mut bytes = [0; MOST_BYTES];
+    let len = frame.fill(&mut bytes);
+    if message == &bytes[..len] {
+        Some(frame)
+    } else {
+        None
+    }
+}
