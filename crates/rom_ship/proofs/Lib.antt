@@ -1,0 +1,5 @@
+-- The updates of callers, taken in turn, are those of the history.
+pub mod Turns
+pub mod Told
+pub mod Taking
+pub mod Writing

@@ -1,0 +1,50 @@
+//! The callers' updates in the order of their places.
+ghost use Rattle.std.specs.Prelude.{◌≡◌, ◌<◌, ℕ, length, map, option_map, IfSome};
+ghost use Rattle.rom_ship.specs.Merging.{least_from, updates};
+ghost use Rattle.rom_ship.specs.Merging as merging;
+
+use crate::caller::Caller;
+use rom_frame::Frame;
+
+/// Of an earlier caller's index and next place, and this one's, those of the lesser place.
+fn nearer(best: Option<(usize, u64)>, i: usize, place: Option<u64>) -> Option<(usize, u64)>
+    ensures { result ≡ merging.nearer best i place }
+{
+    match (best, place) {
+        (_, None) => best,
+        (None, Some(place)) => Some((i, place)),
+        (Some((_, least)), Some(place)) => {
+            if place < least {
+                Some((i, place))
+            } else {
+                best
+            }
+        }
+    }
+}
+
+/// The index of the caller whose next place is least, and that place.
+fn least(callers: &[Caller<'_>]) -> Option<(usize, u64)>
+    ensures is { result ≡ merging.least
+        (map (λ c. updates c.lines.now c.results.now) callers.now) }
+    ensures within { IfSome result (λ best. best.0 < length callers.now) }
+{
+    let mut best = None;
+    for i in 0..callers.len() {
+        best = nearer(best, i, callers[i].place());
+    }
+    best
+}
+
+/// Takes the next update of the caller whose next place is least.
+pub(crate) fn next(callers: &mut [Caller<'_>]) -> Option<Frame>
+    ensures { option_map (λ f. (f, map (λ c. updates c.lines.now c.results.now) callers.new)) result
+        ≡ merging.next (map (λ c. updates c.lines.now c.results.now) callers.old) }
+{
+    let (i, _) = least(callers)?;
+    let Some((update, rest)) = callers[i].split() else {
+        return None;
+    };
+    callers[i] = rest;
+    Some(update)
+}

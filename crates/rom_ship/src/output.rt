@@ -1,0 +1,24 @@
+//! The frames of a history, as what a program prints.
+ghost use Rattle.rom_ship.specs.Shipped.{frames_output};
+
+use crate::updates::print_updates;
+use rom_heap::Trio;
+use rom_model::{Answer, Call, LineResult, Query, Reply, Step};
+use rom_run::Output;
+use rom_text::{IoFailed, Sink};
+
+/// The frames of the updates that were done, one behind another from the opening count on.
+pub struct HistoryFrames;
+
+impl Output<Trio> for HistoryFrames {
+    ghost shown = { frames_output };
+
+    fn print<K: Sink>(
+        out: &mut K,
+        scripts: &[Vec<Step<Call, Query>>],
+        results: &[Vec<LineResult<Reply, Answer>>],
+        count: u64,
+    ) -> Result<(), IoFailed> {
+        print_updates(out, scripts, results, count)
+    }
+}

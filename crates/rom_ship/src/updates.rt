@@ -1,0 +1,98 @@
+//! The frames of callers' updates, written in the order of their places.
+ghost use Rattle.std.specs.Prelude.{◌≡◌, ◌≤◌, length, map, OnOk};
+ghost use Rattle.std.specs.List.{AllByRecursion, flat_map};
+ghost use Rattle.rom_frame.specs.Frames.{IsOfWords};
+ghost use Rattle.rom_frame.specs.Frames as frames;
+ghost use Rattle.rom_text.specs.Streams.{Prints};
+ghost use Rattle.rom_ship.specs.Merging.{all_updates, merged, updates};
+
+use crate::caller::Caller;
+use crate::merge::next;
+use rom_frame::{Frame, MOST_BYTES};
+use rom_model::{Answer, Call, LineResult, Query, Reply, Step};
+use rom_text::{IoFailed, Report, Sink, print_bytes, print_gathered};
+
+/// The most callers of a heap.
+const MOST_CALLERS: usize = 16;
+
+/// Writes the frame of an update.
+fn print_frame<K: Sink>(out: &mut K, update: &Frame) -> Result<(), IoFailed>
+    ensures prints { Prints K.shown out.old out.new result (frames.frame update.now) }
+    ensures of_words { IsOfWords update.now }
+{
+    let mut bytes = [0; MOST_BYTES];
+    let len = update.fill(&mut bytes);
+    print_bytes(out, &bytes[..len])
+}
+
+/// Writes the frames of the callers' updates in the order of their places, of which there are no more
+/// than `count`.
+fn print_merged<K: Sink>(
+    out: &mut K,
+    callers: &mut [Caller<'_>],
+    count: u64,
+) -> Result<(), IoFailed>
+    ensures prints { Prints K.shown out.old out.new result (flat_map frames.frame
+        (merged count (map (λ c. updates c.lines.now c.results.now) callers.old))) }
+    ensures of_words { OnOk result (AllByRecursion IsOfWords
+        (merged count (map (λ c. updates c.lines.now c.results.now) callers.old))) }
+{
+    for _turn in 0..count {
+        match next(callers) {
+            Some(update) => print_frame(out, &update)?,
+            None => return Ok(()),
+        }
+    }
+    Ok(())
+}
+
+/// The updates of scripts that were done, and the count at closing.
+#[derive(Clone, Copy)]
+struct Updates<'a> {
+    scripts: &'a [Vec<Step<Call, Query>>],
+    results: &'a [Vec<LineResult<Reply, Answer>>],
+    count: u64,
+    ghost few: { length scripts.now ≤ 16 },
+}
+
+impl Report for Updates<'_> {
+    ghost shown = { record {
+      text = λ t. flat_map frames.frame (merged t.count
+          (all_updates (map (λ v. v.items) t.scripts.now) (map (λ v. v.items) t.results.now)));
+      Fits = λ t. AllByRecursion IsOfWords (merged t.count
+          (all_updates (map (λ v. v.items) t.scripts.now) (map (λ v. v.items) t.results.now)));
+    } };
+
+    fn print<O: Sink>(&self, out: &mut O) -> Result<(), IoFailed> {
+        let many = self.scripts.len().min(self.results.len());
+        let mut callers = [Caller::idle(); MOST_CALLERS];
+        for i in 0..many {
+            callers[i] = Caller::of(&self.scripts[i], &self.results[i]);
+        }
+        print_merged(out, &mut callers[..many], self.count)
+    }
+}
+
+/// Writes the frames of the updates of scripts that were done, in the order of their places, where the
+/// heap has done so many updates in all. They leave in blocks of 4,096 bytes, and nothing of them waits
+/// after the call. It takes no memory. After `IoFailed` the sink has taken some of them, from their
+/// front.
+pub(crate) fn print_updates<K: Sink>(
+    out: &mut K,
+    scripts: &[Vec<Step<Call, Query>>],
+    results: &[Vec<LineResult<Reply, Answer>>],
+    count: u64,
+) -> Result<(), IoFailed>
+    requires { length scripts.now ≤ 16 }
+    ensures prints { Prints K.shown out.old out.new result (flat_map frames.frame (merged count
+        (all_updates (map (λ v. v.items) scripts.now) (map (λ v. v.items) results.now)))) }
+    ensures of_words { OnOk result (AllByRecursion IsOfWords (merged count
+        (all_updates (map (λ v. v.items) scripts.now) (map (λ v. v.items) results.now)))) }
+{
+    let updates = Updates {
+        scripts,
+        results,
+        count,
+    };
+    print_gathered(out, &updates)
+}
