@@ -1,0 +1,11 @@
+mod Alone
+mod Alike
+mod Passes
+mod Ended
+mod Starting
+mod Taking
+mod Arriving
+mod Framed
+mod Histories
+mod Keeping
+mod Tried

@@ -1,0 +1,16 @@
+use Rattle.std.proofs.Common.{ℕ, ◌<◌, List}
+use Rattle.std.specs.Prelude.{All}
+use Rattle.std.proofs.Math.ListN.{get_or}
+use Rattle.rom_model.specs.History.{IsLegal}
+use Rattle.rom_model.specs.Machine.{on_words}
+use Rattle.rom_model.specs.State.{State}
+use Rattle.rom_model.specs.Trio.{trio}
+use Rattle.rom_model.specs.declared.entry.Entry.{Entry}
+use Rattle.rom_follow.specs.Following.{AgreesBelow, Follows, HasWords, MayArrive}
+use Rattle.rom_follow.specs.declared.taken.Taken.{Taken}
+use Rattle.rom_follow.proofs.follower.Follower.take_all.Given as goal
+
+abbrev pub invariant-loop-i : goal.invariant-loop-i
+invariant-loop-i g l =
+    (s0 : State) (n0 : ℕ) (history : List Entry) (first : ℕ) → IsLegal (on_words trio) g.N.Label.base.order s0 n0 history → HasWords n0 history → Follows g.N.Label.base s0 n0 history first l.fn.self
+    → All (λ m. MayArrive n0 history m.items) l.messages → Follows g.N.Label.base s0 n0 history first l.self × ((k : ℕ) (d : Taken) → k < l.i → AgreesBelow l.self.count (get_or l.answers k d))

@@ -1,0 +1,22 @@
+-- What the records of a follower's session have of the updates that it tried.
+use Rattle.std.specs.Prelude.{◌≡◌, ℕ, List, [], ◌∷◌}
+use Rattle.rom_model.specs.declared.call.Updated.{Updated}
+use Rattle.rom_model.specs.declared.call.Updated.TheVariants as updated
+use Rattle.rom_model.specs.declared.record.Fate.{Fate}
+use Rattle.rom_model.specs.declared.record.Fate.TheVariants.{Published, Failed, Doubt}
+use Rattle.rom_model.specs.declared.record.PassRecord.{PassRecord}
+use Rattle.rom_rule.specs.Views.{Told}
+
+-- what a pass that ended so tells the one update that it found
+abbrev pub Tells : Fate → Updated (List ℕ) → Type 0
+Tells Published (updated.Done reply place) = Unit {0}
+Tells Published updated.Spent = Unit {0}
+Tells Failed updated.Failed = Unit {0}
+Tells Doubt updated.Doubt = Unit {0}
+Tells other told = ⊥
+
+-- One pass for each update that was tried, in their order: it found that update alone, and ended as the update was told.
+abbrev pub ArePassesOf : List PassRecord → List Told → Type 0
+ArePassesOf [] [] = Unit {0}
+ArePassesOf (r ∷ rs) (x ∷ xs) = (r.found ≡ x.0 ∷ []) × Tells r.fate x.1 × ArePassesOf rs xs
+ArePassesOf rs xs = ⊥

@@ -1,0 +1,270 @@
+//! A heap that follows another heap's history by its frames.
+ghost use Rattle.std.specs.Prelude.{◌≡◌, ◌≢◌, ◌⊎◌, ℕ, ◌+◌, ◌<◌, ◌≤◌, ◌++◌, ◌∷◌, [], All, List, length, None, IfSome, IsTrue, slice_get, Some};
+ghost use Rattle.rom_model.specs.Codes as codes;
+ghost use Rattle.rom_model.specs.History.{IsLegal};
+ghost use Rattle.rom_model.specs.Leaving.{IsClosed};
+ghost use Rattle.rom_model.specs.Machine.{on_words};
+ghost use Rattle.rom_model.specs.Passes.{faults_after};
+ghost use Rattle.rom_model.specs.Region.{Contents};
+ghost use Rattle.rom_model.specs.State.{State};
+ghost use Rattle.rom_model.specs.Trio.{trio};
+ghost use Rattle.rom_model.specs.declared.entry.Entry.{Entry};
+ghost use Rattle.rom_combine.specs.Costs.{WithinHeap};
+ghost use Rattle.rom_combine.specs.Session.{ImageNow, SessionImage};
+ghost use Rattle.rom_rule.specs.CallKinds.{IsTold};
+ghost use Rattle.rom_rule.specs.Views.{Told, base_of};
+ghost use Rattle.rom_store.specs.Callers.{IsNewCaller};
+ghost use Rattle.rom_store.specs.Closing.{HasLeftSince};
+ghost use Rattle.rom_store.specs.Indexed.{Indexed};
+ghost use Rattle.rom_store.specs.Sessions.{EachStory, HasStory};
+ghost use Rattle.rom_store.specs.Start.{HasStarted, start_of};
+ghost use Rattle.rom_store.specs.Traced.{WentThrough};
+ghost use Rattle.rom_frame.specs.declared.frame.Frame.{Frame};
+ghost use Rattle.rom_follow.specs.Closing.{ArePassesOf};
+ghost use Rattle.rom_follow.specs.Followed.{HasDone};
+ghost use Rattle.rom_follow.specs.Following.{AgreesBelow, Follows, HasWords, HoldsPrefix, MayArrive, state_after};
+ghost use Rattle.rom_follow.specs.Taking.{Gives, IsFrame, IsNext, IsNoFrame};
+ghost use Rattle.rom_follow.specs.declared.taken.Taken.TheVariants as taken;
+
+use crate::taken::{Divergence, Taken};
+use crate::update::{count_of, update_alone};
+use rom_device::Device;
+use rom_frame::{Frame, read_frame};
+use rom_heap::Trio;
+use rom_store::{Closed, Gate, Label, Opening, Pass, Store};
+use std::marker::{Brand, Model};
+use std::sync::Wait;
+use std::sync::ledger::Blank;
+
+/// A heap of its own that does the updates whose frames it is sent, each once and in the order of their
+/// places. It is the one caller of its store.
+pub struct Follower<D: Device, N: Label> {
+    store: Store<D, Trio, N>,
+    // The one pass, in a list since the store takes it back so.
+    passes: Vec<Pass>,
+    count: u64,
+    diverged: Option<Divergence>,
+}
+
+impl<D: Device, N: Label> Model for Follower<D, N> {
+    ghost use Rattle.rom_follow.specs.Alone.{IsFollower, followed};
+    ghost use Rattle.rom_follow.specs.Followed.{Followed};
+
+    ghost Value = { Followed };
+
+    ghost view = { λ f. followed f.count f.passes.items f.diverged };
+
+    ghost invariant = { λ f. IsFollower N.table N.base f.passes.items
+        (followed f.count f.passes.items f.diverged) };
+}
+
+impl<D: Device, N: Label> Follower<D, N> {
+    /// Starts on a heap that `open_store` has opened for one caller. It takes no memory.
+    pub fn start(opening: Opening<D, Trio>) -> Self
+        requires table { N.table ≡ opening.table_id }
+        requires base { N.base ≡ base_of opening.key }
+        requires started { N.start ≡ start_of D.shown opening.device }
+        requires since { IsTrue D.shown.tells_images → (t : ℕ) (i : List ℕ) →
+            (N.since t i → D.shown.left_since opening.device t i)
+            × (D.shown.left_since opening.device t i → N.since t i) }
+        requires one { (length opening.passes ≡ 1) × (N.base.callers ≡ 1) }
+        requires passes { Indexed (IsNewCaller Contents N.table N.base) opening.passes }
+        requires formed { (s : State) × (k : ℕ) × Contents N.base.order N.base.image s k }
+
+        // It has done nothing yet, and its count is that of the heap.
+        ensures none { (result.history ≡ []) × (result.tried ≡ []) × (result.diverged ≡ None) }
+        ensures done { (s : State) (k : ℕ) → Contents N.base.order N.base.image s k →
+            HasDone N.base.order s k result }
+
+        // It follows each history of which the heap holds the state and the count after a prefix.
+        ensures follows { (s0 : State) (n0 : ℕ) (history : List Entry) (first : ℕ) →
+            first ≤ length history → Contents N.base.order N.base.image
+            (state_after N.base.order s0 n0 history first) (n0 + first) →
+            Follows N.base s0 n0 history first result }
+    {
+        let (store, mut passes) = opening.start::<N>();
+        let count = count_of::<D, N, Brand>(Blank::new(1), &store, &mut passes[0]);
+        Follower {
+            store,
+            passes,
+            count,
+            diverged: None,
+        }
+    }
+
+    /// The count of updates in the heap, which is the place of the frame that it takes next.
+    pub fn count(&self) -> u64
+        ensures count { result ≡ self.now.count }
+        ensures done { (s : State) (k : ℕ) → Contents N.base.order N.base.image s k →
+            HasDone N.base.order s k self.now }
+    {
+        self.count
+    }
+
+    /// Takes a message. The frame whose place is the count is done. Each other one, and a message that
+    /// is no frame, leaves the follower as it was, as does each message once the heaps have parted. It
+    /// takes no memory.
+    pub fn take<R: Wait, G: Gate>(&mut self, rt: &R, message: &[u8], gate: &G) -> Taken
+        ensures parted { IfSome self.old.diverged (λ d.
+            (result ≡ taken.Diverged d.place d.ours d.theirs) × (self.new ≡ self.old)) }
+        ensures no_frame { self.old.diverged ≡ None → IsNoFrame message.now →
+            (result ≡ taken.NotAFrame) × (self.new ≡ self.old) }
+        ensures frame { self.old.diverged ≡ None → (f : Frame) → IsFrame f message.now →
+            Gives f self.old result self.new }
+        ensures either { self.old.diverged ≡ None →
+            ((f : Frame) × IsFrame f message.now) ⊎ IsNoFrame message.now }
+
+        // What one pass told of an update that was tried, in whose record the device's counts of
+        // faults stand; and what it has done is legal.
+        ensures told { (x : Told) → self.new.tried ≡ self.old.tried ++ x ∷ [] →
+            IsTold Contents (on_words trio) N.base x (length self.old.history) self.old.history
+            self.new.history }
+        ensures done { (s : State) (k : ℕ) → Contents N.base.order N.base.image s k →
+            HasDone N.base.order s k self.new }
+
+        ensures rises { self.old.count ≤ self.new.count }
+
+        // Of a legal history it keeps following it, whatever of its frames may arrive.
+        ensures follows { (s0 : State) (n0 : ℕ) (history : List Entry) (first : ℕ) →
+            IsLegal (on_words trio) N.base.order s0 n0 history → HasWords n0 history →
+            Follows N.base s0 n0 history first self.old → MayArrive n0 history message.now →
+            Follows N.base s0 n0 history first self.new × AgreesBelow self.new.count result }
+    {
+        if let Some(
+            Divergence {
+                place,
+                ours,
+                theirs,
+            },
+        ) = self.diverged
+        {
+            return Taken::Diverged {
+                place,
+                ours,
+                theirs,
+            };
+        }
+        match read_frame(message) {
+            None => Taken::NotAFrame,
+            Some(frame) => self.take_frame(rt, &frame, gate),
+        }
+    }
+
+    // Takes a frame, by its place.
+    fn take_frame<R: Wait, G: Gate>(&mut self, rt: &R, frame: &Frame, gate: &G) -> Taken
+        requires agrees { self.old.diverged ≡ None }
+        ensures gives { Gives frame.now self.old result self.new }
+        ensures told { (x : Told) → self.new.tried ≡ self.old.tried ++ x ∷ [] →
+            IsTold Contents (on_words trio) N.base x (length self.old.history) self.old.history
+            self.new.history }
+        ensures done { (s : State) (k : ℕ) → Contents N.base.order N.base.image s k →
+            HasDone N.base.order s k self.old × HasDone N.base.order s k self.new }
+        ensures rises { self.old.count ≤ self.new.count }
+    {
+        if frame.place < self.count {
+            return Taken::Known(frame.place);
+        }
+        if frame.place > self.count {
+            return Taken::Early {
+                place: frame.place,
+                want: self.count,
+            };
+        }
+        self.take_next(rt, frame, gate)
+    }
+
+    // Takes the frame whose place is the count.
+    fn take_next<R: Wait, G: Gate>(&mut self, rt: &R, frame: &Frame, gate: &G) -> Taken
+        requires agrees { self.old.diverged ≡ None }
+        requires next { frame.now.place ≡ self.old.count }
+        ensures next { IsNext frame.now self.old result self.new }
+        ensures told { (x : Told) → self.new.tried ≡ self.old.tried ++ x ∷ [] →
+            IsTold Contents (on_words trio) N.base x (length self.old.history) self.old.history
+            self.new.history }
+        ensures done { (s : State) (k : ℕ) → Contents N.base.order N.base.image s k →
+            HasDone N.base.order s k self.old × HasDone N.base.order s k self.new }
+        ensures rises { self.old.count ≤ self.new.count }
+    {
+        let told = update_alone(&self.store, rt, &mut self.passes[0], &frame.call, gate);
+        let taken = Taken::of(told, frame.reply);
+        self.count += taken.done();
+        self.diverged = taken.parted();
+        taken
+    }
+
+    /// Takes messages one after another, and says what became of each. It takes no memory.
+    pub fn take_all<R: Wait, G: Gate>(
+        &mut self,
+        rt: &R,
+        messages: &[Vec<u8>],
+        answers: &mut [Taken],
+        gate: &G,
+    )
+        requires as_many { length answers.old ≡ length messages.now }
+        ensures as_many { length answers.new ≡ length messages.now }
+        ensures follows { (s0 : State) (n0 : ℕ) (history : List Entry) (first : ℕ) →
+            IsLegal (on_words trio) N.base.order s0 n0 history → HasWords n0 history →
+            Follows N.base s0 n0 history first self.old →
+            All (λ m. MayArrive n0 history m.items) messages.now →
+            Follows N.base s0 n0 history first self.new
+            × All (AgreesBelow self.new.count) answers.new }
+    {
+        for i in 0..messages.len() {
+            answers[i] = self.take(rt, &messages[i], gate);
+        }
+    }
+
+    /// Ends the session. It takes no memory.
+    pub fn close<R: Wait>(self, rt: &R) -> Closed<D, Trio>
+        ensures order { result.session.order ≡ N.base.order }
+        ensures image { result.session.image ≡ N.base.image }
+        ensures opening_faults { result.session.faults ≡ N.base.faults }
+        ensures story { HasStory trio Contents result.session }
+
+        // The session's history is the follower's, and there is one pass for each update that it tried.
+        ensures done { (s : State) (k : ℕ) → Contents N.base.order N.base.image s k →
+            HasDone N.base.order s k self }
+        ensures history { result.session.history ≡ self.history }
+        ensures passes { ArePassesOf result.session.records self.tried }
+        ensures closed { EachStory trio Contents result.session (λ story. IsClosed trio story 1) }
+
+        // What a stop leaves now, and what it might have left since the start.
+        ensures now { IsTrue D.shown.tells_images → EachStory trio Contents result.session
+            (λ story. (i : List ℕ) → D.shown.leaves result.device i →
+            ImageNow Contents (on_words trio) story i) }
+        ensures since { IsTrue D.shown.tells_images → EachStory trio Contents result.session
+            (λ story. HasLeftSince D.shown N.start N.since
+            (SessionImage Contents (on_words trio) story) result.device) }
+
+        // Of a history that it follows: what a stop leaves now, and what a stop at any moment since the
+        // start might have left, holds a prefix no shorter than the one at the start.
+        ensures follows_now { IsTrue D.shown.tells_images →
+            (s0 : State) (n0 : ℕ) (history : List Entry) (first : ℕ) →
+            Follows N.base s0 n0 history first self → (i : List ℕ) →
+            D.shown.leaves result.device i →
+            HoldsPrefix N.base.order s0 n0 history first i }
+        ensures follows_since { IsTrue D.shown.tells_images →
+            (s0 : State) (n0 : ℕ) (history : List Entry) (first : ℕ) →
+            Follows N.base s0 n0 history first self →
+            HasLeftSince D.shown N.start N.since
+            (HoldsPrefix N.base.order s0 n0 history first) result.device }
+
+        // The device went through the passes of the records, one after another, from the start on.
+        ensures went { EachStory trio Contents result.session (λ story. WentThrough D.shown
+            Contents (on_words trio) story (HasStarted D.shown N.base.faults N.start)
+            result.device) }
+        ensures size { D.shown.size result.device ≡ N.start.size }
+        ensures outside { IsTrue D.shown.tells_words →
+            WithinHeap N.base.order N.start.words (D.shown.words result.device) }
+        ensures faults { faults_after result.session.faults result.session.records
+            ≤ D.shown.faults result.device }
+    {
+        let Follower {
+            store,
+            passes,
+            count: _,
+            diverged: _,
+        } = self;
+        store.close(rt, passes)
+    }
+}
