@@ -9,8 +9,9 @@ use Rattle.rom_model.specs.declared.call.Reply.{Reply}
 use Rattle.rom_model.specs.declared.line.LineResult.{LineResult}
 use Rattle.rom_script.specs.Trio.{trio_texts}
 use Rattle.rom_text.specs.Streams.{ShownSink}
+use Rattle.rom_run.specs.Played.{text_output}
 use Rattle.rom_run.specs.Statuses.{is_faulted, is_unread}
-use Rattle.rom_run.proofs.Completing.{text_faulted, text_unread}
+use Rattle.rom_run.proofs.Completing.{output_faulted, output_unread}
 use Rattle.rom_shell.specs.Run.{IsPrinted}
 use Rattle.rom_words.specs.Words.{Command, Try, Run, Format, Stat, Upgrade, Drill}
 
@@ -25,8 +26,8 @@ one_drill false is = absurd (omega (arith, is))
 module _ {O : Type 0} (sink : ShownSink O) where
   -- with 7 an update is told of a fault
   pub printed_faulted : (asked : Option Command) (story : Story State) (results : List (List (LineResult Reply Answer))) (old new : O) → IsPrinted sink asked story results old new 7 → list_any (λ rs. list_any is_faulted rs) results ≡ true
-  printed_faulted (Some (Try scripts)) story results old new is = text_faulted sink trio_texts story results old new is
-  printed_faulted (Some (Run file scripts)) story results old new is = text_faulted sink trio_texts story results old new is
+  printed_faulted (Some (Try scripts)) story results old new is = output_faulted sink (text_output trio_texts) story results old new is
+  printed_faulted (Some (Run file scripts)) story results old new is = output_faulted sink (text_output trio_texts) story results old new is
   printed_faulted (Some (Format file order)) story results old new is = absurd is
   printed_faulted (Some (Stat file)) story results old new is = let no = is.0 in absurd (omega (arith, no))
   printed_faulted (Some (Upgrade file)) story results old new is = absurd is
@@ -36,8 +37,8 @@ module _ {O : Type 0} (sink : ShownSink O) where
 
   -- with 1 a line is unread
   pub printed_unread : (asked : Option Command) (story : Story State) (results : List (List (LineResult Reply Answer))) (old new : O) → IsPrinted sink asked story results old new 1 → list_any (λ rs. list_any is_unread rs) results ≡ true
-  printed_unread (Some (Try scripts)) story results old new is = text_unread sink trio_texts story results old new is
-  printed_unread (Some (Run file scripts)) story results old new is = text_unread sink trio_texts story results old new is
+  printed_unread (Some (Try scripts)) story results old new is = output_unread sink (text_output trio_texts) story results old new is
+  printed_unread (Some (Run file scripts)) story results old new is = output_unread sink (text_output trio_texts) story results old new is
   printed_unread (Some (Format file order)) story results old new is = absurd is
   printed_unread (Some (Stat file)) story results old new is = let no = is.0 in absurd (omega (arith, no))
   printed_unread (Some (Upgrade file)) story results old new is = absurd is
