@@ -2,8 +2,9 @@
 ghost use Rattle.std.specs.Prelude.{◌≡◌, [], ◌∷◌, IsTrue, IfNone, IfSome};
 ghost use Rattle.rom_ship.specs.Merging.{begins_done, next_place, updates};
 ghost use Rattle.rom_ship.specs.Merging as merging;
+ghost use Rattle.rom_ship.specs.Updates.{framed};
 
-use rom_frame::Frame;
+use crate::update::Update;
 use rom_model::{Answer, Call, LineResult, Query, Reply, Step, Updated};
 
 fn is_done(line: &Step<Call, Query>, told: &LineResult<Reply, Answer>) -> bool
@@ -65,9 +66,9 @@ impl<'a> Caller<'a> {
     }
 
     /// Its next update, and the caller behind it.
-    pub(crate) fn split(&self) -> Option<(Frame, Caller<'a>)>
+    pub(crate) fn split(&self) -> Option<(Update<'a>, Caller<'a>)>
         ensures next { IfSome result (λ r. updates self.now.lines.now self.now.results.now
-            ≡ r.0 ∷ updates r.1.lines.now r.1.results.now) }
+            ≡ framed r.0 ∷ updates r.1.lines.now r.1.results.now) }
         ensures none { IfNone result (updates self.now.lines.now self.now.results.now ≡ []) }
     {
         match (self.lines, self.results) {
@@ -78,10 +79,10 @@ impl<'a> Caller<'a> {
                     results @ ..,
                 ],
             ) => Some((
-                Frame {
+                Update {
                     place: *place,
-                    call: *call,
-                    reply: *reply,
+                    call,
+                    reply,
                 },
                 Caller::of(lines, results),
             )),

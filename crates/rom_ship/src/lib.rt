@@ -12,6 +12,7 @@ mod caller;
 mod merge;
 mod output;
 mod program;
+mod update;
 mod updates;
 
 pub use output::HistoryFrames;

@@ -2,9 +2,10 @@
 ghost use Rattle.std.specs.Prelude.{◌≡◌, ◌<◌, ℕ, length, map, option_map, IfSome};
 ghost use Rattle.rom_ship.specs.Merging.{least_from, updates};
 ghost use Rattle.rom_ship.specs.Merging as merging;
+ghost use Rattle.rom_ship.specs.Updates.{framed};
 
 use crate::caller::Caller;
-use rom_frame::Frame;
+use crate::update::Update;
 
 /// Of an earlier caller's index and next place, and this one's, those of the lesser place.
 fn nearer(best: Option<(usize, u64)>, i: usize, place: Option<u64>) -> Option<(usize, u64)>
@@ -37,8 +38,8 @@ fn least(callers: &[Caller<'_>]) -> Option<(usize, u64)>
 }
 
 /// Takes the next update of the caller whose next place is least.
-pub(crate) fn next(callers: &mut [Caller<'_>]) -> Option<Frame>
-    ensures { option_map (λ f. (f, map (λ c. updates c.lines.now c.results.now) callers.new)) result
+pub(crate) fn next<'a>(callers: &mut [Caller<'a>]) -> Option<Update<'a>>
+    ensures { option_map (λ u. (framed u, map (λ c. updates c.lines.now c.results.now) callers.new)) result
         ≡ merging.next (map (λ c. updates c.lines.now c.results.now) callers.old) }
 {
     let (i, _) = least(callers)?;

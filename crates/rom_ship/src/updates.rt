@@ -5,23 +5,28 @@ ghost use Rattle.rom_frame.specs.Frames.{IsOfWords};
 ghost use Rattle.rom_frame.specs.Frames as frames;
 ghost use Rattle.rom_text.specs.Streams.{Prints};
 ghost use Rattle.rom_ship.specs.Merging.{all_updates, merged, updates};
+ghost use Rattle.rom_ship.specs.Updates.{framed};
 
 use crate::caller::Caller;
 use crate::merge::next;
-use rom_frame::{Frame, MOST_BYTES};
+use crate::update::Update;
+use rom_frame::MOST_BYTES;
 use rom_model::{Answer, Call, LineResult, Query, Reply, Step};
 use rom_text::{IoFailed, Report, Sink, print_bytes, print_gathered};
 
 /// The most callers of a heap.
 const MOST_CALLERS: usize = 16;
 
-/// Writes the frame of an update.
-fn print_frame<K: Sink>(out: &mut K, update: &Frame) -> Result<(), IoFailed>
-    ensures prints { Prints K.shown out.old out.new result (frames.frame update.now) }
-    ensures of_words { IsOfWords update.now }
+/// Writes the frame of an update, which it makes in these bytes.
+fn print_frame<K: Sink>(
+    out: &mut K,
+    update: &Update<'_>,
+    bytes: &mut [u8; MOST_BYTES],
+) -> Result<(), IoFailed>
+    ensures prints { Prints K.shown out.old out.new result (frames.frame (framed update.now)) }
+    ensures of_words { IsOfWords (framed update.now) }
 {
-    let mut bytes = [0; MOST_BYTES];
-    let len = update.fill(&mut bytes);
+    let len = update.fill(bytes);
     print_bytes(out, &bytes[..len])
 }
 
@@ -37,9 +42,10 @@ fn print_merged<K: Sink>(
     ensures of_words { OnOk result (AllByRecursion IsOfWords
         (merged count (map (λ c. updates c.lines.now c.results.now) callers.old))) }
 {
+    let mut bytes = [0; MOST_BYTES];
     for _turn in 0..count {
         match next(callers) {
-            Some(update) => print_frame(out, &update)?,
+            Some(update) => print_frame(out, &update, &mut bytes)?,
             None => return Ok(()),
         }
     }

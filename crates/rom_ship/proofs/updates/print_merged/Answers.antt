@@ -1,6 +1,7 @@
 use Rattle.std.proofs.Common.{◌≡◌, ◌-◌, arith, ap, map, subst}
 use Rattle.rom_text.proofs.Prints.{printed, stopped, prints_stopped}
 use Rattle.rom_ship.specs.Merging.{merged, updates}
+use Rattle.rom_ship.specs.Updates.{framed}
 use Rattle.rom_ship.proofs.Writing.{IsUnderWay, cut, goes_on, no_turn, under_way, whole, whole_of_words}
 use Rattle.rom_ship.proofs.updates.print_merged.Goals as goal
 
@@ -15,14 +16,14 @@ returns-in_err-print_frame-in-Some-clause-prints g c =
     let k = g.K.Sink.shown in
     prints_stopped k _ _ _ c.from_residual.result _ c.from_residual.ensures.1
     (cut k c.args.out.now c.args.count (map (λ caller. updates caller.lines.now caller.results.now) c.args.callers.now) c.loop-turn.out (map (λ caller. updates caller.lines.now caller.results.now) c.loop-turn.callers)
-    c.loop-turn._turn c.print_frame.new.out c.in-Some.update (map (λ caller. updates caller.lines.now caller.results.now) c.next.new.callers) c.loop-turn-test.true c.loop-turn.invariant c.in-Some.ensures
+    c.loop-turn._turn c.print_frame.new.out (framed c.in-Some.update) (map (λ caller. updates caller.lines.now caller.results.now) c.next.new.callers) c.loop-turn-test.true c.loop-turn.invariant c.in-Some.ensures
     (stopped k _ _ _ _ c.in_err-print_frame-in-Some.ensures.prints))
 
 pub loop-turn-preserved : goal.loop-turn-preserved
 loop-turn-preserved g c =
     let k = g.K.Sink.shown in
     goes_on k c.args.out.now c.args.count (map (λ caller. updates caller.lines.now caller.results.now) c.args.callers.now) c.loop-turn.out (map (λ caller. updates caller.lines.now caller.results.now) c.loop-turn.callers)
-    c.loop-turn._turn c.print_frame.new.out c.in-Some.update (map (λ caller. updates caller.lines.now caller.results.now) c.next.new.callers) c.loop-turn-test.true c.loop-turn.invariant c.in-Some.ensures
+    c.loop-turn._turn c.print_frame.new.out (framed c.in-Some.update) (map (λ caller. updates caller.lines.now caller.results.now) c.next.new.callers) c.loop-turn-test.true c.loop-turn.invariant c.in-Some.ensures
     (printed k _ _ _ _ c.in_ok-print_frame-in-Some.ensures.prints) c.in_ok-print_frame-in-Some.ensures.of_words
 
 pub returns-in-None-clause-prints : goal.returns-in-None-clause-prints

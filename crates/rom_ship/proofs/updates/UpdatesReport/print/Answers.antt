@@ -10,11 +10,16 @@ use Rattle.rom_model.specs.declared.call.Reply.{Reply}
 use Rattle.rom_model.specs.declared.line.LineResult.{LineResult}
 use Rattle.rom_model.specs.declared.line.Step.{Step}
 use Rattle.rom_frame.specs.Frames.{IsOfWords, frame}
+use Rattle.rom_frame.specs.declared.frame.Frame.{Frame}
 use Rattle.rom_text.specs.Streams.{Prints}
 use Rattle.rom_ship.specs.Merging.{all_updates, merged, updates}
 use Rattle.rom_ship.specs.declared.caller.Caller.{Caller}
 use Rattle.rom_ship.proofs.Taking.{all_there, one_more}
 use Rattle.rom_ship.proofs.updates.UpdatesReport.print.Goals as goal
+
+-- the updates of equal lines and results
+by_both : {fs : List Frame} {ls ks : List (Step Call Query)} {rs qs : List (LineResult Reply Answer)} → fs ≡ updates ls rs → ls ≡ ks → rs ≡ qs → fs ≡ updates ks qs
+by_both is lines results = is ∙ (λ i. updates (lines i) (results i))
 
 pub loop-i-preserved : goal.loop-i-preserved
 loop-i-preserved g c =
@@ -24,7 +29,7 @@ loop-i-preserved g c =
       many = length-set c.loop-i.callers c.loop-i.i c.of.result ∙ c.loop-i.invariant.many;
       own = one_more (λ caller. updates caller.lines.now caller.results.now) (λ v. v.items) (λ v. v.items) c.loop-i.i c.loop-i.callers scripts results c.of.result c.index-self-i.result c.index-self-i-in-loop-i.result
           (omega (arith, c.loop-i.invariant.many, c.loop-i-test.true, c.min-many.ensures, c.args.self.now.few)) (omega (arith, c.loop-i-test.true, c.min-many.ensures)) (omega (arith, c.loop-i-test.true, c.min-many.ensures)) c.loop-i.invariant.own
-          (c.of.ensures ∙ (λ j. updates (c.deref.ensures.value j) (c.deref-in-loop-i.ensures.value j)));
+          (by_both c.of.ensures c.deref.ensures.value c.deref-in-loop-i.ensures.value);
     }
 
 -- the callers up to the last one have all updates
