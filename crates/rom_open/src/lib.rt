@@ -15,6 +15,7 @@ mod ready;
 mod reasons;
 
 pub use from_device::{Opened, Refused, open_device};
+pub use image::inspect_image;
 pub use new_heap::{NotFormatted, format_device, write_heap};
 pub use ready::{Ready, make_ready};
 pub use reasons::Why;

@@ -1,6 +1,6 @@
 -- Lemmas on copies, on comparisons, on what an image keeps and on the region that counts.
 pub mod CopyBack
-mod Keeping
+pub mod Keeping
 mod Restoring
 mod Pieces
 mod Copying

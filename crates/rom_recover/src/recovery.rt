@@ -11,7 +11,7 @@ ghost use Rattle.rom_recover.specs.Calls.{Calls, SyncsOnce, WithinRecovery, read
 ghost use Rattle.rom_recover.specs.Image.{IsEmptyOrFull, KeepsMain};
 ghost use Rattle.rom_recover.specs.Recovered.{IsDone, IsFirst, IsStateOf, Mended, Mends};
 
-use crate::compare::compare;
+use crate::comparison::compare;
 use crate::restore::redo;
 use rom_device::{Device, Failed};
 use rom_header::{Geometry, STATE, State};

@@ -8,7 +8,7 @@ use Rattle.rom_recover.specs.Image.{IsReadFrom}
 use Rattle.rom_recover.specs.declared.recovery.RecoverRefused.{RecoverRefused}
 use Rattle.rom_recover.proofs.Keeping.{keeps_on}
 use Rattle.rom_recover.proofs.Pieces.{reads_on}
-use Rattle.rom_recover.proofs.compare.compare.Goals as goal
+use Rattle.rom_recover.proofs.comparison.compare.Goals as goal
 
 pub returns-in_err-compare_piece-clause-compares : goal.returns-in_err-compare_piece-clause-compares
 returns-in_err-compare_piece-clause-compares g c =

@@ -1,7 +1,7 @@
 use Rattle.std.proofs.Common.{◌≡◌, ℕ, ◌+◌, arith, subst}
 use Rattle.rom_recover.specs.Recovered.{AreTwins}
 use Rattle.rom_recover.proofs.Pieces.{differ_at, twins_on}
-use Rattle.rom_recover.proofs.compare.compare_piece.Goals as goal
+use Rattle.rom_recover.proofs.comparison.compare_piece.Goals as goal
 
 pub returns-in-Some-clause-twins : goal.returns-in-Some-clause-twins
 returns-in-Some-clause-twins g c told =

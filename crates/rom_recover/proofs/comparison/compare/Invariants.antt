@@ -5,7 +5,7 @@ use Rattle.rom_device.specs.Device.{OnlyReads}
 use Rattle.rom_header.specs.Layout.{MAIN}
 use Rattle.rom_recover.specs.Image.{IsReadFrom}
 use Rattle.rom_recover.specs.Recovered.{AreTwins}
-use Rattle.rom_recover.proofs.compare.compare.Given as goal
+use Rattle.rom_recover.proofs.comparison.compare.Given as goal
 
 -- the regions are the same so far, and main is kept
 abbrev pub invariant-loop-from : goal.invariant-loop-from

@@ -1,5 +1,5 @@
 use Rattle.std.proofs.Common.{◌≡◌, ◌<◌, ℕ, slice_index}
-use Rattle.rom_recover.proofs.compare.first_difference.Given as goal
+use Rattle.rom_recover.proofs.comparison.first_difference.Given as goal
 
 -- none so far
 abbrev pub invariant-loop-index : goal.invariant-loop-index

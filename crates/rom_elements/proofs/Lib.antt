@@ -1,0 +1,2 @@
+-- Lemmas on walks and on sorted keys.
+pub mod Walks

@@ -1,0 +1,3 @@
+-- The elements of a region and of a state.
+pub mod Chains
+pub mod Elements

@@ -1,0 +1,81 @@
+//! All elements of a region.
+ghost use Rattle.std.specs.Prelude.{◌≡◌, ◌<◌, ◌^◌, ℕ, IfOk, length, slice_get};
+ghost use Rattle.std.specs.List.{AllByRecursion};
+ghost use Rattle.rom_model.specs.Blocks.{IsOrder};
+ghost use Rattle.rom_model.specs.Region.{Contents, IsWellFormed};
+ghost use Rattle.rom_model.specs.State.{State};
+ghost use Rattle.rom_model.specs.VecSpace.{words_of};
+ghost use Rattle.rom_elements.specs.Elements.{ElementFits, elements_in, elements_of};
+
+use crate::chain::collect_chain;
+use crate::element::Element;
+use crate::keys::collect_keys;
+use crate::values::values_of;
+use rom_model::{MAP_LEN, QUEUE_HEAD, QUEUE_LEN, SET_HEAD, SET_LEN, VecSpace};
+use std::alloc::{AllocError, Global};
+
+/// The elements of a region: those of the queue, first to last, then the numbers of the set, which
+/// rise, and then the map's keys, which rise, with their values.
+#[derive(Drop)]
+pub struct Elements {
+    queue: Vec<u64>,
+    members: Vec<u64>,
+    keys: Vec<u64>,
+    // Of each key, in the same order.
+    values: Vec<u64>,
+    ghost paired: { length values.items ≡ length keys.items },
+}
+
+impl Elements {
+    /// Those of a region. Each list gets the room that the region's counts name, and no more; the words
+    /// stay.
+    pub fn of(alloc: Global, space: &mut VecSpace, order: u32) -> Result<Elements, AllocError>
+        requires order { IsOrder order }
+        requires region { IsWellFormed order (words_of space.old) }
+        ensures are { IfOk result (λ elements. (s : State) (k : ℕ) →
+            Contents order (words_of space.old) s k → elements_in elements ≡ elements_of s) }
+        ensures fit { IfOk result (λ elements. AllByRecursion ElementFits (elements_in elements)) }
+        ensures words { words_of space.new ≡ words_of space.old }
+    {
+        let words = space.words();
+        let mut queue = Vec::with_capacity(alloc, words[QUEUE_LEN as usize] as usize)?;
+        collect_chain(words, order, QUEUE_HEAD, 1, &mut queue)?;
+        let mut members = Vec::with_capacity(alloc, words[SET_LEN as usize] as usize)?;
+        collect_chain(words, order, SET_HEAD, 1, &mut members)?;
+        let mut keys = Vec::with_capacity(alloc, words[MAP_LEN as usize] as usize)?;
+        collect_keys(words, order, &mut keys)?;
+        let values = values_of(alloc, space, order, &keys)?;
+        Ok(Elements {
+            queue,
+            members,
+            keys,
+            values,
+        })
+    }
+
+    /// How many there are.
+    pub fn len(&self) -> u64
+        requires { length (elements_in self.now) < 2 ^ 64 }
+        ensures { result ≡ length (elements_in self.now) }
+    {
+        self.queue.len() as u64 + self.members.len() as u64 + self.keys.len() as u64
+    }
+
+    /// The element at an index, counted from 0, if there is one.
+    pub fn at(&self, i: u64) -> Option<Element>
+        ensures { result ≡ slice_get (elements_in self.now) i }
+    {
+        let mut i = i as usize;
+        if let Some(value) = self.queue.get(i) {
+            return Some(Element::Value(*value));
+        }
+        i -= self.queue.len();
+        if let Some(member) = self.members.get(i) {
+            return Some(Element::Member(*member));
+        }
+        i -= self.members.len();
+        let key = self.keys.get(i)?;
+        let value = self.values.get(i)?;
+        Some(Element::Pair(*key, *value))
+    }
+}

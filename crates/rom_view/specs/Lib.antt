@@ -1,0 +1,2 @@
+-- What is seen of a heap.
+pub mod View
