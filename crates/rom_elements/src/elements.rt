@@ -1,11 +1,5 @@
 //! All elements of a region.
-ghost use Rattle.std.specs.Prelude.{◌≡◌, ◌<◌, ◌^◌, ℕ, IfOk, length, slice_get};
-ghost use Rattle.std.specs.List.{AllByRecursion};
-ghost use Rattle.rom_model.specs.Blocks.{IsOrder};
-ghost use Rattle.rom_model.specs.Region.{Contents, IsWellFormed};
-ghost use Rattle.rom_model.specs.State.{State};
-ghost use Rattle.rom_model.specs.VecSpace.{words_of};
-ghost use Rattle.rom_elements.specs.Elements.{ElementFits, elements_in, elements_of};
+ghost use Rattle.std.specs.Prelude.{◌≡◌, length};
 
 use crate::chain::collect_chain;
 use crate::element::Element;
@@ -27,13 +21,21 @@ pub struct Elements {
 }
 
 impl Elements {
+    ghost use Rattle.std.specs.Prelude.{◌<◌, ◌^◌, ℕ, IfOk, slice_index_or};
+    ghost use Rattle.std.specs.List.{AllByRecursion};
+    ghost use Rattle.rom_model.specs.Blocks.{IsOrder};
+    ghost use Rattle.rom_model.specs.Region.{Contents, IsWellFormed};
+    ghost use Rattle.rom_model.specs.State.{State};
+    ghost use Rattle.rom_model.specs.VecSpace.{words_of};
+    ghost use Rattle.rom_elements.specs.Elements.{AreElements, ElementFits, ElementSeen, elements_in};
+
     /// Those of a region. Each list gets the room that the region's counts name, and no more; the words
     /// stay.
     pub fn of(alloc: Global, space: &mut VecSpace, order: u32) -> Result<Elements, AllocError>
         requires order { IsOrder order }
         requires region { IsWellFormed order (words_of space.old) }
         ensures are { IfOk result (λ elements. (s : State) (k : ℕ) →
-            Contents order (words_of space.old) s k → elements_in elements ≡ elements_of s) }
+            Contents order (words_of space.old) s k → AreElements s (elements_in elements)) }
         ensures fit { IfOk result (λ elements. AllByRecursion ElementFits (elements_in elements)) }
         ensures words { words_of space.new ≡ words_of space.old }
     {
@@ -61,21 +63,20 @@ impl Elements {
         self.queue.len() as u64 + self.members.len() as u64 + self.keys.len() as u64
     }
 
-    /// The element at an index, counted from 0, if there is one.
-    pub fn at(&self, i: u64) -> Option<Element>
-        ensures { result ≡ slice_get (elements_in self.now) i }
+    /// The element at an index, counted from 0.
+    pub fn at(&self, i: u64) -> Element
+        requires { i < length (elements_in self.now) }
+        ensures { (d : ElementSeen) → slice_index_or (elements_in self.now) i d ≡ result }
     {
-        let mut i = i as usize;
-        if let Some(value) = self.queue.get(i) {
-            return Some(Element::Value(*value));
+        let i = i as usize;
+        if i < self.queue.len() {
+            return Element::Value(self.queue[i]);
         }
-        i -= self.queue.len();
-        if let Some(member) = self.members.get(i) {
-            return Some(Element::Member(*member));
+        let i = i - self.queue.len();
+        if i < self.members.len() {
+            return Element::Member(self.members[i]);
         }
-        i -= self.members.len();
-        let key = self.keys.get(i)?;
-        let value = self.values.get(i)?;
-        Some(Element::Pair(*key, *value))
+        let i = i - self.members.len();
+        Element::Pair(self.keys[i], self.values[i])
     }
 }

@@ -1,5 +1,4 @@
--- Lemmas on what is printed of a heap and of a drill, on the words of the command line, on counting, on what is printed with which status, and on the versions of a heap.
-pub mod Showing
+-- Lemmas on what is printed of a drill, on the words of the command line, on counting, on what is printed with which status, and on the versions of a heap.
 pub mod Ending
 pub mod Drilling
 pub mod Summing

@@ -4,7 +4,7 @@ use Rattle.std.proofs.Common.{refl, inl, inr, append-nil}
 use Rattle.std.proofs.lemmas.List.{append_assoc}
 use Rattle.rom_text.specs.Streams.{ShownSink, Prints, StopsWriting}
 use Rattle.rom_text.specs.Text.{line_text}
-use Rattle.rom_shell.specs.Stat.{IsPut}
+use Rattle.rom_stat.specs.Stat.{IsPut}
 
 -- five lines as pieces, of which each begins with a name
 named_lines : (a order b count sizes f free total lf : List ℕ) →

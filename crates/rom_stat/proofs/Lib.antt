@@ -1,0 +1,2 @@
+-- Lemmas on lines that are printed.
+pub mod Showing

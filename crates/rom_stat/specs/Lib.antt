@@ -1,0 +1,2 @@
+-- What is printed of the sizes of a heap.
+pub mod Stat
