@@ -43,7 +43,8 @@ pub enum Plain<'a> {
     Format { file: &'a Name, order: u32 },
 }
 
-fn is_name(word: &Name) -> bool
+/// Whether a word names a file: it is not empty, and does not begin with a dash.
+pub fn is_name(word: &Name) -> bool
     ensures { result ≡ plain.is_name word.now }
 {
     !matches!(word.as_str().as_bytes(), [] | [b'-', ..])

@@ -1,0 +1,5 @@
+-- The words of the program, what it shows, and what it promises.
+pub mod Words
+pub mod Named
+pub mod Shown
+pub mod Promise

@@ -1,0 +1,26 @@
+-- The command that words were read as.
+use Rattle.std.specs.Prelude.{ℕ, ◌≤◌, List, IfSome, Option, Some, None}
+use Rattle.std.specs.Borrow.{Bor}
+use Rattle.rom_dump.specs.Words.{Command, Script, Check}
+use Rattle.rom_dump.specs.declared.words.Dump.{Dump}
+use Rattle.rom_dump.specs.declared.words.Dump.TheVariants as dump
+
+-- the command that was read, if one was
+abbrev pub named : Option Dump → Option Command
+named (Some (dump.Script file part)) = Some (Script file.now part)
+named (Some (dump.Check file)) = Some (Check file.now)
+named None = None
+
+-- the file that was read, if one was
+abbrev pub named_file : Option (Bor (List ℕ)) → Option (List ℕ)
+named_file (Some file) = Some file.now
+named_file None = None
+
+-- a script has three parts at most
+abbrev pub IsPart : ℕ → Type 0
+IsPart part = (1 ≤ part) × (part ≤ 3)
+
+-- a part that is asked for is one of them
+abbrev pub AsksForPart : Dump → Type 0
+AsksForPart (dump.Script file part) = IfSome part IsPart
+AsksForPart (dump.Check file) = Unit {0}

@@ -1,0 +1,100 @@
+-- What is shown of a heap that a device holds.
+use Rattle.std.specs.Prelude.{◌≡◌, ◌⊎◌, ℕ, ◌≤◌, List, ◌++◌, IsTrue, length, slice_index, codes, decimal, Option, Some, None, Err}
+use Rattle.rom_model.specs.Blocks.{IsOrder}
+use Rattle.rom_model.specs.Region.{Contents}
+use Rattle.rom_model.specs.State as model
+use Rattle.rom_model.specs.State.{cap, live}
+use Rattle.rom_device.specs.Device.{ShownDevice}
+use Rattle.rom_header.specs.Headers.{state_word}
+use Rattle.rom_header.specs.Held.{Holds}
+use Rattle.rom_header.specs.Layout.{STATE, words_needed}
+use Rattle.rom_header.specs.declared.header.State.{State}
+use Rattle.rom_header.specs.declared.header.State.TheVariants.{Idle, Mutating, Copying}
+use Rattle.rom_heap.specs.Answers.{Rejects}
+use Rattle.rom_open.specs.Calls.{HasFaults}
+use Rattle.rom_open.specs.Refusals.{IsRefusal, NamesTooFew}
+use Rattle.rom_open.specs.declared.reasons.Why.{Why}
+use Rattle.rom_elements.specs.declared.element.Element.{Element}
+use Rattle.rom_elements.specs.Elements.{AreElements}
+use Rattle.rom_rebuild.specs.Parts.{IsTooLong}
+use Rattle.rom_rebuild.specs.Rebuilds.{Rebuilds}
+use Rattle.rom_rebuild.specs.Script.{part_of, parts_needed, script_of}
+use Rattle.rom_run.specs.Refusing.{refusal_line, refusal_status}
+use Rattle.rom_run.specs.Statuses.{number_of}
+use Rattle.rom_stat.specs.Stat.{IsPut, stat_text}
+use Rattle.rom_text.specs.Limits.{FitsScript, IsWithinLimit}
+use Rattle.rom_text.specs.Runs.{IsCutShort, IsTold, IsWritten}
+use Rattle.rom_text.specs.Streams.{ShownSink}
+use Rattle.rom_text.specs.Text.{line_text}
+use Rattle.rom_dump.specs.Words.{Command, Script, Check}
+
+-- which region counts, and why
+abbrev pub counting_text : State → List ℕ
+counting_text Idle = line_text (codes "counts both: idle")
+counting_text Mutating = line_text (codes "counts back: a batch is under way")
+counting_text Copying = line_text (codes "counts main: a copy is under way")
+
+-- and the five lines of the heap
+abbrev pub check_text : ℕ → State → model.State → ℕ → List ℕ
+check_text order kind state count = counting_text kind ++ stat_text order state count
+
+-- a script that is too long is told with the number of its parts
+abbrev pub too_long_line : ℕ → List ℕ
+too_long_line parts = codes "script too long, " ++ decimal parts ++ codes " parts"
+
+module _ {K : Type 0} (sink : ShownSink K) where
+  -- the text is printed, with 0, or some of it from its front where the sink failed, with 5
+  abbrev pub EndsAsText : List ℕ → K → K → ℕ → Type 0
+  EndsAsText text old new status = ((status ≡ 0) × IsWritten sink old new text) ⊎ ((status ≡ 5) × IsCutShort sink old new text)
+
+  -- so is the script of these elements where it is within a script's limit; else that it is too long is told, with 8
+  abbrev pub EndsAsWhole : List Element → K → K → ℕ → Type 0
+  EndsAsWhole elements old new status =
+      (IsWithinLimit (script_of elements) × EndsAsText (script_of elements) old new status)
+      ⊎ (IsTooLong (script_of elements) × (status ≡ 8) × IsTold sink old new (too_long_line (parts_needed elements)))
+
+  -- of a part that is asked for, or of the whole
+  abbrev pub EndsAsScript : Option ℕ → List Element → K → K → ℕ → Type 0
+  EndsAsScript (Some part) elements old new status = EndsAsText (script_of (part_of part elements)) old new status
+  EndsAsScript None elements old new status = EndsAsWhole elements old new status
+
+  -- The script of this state in a heap of this order. Its lines rebuild the state in a new heap of this order, and of each greater one; three parts, each within a script's limits, are the script; and it is printed, or the part of it that is asked for.
+  pub record IsPutAgain (order : ℕ) (state : model.State) (part : Option ℕ) (old new : K) (status : ℕ) : Type 0 where
+    pub elements : List Element
+    pub are : AreElements state elements
+    pub rebuilds : (greater : ℕ) → order ≤ greater → IsOrder greater → Rebuilds greater (script_of elements) state
+    pub few : length elements ≤ 61440
+    pub parts : script_of elements ≡ script_of (part_of 1 elements) ++ (script_of (part_of 2 elements) ++ script_of (part_of 3 elements))
+    pub fit : (number : ℕ) → FitsScript (script_of (part_of number elements))
+    pub printed : EndsAsScript part elements old new status
+
+  -- what a command prints of a heap of this order, in which the region counts that stands for this state and this count
+  abbrev pub IsPrinted : Command → ℕ → State → model.State → ℕ → K → K → ℕ → Type 0
+  IsPrinted (Script file part) order kind state count old new status = IsPutAgain order state part old new status
+  IsPrinted (Check file) order kind state count old new status = (status ≡ 0) × IsPut sink old new (check_text order kind state count)
+
+module _ {D K : Type 0} (shown : ShownDevice D) (sink : ShownSink K) where
+  -- The device holds this state and this count in a heap of this order, by the region that counts under the state that its header names; and what is asked for of these is printed.
+  pub record IsShown (asked : Command) (was now : D) (old new : K) (status : ℕ) : Type 0 where
+    pub order : ℕ
+    pub kind : State
+    pub state : model.State
+    pub count : ℕ
+    pub held : IsTrue shown.tells_words → Holds Contents order (shown.words was) state count
+    pub named : IsTrue shown.tells_words → slice_index (shown.words was) STATE ≡ state_word kind
+    pub fits : words_needed order ≤ shown.size was
+    pub room : live state ≤ cap order
+    pub faults : shown.faults now ≡ shown.faults was
+    pub printed : IsPrinted sink asked order kind state count old new status
+
+  -- The heap is refused, for the reason that an opening tells of the same words, with its line and its status.
+  pub record IsRefused (was now : D) (old new : K) (status : ℕ) : Type 0 where
+    pub why : Why
+    pub status_is : status ≡ number_of (refusal_status why)
+    pub refused : IsTrue shown.tells_words → IsRefusal Contents Rejects (shown.words was) why
+    pub sizes : NamesTooFew (shown.size was) why
+    pub faults : HasFaults {T = Unit {0}} (Err why) (shown.faults was) (shown.faults now) (shown.failing now)
+    pub told : IsTold sink old new (refusal_line why)
+
+  abbrev pub IsAnswered : Command → D → D → K → K → ℕ → Type 0
+  IsAnswered asked was now old new status = IsShown asked was now old new status ⊎ IsRefused was now old new status

@@ -1,0 +1,36 @@
+//! The top call: all that the program does.
+ghost use Rattle.rom_dump.specs.Promise.{Promise};
+ghost use Rattle.rom_dump.specs.Words.{command};
+
+use crate::check::check_heap;
+use crate::script::show_script;
+use crate::words::{Dump, read_dump};
+use rom_device::Device;
+use rom_run::{Status, tell};
+use rom_text::{Names, Sink};
+use std::alloc::Global;
+
+/// Does all that the program does: shows what the words ask for of the heap on the device, and prints to the
+/// sink. `main` hands in a device over the file that `dump_file` of the same words names, opened for reading
+/// alone. It gives the number of a `Status`.
+///
+/// Words that are no command make no call of the device.
+pub fn dump<D: Device, O: Sink>(
+    alloc: Global,
+    words: &Names,
+    device: &mut D,
+    out: &mut O,
+) -> u8
+    ensures promise { Promise D.shown O.shown (command words.now) device.old device.new
+        out.old out.new result }
+{
+    let Some(asked) = read_dump(words) else {
+        tell(out, &["not a command"]);
+        return Status::NotACommand.number();
+    };
+    let status = match asked {
+        Dump::Script { file: _, part } => show_script(alloc, device, part, out),
+        Dump::Check(_) => check_heap(alloc, device, out),
+    };
+    status.number()
+}

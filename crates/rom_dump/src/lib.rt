@@ -1,0 +1,19 @@
+//! A program that shows what a heap of a queue, a set and a map holds, and leaves it: `script FILE` prints the
+//! lines that make it again, `check FILE` says which region counts and why, and the sizes.
+//!
+//! `dump` does all that the program does. Its contract promises that the device is only read, that what is told
+//! is what the region that counts stands for, whatever an update in its midst has left, and of a refusal the
+//! very one that an opening tells of the same words. Of a script it promises what it is for: its lines, read as
+//! scripts are read and taken from the empty state in a heap of at least that order, give the state again, and
+//! none of them is told that the heap is full.
+#![tactic(auto)]
+
+mod check;
+mod dumping;
+mod refusing;
+mod script;
+mod words;
+
+pub use dumping::dump;
+pub use rom_run::Status;
+pub use words::{Dump, dump_file, read_dump};

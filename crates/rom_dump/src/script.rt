@@ -1,0 +1,94 @@
+//! The script of a heap.
+ghost use Rattle.std.specs.Prelude.{◌≡◌, ◌≤◌, ◌++◌, ℕ, List, IfSome, codes, decimal, length};
+ghost use Rattle.std.specs.List.{AllByRecursion};
+ghost use Rattle.rom_model.specs.Region.{Contents};
+ghost use Rattle.rom_model.specs.State as model;
+ghost use Rattle.rom_device.specs.Device.{OnlyReads};
+ghost use Rattle.rom_dump.specs.Named.{IsPart};
+ghost use Rattle.rom_dump.specs.Shown.{EndsAsText, EndsAsWhole, IsAnswered, IsPutAgain, too_long_line};
+ghost use Rattle.rom_dump.specs.Words.{Script};
+ghost use Rattle.rom_rebuild.specs.Parts.{lines_in};
+ghost use Rattle.rom_rebuild.specs.Script.{script_of};
+ghost use Rattle.rom_run.specs.Statuses.{number_of};
+ghost use Rattle.rom_text.specs.Runs.{IsTold};
+
+use crate::refusing::refuse;
+use itoa::Buffer;
+use rom_device::Device;
+use rom_elements::Elements;
+use rom_heap::Trio;
+use rom_model::VecSpace;
+use rom_open::Why;
+use rom_rebuild::Part;
+use rom_run::{Status, tell};
+use rom_text::{Sink, print_gathered};
+use rom_view::{Viewed, view_device};
+use std::alloc::Global;
+
+/// Says that a script is too long, and how many parts it has.
+fn tell_too_long<O: Sink>(parts: u64, out: &mut O) -> Status
+    ensures status { result ≡ Status.ScriptTooLong }
+    ensures told { IsTold O.shown out.old out.new (too_long_line parts) }
+    ensures rest { O.shown.rest out.new ≡ O.shown.rest out.old }
+{
+    tell(
+        out,
+        &["script too long, ", Buffer::new().format(parts), " parts"],
+    );
+    Status::ScriptTooLong
+}
+
+/// Prints the lines of a part.
+fn print_part<O: Sink>(part: &Part, out: &mut O) -> Status
+    ensures text { EndsAsText O.shown (script_of (lines_in part.now)) out.old out.new
+        (number_of result) }
+    ensures rest { O.shown.rest out.new ≡ O.shown.rest out.old }
+{
+    match print_gathered(out, part) {
+        Ok(()) => Status::Done,
+        Err(_) => Status::SinkFailed,
+    }
+}
+
+/// Prints the lines of a whole script, or how many parts it has where it is too long for one.
+fn print_whole<O: Sink>(whole: &Part, out: &mut O) -> Status
+    ensures text { EndsAsWhole O.shown (lines_in whole.now) out.old out.new (number_of result) }
+    ensures rest { O.shown.rest out.new ≡ O.shown.rest out.old }
+{
+    if !whole.fits() {
+        return tell_too_long(whole.parts(), out);
+    }
+    print_part(whole, out)
+}
+
+/// Prints the script of the heap on the device, or this part of it, or why the heap is refused.
+pub fn show_script<D: Device, O: Sink>(
+    alloc: Global,
+    device: &mut D,
+    part: Option<u64>,
+    out: &mut O,
+) -> Status
+    requires { IfSome part IsPart }
+    ensures answered { (file : List ℕ) → IsAnswered D.shown O.shown (Script file part)
+        device.old device.new out.old out.new (number_of result) }
+    ensures only { OnlyReads D.shown device.old device.new }
+    ensures rest { O.shown.rest out.new ≡ O.shown.rest out.old }
+{
+    let viewed = match view_device::<D, Trio>(alloc, device) {
+        Ok(viewed) => viewed,
+        Err(why) => return refuse(why, out),
+    };
+    let Viewed {
+        geometry,
+        state: _,
+        image,
+    } = viewed;
+    let mut space = VecSpace::of(image);
+    let Ok(elements) = Elements::of(alloc, &mut space, geometry.order()) else {
+        return refuse(Why::OutOfMemory, out);
+    };
+    match part {
+        Some(part) => print_part(&Part::of(&elements, part), out),
+        None => print_whole(&Part::whole(&elements), out),
+    }
+}

@@ -1,0 +1,4 @@
+-- The script of some elements, its parts, and what its lines rebuild.
+pub mod Script
+pub mod Parts
+pub mod Rebuilds

@@ -1,0 +1,90 @@
+//! A part of a script.
+ghost use Rattle.std.specs.Prelude.{◌≤◌, length};
+ghost use Rattle.rom_elements.specs.Elements.{elements_in};
+
+use crate::lines::{lines_len, print_lines};
+use rom_elements::Elements;
+use rom_text::{IoFailed, Report, Sink};
+
+/// How many lines a part has at most. The longest line has 46 bytes.
+const PART: u64 = 20480;
+
+/// The most bytes that a script may have.
+const MOST_BYTES: u64 = 1 << 20;
+
+/// How many parts a script has at most.
+pub const MOST_PARTS: u64 = 3;
+
+/// Some of the lines of a script, one for each element, in order.
+#[derive(Clone, Copy)]
+pub struct Part<'a> {
+    elements: &'a Elements,
+    // The first of them, and the first behind them.
+    from: u64,
+    to: u64,
+    ghost order: { from ≤ to },
+    ghost within: { to ≤ length (elements_in elements.now) },
+    ghost few: { to ≤ 61440 },
+}
+
+impl<'a> Part<'a> {
+    ghost use Rattle.std.specs.Prelude.{◌≡◌, IsTrue};
+    ghost use Rattle.std.specs.Bool.{MatchBool};
+    ghost use Rattle.rom_rebuild.specs.Parts.{IsTooLong, lines_in};
+    ghost use Rattle.rom_rebuild.specs.Script.{part_of, parts_needed, script_of};
+    ghost use Rattle.rom_text.specs.Limits.{IsWithinLimit};
+
+    /// All lines of a script. A heap has at most 61,440 elements.
+    pub fn whole(elements: &'a Elements) -> Part<'a>
+        requires { length (elements_in elements.now) ≤ 61440 }
+        ensures { lines_in result ≡ elements_in elements.now }
+    {
+        Part {
+            elements,
+            from: 0,
+            to: elements.len(),
+        }
+    }
+
+    /// The lines of a part of it, counted from 1. Those behind the last one have none.
+    pub fn of(elements: &'a Elements, part: u64) -> Part<'a>
+        requires few { length (elements_in elements.now) ≤ 61440 }
+        requires least { 1 ≤ part }
+        requires most { part ≤ 3 }
+        ensures { lines_in result ≡ part_of part (elements_in elements.now) }
+    {
+        let len = elements.len();
+        let from = ((part - 1) * PART).min(len);
+        let to = (from + PART).min(len);
+        Part { elements, from, to }
+    }
+
+    /// Whether a script may have as many bytes.
+    pub fn fits(&self) -> bool
+        ensures { MatchBool result (IsWithinLimit (script_of (lines_in self.now)))
+            (IsTooLong (script_of (lines_in self.now))) }
+    {
+        lines_len(self.elements, self.from, self.to) <= MOST_BYTES
+    }
+
+    /// How many parts these lines have, where they are a whole script.
+    pub fn parts(&self) -> u64
+        ensures { result ≡ parts_needed (lines_in self.now) }
+    {
+        (self.to - self.from).div_ceil(PART)
+    }
+}
+
+impl Report for Part<'_> {
+    ghost use Rattle.rom_rebuild.specs.Parts.{lines_in};
+    ghost use Rattle.rom_rebuild.specs.Script.{script_of};
+
+    ghost shown = { record {
+      text = λ part. script_of (lines_in part);
+      Fits = λ _. Unit {0};
+    } };
+
+    fn print<O: Sink>(&self, out: &mut O) -> Result<(), IoFailed> {
+        print_lines(out, self.elements, self.from, self.to)
+    }
+}
