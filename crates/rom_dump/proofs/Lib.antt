@@ -1,1 +1,3 @@
 -- Lemmas on what is shown.
+pub mod Showing
+pub mod Promising

@@ -1,5 +1,6 @@
 //! Which region of a heap counts, and its sizes.
 ghost use Rattle.std.specs.Prelude.{◌≡◌, ℕ, List};
+ghost use Rattle.rom_model.specs.Blocks.{IsOrder};
 ghost use Rattle.rom_model.specs.Region.{Contents};
 ghost use Rattle.rom_model.specs.State as model;
 ghost use Rattle.rom_device.specs.Device.{OnlyReads};
@@ -23,30 +24,28 @@ use std::alloc::Global;
 fn print_counting<O: Sink>(state: State, out: &mut O) -> Result<(), IoFailed>
     ensures prints { Prints O.shown out.old out.new result (counting_text state) }
 {
-    let line = match state {
-        State::Idle => "counts both: idle\n",
-        State::Mutating => "counts back: a batch is under way\n",
-        State::Copying => "counts main: a copy is under way\n",
-    };
-    print_text(out, line)
+    match state {
+        State::Idle => print_text(out, "counts both: idle\n"),
+        State::Mutating => print_text(out, "counts back: a batch is under way\n"),
+        State::Copying => print_text(out, "counts main: a copy is under way\n"),
+    }
 }
 
 /// Prints which region counts, and the five lines of the heap.
 fn print_check<O: Sink>(viewed: Viewed, out: &mut O) -> Result<(), IoFailed>
-    requires region { (s : model.State) × (k : ℕ) ×
-        Contents viewed.geometry viewed.image.items s k }
-    ensures prints { (s : model.State) (k : ℕ) →
-        Contents viewed.geometry viewed.image.items s k →
-        Prints O.shown out.old out.new result (check_text viewed.geometry viewed.state s k) }
+    requires order { IsOrder viewed.order }
+    requires region { (s : model.State) × (k : ℕ) × Contents viewed.order viewed.image.items s k }
+    ensures prints { (s : model.State) (k : ℕ) → Contents viewed.order viewed.image.items s k →
+        Prints O.shown out.old out.new result (check_text viewed.order viewed.state s k) }
 {
     let Viewed {
-        geometry,
+        order,
         state,
         image,
     } = viewed;
     let mut space = VecSpace::of(image);
     print_counting(state, out)?;
-    print_stat(&mut space, geometry.order(), out)
+    print_stat(&mut space, order, out)
 }
 
 /// Says which region of the heap on the device counts, and its sizes, or why it is refused.

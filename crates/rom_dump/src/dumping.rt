@@ -28,9 +28,8 @@ pub fn dump<D: Device, O: Sink>(
         tell(out, &["not a command"]);
         return Status::NotACommand.number();
     };
-    let status = match asked {
-        Dump::Script { file: _, part } => show_script(alloc, device, part, out),
-        Dump::Check(_) => check_heap(alloc, device, out),
-    };
-    status.number()
+    match asked {
+        Dump::Script { file: _, part } => show_script(alloc, device, part, out).number(),
+        Dump::Check(_) => check_heap(alloc, device, out).number(),
+    }
 }

@@ -1,11 +1,8 @@
 //! The script of a heap.
-ghost use Rattle.std.specs.Prelude.{◌≡◌, ◌≤◌, ◌++◌, ℕ, List, IfSome, codes, decimal, length};
-ghost use Rattle.std.specs.List.{AllByRecursion};
-ghost use Rattle.rom_model.specs.Region.{Contents};
-ghost use Rattle.rom_model.specs.State as model;
+ghost use Rattle.std.specs.Prelude.{◌≡◌, ℕ, List, IfSome};
 ghost use Rattle.rom_device.specs.Device.{OnlyReads};
 ghost use Rattle.rom_dump.specs.Named.{IsPart};
-ghost use Rattle.rom_dump.specs.Shown.{EndsAsText, EndsAsWhole, IsAnswered, IsPutAgain, too_long_line};
+ghost use Rattle.rom_dump.specs.Shown.{EndsAsText, EndsAsWhole, IsAnswered, too_long_line};
 ghost use Rattle.rom_dump.specs.Words.{Script};
 ghost use Rattle.rom_rebuild.specs.Parts.{lines_in};
 ghost use Rattle.rom_rebuild.specs.Script.{script_of};
@@ -79,12 +76,12 @@ pub fn show_script<D: Device, O: Sink>(
         Err(why) => return refuse(why, out),
     };
     let Viewed {
-        geometry,
+        order,
         state: _,
         image,
     } = viewed;
     let mut space = VecSpace::of(image);
-    let Ok(elements) = Elements::of(alloc, &mut space, geometry.order()) else {
+    let Ok(elements) = Elements::of(alloc, &mut space, order) else {
         return refuse(Why::OutOfMemory, out);
     };
     match part {

@@ -31,6 +31,15 @@ fn open_old(rt: &HostRuntime, name: &str) -> io::Result<FileDevice> {
     Ok(FileDevice::new(file, bytes))
 }
 
+/// The words of a file that is only read: it is opened for reading alone, so that each write and each sync of
+/// it would fail, and locked against those who write, while others may read it too.
+fn open_to_read(rt: &HostRuntime, name: &str) -> io::Result<FileDevice> {
+    let file = File::open(rt, name)?;
+    file.try_lock_shared()?;
+    let bytes = file.metadata()?.len();
+    Ok(FileDevice::new(file, bytes))
+}
+
 /// The words of a file that is made if need be, and lengthened with zeros to so many. It is never
 /// shortened.
 fn open_made(rt: &HostRuntime, name: &str, words: u64) -> io::Result<FileDevice> {
@@ -50,13 +59,24 @@ fn open_made(rt: &HostRuntime, name: &str, words: u64) -> io::Result<FileDevice>
     Ok(FileDevice::new(file, bytes.max(wanted)))
 }
 
+/// These words of a file, or a device that fails where there are none.
+fn or_missing(opened: io::Result<FileDevice>) -> Result<FileDevice, AllocError> {
+    match opened {
+        Ok(device) => Ok(device),
+        Err(error) if error.kind() == ErrorKind::OutOfMemory => Err(AllocError),
+        Err(_) => Ok(FileDevice::missing()),
+    }
+}
+
 /// The device of a file, or one that fails where there is none.
 fn file_or_missing(opened: io::Result<FileDevice>) -> Result<HostDevice, AllocError> {
-    match opened {
-        Ok(device) => Ok(HostDevice::File(device)),
-        Err(error) if error.kind() == ErrorKind::OutOfMemory => Err(AllocError),
-        Err(_) => Ok(HostDevice::File(FileDevice::missing())),
-    }
+    Ok(HostDevice::File(or_missing(opened)?))
+}
+
+/// A device over a file for who only reads it. It fails where there is no file or another program has locked
+/// it to write.
+pub fn reader_of(rt: &HostRuntime, name: &str) -> Result<FileDevice, AllocError> {
+    or_missing(open_to_read(rt, name))
 }
 
 /// So many words in memory, each 0.

@@ -1,6 +1,6 @@
 //! A heap that is only seen.
 ghost use Rattle.std.specs.Prelude.{◌<◌, ◌≡◌, ◌≤◌, ℕ, IfErr, IfOk, IsTrue, Err, length, slice_index};
-ghost use Rattle.rom_model.specs.Blocks.{region_len};
+ghost use Rattle.rom_model.specs.Blocks.{IsOrder, region_len};
 ghost use Rattle.rom_device.specs.Device.{OnlyReads};
 ghost use Rattle.rom_header.specs.Headers.{state_word};
 ghost use Rattle.rom_header.specs.Layout.{STATE, words_needed};
@@ -11,7 +11,7 @@ ghost use Rattle.rom_open.specs.declared.reasons.Why.TheVariants.{TooSmall};
 
 use crate::region::read_region;
 use rom_device::Device;
-use rom_header::{Geometry, State, read_header};
+use rom_header::{State, read_header};
 use rom_model::Object;
 use rom_open::{Why, inspect_image};
 use std::alloc::Global;
@@ -19,8 +19,8 @@ use std::alloc::Global;
 /// What a device was seen to hold.
 #[derive(Drop)]
 pub struct Viewed {
-    /// That of the order in word 2.
-    pub geometry: Geometry,
+    /// The order in word 2.
+    pub order: u32,
     /// Which region counts.
     pub state: State,
     /// The words of the region that counts, which is well-formed.
@@ -35,7 +35,7 @@ pub struct Viewed {
 pub fn view_device<D: Device, O: Object>(alloc: Global, device: &mut D) -> Result<Viewed, Why>
     // Where the device tells its words, the answer is exactly theirs.
     ensures viewed { IsTrue D.shown.tells_words → IfOk result (λ viewed.
-        IsCurrentRegion viewed.geometry (D.shown.words device.old) viewed.image.items) }
+        IsCurrentRegion viewed.order (D.shown.words device.old) viewed.image.items) }
     ensures state { IsTrue D.shown.tells_words → IfOk result (λ viewed.
         slice_index (D.shown.words device.old) STATE ≡ state_word viewed.state) }
     ensures refused { IsTrue D.shown.tells_words →
@@ -45,11 +45,12 @@ pub fn view_device<D: Device, O: Object>(alloc: Global, device: &mut D) -> Resul
     ensures sizes { IfErr result (NamesTooFew (D.shown.size device.old)) }
 
     // The image is well-formed.
+    ensures order { IfOk result (λ viewed. IsOrder viewed.order) }
     ensures fit { IfOk result (λ viewed.
-        (s : O.State) × (k : ℕ) × O.Contents viewed.geometry viewed.image.items s k) }
-    ensures sized { IfOk result (λ viewed. length viewed.image.items ≡ region_len viewed.geometry) }
+        (s : O.State) × (k : ℕ) × O.Contents viewed.order viewed.image.items s k) }
+    ensures sized { IfOk result (λ viewed. length viewed.image.items ≡ region_len viewed.order) }
     ensures fits { IfOk result (λ viewed.
-        words_needed viewed.geometry ≤ D.shown.size device.old) }
+        words_needed viewed.order ≤ D.shown.size device.old) }
 
     // Nothing is written and nothing made certain, and no call follows one that failed.
     ensures only { OnlyReads D.shown device.old device.new }
@@ -64,7 +65,7 @@ pub fn view_device<D: Device, O: Object>(alloc: Global, device: &mut D) -> Resul
     read_region(device, header, image.as_mut_slice())?;
     inspect_image::<O>(alloc, image.as_slice(), header.geometry)?;
     Ok(Viewed {
-        geometry: header.geometry,
+        order: header.geometry.order(),
         state: header.state,
         image,
     })

@@ -1,0 +1,115 @@
+-- What is shown of a heap that was seen, and what is told of one that was not.
+use Rattle.std.proofs.Common.{◌≡◌, ◌≢◌, inl, inr, ℕ, ◌+◌, ◌-◌, ◌*◌, ◌^◌, ◌<◌, ◌≤◌, List, [], ◌++◌, refl, sym, ◌∙◌, ap, subst, arith, append-nil, append_assoc}
+use Rattle.std.specs.Prelude.{IsTrue, length, slice_index, Option, Some, None, Err}
+use Rattle.std.specs.List.{AllByRecursion}
+use Rattle.rom_model.specs.Blocks.{IsOrder}
+use Rattle.rom_model.specs.Region.{Contents}
+use Rattle.rom_model.specs.State as model
+use Rattle.rom_model.specs.State.{cap, live}
+use Rattle.rom_model.proofs.Contents.{live_fits}
+use Rattle.rom_model.proofs.Nodes.{pow_up}
+use Rattle.rom_device.specs.Device.{ShownDevice}
+use Rattle.rom_header.specs.Headers.{state_word}
+use Rattle.rom_header.specs.Layout.{STATE, words_needed}
+use Rattle.rom_header.specs.Regions.{IsCurrentRegion}
+use Rattle.rom_header.specs.declared.header.State.{State}
+use Rattle.rom_heap.specs.Answers.{Rejects}
+use Rattle.rom_open.specs.Calls.{HasFaults}
+use Rattle.rom_open.specs.Refusals.{IsRefusal, NamesTooFew, named_order}
+use Rattle.rom_open.specs.declared.reasons.Why.{Why}
+use Rattle.rom_open.specs.declared.reasons.Why.TheVariants.{NotAHeap, BadVersion, BadOrder, BadState, TooSmall, Twins, OldRegion, NewRegion, Malformed, Device, OutOfMemory}
+use Rattle.rom_elements.specs.declared.element.Element.{Element}
+use Rattle.rom_elements.specs.Elements.{AreElements, ElementFits}
+use Rattle.rom_rebuild.proofs.Rebuilding.{elements_many, rebuilt}
+use Rattle.rom_rebuild.proofs.Spans.{part_fits, parts_whole}
+use Rattle.rom_run.specs.Refusing.{refusal_line, refusal_status}
+use Rattle.rom_run.specs.Statuses.{number_of}
+use Rattle.rom_run.specs.declared.status.Status.{Status}
+use Rattle.rom_text.specs.Runs.{IsTold}
+use Rattle.rom_text.specs.Streams.{ShownSink}
+use Rattle.rom_dump.specs.Shown.{EndsAsScript, IsAnswered, IsPrinted, IsPutAgain}
+use Rattle.rom_dump.specs.Words.{Command, Script, Check}
+
+pub three_pieces : (a n b : List ℕ) → a ++ (n ++ (b ++ [])) ≡ a ++ n ++ b
+three_pieces a n b = ap (λ t. a ++ (n ++ t)) (append-nil b) ∙ sym (append_assoc a n b)
+
+-- a greater order has more room
+pub cap_rises : (n m : ℕ) → n ≤ m → cap n ≤ cap m
+cap_rises n m le =
+    let e : n - 4 + (m - 4 - (n - 4)) ≡ m - 4 = omega (arith, le) in
+    let more : 2 ^ (n - 4) ≤ 2 ^ (m - 4) = subst (λ a. 2 ^ (n - 4) ≤ 2 ^ a) e (pow_up (n - 4) (m - 4 - (n - 4))) in
+    omega (arith, more)
+
+pub elements_few : (n : ℕ) (s : model.State) (es : List Element) → n ≤ 16 → live s ≤ cap n → AreElements s es → length es ≤ 61440
+elements_few n s es le fits are =
+    let most : cap 16 ≡ 61440 = refl in
+    omega (arith, elements_many s es are, fits, cap_rises n 16 le, most)
+
+pub region_fits : (n : ℕ) (image : List ℕ) → IsOrder n → (x : (s : model.State) × (k : ℕ) × Contents n image s k) → live x.0 ≤ cap n
+region_fits n image order x = live_fits order.least x.2.1
+
+module _ {K : Type 0} (sink : ShownSink K) where
+  pub put_again : (n : ℕ) (s : model.State) (es : List Element) (part : Option ℕ) (old new : K) (status : ℕ) → IsOrder n → live s ≤ cap n → AreElements s es → AllByRecursion ElementFits es → EndsAsScript sink part es old new status → IsPutAgain sink n s part old new status
+  put_again n s es part old new status order fits are fit printed =
+      let few = elements_few n s es order.most fits are in
+      record {
+        elements = es;
+        are = are;
+        rebuilds = λ greater le is. rebuilt greater s es are fit (omega (arith, fits, cap_rises n greater le));
+        few = few;
+        parts = parts_whole es few;
+        fit = λ number. part_fits number es fit;
+        printed = printed;
+      }
+
+module _ {D K : Type 0} (shown : ShownDevice D) (sink : ShownSink K) (was now : D) (old new : K) (asked : Command) where
+  pub is_shown : (n : ℕ) (kind : State) (image : List ℕ) (status : ℕ) → IsOrder n → (x : (s : model.State) × (k : ℕ) × Contents n image s k) → (IsTrue shown.tells_words → IsCurrentRegion n (shown.words was) image)
+      → (IsTrue shown.tells_words → slice_index (shown.words was) STATE ≡ state_word kind) → words_needed n ≤ shown.size was → shown.faults now ≡ shown.faults was → IsPrinted sink asked n kind x.0 x.1 old new status → IsAnswered shown sink asked was now old new status
+  is_shown n kind image status order x current named fits faults printed = inl record {
+    order = n;
+    kind = kind;
+    state = x.0;
+    count = x.1;
+    held = λ told. record { region = image; current = current told; contents = x.2 };
+    named = named;
+    fits = fits;
+    room = region_fits n image order x;
+    faults = faults;
+    printed = printed;
+  }
+
+  pub is_refused : (why : Why) (status : Status) → status ≡ refusal_status why → (IsTrue shown.tells_words → IsRefusal Contents Rejects (shown.words was) why) → NamesTooFew (shown.size was) why → HasFaults {T = Unit {0}} (Err why) (shown.faults was) (shown.faults now) (shown.failing now)
+      → IsTold sink old new (refusal_line why) → IsAnswered shown sink asked was now old new (number_of status)
+  is_refused why status is refused sizes faults told = inr record { why = why; status_is = ap number_of is; refused = refused; sizes = sizes; faults = faults; told = told }
+
+  -- there was no memory for what a script needs
+  pub no_memory : (n : ℕ) (image : List ℕ) (status : Status) → status ≡ refusal_status OutOfMemory → (IsTrue shown.tells_words → IsCurrentRegion n (shown.words was) image) → shown.faults now ≡ shown.faults was → IsTold sink old new (refusal_line OutOfMemory)
+      → IsAnswered shown sink asked was now old new (number_of status)
+  no_memory n image status is current faults told = is_refused OutOfMemory status is
+      (λ tells. let c = current tells in let e : n ≡ named_order (shown.words was) = sym c.heap.header.order_is in inr (image, subst (λ (m : ℕ). IsCurrentRegion m (shown.words was) image) e c, tt)) tt faults told
+
+  -- and with 2 nothing is answered
+  refusal_not_two : (why : Why) → number_of (refusal_status why) ≢ 2
+  refusal_not_two Device is = absurd (omega (arith, is))
+  refusal_not_two OutOfMemory is = absurd (omega (arith, is))
+  refusal_not_two NotAHeap is = absurd (omega (arith, is))
+  refusal_not_two (BadVersion version) is = absurd (omega (arith, is))
+  refusal_not_two (BadOrder n) is = absurd (omega (arith, is))
+  refusal_not_two (BadState word) is = absurd (omega (arith, is))
+  refusal_not_two (TooSmall need have) is = absurd (omega (arith, is))
+  refusal_not_two (Twins offset main back) is = absurd (omega (arith, is))
+  refusal_not_two OldRegion is = absurd (omega (arith, is))
+  refusal_not_two NewRegion is = absurd (omega (arith, is))
+  refusal_not_two (Malformed offset rule) is = absurd (omega (arith, is))
+
+script_not_two : {K : Type 0} (sink : ShownSink K) (part : Option ℕ) (es : List Element) (old new : K) (status : ℕ) → EndsAsScript sink part es old new status → status ≢ 2
+script_not_two sink (Some part) es old new status (inl done) is = let e = done.0 in absurd (omega (arith, e, is))
+script_not_two sink (Some part) es old new status (inr cut) is = let e = cut.0 in absurd (omega (arith, e, is))
+script_not_two sink None es old new status (inl (within, inl done)) is = let e = done.0 in absurd (omega (arith, e, is))
+script_not_two sink None es old new status (inl (within, inr cut)) is = let e = cut.0 in absurd (omega (arith, e, is))
+script_not_two sink None es old new status (inr long) is = let e = long.1 in absurd (omega (arith, e, is))
+
+pub answered_not_two : {D K : Type 0} (shown : ShownDevice D) (sink : ShownSink K) (asked : Command) (was now : D) (old new : K) (status : ℕ) → IsAnswered shown sink asked was now old new status → status ≢ 2
+answered_not_two shown sink (Script file part) was now old new status (inl one) is = script_not_two sink part one.printed.elements old new status one.printed.printed is
+answered_not_two shown sink (Check file) was now old new status (inl one) is = let e = one.printed.0 in absurd (omega (arith, e, is))
+answered_not_two shown sink asked was now old new status (inr none) is = refusal_not_two shown sink was now old new asked none.why (sym none.status_is ∙ is)
