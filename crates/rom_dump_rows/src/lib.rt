@@ -1,0 +1,8 @@
+//! Tests of `romulus_dump` through its top call: what it tells of worked heaps, in the midst of an update too,
+//! and of heaps that are refused; and full heaps that are made again from their own scripts.
+#![tactic(auto)]
+
+#[cfg(test)]
+mod again;
+#[cfg(test)]
+mod rows;

@@ -1,0 +1,431 @@
+//! What the commands tell of heaps of order 4, as rows of data. The words of the heaps are those that the
+//! formats name, and what is to be told of them was written by hand.
+ghost use Rattle.std.specs.Prelude.{◌≡◌, length};
+
+use rom_device::{Device, Fuse, Memory};
+use rom_dump::dump;
+use rom_text::{Collect, Names};
+use std::alloc::{AllocError, Global};
+use std::test::Fail;
+
+/// The ASCII letters `ROMULUS1`.
+const MAGIC: u64 = 0x524F_4D55_4C55_5331;
+
+/// How many words a heap of order 4 has, and where its regions begin.
+const WORDS: usize = 232;
+
+const MAIN: usize = 8;
+
+const BACK: usize = 120;
+
+/// A new region's words that are not 0, up to its blocks: offset and word.
+const FRESH: [(usize, u64); 33] = [
+    (0, 1),
+    (1, 2),
+    (8, 48),
+    (17, 4),
+    (18, 3),
+    (19, 4),
+    (20, 2),
+    (21, 3),
+    (22, 3),
+    (23, 3),
+    (24, 1),
+    (25, 2),
+    (26, 2),
+    (27, 2),
+    (28, 2),
+    (29, 2),
+    (30, 2),
+    (31, 2),
+    (33, 1),
+    (34, 1),
+    (35, 1),
+    (36, 1),
+    (37, 1),
+    (38, 1),
+    (39, 1),
+    (40, 1),
+    (41, 1),
+    (42, 1),
+    (43, 1),
+    (44, 1),
+    (45, 1),
+    (46, 1),
+    (47, 1),
+];
+
+/// What differs from it after `enq 9`, after `deq` on that, after `put 5 7`, and after `put 0 1` and `put 5 2`.
+const QUEUED: [(usize, u64); 7] = [
+    (2, 1),
+    (3, 52),
+    (4, 52),
+    (5, 1),
+    (24, 0),
+    (33, 0),
+    (52, 9),
+];
+
+const TAKEN: [(usize, u64); 2] = [(2, 2), (52, 9)];
+
+const PUT: [(usize, u64); 8] = [
+    (2, 1),
+    (9, 1),
+    (24, 0),
+    (33, 0),
+    (48, 52),
+    (52, 5),
+    (53, 7),
+    (55, 1),
+];
+
+const PAIRS: [(usize, u64); 12] = [
+    (2, 2),
+    (9, 2),
+    (20, 1),
+    (24, 0),
+    (25, 1),
+    (33, 0),
+    (34, 0),
+    (48, 52),
+    (53, 1),
+    (54, 56),
+    (56, 5),
+    (57, 2),
+];
+
+/// A region that an update has left half done.
+const TORN: [(usize, u64); 2] = [(3, 52), (52, 9)];
+
+/// A heap, what is asked, and what is to be told.
+#[derive(Clone, Copy, Debug)]
+struct Row {
+    words: &'static [&'static str],
+    /// The word of the state.
+    state: u64,
+    /// What differs from a new region in main and in back.
+    main: &'static [(usize, u64)],
+    back: &'static [(usize, u64)],
+    /// Words of the device that are others.
+    changes: &'static [(usize, u64)],
+    /// How many words the device has.
+    len: usize,
+    /// How many calls of it succeed.
+    calls: u64,
+    /// For how many bytes the sink has room.
+    room: u64,
+    status: u8,
+    text: &'static str,
+}
+
+const NEW: Row = Row {
+    words: &["check", "heap"],
+    state: 0,
+    main: &[],
+    back: &[],
+    changes: &[],
+    len: WORDS,
+    calls: 1_000_000,
+    room: 4096,
+    status: 0,
+    text: "counts both: idle\norder 4\ncount 0\nqueue 0 set 0 map 0\nfree 15\ntotal 0\n",
+};
+
+const SCRIPT: Row = Row {
+    words: &["script", "heap"],
+    text: "",
+    ..NEW
+};
+
+const NO_COMMAND: Row = Row {
+    status: 2,
+    text: "not a command\n",
+    ..NEW
+};
+
+const REFUSED: Row = Row { status: 3, ..SCRIPT };
+
+const ROWS: [Row; 39] = [
+    // The worked regions.
+    NEW,
+    SCRIPT,
+    Row {
+        main: &QUEUED,
+        back: &QUEUED,
+        text: "counts both: idle\norder 4\ncount 1\nqueue 1 set 0 map 0\nfree 14\ntotal 0\n",
+        ..NEW
+    },
+    Row {
+        main: &QUEUED,
+        back: &QUEUED,
+        text: "enq 9\n",
+        ..SCRIPT
+    },
+    Row {
+        main: &TAKEN,
+        back: &TAKEN,
+        text: "counts both: idle\norder 4\ncount 2\nqueue 0 set 0 map 0\nfree 15\ntotal 0\n",
+        ..NEW
+    },
+    Row {
+        main: &TAKEN,
+        back: &TAKEN,
+        ..SCRIPT
+    },
+    Row {
+        main: &PUT,
+        back: &PUT,
+        text: "counts both: idle\norder 4\ncount 1\nqueue 0 set 0 map 1\nfree 14\ntotal 7\n",
+        ..NEW
+    },
+    Row {
+        main: &PUT,
+        back: &PUT,
+        text: "put 5 7\n",
+        ..SCRIPT
+    },
+    Row {
+        main: &PAIRS,
+        back: &PAIRS,
+        text: "put 0 1\nput 5 2\n",
+        ..SCRIPT
+    },
+    // In the midst of an update: it is read from the region that counts, whatever the other one is.
+    Row {
+        state: 1,
+        main: &TORN,
+        back: &QUEUED,
+        text: "counts back: a batch is under way\norder 4\ncount 1\nqueue 1 set 0 map 0\nfree 14\ntotal 0\n",
+        ..NEW
+    },
+    Row {
+        state: 1,
+        main: &PUT,
+        back: &QUEUED,
+        text: "enq 9\n",
+        ..SCRIPT
+    },
+    Row {
+        state: 2,
+        main: &PUT,
+        back: &TORN,
+        text: "counts main: a copy is under way\norder 4\ncount 1\nqueue 0 set 0 map 1\nfree 14\ntotal 7\n",
+        ..NEW
+    },
+    Row {
+        state: 2,
+        main: &PUT,
+        back: &QUEUED,
+        text: "put 5 7\n",
+        ..SCRIPT
+    },
+    // Parts, and a sink that fails.
+    Row {
+        words: &["script", "heap", "--part", "1"],
+        main: &PAIRS,
+        back: &PAIRS,
+        text: "put 0 1\nput 5 2\n",
+        ..SCRIPT
+    },
+    Row {
+        words: &["script", "heap", "--part", "2"],
+        main: &PAIRS,
+        back: &PAIRS,
+        ..SCRIPT
+    },
+    Row {
+        words: &["script", "heap", "--part", "3"],
+        main: &PAIRS,
+        back: &PAIRS,
+        ..SCRIPT
+    },
+    Row {
+        main: &PAIRS,
+        back: &PAIRS,
+        room: 10,
+        status: 5,
+        text: "put 0 1\npu",
+        ..SCRIPT
+    },
+    Row {
+        room: 20,
+        text: "counts both: idle\nor",
+        ..NEW
+    },
+    // What is refused.
+    Row {
+        changes: &[(0, 7)],
+        text: "refused: not a heap\n",
+        ..REFUSED
+    },
+    Row {
+        changes: &[(1, 2)],
+        text: "refused: version 2\n",
+        ..REFUSED
+    },
+    Row {
+        changes: &[(2, 17)],
+        text: "refused: order 17\n",
+        ..REFUSED
+    },
+    Row {
+        state: 3,
+        text: "refused: state 3\n",
+        ..REFUSED
+    },
+    Row {
+        len: 7,
+        text: "refused: too small, need 8, have 7\n",
+        ..REFUSED
+    },
+    Row {
+        words: &["check", "heap"],
+        len: 231,
+        text: "refused: too small, need 232, have 231\n",
+        ..REFUSED
+    },
+    Row {
+        words: &["check", "heap"],
+        main: &QUEUED,
+        text: "refused: twins differ at 2, main 1, back 0\n",
+        ..REFUSED
+    },
+    Row {
+        main: &[(1, 1)],
+        back: &[(1, 1)],
+        text: "refused: region version 1\n",
+        ..REFUSED
+    },
+    Row {
+        words: &["check", "heap"],
+        state: 1,
+        main: &QUEUED,
+        back: &[(5, 3)],
+        text: "refused: malformed at 5, rule count\n",
+        ..REFUSED
+    },
+    Row {
+        state: 2,
+        main: &TORN,
+        back: &QUEUED,
+        text: "refused: malformed at 4, rule ends\n",
+        ..REFUSED
+    },
+    Row {
+        words: &["check", "heap"],
+        calls: 2,
+        status: 7,
+        text: "device failed\n",
+        ..REFUSED
+    },
+    Row {
+        state: 1,
+        calls: 100,
+        status: 7,
+        text: "device failed\n",
+        ..REFUSED
+    },
+    // And words that are none.
+    Row {
+        words: &[],
+        ..NO_COMMAND
+    },
+    Row {
+        words: &["stat", "heap"],
+        ..NO_COMMAND
+    },
+    Row {
+        words: &["check"],
+        ..NO_COMMAND
+    },
+    Row {
+        words: &["check", "heap", "--part"],
+        ..NO_COMMAND
+    },
+    Row {
+        words: &["check", "-heap"],
+        ..NO_COMMAND
+    },
+    Row {
+        words: &["script", ""],
+        ..NO_COMMAND
+    },
+    Row {
+        words: &["script", "heap", "--part"],
+        ..NO_COMMAND
+    },
+    Row {
+        words: &["script", "heap", "--part", "4"],
+        ..NO_COMMAND
+    },
+    Row {
+        words: &["script", "heap", "--part=1", "1"],
+        ..NO_COMMAND
+    },
+];
+
+/// Puts these words at their places behind that one.
+fn change(words: &mut [u64], from: usize, changes: &[(usize, u64)])
+    ensures { length words.new ≡ length words.old }
+{
+    for (at, word) in changes {
+        if let Some(place) = words.get_mut(from.saturating_add(*at)) {
+            *place = *word;
+        }
+    }
+}
+
+/// The words of a row's device.
+fn device_of(alloc: Global, row: &Row) -> Result<Vec<u64>, AllocError> {
+    let mut words = vec![in alloc; 0u64; WORDS]?;
+    change(&mut words, 0, &[(0, MAGIC), (1, 1), (2, 4), (3, row.state)]);
+    for from in [MAIN, BACK] {
+        change(&mut words, from, &FRESH);
+    }
+    change(&mut words, MAIN, row.main);
+    change(&mut words, BACK, row.back);
+    change(&mut words, 0, row.changes);
+    words.truncate(row.len);
+    Ok(words)
+}
+
+pub(crate) fn names_of(alloc: Global, words: &[&str]) -> Result<Names, AllocError> {
+    let mut names = Names::new(alloc);
+    for word in words {
+        names.push(alloc, word)?;
+    }
+    Ok(names)
+}
+
+/// What a row tells, and the words that it leaves.
+#[derive(Drop)]
+struct Found {
+    status: u8,
+    text: String,
+    words: Vec<u64>,
+}
+
+fn ran(alloc: Global, row: &Row, words: &[u64]) -> Result<Found, Fail> {
+    let names = names_of(alloc, row.words)?;
+    let memory = Memory::new(alloc, words.to_vec(alloc)?, 4096, Vec::new(alloc))?;
+    let mut device = Fuse::new(memory, row.calls);
+    let mut out = Collect::with_room(alloc, row.room, 5)?;
+    let status = dump(alloc, &names, &mut device, &mut out);
+    Ok(Found {
+        status,
+        text: str::from_utf8(out.bytes())?.to_string(alloc)?,
+        words: device.inner().words().to_vec(alloc)?,
+    })
+}
+
+#[test]
+fn each_row_is_told(rt: HostRuntime) -> Result<(), Fail> {
+    for (index, row) in ROWS.iter().enumerate() {
+        let words = device_of(rt.alloc(), row)?;
+        let found = ran(rt.alloc(), row, &words)?;
+        assert_eq!(rt; found.text.as_str(), row.text, "at {index}");
+        assert_eq!(rt; found.status, row.status, "at {index}");
+        assert!(rt; found.words.as_slice() == words.as_slice(), "at {index}");
+    }
+    Ok(())
+}
