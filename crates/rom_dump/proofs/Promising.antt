@@ -1,13 +1,67 @@
 -- The promise, of words that are a command and of words that are none.
-use Rattle.std.proofs.Common.{◌≡◌, inl, ℕ, refl, sym, ◌∙◌, subst, arith}
+use Rattle.std.proofs.Common.{◌≡◌, ◌≢◌, ◌⊎◌, inl, inr, ℕ, List, refl, sym, ◌∙◌, ap, subst, arith}
 use Rattle.std.specs.Prelude.{codes, IfSome, Option, Some, None}
+use Rattle.rom_open.specs.declared.reasons.Why.{Why}
+use Rattle.rom_elements.specs.declared.element.Element.{Element}
+use Rattle.rom_run.specs.Refusing.{refusal_status}
+use Rattle.rom_run.specs.Statuses.{number_of}
+use Rattle.rom_run.proofs.Showing.{refusal_ends}
+use Rattle.rom_stat.proofs.Showing.{put_stops}
 use Rattle.rom_device.specs.Device.{OnlyReads, ShownDevice}
 use Rattle.rom_text.specs.Runs.{IsTold}
-use Rattle.rom_text.specs.Streams.{ShownSink}
-use Rattle.rom_dump.specs.Promise.{Promise}
-use Rattle.rom_dump.specs.Shown.{IsAnswered}
-use Rattle.rom_dump.specs.Words.{Command}
-use Rattle.rom_dump.proofs.Showing.{answered_not_two}
+use Rattle.rom_text.specs.Streams.{ShownSink, StopsWriting}
+use Rattle.rom_dump.specs.Promise.{IsStatus, Promise}
+use Rattle.rom_dump.specs.Shown.{EndsAsScript, EndsAsText, IsAnswered}
+use Rattle.rom_dump.specs.Words.{Command, Script, Check}
+
+-- the status of a refusal
+refusal_three : (why : Why) (n : ℕ) → n ≡ number_of (refusal_status why) → (n ≡ 3) ⊎ ((n ≡ 6) ⊎ (n ≡ 7))
+refusal_three why n is = elim (refusal_ends why) [
+  | inl named ↦ inl (is ∙ ap number_of named)
+  | inr more ↦ elim more [
+    | inl memory ↦ inr (inl (is ∙ ap number_of memory))
+    | inr device ↦ inr (inr (is ∙ ap number_of device))
+  ]
+]
+
+refused_status : (does : Command) (n : ℕ) → (n ≡ 3) ⊎ ((n ≡ 6) ⊎ (n ≡ 7)) → IsStatus (Some does) n
+refused_status (Script file part) n (inl e) = inr (inl e)
+refused_status (Script file part) n (inr (inl e)) = inr (inr (inr (inl e)))
+refused_status (Script file part) n (inr (inr e)) = inr (inr (inr (inr (inl e))))
+refused_status (Check file) n (inl e) = inr (inl e)
+refused_status (Check file) n (inr (inl e)) = inr (inr (inl e))
+refused_status (Check file) n (inr (inr e)) = inr (inr (inr e))
+
+not_two : (does : Command) (n : ℕ) → IsStatus (Some does) n → n ≢ 2
+not_two (Script file part) n (inl e) is = absurd (omega (arith, e, is))
+not_two (Script file part) n (inr (inl e)) is = absurd (omega (arith, e, is))
+not_two (Script file part) n (inr (inr (inl e))) is = absurd (omega (arith, e, is))
+not_two (Script file part) n (inr (inr (inr (inl e)))) is = absurd (omega (arith, e, is))
+not_two (Script file part) n (inr (inr (inr (inr (inl e))))) is = absurd (omega (arith, e, is))
+not_two (Script file part) n (inr (inr (inr (inr (inr e))))) is = absurd (omega (arith, e, is))
+not_two (Check file) n (inl e) is = absurd (omega (arith, e, is))
+not_two (Check file) n (inr (inl e)) is = absurd (omega (arith, e, is))
+not_two (Check file) n (inr (inr (inl e))) is = absurd (omega (arith, e, is))
+not_two (Check file) n (inr (inr (inr e))) is = absurd (omega (arith, e, is))
+
+module _ {K : Type 0} (sink : ShownSink K) (old new : K) where
+  -- a text that is printed, whole or in part, or told
+  text_stops : (text : List ℕ) (n : ℕ) → EndsAsText sink text old new n → StopsWriting sink old new
+  text_stops text n (inl done) = put_stops sink old new text (inl done.1)
+  text_stops text n (inr cut) = put_stops sink old new text (inr cut.1)
+
+  script_status : (file : List ℕ) (part : Option ℕ) (es : List Element) (n : ℕ) → EndsAsScript sink part es old new n → IsStatus (Some (Script file part)) n × StopsWriting sink old new
+  script_status file (Some part) es n (inl done) = (inl done.0, text_stops _ n (inl done))
+  script_status file (Some part) es n (inr cut) = (inr (inr (inl cut.0)), text_stops _ n (inr cut))
+  script_status file None es n (inl (within, inl done)) = (inl done.0, text_stops _ n (inl done))
+  script_status file None es n (inl (within, inr cut)) = (inr (inr (inl cut.0)), text_stops _ n (inr cut))
+  script_status file None es n (inr (long, eight, told)) = (inr (inr (inr (inr (inr eight)))), put_stops sink old new _ told)
+
+  -- each command ends with one of its statuses, and writes nothing behind a write that failed
+  answered_status : {D : Type 0} (shown : ShownDevice D) (does : Command) (was now : D) (n : ℕ) → IsAnswered shown sink does was now old new n → IsStatus (Some does) n × StopsWriting sink old new
+  answered_status shown (Script file part) was now n (inl one) = script_status file part one.printed.elements n one.printed.printed
+  answered_status shown (Check file) was now n (inl one) = (inl one.printed.0, put_stops sink old new _ one.printed.1)
+  answered_status shown does was now n (inr none) = (refused_status does n (refusal_three none.why n none.status_is), put_stops sink old new _ none.told)
 
 module _ {D K : Type 0} (shown : ShownDevice D) (sink : ShownSink K) (was : D) (old new : K) (asked : Option Command) (status : ℕ) where
   -- a device of which no call was made
@@ -29,21 +83,26 @@ module _ {D K : Type 0} (shown : ShownDevice D) (sink : ShownSink K) (was : D) (
   pub no_command : asked ≡ None → status ≡ 2 → IsTold sink old new (codes "not a command") → sink.rest new ≡ sink.rest old → Promise shown sink asked was was old new status
   no_command none two told rest = record {
     only_reads = uncalled;
+    statuses = subst (λ (o : Option Command). IsStatus o status) (sym none) two;
     answered = subst (λ (o : Option Command). IfSome o (λ does. IsAnswered shown sink does was was old new status)) (sym none) tt;
     not_a_command = (λ is. none, λ is. two);
     not_a_command_told = λ is. told;
     uncalled = λ is. refl;
+    writing = put_stops sink old new _ told;
     rest = rest;
   }
 
   pub promised : (now : D) (does : Command) (n : ℕ) → asked ≡ Some does → status ≡ n → IsAnswered shown sink does was now old new n → OnlyReads shown was now → sink.rest new ≡ sink.rest old → Promise shown sink asked was now old new status
   promised now does n some is answered only rest =
       let here : IsAnswered shown sink does was now old new status = subst (λ (m : ℕ). IsAnswered shown sink does was now old new m) (sym is) answered in
+      let ends = answered_status sink old new shown does was now status here in
       record {
         only_reads = only;
+        statuses = subst (λ (o : Option Command). IsStatus o status) (sym some) ends.0;
         answered = subst (λ (o : Option Command). IfSome o (λ does. IsAnswered shown sink does was now old new status)) (sym some) here;
-        not_a_command = (λ two. absurd (answered_not_two shown sink does was now old new status here two), λ none. absurd (let never : Some does ≡ None = sym some ∙ none in cc));
-        not_a_command_told = λ two. absurd (answered_not_two shown sink does was now old new status here two);
-        uncalled = λ two. absurd (answered_not_two shown sink does was now old new status here two);
+        not_a_command = (λ two. absurd (not_two does status ends.0 two), λ none. absurd (let never : Some does ≡ None = sym some ∙ none in cc));
+        not_a_command_told = λ two. absurd (not_two does status ends.0 two);
+        uncalled = λ two. absurd (not_two does status ends.0 two);
+        writing = ends.1;
         rest = rest;
       }

@@ -87,29 +87,3 @@ module _ {D K : Type 0} (shown : ShownDevice D) (sink : ShownSink K) (was now : 
       → IsAnswered shown sink asked was now old new (number_of status)
   no_memory n image status is current faults told = is_refused OutOfMemory status is
       (λ tells. let c = current tells in let e : n ≡ named_order (shown.words was) = sym c.heap.header.order_is in inr (image, subst (λ (m : ℕ). IsCurrentRegion m (shown.words was) image) e c, tt)) tt faults told
-
-  -- and with 2 nothing is answered
-  refusal_not_two : (why : Why) → number_of (refusal_status why) ≢ 2
-  refusal_not_two Device is = absurd (omega (arith, is))
-  refusal_not_two OutOfMemory is = absurd (omega (arith, is))
-  refusal_not_two NotAHeap is = absurd (omega (arith, is))
-  refusal_not_two (BadVersion version) is = absurd (omega (arith, is))
-  refusal_not_two (BadOrder n) is = absurd (omega (arith, is))
-  refusal_not_two (BadState word) is = absurd (omega (arith, is))
-  refusal_not_two (TooSmall need have) is = absurd (omega (arith, is))
-  refusal_not_two (Twins offset main back) is = absurd (omega (arith, is))
-  refusal_not_two OldRegion is = absurd (omega (arith, is))
-  refusal_not_two NewRegion is = absurd (omega (arith, is))
-  refusal_not_two (Malformed offset rule) is = absurd (omega (arith, is))
-
-script_not_two : {K : Type 0} (sink : ShownSink K) (part : Option ℕ) (es : List Element) (old new : K) (status : ℕ) → EndsAsScript sink part es old new status → status ≢ 2
-script_not_two sink (Some part) es old new status (inl done) is = let e = done.0 in absurd (omega (arith, e, is))
-script_not_two sink (Some part) es old new status (inr cut) is = let e = cut.0 in absurd (omega (arith, e, is))
-script_not_two sink None es old new status (inl (within, inl done)) is = let e = done.0 in absurd (omega (arith, e, is))
-script_not_two sink None es old new status (inl (within, inr cut)) is = let e = cut.0 in absurd (omega (arith, e, is))
-script_not_two sink None es old new status (inr long) is = let e = long.1 in absurd (omega (arith, e, is))
-
-pub answered_not_two : {D K : Type 0} (shown : ShownDevice D) (sink : ShownSink K) (asked : Command) (was now : D) (old new : K) (status : ℕ) → IsAnswered shown sink asked was now old new status → status ≢ 2
-answered_not_two shown sink (Script file part) was now old new status (inl one) is = script_not_two sink part one.printed.elements old new status one.printed.printed is
-answered_not_two shown sink (Check file) was now old new status (inl one) is = let e = one.printed.0 in absurd (omega (arith, e, is))
-answered_not_two shown sink asked was now old new status (inr none) is = refusal_not_two shown sink was now old new asked none.why (sym none.status_is ∙ is)

@@ -1,16 +1,24 @@
 -- What the program promises of its words.
-use Rattle.std.specs.Prelude.{◌≡◌, ◌↔◌, ℕ, codes, IfSome, Option, None}
+use Rattle.std.specs.Prelude.{◌≡◌, ◌↔◌, ◌⊎◌, ℕ, codes, IfSome, Option, Some, None}
 use Rattle.rom_device.specs.Device.{OnlyReads, ShownDevice}
 use Rattle.rom_text.specs.Runs.{IsTold}
-use Rattle.rom_text.specs.Streams.{ShownSink}
+use Rattle.rom_text.specs.Streams.{ShownSink, StopsWriting}
 use Rattle.rom_dump.specs.Shown.{IsAnswered}
-use Rattle.rom_dump.specs.Words.{Command}
+use Rattle.rom_dump.specs.Words.{Command, Script, Check}
+
+-- the statuses with which a command may end, or words that are none
+abbrev pub IsStatus : Option Command → ℕ → Type 0
+IsStatus (Some (Script file part)) status = (status ≡ 0) ⊎ (status ≡ 3) ⊎ (status ≡ 5) ⊎ (status ≡ 6) ⊎ (status ≡ 7) ⊎ (status ≡ 8)
+IsStatus (Some (Check file)) status = (status ≡ 0) ⊎ (status ≡ 3) ⊎ (status ≡ 6) ⊎ (status ≡ 7)
+IsStatus None status = status ≡ 2
 
 -- Whatever the words are, the device is only read; and what they ask for is shown, or the heap refused.
 pub record Promise {D K : Type 0} (shown : ShownDevice D) (sink : ShownSink K) (asked : Option Command) (was now : D) (old new : K) (status : ℕ) : Type 0 where
   pub only_reads : OnlyReads shown was now
+  pub statuses : IsStatus asked status
   pub answered : IfSome asked (λ does. IsAnswered shown sink does was now old new status)
   pub not_a_command : (status ≡ 2) ↔ (asked ≡ None)
   pub not_a_command_told : status ≡ 2 → IsTold sink old new (codes "not a command")
   pub uncalled : status ≡ 2 → now ≡ was
+  pub writing : StopsWriting sink old new
   pub rest : sink.rest new ≡ sink.rest old
