@@ -1,7 +1,7 @@
 //! Bytes of every length that are written, grown, shrunk and cut, and heaps that are filled with them,
 //! beside the model.
 
-use crate::model::{Model, Told};
+use crate::model::{Model, Told, units_for};
 use crate::runner::{LARGE, NEVER, SMALL, ran};
 use rom_store::NoGate;
 use std::alloc::{AllocError, Global};
@@ -15,11 +15,23 @@ const ROOM: u64 = 1_000_000;
 /// The heaps: an order's digits, how many units a heap has, and how many words its device.
 const HEAPS: [(&str, usize, usize); 2] = [("4", 16, SMALL), ("9", 512, LARGE)];
 
+/// How many units nodes and blocks have at least where so many bytes find no room, in a heap of so many
+/// units: those of its blocks for such bytes, less those of the table, less one.
+fn least_units(units: usize, len: usize) -> usize {
+    let block = units_for(len).max(1);
+    let table = (units / 16 / block).max(1);
+    (units / block).saturating_sub(table).saturating_sub(1)
+}
+
 /// A script, and what its lines are to be told.
 #[derive(Drop)]
 struct Script {
     alloc: Global,
+    units: usize,
     model: Model,
+    /// How often there was no room, and whether it was where the blocks of keys had so many units.
+    full: usize,
+    is_crowded: bool,
     lines: String,
     told: String,
 }
@@ -43,7 +55,10 @@ impl Script {
     fn new(alloc: Global, units: usize) -> Result<Script, AllocError> {
         Ok(Script {
             alloc,
+            units,
             model: Model::new(alloc, units)?,
+            full: 0,
+            is_crowded: true,
             lines: String::new(alloc),
             told: String::from_str(alloc, "caller 1\n")?,
         })
@@ -66,6 +81,10 @@ impl Script {
         let line = format!(in self.alloc; "set {key} {}\n", bytes.as_str())?;
         self.lines.push_str(line.as_str())?;
         let told = self.model.set(key, len)?;
+        if let Told::Full = told {
+            self.full = self.full.saturating_add(1);
+            self.is_crowded &= self.model.units() >= least_units(self.units, len);
+        }
         self.tell(told, place)?;
         Ok(told)
     }
@@ -191,6 +210,42 @@ fn heaps_are_filled_with_bytes_of_each_order(rt: HostRuntime) -> Result<(), Fail
             script.set(0, 256)?;
             script.fetch(0)?;
             script.size()?;
+            assert!(rt; script.full > 0 && script.is_crowded);
+            agrees(&rt, &mut script, order, words)?;
+        }
+    }
+    Ok(())
+}
+
+/// A heap in which of each block for such bytes one unit is taken.
+fn with_one_of_each(alloc: Global, units: usize, len: usize) -> Result<Script, AllocError> {
+    let mut script = Script::new(alloc, units)?;
+    for unit in units / 16..units {
+        script.set(unit as u64, 0)?;
+    }
+    for unit in units / 16..units {
+        if unit % units_for(len).max(1) != 0 {
+            script.cut(unit as u64)?;
+        }
+    }
+    Ok(script)
+}
+
+#[test]
+fn full_is_told_where_one_unit_of_each_block_is_taken(rt: HostRuntime) -> Result<(), Fail> {
+    for (order, units, words) in HEAPS {
+        for len in [0, 1, 33, 65, 129] {
+            let mut script = with_one_of_each(rt.alloc(), units, len)?;
+            let taken = script.model.units();
+            assert_eq!(rt; taken, least_units(units, len).saturating_add(1));
+            script.set(1000, len)?;
+            assert_eq!(rt; script.full, 1);
+            // With one unit fewer there is room, but where a byte takes the unit that its node wants.
+            script.cut((units / 2) as u64)?;
+            script.set(1001, len)?;
+            script.fetch(1001)?;
+            script.size()?;
+            assert!(rt; script.is_crowded);
             agrees(&rt, &mut script, order, words)?;
         }
     }

@@ -22,7 +22,7 @@ pub enum Told {
 }
 
 /// A unit has four words, and a block of bytes 1, 2, 4 or 8 units.
-fn units_for(len: usize) -> usize {
+pub fn units_for(len: usize) -> usize {
     match len {
         0 => 0,
         1..=32 => 1,
@@ -161,6 +161,15 @@ impl Model {
     pub fn fetch(&self, key: u64) -> Option<(u64, usize)> {
         let held = self.held.get(self.index_of(key)?)?;
         Some((held.seed, held.len))
+    }
+
+    /// How many units the nodes and blocks of all keys have.
+    pub fn units(&self) -> usize {
+        let mut units = 0usize;
+        for held in self.held.iter() {
+            units = units.saturating_add(1).saturating_add(units_for(held.len));
+        }
+        units
     }
 
     /// How many keys there are.
