@@ -3,7 +3,7 @@
 //!
 //! A call that is generic over a space is proved for every space, also for one that counts and has
 //! a limit; words in memory alone do neither, and so would not show that its contract can be met
-//! there. Only `rom_units` names this crate. Its contracts promise that the counts are those
+//! there. Only crates of tests name this one. Its contracts promise that the counts are those
 //! that a contract speaks of: each load and each store is counted once, and the limit is the one
 //! given.
 #![tactic(auto)]
