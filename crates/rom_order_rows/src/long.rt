@@ -191,6 +191,13 @@ impl Draw {
 }
 
 impl Run {
+    fn draw(&self) -> Draw {
+        match self.keys {
+            Keys::Drawn(first) => Draw { last: first },
+            Keys::All(_) => Draw { last: 7 },
+        }
+    }
+
     /// One of half as many keys more than there is room for, which lie apart from each other.
     fn drawn_key(&self, draw: &mut Draw) -> u64 {
         let number = draw.below(self.room.saturating_add(self.room / 2));
@@ -312,18 +319,13 @@ fn height(words: &[u64]) -> u64 {
 }
 
 /// Makes the run's updates on a new region, asks after each, and asserts that all is told as by the model
-/// and the tree is no higher than it may be. The heap is full at times; keys that all come
-/// fill it once, and are gone at the end.
+/// and the tree is no higher than it may be. The heap is full at times; keys that all come fill it once,
+/// and are gone at the end.
 fn agrees<R: AllocGlobal + Abort>(rt: &R, run: &Run) -> Result<(), Fail> {
     let alloc = rt.alloc();
     let mut space = new_space(alloc, run.order)?;
     let mut model = Model::new(alloc, run.room as usize);
-    let mut draw = Draw {
-        last: match run.keys {
-            Keys::Drawn(first) => first,
-            Keys::All(_) => 7,
-        },
-    };
+    let mut draw = run.draw();
     let mut fulls = 0u64;
     for number in 0..run.updates {
         let call = run.call(number, &mut draw);
