@@ -93,6 +93,8 @@ pub record HasFollowed {D : Type 0} (shown : ShownDevice D) (order : ℕ) (s0 : 
   pub ends : (s : State) (k : ℕ) → Contents closed.session.order closed.session.image s k → (after (on_words trio) closed.session.order s k closed.session.history ≡ state_after order s0 n0 history len) × (k + length closed.session.history ≡ n0 + len)
   -- no answer is a divergence, and the prefix has each entry that was applied or known
   pub agrees : All (AgreesBelow (n0 + len)) answers
-  -- what a stop leaves now, and what one at any moment since the opening might have left, holds a prefix no shorter than the one at the opening
+  -- what a stop leaves now holds a prefix no shorter than the one at the opening, and what one at any moment since the opening might have left holds such a prefix, or could be left before
   pub now : IsTrue shown.tells_images → (i : List ℕ) → shown.leaves closed.device i → HoldsPrefix order s0 n0 history first i
   pub since : IsTrue shown.tells_images → Leaves shown (HoldsPrefix order s0 n0 history first) was closed.device
+  -- so each one does, where those that the device could leave as it was opened do
+  pub stopped : IsTrue shown.tells_images → ((i : List ℕ) → shown.leaves was i → HoldsPrefix order s0 n0 history first i) → (i : List ℕ) → shown.left_since closed.device (shown.clock was) i → HoldsPrefix order s0 n0 history first i

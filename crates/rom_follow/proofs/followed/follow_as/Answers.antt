@@ -1,4 +1,4 @@
-use Rattle.std.proofs.Common.{◌≡◌, ℕ, ◌+◌, List, ap, ◌∙◌, arith, length, subst}
+use Rattle.std.proofs.Common.{inl, inr, ◌≡◌, ℕ, ◌+◌, List, ap, ◌∙◌, arith, length, subst}
 use Rattle.std.specs.Prelude.{All}
 use Rattle.rom_heap.specs.contracts.trio.TrioObject.TheImpl.Laws as laws
 use Rattle.rom_model.specs.History.{after}
@@ -30,6 +30,10 @@ returns g c = record {
             );
         agrees = subst (λ (n : ℕ). All (AgreesBelow n) c.take_all.new.answers) count kept.1;
         now = λ told i left. c.close.ensures.follows_now told s0 n0 history first kept.0 i left;
+        stopped = λ told before i left. elim ((left_since_start g.D.Device.shown g.N.Label.start g.N.Label.since (HoldsPrefix base.order s0 n0 history first) c.args.opening.device closed.device c.requires.started (c.requires.since told) (c.close.ensures.follows_since told s0 n0 history first kept.0)).nothing_else (g.D.Device.shown.clock c.args.opening.device) i (omega arith) left) [
+          | inl early ↦ before i (g.met.D.Device.only_now c.args.opening.device i told early)
+          | inr holds ↦ holds
+        ];
         since = λ told. left_since_start g.D.Device.shown g.N.Label.start g.N.Label.since (HoldsPrefix base.order s0 n0 history first) c.args.opening.device closed.device c.requires.started (c.requires.since told) (c.close.ensures.follows_since told s0 n0 history first kept.0);
       };
 }
