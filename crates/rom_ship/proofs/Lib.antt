@@ -3,3 +3,4 @@ pub mod Turns
 pub mod Told
 pub mod Taking
 pub mod Writing
+mod Worked
