@@ -1,0 +1,47 @@
+#!/bin/sh
+# Looks at a heap in a file that is write-protected, locked by others or damaged, and fails where
+# romulus_dump tells another thing, or where the file changes. Stored runs are one process alone, so this is
+# no part of `rt ci`. Usage, from any folder, once the program is built: bench/dump.sh
+cd "$(dirname "$0")/.." || exit 1
+program=$PWD/crates/romulus_dump/out/romulus_dump
+kept=$PWD/crates/romulus_dump/data/heap
+[ -x "$program" ] || { echo "build it first: cd crates/romulus_dump && rt run"; exit 1; }
+folder=$(mktemp -d) && cd "$folder" || exit 1
+trap 'rm -rf "$folder"' EXIT
+wrong=0
+
+# What a command tells and how it ends are to be these: status, first line, command.
+told() {
+    status=$1 line=$2
+    shift 2
+    text=$("$@" 2>/dev/null)
+    ended=$?
+    [ "$ended: $(printf '%s\n' "$text" | head -1)" = "$status: $line" ] || {
+        echo "WRONG: $*: status $ended, $text"
+        wrong=1
+    }
+}
+
+cp "$kept" heap
+head -c 100 heap >short
+: >empty
+head -c 1848 heap >cut
+chmod 400 heap
+told 0 "counts back: a batch is under way" "$program" check heap
+told 0 "put 0 1" "$program" script heap
+told 0 "" "$program" script heap --part 3
+told 0 "put 0 1" flock -s heap "$program" script heap
+told 7 "device failed" flock -x heap "$program" script heap
+told 7 "device failed" "$program" check nothing
+told 7 "device failed" "$program" check .
+told 3 "refused: too small, need 8, have 0" "$program" check empty
+told 3 "refused: too small, need 232, have 12" "$program" check short
+told 3 "refused: too small, need 232, have 231" "$program" script cut
+told 2 "not a command" "$program" --help
+told 2 "not a command" "$program" check heap heap
+told 5 "" sh -c "exec '$program' script heap >/dev/full"
+told 5 "" sh -c "exec '$program' script heap >&-"
+told 0 "" sh -c "exec '$program' check heap >&-"
+cmp heap "$kept" || wrong=1
+[ "$wrong" = 0 ] && echo "all as it is to be"
+exit "$wrong"
