@@ -29,7 +29,7 @@ struct Full {
     too_long: &'static str,
 }
 
-const FULL: [Full; 3] = [
+static FULL: [Full; 3] = [
     Full {
         order: "4",
         words: 232,

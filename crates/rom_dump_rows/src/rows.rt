@@ -6,6 +6,7 @@ use rom_device::{Device, Fuse, Memory};
 use rom_dump::dump;
 use rom_text::{Collect, Names};
 use std::alloc::{AllocError, Global};
+use std::process::Abort;
 use std::test::Fail;
 
 /// The ASCII letters `ROMULUS1`.
@@ -145,7 +146,7 @@ const NO_COMMAND: Row = Row {
 
 const REFUSED: Row = Row { status: 3, ..SCRIPT };
 
-const ROWS: [Row; 39] = [
+static ROWS: [Row; 39] = [
     // The worked regions.
     NEW,
     SCRIPT,
@@ -418,14 +419,24 @@ fn ran(alloc: Global, row: &Row, words: &[u64]) -> Result<Found, Fail> {
     })
 }
 
+/// Runs a row, and asserts that it tells what it is to tell, and leaves the device as it was.
+fn try_row<R: AllocGlobal + Abort>(rt: &R, row: &Row) -> Result<(), Fail> {
+    let words = device_of(rt.alloc(), row)?;
+    let found = ran(rt.alloc(), row, &words)?;
+    let same = found.words.as_slice() == words.as_slice();
+    let text = found.text.as_str();
+    assert!(rt;
+        same && found.status == row.status && text == row.text,
+        "status {}, text {text:?}, of {row:?}",
+        found.status
+    );
+    Ok(())
+}
+
 #[test]
 fn each_row_is_told(rt: HostRuntime) -> Result<(), Fail> {
-    for (index, row) in ROWS.iter().enumerate() {
-        let words = device_of(rt.alloc(), row)?;
-        let found = ran(rt.alloc(), row, &words)?;
-        assert_eq!(rt; found.text.as_str(), row.text, "at {index}");
-        assert_eq!(rt; found.status, row.status, "at {index}");
-        assert!(rt; found.words.as_slice() == words.as_slice(), "at {index}");
+    for row in &ROWS {
+        try_row(&rt, row)?;
     }
     Ok(())
 }
