@@ -1,6 +1,7 @@
 -- A follower of a history goes on following it, whatever of its frames it takes.
 use Rattle.std.proofs.Common.{◌<◌, ◌≤◌, ◌≡◌, ℕ, suc, ◌+◌, List, [], ◌∷◌, ◌++◌, length, take, drop, refl, sym, ap, ◌∙◌, subst, arith, inl, inr}
 use Rattle.std.specs.Prelude.{Some, None, map, slice_get}
+use Rattle.std.specs.Global.{Vec}
 use Rattle.std.specs.List.{enumerate_from}
 use Rattle.std.proofs.lemmas.Bool.{cases_lt}
 use Rattle.std.proofs.lemmas.Grind.{get_or-set_at}
@@ -22,7 +23,7 @@ use Rattle.rom_rule.specs.Views.{Told}
 use Rattle.rom_rule.specs.declared.views.Base.{Base}
 use Rattle.rom_follow.specs.Followed.{Followed, HasDone}
 use Rattle.rom_follow.specs.Following.{AgreesBelow, AreFirstOf, AreTries, Follows, state_after, update_of}
-use Rattle.rom_follow.specs.Taking.{Gives, IsNext, found_at}
+use Rattle.rom_follow.specs.Taking.{AreTaken, Gives, Takes, IsNext, found_at}
 use Rattle.rom_follow.specs.declared.taken.Taken.{Taken}
 use Rattle.rom_follow.specs.declared.taken.Taken.TheVariants.{Applied, Known, Early, NotAFrame, Diverged, Spent, Failed, Doubt}
 use Rattle.rom_follow.proofs.Histories.{from_element, legal_drop, legal_take}
@@ -141,3 +142,10 @@ answers_more a b i answers t rises within so_far last k d low = elim (cases_lt k
   | inl lt ↦ subst (AgreesBelow b) (sym (get_or-set_other answers i k t d (λ same. omega (arith, same, lt)))) (below_more a b rises (get_or answers k d) (so_far k d lt))
   | inr le ↦ let same : k ≡ i = omega (arith, low, le) in subst (AgreesBelow b) (sym (get_or-set_at answers i k t d same within)) last
 ]
+
+-- one message more
+pub taken_more : (messages : List (Vec ℕ)) (old mid new : Followed) (answers : List Taken) (m : Vec ℕ) (a : Taken) → AreTaken messages old answers mid → Takes m.items mid a new → AreTaken (messages ++ m ∷ []) old (answers ++ a ∷ []) new
+taken_more [] old mid new [] m a so_far next = (new, subst (λ (x : Followed). Takes m.items x a new) so_far next, refl)
+taken_more [] old mid new (b ∷ answers) m a so_far next = absurd so_far
+taken_more (n ∷ messages) old mid new [] m a so_far next = absurd so_far
+taken_more (n ∷ messages) old mid new (b ∷ answers) m a so_far next = (so_far.0, so_far.1, taken_more messages so_far.0 mid new answers m a so_far.2 next)

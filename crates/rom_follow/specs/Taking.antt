@@ -1,5 +1,6 @@
 -- What a message does to a follower.
-use Rattle.std.specs.Prelude.{◌≡◌, ◌≢◌, ◌⊎◌, ℕ, ◌+◌, ◌<◌, ◌≤◌, List, [], ◌∷◌, ◌++◌, length, Some}
+use Rattle.std.specs.Prelude.{◌≡◌, ◌≢◌, ◌⊎◌, ℕ, ◌+◌, ◌<◌, ◌≤◌, List, [], ◌∷◌, ◌++◌, length, None, Some, IfSome}
+use Rattle.std.specs.Global.{Vec}
 use Rattle.rom_model.specs.Codes.{call_words, reply_words}
 use Rattle.rom_model.specs.History.{LAST_COUNT}
 use Rattle.rom_model.specs.declared.call.Call.{Call}
@@ -12,7 +13,7 @@ use Rattle.rom_frame.specs.Frames.{IsOfWords, frame}
 use Rattle.rom_frame.specs.declared.frame.Frame.{Frame}
 use Rattle.rom_follow.specs.Followed.{Followed}
 use Rattle.rom_follow.specs.declared.taken.Taken.{Taken}
-use Rattle.rom_follow.specs.declared.taken.Taken.TheVariants.{Applied, Known, Early, Diverged, Spent, Failed, Doubt}
+use Rattle.rom_follow.specs.declared.taken.Taken.TheVariants.{Applied, Known, Early, NotAFrame, Diverged, Spent, Failed, Doubt}
 
 -- the message is this frame, from its first byte to its last
 abbrev pub IsFrame : Frame → List ℕ → Type 0
@@ -60,3 +61,15 @@ pub record Gives (f : Frame) (old : Followed) (answer : Taken) (new : Followed) 
   pub known : f.place < old.count → (answer ≡ Known f.place) × (new ≡ old)
   pub early : old.count < f.place → (answer ≡ Early f.place old.count) × (new ≡ old)
   pub next : f.place ≡ old.count → IsNext f old answer new
+
+-- What a message does. The first of these that holds counts: the heaps had parted, and the answer is the same again; it is no frame; it is one.
+pub record Takes (message : List ℕ) (old : Followed) (answer : Taken) (new : Followed) : Type 0 where
+  pub parted : IfSome old.diverged (λ d. (answer ≡ Diverged d.place d.ours d.theirs) × (new ≡ old))
+  pub no_frame : old.diverged ≡ None → IsNoFrame message → (answer ≡ NotAFrame) × (new ≡ old)
+  pub frame : old.diverged ≡ None → (f : Frame) → IsFrame f message → Gives f old answer new
+
+-- so each of these messages, one after another
+abbrev pub AreTaken : List (Vec ℕ) → Followed → List Taken → Followed → Type 0
+AreTaken [] old [] new = new ≡ old
+AreTaken (m ∷ messages) old (a ∷ answers) new = (next : Followed) × Takes m.items old a next × AreTaken messages next answers new
+AreTaken messages old answers new = ⊥

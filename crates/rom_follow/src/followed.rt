@@ -10,6 +10,7 @@ ghost use Rattle.rom_rule.specs.Views.{base_of};
 ghost use Rattle.rom_store.specs.Callers.{IsNewCaller};
 ghost use Rattle.rom_store.specs.Indexed.{Indexed};
 ghost use Rattle.rom_store.specs.Start.{start_of};
+ghost use Rattle.rom_follow.specs.Closing.{HasTaken};
 ghost use Rattle.rom_follow.specs.Following.{HasFollowed, HasWords, MayArrive, state_after};
 
 use crate::follower::Follower;
@@ -38,6 +39,7 @@ fn follow_as<D: Device, N: Label, R: Wait, G: Gate>(
     requires passes { Indexed (IsNewCaller Contents N.table N.base) opening.passes }
     requires formed { (s : State) × (k : ℕ) × Contents N.base.order N.base.image s k }
     requires as_many { length answers.old ≡ length messages.now }
+    ensures taken { HasTaken messages.now answers.new result.session }
     ensures follows { (s0 : State) (n0 : ℕ) (history : List Entry) (first : ℕ) →
         IsLegal (on_words trio) N.base.order s0 n0 history → HasWords n0 history →
         first ≤ length history → Contents N.base.order N.base.image
@@ -65,6 +67,9 @@ pub fn follow_all<D: Device, R: Wait, G: Gate>(
     requires formed { let b = base_of opening.key in
         (s : State) × (k : ℕ) × Contents b.order b.image s k }
     requires as_many { length answers.old ≡ length messages.now }
+
+    // Each message did to the follower what `take` says, and the session is that of what it did.
+    ensures taken { HasTaken messages.now answers.new result.session }
 
     // Of a legal history, where the heap holds the state and the count after a prefix of it, and each
     // message is a frame of that history, one that was torn, or no frame: what became of the heap, of

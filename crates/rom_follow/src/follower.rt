@@ -23,7 +23,7 @@ ghost use Rattle.rom_frame.specs.declared.frame.Frame.{Frame};
 ghost use Rattle.rom_follow.specs.Closing.{ArePassesOf};
 ghost use Rattle.rom_follow.specs.Followed.{HasDone};
 ghost use Rattle.rom_follow.specs.Following.{AgreesBelow, Follows, HasWords, HoldsPrefix, MayArrive, state_after};
-ghost use Rattle.rom_follow.specs.Taking.{Gives, IsFrame, IsNext, IsNoFrame};
+ghost use Rattle.rom_follow.specs.Taking.{AreTaken, Gives, IsFrame, IsNext, IsNoFrame};
 ghost use Rattle.rom_follow.specs.declared.taken.Taken.TheVariants as taken;
 
 use crate::taken::{Divergence, Taken};
@@ -202,6 +202,7 @@ impl<D: Device, N: Label> Follower<D, N> {
     )
         requires as_many { length answers.old ≡ length messages.now }
         ensures as_many { length answers.new ≡ length messages.now }
+        ensures taken { AreTaken messages.now self.old answers.new self.new }
         ensures follows { (s0 : State) (n0 : ℕ) (history : List Entry) (first : ℕ) →
             IsLegal (on_words trio) N.base.order s0 n0 history → HasWords n0 history →
             Follows N.base s0 n0 history first self.old →
