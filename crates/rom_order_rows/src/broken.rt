@@ -23,7 +23,7 @@ const SCRIPT: &str = "put 2 20\nput 4 40\nput 6 60\nput 5 50\n";
 const LOOK: &str = "range 0 9\nfrom 3\n";
 
 /// Words of a region that are changed in both of a heap's, and what its opening tells then.
-#[derive(Clone, Copy, Debug)]
+#[derive(Clone, Copy)]
 struct Broken {
     changes: &'static [(usize, u64)],
     text: &'static str,

@@ -8,7 +8,7 @@ use std::test::Fail;
 const ROOM: u64 = 8192;
 
 /// What `try` with this script is to tell.
-#[derive(Clone, Copy, Debug)]
+#[derive(Clone, Copy)]
 struct Row {
     script: &'static str,
     status: u8,
