@@ -11,7 +11,7 @@ use std::test::Fail;
 use std::thread::Threads;
 
 /// How many lines a part of a script has.
-const PART: usize = 20480;
+const PART: u64 = 20480;
 
 /// Room for what is printed.
 const ROOM: u64 = 4_194_304;
@@ -64,15 +64,12 @@ static FULL: [Full; 3] = [
 fn lines_of(alloc: Global, full: &Full, rising: bool) -> Result<Vec<String>, AllocError> {
     let mut parts = Vec::new(alloc);
     let mut part = String::new(alloc);
-    let mut lines = 0;
     let many = full.queue.saturating_add(full.set).saturating_add(full.map);
     for index in 0..many {
         part.push_str(line_of(alloc, full, index, rising)?.as_str())?;
-        lines += 1;
-        if lines == PART {
+        if index % PART == PART - 1 {
             parts.push(part)?;
             part = String::new(alloc);
-            lines = 0;
         }
     }
     parts.push(part)?;
