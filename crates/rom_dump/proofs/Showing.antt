@@ -1,6 +1,6 @@
 -- What is shown of a heap that was seen, and what is told of one that was not.
-use Rattle.std.proofs.Common.{◌≡◌, ◌≢◌, inl, inr, ℕ, ◌+◌, ◌-◌, ◌*◌, ◌^◌, ◌<◌, ◌≤◌, List, [], ◌++◌, refl, sym, ◌∙◌, ap, subst, arith, append-nil, append_assoc}
-use Rattle.std.specs.Prelude.{IsTrue, length, slice_index, Option, Some, None, Err}
+use Rattle.std.proofs.Common.{◌≡◌, inl, inr, ℕ, ◌+◌, ◌-◌, ◌^◌, ◌≤◌, List, [], ◌++◌, refl, sym, ◌∙◌, ap, subst, arith, append-nil, append_assoc}
+use Rattle.std.specs.Prelude.{IsTrue, length, slice_index, Option, Err}
 use Rattle.std.specs.List.{AllByRecursion}
 use Rattle.rom_model.specs.Blocks.{IsOrder}
 use Rattle.rom_model.specs.Region.{Contents}
@@ -17,7 +17,7 @@ use Rattle.rom_heap.specs.Answers.{Rejects}
 use Rattle.rom_open.specs.Calls.{HasFaults}
 use Rattle.rom_open.specs.Refusals.{IsRefusal, NamesTooFew, named_order}
 use Rattle.rom_open.specs.declared.reasons.Why.{Why}
-use Rattle.rom_open.specs.declared.reasons.Why.TheVariants.{NotAHeap, BadVersion, BadOrder, BadState, TooSmall, Twins, OldRegion, NewRegion, Malformed, Device, OutOfMemory}
+use Rattle.rom_open.specs.declared.reasons.Why.TheVariants.{OutOfMemory}
 use Rattle.rom_elements.specs.declared.element.Element.{Element}
 use Rattle.rom_elements.specs.Elements.{AreElements, ElementFits}
 use Rattle.rom_rebuild.proofs.Rebuilding.{elements_many, rebuilt}
@@ -28,7 +28,7 @@ use Rattle.rom_run.specs.declared.status.Status.{Status}
 use Rattle.rom_text.specs.Runs.{IsTold}
 use Rattle.rom_text.specs.Streams.{ShownSink}
 use Rattle.rom_dump.specs.Shown.{EndsAsScript, IsAnswered, IsPrinted, IsPutAgain}
-use Rattle.rom_dump.specs.Words.{Command, Script, Check}
+use Rattle.rom_dump.specs.Words.{Command}
 
 pub three_pieces : (a n b : List ℕ) → a ++ (n ++ (b ++ [])) ≡ a ++ n ++ b
 three_pieces a n b = ap (λ t. a ++ (n ++ t)) (append-nil b) ∙ sym (append_assoc a n b)

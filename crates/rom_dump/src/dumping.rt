@@ -15,12 +15,7 @@ use std::alloc::Global;
 /// alone. It gives the number of a `Status`.
 ///
 /// Words that are no command make no call of the device.
-pub fn dump<D: Device, O: Sink>(
-    alloc: Global,
-    words: &Names,
-    device: &mut D,
-    out: &mut O,
-) -> u8
+pub fn dump<D: Device, O: Sink>(alloc: Global, words: &Names, device: &mut D, out: &mut O) -> u8
     ensures promise { Promise D.shown O.shown (command words.now) device.old device.new
         out.old out.new result }
 {

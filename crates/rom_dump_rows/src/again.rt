@@ -145,7 +145,12 @@ fn made<R: Threads + Wait + Sync + AllocGlobal>(
     let device = Ram::zeroed(rt.alloc(), full.words)?;
     let mut done = ran(rt, &["format", "heap", "--order", full.order], device, None)?;
     for script in scripts {
-        done = ran(rt, &["run", "heap", "a"], done.device, Some(script.as_str()))?;
+        done = ran(
+            rt,
+            &["run", "heap", "a"],
+            done.device,
+            Some(script.as_str()),
+        )?;
         let others = done.text.lines().filter(|line| {
             !line.starts_with("queued @")
                 && !line.starts_with("added @")
@@ -159,12 +164,7 @@ fn made<R: Threads + Wait + Sync + AllocGlobal>(
 }
 
 /// What a command of `romulus_dump` tells, whose status is to be this one.
-fn dumped(
-    alloc: Global,
-    words: &[&str],
-    device: &mut Ram,
-    status: u8,
-) -> Result<String, Fail> {
+fn dumped(alloc: Global, words: &[&str], device: &mut Ram, status: u8) -> Result<String, Fail> {
     let names = names_of(alloc, words)?;
     let mut out = Collect::with_room(alloc, ROOM, 4096)?;
     if dump(alloc, &names, device, &mut out) != status {
@@ -177,7 +177,11 @@ fn dumped(
 fn stat_of<R: Threads + Wait + Sync + AllocGlobal>(rt: &R, device: Ram) -> Result<String, Fail> {
     let shown = ran(rt, &["stat", "heap"], device, None)?;
     let mut text = String::new(rt.alloc());
-    for line in shown.text.lines().filter(|line| !line.starts_with("count ")) {
+    for line in shown
+        .text
+        .lines()
+        .filter(|line| !line.starts_with("count "))
+    {
         text.push_str(line)?;
         text.push_str("\n")?;
     }

@@ -57,15 +57,7 @@ const FRESH: [(usize, u64); 33] = [
 ];
 
 /// What differs from it after `enq 9`, after `deq` on that, after `put 5 7`, and after `put 0 1` and `put 5 2`.
-const QUEUED: [(usize, u64); 7] = [
-    (2, 1),
-    (3, 52),
-    (4, 52),
-    (5, 1),
-    (24, 0),
-    (33, 0),
-    (52, 9),
-];
+const QUEUED: [(usize, u64); 7] = [(2, 1), (3, 52), (4, 52), (5, 1), (24, 0), (33, 0), (52, 9)];
 
 const TAKEN: [(usize, u64); 2] = [(2, 2), (52, 9)];
 
@@ -144,7 +136,10 @@ const NO_COMMAND: Row = Row {
     ..NEW
 };
 
-const REFUSED: Row = Row { status: 3, ..SCRIPT };
+const REFUSED: Row = Row {
+    status: 3,
+    ..SCRIPT
+};
 
 static ROWS: [Row; 39] = [
     // The worked regions.

@@ -1,6 +1,6 @@
 -- The keys of a map and their values, as its entries.
-use Rattle.std.proofs.Common.{◌≡◌, ℕ, Bool, true, false, cond, T, List, [], ◌∷◌, map, refl, sym, ◌∙◌, ap, subst}
-use Rattle.std.specs.Prelude.{◌&&◌, Option, Some, None, option_map}
+use Rattle.std.proofs.Common.{◌≡◌, ℕ, Bool, true, false, cond, T, List, [], ◌∷◌, map, refl, ◌∙◌, ap}
+use Rattle.std.specs.Prelude.{◌&&◌, Option, Some, option_map}
 use Rattle.std.specs.Option.{unwrap_or}
 use Rattle.std.specs.Ordering.{nat_cmp, is_eq, is_lt, ordering_reverse}
 use Rattle.std.specs.Cmp.{nat_cmp_total, tied_itself}
@@ -9,7 +9,6 @@ use Rattle.std.specs.declared.cmp.Ordering.TheVariants.{Less, Equal, Greater}
 use Rattle.std.specs.FinMap as finite
 use Rattle.std.specs.FinMap.Entries.{below_all, find, is_sorted}
 use Rattle.rom_model.specs.State.{State, Stamped, value_of}
-use Rattle.rom_elements.specs.declared.element.Element.{Element}
 use Rattle.rom_elements.specs.declared.element.Element.TheVariants.{Pair}
 use Rattle.rom_elements.specs.Elements.{paired}
 

@@ -1,11 +1,10 @@
 -- Numbers of 64 bits, one more and in another order.
-use Rattle.std.proofs.Common.{◌≡◌, ℕ, ◌+◌, ◌^◌, ◌<◌, List, [], ◌∷◌, ◌++◌, map}
+use Rattle.std.proofs.Common.{◌≡◌, ℕ, ◌^◌, ◌<◌, List, [], ◌∷◌, ◌++◌, map}
 use Rattle.std.specs.List.{AllByRecursion}
 use Rattle.std.specs.List.Sorted.{IsPermutation}
 use Rattle.std.proofs.lemmas.List.Elements.{All-from_recursion, recursion_from_All}
 use Rattle.std.proofs.lemmas.List.Sorted.{All-permutation}
 use Rattle.rom_text.specs.Phrases.{NumbersFit}
-use Rattle.rom_elements.specs.declared.element.Element.{Element}
 use Rattle.rom_elements.specs.declared.element.Element.TheVariants.{Value, Member}
 use Rattle.rom_elements.specs.Elements.{ElementFits, paired}
 

@@ -1,7 +1,7 @@
 -- The chains of a region, and the keys that stand in them.
-use Rattle.std.proofs.Common.{◌≡◌, ℕ, ◌-◌, ◌+◌, ◌^◌, ◌<◌, ◌≤◌, List, [], ◌∷◌, ◌++◌, map, length, refl, sym, ◌∙◌, ap, subst, arith}
+use Rattle.std.proofs.Common.{◌≡◌, ℕ, ◌+◌, ◌^◌, ◌<◌, ◌≤◌, List, [], ◌∷◌, map, refl, sym, ◌∙◌, ap, arith}
 use Rattle.std.specs.Prelude.{slice_index, is_some}
-use Rattle.std.specs.List.{list_any, AllByRecursion}
+use Rattle.std.specs.List.{list_any}
 use Rattle.std.specs.List.Sorted.{IsPermutation, IsSorted}
 use Rattle.std.specs.Ordering.{nat_cmp, eq_by_cmp}
 use Rattle.std.specs.Cmp.{nat_cmp_total}
@@ -9,8 +9,8 @@ use Rattle.std.specs.FinMap as finite
 use Rattle.std.specs.FinMap.Entries.{is_some-find}
 use Rattle.std.proofs.lemmas.List.Sorted.{list_any-IsPermutation}
 use Rattle.rom_model.specs.Blocks.{block_of}
-use Rattle.rom_model.specs.Chains.{times, Chain, each_word, each_pair, stamped_at}
-use Rattle.rom_model.specs.Region.{Chains, IsRegion, all_of, buckets, element_blocks, map_blocks}
+use Rattle.rom_model.specs.Chains.{times, Chain, each_word, each_pair}
+use Rattle.rom_model.specs.Region.{Chains, IsRegion, buckets, element_blocks, map_blocks}
 use Rattle.rom_model.specs.State.{State}
 use Rattle.rom_model.proofs.Counting.{at_most}
 use Rattle.rom_model.proofs.Room.{times_members}

@@ -27,11 +27,7 @@ fn collect_buckets(words: &[u64], order: u32, into: &mut Vec<u64>) -> Result<(),
 }
 
 /// Puts the keys of the map into a list that is empty. They rise.
-pub fn collect_keys(
-    words: &[u64],
-    order: u32,
-    into: &mut Vec<u64>,
-) -> Result<(), AllocError>
+pub fn collect_keys(words: &[u64], order: u32, into: &mut Vec<u64>) -> Result<(), AllocError>
     requires order { IsOrder order }
     requires region { IsWellFormed order words.now }
     requires none { into.old.items ≡ [] }

@@ -1,15 +1,15 @@
 -- What the updates of a script make of a state that has room for them.
-use Rattle.std.proofs.Common.{◌≡◌, ◌≢◌, inl, inr, ℕ, suc, ◌+◌, ◌<◌, ◌≤◌, Bool, true, false, cond, T, List, [], ◌∷◌, ◌++◌, map, length, refl, sym, ◌∙◌, ap, subst, arith, length-append, append_assoc, append-nil}
-use Rattle.std.specs.Prelude.{◌==◌, ◌||◌, Option, Some, None, option_map, is_some, if◌then◌else◌}
+use Rattle.std.proofs.Common.{◌≡◌, ◌≢◌, ℕ, suc, ◌+◌, ◌<◌, ◌≤◌, Bool, true, false, cond, List, [], ◌∷◌, ◌++◌, map, length, refl, sym, ◌∙◌, ap, subst, arith, length-append, append_assoc, append-nil}
+use Rattle.std.specs.Prelude.{◌==◌, ◌||◌, Option, Some, None, option_map, if◌then◌else◌}
 use Rattle.std.specs.List.{AllByRecursion}
-use Rattle.std.specs.Ordering.{nat_cmp, eq_by_cmp, is_eq, is_lt}
+use Rattle.std.specs.Ordering.{nat_cmp, eq_by_cmp}
 use Rattle.std.specs.Cmp.{nat_cmp_total, unsigned_tied}
 use Rattle.std.specs.FinSet as set
 use Rattle.std.specs.FinMap as finite
 use Rattle.std.proofs.lemmas.Bool.{lt-ltb}
 use Rattle.std.proofs.lemmas.Bool.Decides.{nat_tests}
 use Rattle.rom_model.specs.Singles.{call_of, reply_of}
-use Rattle.rom_model.specs.State.{State, Stamped, cap, empty, has_room, live, one, put, value_of, written}
+use Rattle.rom_model.specs.State.{State, Stamped, cap, has_room, live, one, put, value_of, written}
 use Rattle.rom_model.specs.Trio.{trio}
 use Rattle.rom_model.specs.declared.call.Reply.TheVariants as reply
 use Rattle.rom_model.specs.declared.call.SingleReply.{SingleReply}

@@ -6,7 +6,6 @@ use Rattle.rom_model.specs.State.{State, empty, live, value_of}
 use Rattle.rom_model.specs.Trio.{trio}
 use Rattle.rom_model.specs.declared.call.Call.{Call}
 use Rattle.rom_model.specs.declared.call.Query.{Query}
-use Rattle.rom_model.specs.declared.call.Reply.{Reply}
 use Rattle.rom_model.specs.declared.call.Reply.TheVariants.{Full}
 use Rattle.rom_model.specs.declared.line.Step.{Step}
 use Rattle.rom_model.specs.declared.line.Step.TheVariants.{Update, Ask, Unread}

@@ -1,5 +1,5 @@
 -- The region that counts, in each state.
-use Rattle.std.proofs.Common.{◌≡◌, inl, inr, ℕ, List, Result, Ok, Err, OnOk, length, refl, sym, ◌∙◌, ap, subst}
+use Rattle.std.proofs.Common.{◌≡◌, inl, inr, ℕ, List, Result, Ok, Err, OnOk, length, refl, sym, ◌∙◌, subst}
 use Rattle.std.specs.Prelude.{slice_index}
 use Rattle.rom_model.specs.Blocks.{region_len}
 use Rattle.rom_header.specs.Layout.{MAIN, STATE, back_at, main_of, back_of, part}

@@ -34,11 +34,7 @@ fn read_image<D: Device>(device: &mut D, at: u64, image: &mut [u64]) -> Result<(
 
 /// Reads the region that counts by this header, which was accepted. Under IDLE both count, and are
 /// compared. The image keeps the region where it has words; an empty one keeps nothing.
-pub fn read_region<D: Device>(
-    device: &mut D,
-    header: Header,
-    image: &mut [u64],
-) -> Result<(), Why>
+pub fn read_region<D: Device>(device: &mut D, header: Header, image: &mut [u64]) -> Result<(), Why>
     requires fits { words_needed header.geometry ≤ D.shown.size device.old }
     requires heap { IsTrue D.shown.tells_words →
         IsHeap header.geometry (D.shown.words device.old) }

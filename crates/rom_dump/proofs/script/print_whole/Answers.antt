@@ -1,4 +1,4 @@
-use Rattle.std.proofs.Common.{inl, inr, ap, subst}
+use Rattle.std.proofs.Common.{inr, ap, subst}
 use Rattle.rom_run.specs.Statuses.{number_of}
 use Rattle.rom_text.specs.Runs.{IsTold}
 use Rattle.rom_dump.specs.Shown.{too_long_line}

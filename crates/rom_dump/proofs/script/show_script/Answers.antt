@@ -1,12 +1,11 @@
-use Rattle.std.proofs.Common.{◌≡◌, ℕ, List, Option, Some, None, sym, ap, subst, ◌∙◌}
+use Rattle.std.proofs.Common.{sym, subst}
 use Rattle.rom_model.specs.Region.{Contents, IsWellFormed}
-use Rattle.rom_model.specs.State as model
 use Rattle.rom_elements.specs.Elements.{elements_in}
 use Rattle.rom_rebuild.specs.Script.{script_of}
 use Rattle.rom_run.specs.Statuses.{number_of}
-use Rattle.rom_dump.specs.Shown.{EndsAsScript, EndsAsText, EndsAsWhole, IsAnswered}
+use Rattle.rom_dump.specs.Shown.{EndsAsScript, EndsAsText, EndsAsWhole}
 use Rattle.rom_dump.specs.Words.{Script}
-use Rattle.rom_dump.proofs.Showing.{elements_few, is_shown, is_refused, no_memory, put_again, region_fits}
+use Rattle.rom_dump.proofs.Showing.{elements_few, is_shown, no_memory, put_again, region_fits}
 use Rattle.rom_dump.proofs.script.show_script.Goals as goal
 
 pub of-requires-clause-region : goal.of-requires-clause-region

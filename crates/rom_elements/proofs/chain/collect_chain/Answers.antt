@@ -1,5 +1,4 @@
-use Rattle.std.proofs.Common.{◌≡◌, ℕ, suc, ◌+◌, ◌-◌, ◌<◌, ◌≤◌, ◌^◌, List, [], ◌∷◌, ◌++◌, length, slice_index, refl, sym, ◌∙◌, ap, subst, arith, append-nil, append_assoc}
-use Rattle.rom_model.specs.Chains.{Chain, each_word}
+use Rattle.std.proofs.Common.{◌≡◌, suc, ◌+◌, ◌-◌, ◌<◌, [], ◌∷◌, ◌++◌, length, slice_index, refl, sym, ◌∙◌, ap, subst, arith, append-nil, append_assoc}
 use Rattle.rom_model.proofs.Contents.{one_chain}
 use Rattle.rom_elements.proofs.Fits.{fit_more}
 use Rattle.rom_elements.proofs.Walks.{AreInside, walked, walked_none, walked_end, walked_more, walked_chain, inside_chain}

@@ -1,4 +1,4 @@
-use Rattle.std.proofs.Common.{◌≡◌, ◌++◌, ◌-◌, ◌≤◌, slice_index}
+use Rattle.std.proofs.Common.{◌≡◌, ◌++◌, ◌-◌, slice_index}
 use Rattle.rom_text.specs.Phrases.{NumbersFit}
 use Rattle.rom_elements.proofs.Walks.{AreInside, walked}
 use Rattle.rom_elements.proofs.chain.collect_chain.Given as goal

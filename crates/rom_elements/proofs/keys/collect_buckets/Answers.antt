@@ -1,7 +1,7 @@
-use Rattle.std.proofs.Common.{◌≡◌, ℕ, ◌+◌, ◌<◌, List, ◌++◌, sym, ◌∙◌, ap, subst, arith}
+use Rattle.std.proofs.Common.{◌≡◌, ◌+◌, ◌++◌, sym, ◌∙◌, ap, subst, arith}
 use Rattle.rom_model.specs.Blocks.{block_of}
 use Rattle.rom_model.specs.Chains.{Chain, each_word}
-use Rattle.rom_model.specs.Region.{Chains, all_of, buckets}
+use Rattle.rom_model.specs.Region.{all_of, buckets}
 use Rattle.rom_model.proofs.Links.{each_append}
 use Rattle.rom_bucket.proofs.Heads.{head_within}
 use Rattle.rom_map.proofs.Totals.{all_next}

@@ -1,4 +1,4 @@
-use Rattle.std.proofs.Common.{◌≡◌, ◌+◌, ◌-◌, ◌++◌, ◌∙◌, ap, sym, subst, arith, length, take, get_or}
+use Rattle.std.proofs.Common.{◌≡◌, ◌+◌, ◌-◌, ◌++◌, ◌∙◌, ap, sym, subst, arith, take}
 use Rattle.rom_elements.specs.Elements.{elements_in}
 use Rattle.rom_rebuild.specs.Script.{between, element_text, script_of}
 use Rattle.rom_rebuild.proofs.Spans.{between_length, element_at, more_lines}

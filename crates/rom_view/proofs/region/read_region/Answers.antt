@@ -1,4 +1,4 @@
-use Rattle.std.proofs.Common.{◌≡◌, ◌∙◌, rules, sym, ap}
+use Rattle.std.proofs.Common.{◌∙◌, ap}
 use Rattle.rom_header.specs.Headers.{state_word}
 use Rattle.rom_view.proofs.Counted.{idle_counted, mutating_counted, copying_counted}
 use Rattle.rom_view.proofs.region.read_region.Goals as goal

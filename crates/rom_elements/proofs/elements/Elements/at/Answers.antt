@@ -1,4 +1,4 @@
-use Rattle.std.proofs.Common.{◌≡◌, ◌∙◌, ◌-◌, sym, refl, arith}
+use Rattle.std.proofs.Common.{◌∙◌, ◌-◌, sym, arith}
 use Rattle.rom_elements.specs.declared.element.Element.TheVariants.{Pair}
 use Rattle.rom_elements.proofs.Places.{length_elements, at_key}
 use Rattle.rom_elements.proofs.elements.Elements.at.Goals as goal

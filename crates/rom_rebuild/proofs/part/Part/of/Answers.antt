@@ -1,4 +1,4 @@
-use Rattle.std.proofs.Common.{◌≡◌, ◌-◌, ◌*◌, arith}
+use Rattle.std.proofs.Common.{◌-◌, ◌*◌, arith}
 use Rattle.rom_elements.specs.Elements.{elements_in}
 use Rattle.rom_rebuild.specs.Script.{PART}
 use Rattle.rom_rebuild.proofs.Spans.{between_part}
