@@ -1,0 +1,184 @@
+-- What the books of a bank say once its store is closed.
+use Rattle.std.proofs.Common.{◌≡◌, inl, inr, ℕ, zero, suc, ◌+◌, ◌<◌, ◌≤◌, List, [], ◌∷◌, ◌++◌, map, length, refl, sym, ◌∙◌, ap, subst, arith, length-append}
+use Rattle.std.specs.Prelude.{All, ◌==◌, filter, slice_get, slice_index_or, None, Some}
+use Rattle.std.specs.List.{AllByRecursion, enumerate_from}
+use Rattle.std.proofs.lemmas.Bool.{cases_eq}
+use Rattle.atomic_table.specs.Seated.{TableId}
+use Rattle.rom_model.specs.Leaving.{IsClosed, IsKept}
+use Rattle.rom_model.specs.Region.{Contents}
+use Rattle.rom_model.specs.Seen.{StartsWith, done_in}
+use Rattle.rom_model.specs.State.{State}
+use Rattle.rom_model.specs.Story.{Story, own}
+use Rattle.rom_model.specs.Trio.{trio}
+use Rattle.rom_model.specs.declared.call.Answer.{Answer}
+use Rattle.rom_model.specs.declared.call.Answer.TheVariants.{Total}
+use Rattle.rom_model.specs.declared.entry.Entry.{Entry}
+use Rattle.rom_model.specs.declared.kept.Kept.{Kept}
+use Rattle.rom_rule.specs.declared.views.Base.{Base}
+use Rattle.rom_store.specs.Callers.{Caller, IsCallerOf, IsNumbered}
+use Rattle.rom_store.specs.Closing.{kept_in}
+use Rattle.rom_store.specs.Indexed.{Indexed}
+use Rattle.rom_store.specs.Sessions.{EachStory, IsStoryOf, SessionSeen}
+use Rattle.bank.specs.Moved.{IsMove, moved_in}
+use Rattle.bank.specs.Tellers.{IsTeller, total_after}
+use Rattle.bank.specs.declared.bank.Teller.{Teller}
+use Rattle.bank.proofs.Splitting.{IsBankOf, own_is, total_stays}
+use Rattle.bank.proofs.Telling.{same_total, starts_further}
+
+-- What was put in is the total after these first updates, which the manager has seen; the session has of each of the five callers what it keeps.
+pub record HasEnded (table : TableId) (base : Base) (session : SessionSeen) (put_in : ℕ) (first : List Entry) (m : Caller) (a b c d : Teller) : Type 0 where
+  pub order : session.order ≡ base.order
+  pub image : session.image ≡ base.image
+  pub closed : EachStory trio Contents session (λ story. IsClosed trio story 5)
+  pub kept : EachStory trio Contents session (λ story. Indexed (λ _ v. IsKept trio story v) (map kept_in (a.pass ∷ b.pass ∷ c.pass ∷ d.pass ∷ m ∷ [])))
+  pub manager : IsCallerOf Contents table base m × (m.view.number ≡ 5) × (m.view.seen ≡ first)
+  pub one : IsTeller table base first a × (a.pass.view.number ≡ 1)
+  pub two : IsTeller table base first b × (b.pass.view.number ≡ 2)
+  pub three : IsTeller table base first c × (c.pass.view.number ≡ 3)
+  pub four : IsTeller table base first d × (d.pass.view.number ≡ 4)
+  pub total : (s : State) (k : ℕ) → Contents base.order base.image s k → put_in ≡ total_after base.order s k first
+
+module _ (table : TableId) (base : Base) (session : SessionSeen) (put_in : ℕ) (first : List Entry) (m : Caller) (a b c d : Teller) (e : HasEnded table base session put_in first m a b c d) where
+  at_opening : (story : Story State) → IsStoryOf trio Contents session story → Contents base.order base.image story.opening story.opening_count
+  at_opening story is = subst (λ (z : ℕ × List ℕ). Contents z.0 z.1 story.opening story.opening_count) (λ i. (e.order i, e.image i)) is.opening
+
+  module _ (story : Story State) (is : IsStoryOf trio Contents session story) where
+    kept_at : (i : ℕ) (v : Kept) → slice_get (map kept_in (a.pass ∷ b.pass ∷ c.pass ∷ d.pass ∷ m ∷ [])) i ≡ Some v → IsKept trio story v
+    kept_at i v there = (e.kept story is).at i v there
+
+    abbrev Told : ℕ → Type 0
+    Told n = (v : Kept) × (v.number ≡ n) × IsKept trio story v × AllByRecursion (λ x. IsMove x.0.args) v.told
+
+    told_of : (n : ℕ) → 0 < n → n ≤ 4 → Told n
+    told_of n above most = elim (cases_eq n 1) [
+      | inl same ↦ subst Told (sym same) (kept_in a.pass, e.one.1, kept_at 0 (kept_in a.pass) refl, e.one.0.moves)
+      | inr not_one ↦ elim (cases_eq n 2) [
+        | inl same ↦ subst Told (sym same) (kept_in b.pass, e.two.1, kept_at 1 (kept_in b.pass) refl, e.two.0.moves)
+        | inr not_two ↦ elim (cases_eq n 3) [
+          | inl same ↦ subst Told (sym same) (kept_in c.pass, e.three.1, kept_at 2 (kept_in c.pass) refl, e.three.0.moves)
+          | inr not_three ↦ subst Told (let same : 4 ≡ n = omega (arith, above, most, not_one, not_two, not_three) in same) (kept_in d.pass, e.four.1, kept_at 3 (kept_in d.pass) refl, e.four.0.moves)
+        ]
+      ]
+    ]
+
+    kept_of_manager : IsKept trio story (kept_in m)
+    kept_of_manager = kept_at 4 (kept_in m) refl
+
+    bank_of : IsBankOf story first
+    bank_of = record {
+      closed = e.closed story is;
+      manager =
+          let own = (e.manager.0.knows story.opening story.opening_count (at_opening story is)).own in
+          let same : filter (λ x. x.1.caller == 5) (enumerate_from story.opening_count first) ≡ done_in m.view.outcomes
+          = subst (λ (z : ℕ × List Entry). filter (λ x. x.1.caller == z.0) (enumerate_from story.opening_count z.1) ≡ done_in m.view.outcomes) (λ i. (e.manager.1 i, e.manager.2 i)) own in
+          (kept_in m, e.manager.1, kept_of_manager, same);
+      tellers = told_of;
+    }
+
+    starts : StartsWith story.history first
+    starts = subst (λ zs. StartsWith story.history zs) e.manager.2 kept_of_manager.seen
+
+    put_in_is : put_in ≡ total_after story.order story.opening story.opening_count first
+    put_in_is = e.total story.opening story.opening_count (at_opening story is) ∙ ap (λ n. total_after n story.opening story.opening_count first) (sym (is.order_is ∙ e.order))
+
+    stays : (seen : List Entry) → StartsWith seen first → StartsWith story.history seen → total_after story.order story.opening story.opening_count seen ≡ put_in
+    stays seen past within = total_stays story first seen bank_of past within ∙ sym put_in_is
+
+    reads : (t : Teller) → IsTeller table base first t → IsKept trio story (kept_in t.pass) → All (λ total. total ≡ put_in) t.totals
+    reads t teller kept = λ i x within.
+        let (at, past, seen, same) = (teller.totals i x within).state story.opening story.opening_count (at_opening story is) in
+        same ∙ (ap (λ n. total_after n story.opening story.opening_count at) (sym (is.order_is ∙ e.order)) ∙ stays at past (starts_further at t.pass.view.seen story.history seen kept.seen))
+
+    count : (t : Teller) (n : ℕ) → IsTeller table base first t → t.pass.view.number ≡ n → IsKept trio story (kept_in t.pass) → t.moved ≡ moved_in (own story n)
+    count t n teller number kept = teller.moved ∙ (ap moved_in (sym (own_is story (e.closed story is) (kept_in t.pass) kept)) ∙ ap (λ (z : ℕ). moved_in (own story z)) number)
+
+    whole : story.history ≡ story.history ++ []
+    whole = nothing story.history
+      where
+        nothing : {X : Type 0} (zs : List X) → zs ≡ zs ++ []
+        nothing [] = refl
+        nothing (z ∷ zs) = ap (λ ys. z ∷ ys) (nothing zs)
+
+    -- the total at the end
+    pub last_total : total_after story.order story.opening story.opening_count story.history ≡ put_in
+    last_total = stays story.history starts ([], whole)
+
+    pub first_total : (from : List Entry) × StartsWith story.history from × (put_in ≡ total_after story.order story.opening story.opening_count from)
+    first_total = (first, starts, put_in_is)
+
+    pub counts : a.moved ∷ b.moved ∷ c.moved ∷ d.moved ∷ [] ≡ map (λ caller. moved_in (own story caller)) (1 ∷ 2 ∷ 3 ∷ 4 ∷ [])
+    counts =
+        let one = count a 1 e.one.0 e.one.1 (kept_at 0 (kept_in a.pass) refl) in let two = count b 2 e.two.0 e.two.1 (kept_at 1 (kept_in b.pass) refl) in
+        let three = count c 3 e.three.0 e.three.1 (kept_at 2 (kept_in c.pass) refl) in let four = count d 4 e.four.0 e.four.1 (kept_at 3 (kept_in d.pass) refl) in
+        λ i. one i ∷ two i ∷ three i ∷ four i ∷ []
+
+    pub all_reads : All (All (λ total. total ≡ put_in)) (a.totals ∷ b.totals ∷ c.totals ∷ d.totals ∷ [])
+    all_reads = λ i xs within. at i xs within
+      where
+        at : (i : ℕ) (xs : List ℕ) → i < 4 → All (λ total. total ≡ put_in) (slice_index_or (a.totals ∷ b.totals ∷ c.totals ∷ d.totals ∷ []) i xs)
+        at zero xs within = reads a e.one.0 (kept_at 0 (kept_in a.pass) refl)
+        at (suc zero) xs within = reads b e.two.0 (kept_at 1 (kept_in b.pass) refl)
+        at (suc (suc zero)) xs within = reads c e.three.0 (kept_at 2 (kept_in c.pass) refl)
+        at (suc (suc (suc zero))) xs within = reads d e.four.0 (kept_at 3 (kept_in d.pass) refl)
+        at (suc (suc (suc (suc i)))) xs within = absurd (omega arith)
+
+  -- what the closed store is asked for
+  pub told_total : (story : Story State) → IsStoryOf trio Contents session story → (answer : Answer) (total : ℕ) → ((s : State) (k : ℕ) → Contents session.order session.image s k → answer ≡ Total (total_after session.order s k session.history)) → answer ≡ Total total →
+      total ≡ put_in
+  told_total story is answer total told in_answer =
+      let there = told story.opening story.opening_count is.opening in
+      let same : total_after session.order story.opening story.opening_count session.history ≡ total_after story.order story.opening story.opening_count story.history
+      = λ i. total_after (sym is.order_is i) story.opening story.opening_count (sym is.history i) in
+      same_total _ _ (sym in_answer ∙ there) ∙ (same ∙ last_total story is)
+
+earlier_at : {X : Type 0} (xs : List X) (y : X) (i : ℕ) (x : X) → slice_get xs i ≡ Some x → slice_get (xs ++ y ∷ []) i ≡ Some x
+earlier_at [] y i x e = absurd (let no_one : None ≡ Some x = e in cc)
+earlier_at (z ∷ xs) y zero x e = e
+earlier_at (z ∷ xs) y (suc i) x e = earlier_at xs y i x e
+
+last_at : {X : Type 0} (xs : List X) (y : X) → slice_get (xs ++ y ∷ []) (length xs) ≡ Some y
+last_at [] y = refl
+last_at (z ∷ xs) y = last_at xs y
+
+-- The last of some passes is taken: what holds of it at its place, and of those that are left.
+pub taken : {X : Type 0} (P : ℕ → X → Type 0) (n : ℕ) (ps xs : List X) (x : X) → ps ≡ xs ++ x ∷ [] → length ps ≡ n + 1 → Indexed P ps → P n x × Indexed P xs × (length xs ≡ n)
+taken P n ps xs x is many all =
+    let long : length xs ≡ n = omega (arith, ap length is, many, length-append xs (x ∷ [])) in
+    let whole = subst (Indexed P) is all in
+    (subst (λ (i : ℕ). P i x) long (whole.at (length xs) x (last_at xs x)), record { at = λ i y there. whole.at i y (earlier_at xs x i y there) }, long)
+
+pub none_left : {X : Type 0} (xs : List X) → length xs ≡ 0 → xs ≡ []
+none_left [] is = refl
+none_left (x ∷ xs) is = absurd (omega (arith, is))
+
+-- and given back
+pub back_again : {X : Type 0} (q0 q1 q2 q3 q4 q5 : List X) (a b c d m : X) → q0 ≡ [] → q1 ≡ q0 ++ a ∷ [] → q2 ≡ q1 ++ b ∷ [] → q3 ≡ q2 ++ c ∷ [] → q4 ≡ q3 ++ d ∷ [] → q5 ≡ q4 ++ m ∷ [] → q5 ≡ a ∷ b ∷ c ∷ d ∷ m ∷ []
+back_again q0 q1 q2 q3 q4 q5 a b c d m none e1 e2 e3 e4 e5 =
+    let one = e1 ∙ ap (λ zs. zs ++ a ∷ []) none in
+    let two = e2 ∙ ap (λ zs. zs ++ b ∷ []) one in
+    let three = e3 ∙ ap (λ zs. zs ++ c ∷ []) two in
+    let four = e4 ∙ ap (λ zs. zs ++ d ∷ []) three in
+    e5 ∙ ap (λ zs. zs ++ m ∷ []) four
+
+pub all_four : {X : Type 0} (P : X → Type 0) (a b c d : X) → P a → P b → P c → P d → All P (a ∷ b ∷ c ∷ d ∷ [])
+all_four {X} P a b c d one two three four = λ i x within. at i x within
+  where
+    at : (i : ℕ) (x : X) → i < 4 → P (slice_index_or (a ∷ b ∷ c ∷ d ∷ []) i x)
+    at zero x within = one
+    at (suc zero) x within = two
+    at (suc (suc zero)) x within = three
+    at (suc (suc (suc zero))) x within = four
+    at (suc (suc (suc (suc i)))) x within = absurd (omega arith)
+
+-- passes with these numbers are those of a store
+pub numbered_five : (table : TableId) (base : Base) (a b c d m : Caller) → IsNumbered Contents table base 0 a → IsNumbered Contents table base 1 b → IsNumbered Contents table base 2 c → IsNumbered Contents table base 3 d → IsNumbered Contents table base 4 m →
+    Indexed (IsNumbered Contents table base) (a ∷ b ∷ c ∷ d ∷ m ∷ [])
+numbered_five table base a b c d m one two three four five = record { at = at }
+  where
+    at : (i : ℕ) (p : Caller) → slice_get (a ∷ b ∷ c ∷ d ∷ m ∷ []) i ≡ Some p → IsNumbered Contents table base i p
+    at zero p is = subst (IsNumbered Contents table base 0) (let same : a ≡ p = cc in same) one
+    at (suc zero) p is = subst (IsNumbered Contents table base 1) (let same : b ≡ p = cc in same) two
+    at (suc (suc zero)) p is = subst (IsNumbered Contents table base 2) (let same : c ≡ p = cc in same) three
+    at (suc (suc (suc zero))) p is = subst (IsNumbered Contents table base 3) (let same : d ≡ p = cc in same) four
+    at (suc (suc (suc (suc zero)))) p is = subst (IsNumbered Contents table base 4) (let same : m ≡ p = cc in same) five
+    at (suc (suc (suc (suc (suc i))))) p is = absurd (let no : None ≡ Some p = is in cc)

@@ -1,0 +1,36 @@
+use Rattle.std.proofs.Common.{ap, refl, sym, subst, ◌∙◌, arith}
+use Rattle.rom_model.specs.Region.{Contents}
+use Rattle.rom_store.specs.Callers.{IsCallerOf}
+use Rattle.bank.specs.Tellers.{IsTeller}
+use Rattle.bank.specs.declared.bank.Teller.{Teller}
+use Rattle.bank.proofs.bank.work.Goals as goal
+use Rattle.bank.proofs.bank.work.Goals.{then-i, else-i}
+
+pub loop-i-preserved : goal.loop-i-preserved
+loop-i-preserved g c =
+    let before = c.loop-i.invariant in let moved = c.move_one.ensures in let table = g.N.Label.table in let base = g.N.Label.base in
+    elim c.if-i.branch [
+      | then-i w ↦ record {
+        of = subst (λ (t : Teller). IsCallerOf Contents table base t.pass) (sym w.teller-is) w.look.ensures.of;
+        number = ap (λ (t : Teller). t.pass.view.number) w.teller-is ∙ (w.look.ensures.number ∙ (moved.number ∙ before.number));
+        few = omega (arith, ap (λ (t : Teller). t.moved) w.teller-is, w.look.ensures.moved, moved.few);
+        most = omega (arith, c.loop-i-test.true);
+        teller = record { keeps = λ first is. subst (IsTeller table base first) (sym w.teller-is) (w.look.ensures.teller.keeps first (moved.teller.keeps first (before.teller.keeps first is))) };
+      }
+      | else-i w ↦ record {
+        of = subst (λ (t : Teller). IsCallerOf Contents table base t.pass) (sym w.teller-is) moved.of;
+        number = ap (λ (t : Teller). t.pass.view.number) w.teller-is ∙ (moved.number ∙ before.number);
+        few = omega (arith, ap (λ (t : Teller). t.moved) w.teller-is, moved.few);
+        most = omega (arith, c.loop-i-test.true);
+        teller = record { keeps = λ first is. subst (IsTeller table base first) (sym w.teller-is) (moved.teller.keeps first (before.teller.keeps first is)) };
+      }
+    ]
+
+pub loop-i-init : goal.loop-i-init
+loop-i-init g c = record {
+  of = c.requires.of;
+  number = refl;
+  few = omega (arith, c.requires.none);
+  most = omega arith;
+  teller = record { keeps = λ first is. is };
+}
