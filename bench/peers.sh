@@ -6,8 +6,8 @@
 # whose device the syncs are made; the server listens on a socket in that folder alone. It ends by itself:
 # each command has a limit of two minutes.
 # Usage, from any folder, once the program is built: bench/peers.sh [TURNS [UPDATES [READS [FOLDER]]]]
-turns=${1:-7}
-updates=${2:-400}
+turns=${1:-5}
+updates=${2:-1000}
 reads=${3:-100000}
 TMPDIR=${4:-${TMPDIR:-/tmp}}
 export TMPDIR
