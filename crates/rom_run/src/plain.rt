@@ -57,7 +57,7 @@ fn are_names(words: &[Name]) -> bool
 }
 
 /// Whether words name scripts: there are 1 to 16.
-fn are_scripts(words: &[Name]) -> bool
+pub fn are_scripts(words: &[Name]) -> bool
     ensures named { result ≡ plain.are_scripts words.now }
     ensures few { IsTrue result → (0 < length words.now) × (length words.now ≤ 16) }
 {
@@ -122,7 +122,8 @@ pub fn read_plain(words: &Names) -> Option<Plain<'_>>
     }
 }
 
-fn copy_of(alloc: Global, names: &[Name]) -> Result<Names, AllocError>
+/// The same names, in memory of their own.
+pub fn copy_of(alloc: Global, names: &[Name]) -> Result<Names, AllocError>
     ensures { IfOk result (λ copy. copy ≡ names.now) }
 {
     let mut copy = Names::new(alloc);
