@@ -1,5 +1,6 @@
-//! A follower: a heap that takes the frames of another heap's history, and never holds what that heap
-//! never held.
+//! A follower: a heap that takes the frames of another heap's history, and holds the state after its
+//! first updates, so many, and no other. Where that heap did several updates in one batch, the follower
+//! does them one by one.
 //!
 //! A [`Follower`] is a store of its own with one caller. It takes one message after another, in
 //! whatever order and as often as they come: the frame whose place is its count is done, each other one

@@ -31,14 +31,15 @@ pub enum Taken {
     },
     /// The message is no frame.
     NotAFrame,
-    /// The update of this place is done, but it was told another reply than the frame's. From then on
-    /// it is the answer to each message.
+    /// The update of this place is done, but it was told another reply than the frame's. The heaps have
+    /// parted for good, and this is the answer to each message from then on; a new opening of this heap
+    /// does not know of it.
     Diverged {
         place: u64,
         ours: Reply,
         theirs: Reply,
     },
-    /// The count of updates stands at its limit; nothing was done.
+    /// The count of updates stands at its limit, or this follower has tried 2^62 of them; nothing was done.
     Spent,
     /// The device failed before the commit; nothing was done.
     Failed,
