@@ -1,0 +1,32 @@
+use Rattle.std.proofs.Common.{inl}
+use Rattle.rom_replica.proofs.Completing.{completes, named, refuses}
+use Rattle.rom_replica.proofs.program.run_follower.Goals as goal
+
+-- three of the promises follow from the others
+pub returns : goal.returns
+returns g c =
+    let is = c.follow.ensures in
+    let ended = c.follow.result in
+    let shown = g.D.Device.shown in
+    let source = g.S.Source.shown in
+    let sink = g.O.Sink.shown in
+    let was = c.args.device in
+    record {
+      promise = record {
+        statuses = is.statuses;
+        taken = is.taken;
+        not_taken = is.not_taken;
+        complete = λ tells can none. completes shown source sink was ended.device c.args.inputs.items ended.scripts.items c.args.out.now c.follow.new.out ended.status ended.session is.story is.none tells is.statuses is.taken is.not_taken is.sink_failed can none;
+        refused_so = λ tells three. named shown source sink was ended.device c.args.inputs.items ended.scripts.items c.args.out.now c.follow.new.out ended.status ended.session is.story is.none tells (is.not_taken (inl three)) three;
+        refused = λ tells. refuses shown source sink was ended.device c.args.inputs.items ended.scripts.items c.args.out.now c.follow.new.out ended.status ended.session is.story is.none tells is.statuses is.taken;
+        story = is.story;
+        none = is.none;
+        unread = is.unread;
+        kept = is.kept;
+        many = is.many;
+        asked_once = is.asked_once;
+        sink_failed = is.sink_failed;
+        writing = is.writing;
+        rest = is.rest;
+      };
+    }

@@ -1,0 +1,8 @@
+-- The definitions that the contracts of this crate cite.
+pub mod Words
+pub mod Named
+pub mod Turns
+pub mod Stops
+pub mod Tallied
+pub mod Following
+pub mod Promise

@@ -1,0 +1,279 @@
+//! The command `follow`: the heap is opened, takes the frames of a stream, and is closed.
+ghost use Rattle.std.specs.Prelude.{◌≡◌, ◌⊎◌, ℕ, ◌≤◌, List, length, IfErr, IfOk, IfSome, IsNone, IsSome, IsTrue, OnErr, OnOk, Some};
+ghost use Rattle.rom_model.specs.Leaving.{IsClosed};
+ghost use Rattle.rom_model.specs.Machine.{on_words};
+ghost use Rattle.rom_model.specs.Passes.{faults_after};
+ghost use Rattle.rom_model.specs.Region.{Contents};
+ghost use Rattle.rom_model.specs.State.{State};
+ghost use Rattle.rom_model.specs.Story.{count};
+ghost use Rattle.rom_model.specs.Trio.{trio};
+ghost use Rattle.rom_heap.specs.Answers.{Rejects, earlier};
+ghost use Rattle.rom_device.specs.Device.{Leaves};
+ghost use Rattle.rom_combine.specs.Costs.{WithinHeap};
+ghost use Rattle.rom_combine.specs.Session.{ImageNow, SessionImage};
+ghost use Rattle.rom_rule.specs.Views.{base_of};
+ghost use Rattle.rom_store.specs.Callers.{IsNewCaller};
+ghost use Rattle.rom_store.specs.Closing.{HasLeftSince};
+ghost use Rattle.rom_store.specs.Indexed.{Indexed};
+ghost use Rattle.rom_store.specs.Sessions.{EachStory, HasStory};
+ghost use Rattle.rom_store.specs.Start.{HasStarted, start_of};
+ghost use Rattle.rom_store.specs.Traced.{WentThrough};
+ghost use Rattle.rom_run.specs.Statuses as run;
+ghost use Rattle.rom_run.specs.Working.{HasNone, HasSession, IsDeviceKept};
+ghost use Rattle.rom_run.specs.declared.heap.Heap.TheVariants.{Standing};
+ghost use Rattle.rom_text.specs.Runs.{AreAskedOnce};
+ghost use Rattle.rom_text.specs.Streams.{IsAskedOnce, StopsWriting, WriteFailed};
+ghost use Rattle.rom_replica.specs.Following.{IsToldOfStream, HasClosed, IsFollowText, IsFollowed};
+ghost use Rattle.rom_replica.specs.Promise.{HasNotTaken, HasTaken, OfOne};
+
+use crate::stop::Stop;
+use crate::stream::take_frames;
+use crate::tally::Tally;
+use crate::text::print_followed;
+use rom_device::Device;
+use rom_follow::Follower;
+use rom_heap::Trio;
+use rom_run::{Ended, Status, Worked, end_refused};
+use rom_store::{Closed, Gate, Label, Opening, open_store};
+use rom_text::{Sink, Source};
+use std::alloc::Global;
+use std::marker::Brand;
+use std::sync::Wait;
+
+/// What came of a stream, and the store that was closed.
+#[derive(Drop)]
+struct Outcome<D: Device> {
+    tally: Tally,
+    stop: Stop,
+    closed: Closed<D, Trio>,
+}
+
+// All that follows the opening, with a label.
+fn follow_as<D: Device + Send, N: Label, S: Source, R: Wait, G: Gate>(
+    rt: &R,
+    opening: Opening<D, Trio>,
+    stream: &mut S,
+    gate: &G,
+) -> Outcome<D>
+    requires table { N.table ≡ opening.table_id }
+    requires base { N.base ≡ base_of opening.key }
+    requires started { N.start ≡ start_of D.shown opening.device }
+    requires since { IsTrue D.shown.tells_images → (t : ℕ) (i : List ℕ) →
+        (N.since t i → D.shown.left_since opening.device t i)
+        × (D.shown.left_since opening.device t i → N.since t i) }
+    requires one { (length opening.passes ≡ 1) × (N.base.callers ≡ 1) }
+    requires passes { Indexed (IsNewCaller Contents N.table N.base) opening.passes }
+    requires formed { (s : State) × (k : ℕ) × Contents N.base.order N.base.image s k }
+    ensures order { result.closed.session.order ≡ N.base.order }
+    ensures image { result.closed.session.image ≡ N.base.image }
+    ensures opening_faults { result.closed.session.faults ≡ N.base.faults }
+    ensures story { HasStory trio Contents result.closed.session }
+    ensures left { HasClosed S.shown stream.old stream.new result.tally result.stop
+        result.closed.session }
+    ensures closed { EachStory trio Contents result.closed.session (λ story.
+        IsClosed trio story 1) }
+    ensures now { IsTrue D.shown.tells_images → EachStory trio Contents result.closed.session
+        (λ story. (i : List ℕ) → D.shown.leaves result.closed.device i →
+        ImageNow Contents (on_words trio) story i) }
+    ensures since { IsTrue D.shown.tells_images → EachStory trio Contents result.closed.session
+        (λ story. HasLeftSince D.shown N.start N.since
+        (SessionImage Contents (on_words trio) story) result.closed.device) }
+    ensures went { EachStory trio Contents result.closed.session (λ story. WentThrough D.shown
+        Contents (on_words trio) story (HasStarted D.shown N.base.faults N.start)
+        result.closed.device) }
+    ensures size { D.shown.size result.closed.device ≡ N.start.size }
+    ensures outside { IsTrue D.shown.tells_words →
+        WithinHeap N.base.order N.start.words (D.shown.words result.closed.device) }
+    ensures faults { faults_after result.closed.session.faults result.closed.session.records
+        ≤ D.shown.faults result.closed.device }
+    ensures asked_once { IsAskedOnce S.shown stream.old stream.new }
+{
+    let mut follower = Follower::<D, N>::start(opening);
+    let (tally, stop) = take_frames(rt, &mut follower, stream, gate);
+    Outcome {
+        tally,
+        stop,
+        closed: follower.close(rt),
+    }
+}
+
+// So on an opened heap. It picks the label that tells what the store was started on.
+fn follow_on<D: Device + Send, S: Source, R: Wait, G: Gate>(
+    rt: &R,
+    opening: Opening<D, Trio>,
+    stream: &mut S,
+    gate: &G,
+) -> Outcome<D>
+    requires one { (length opening.passes ≡ 1) × ((base_of opening.key).callers ≡ 1) }
+    requires passes { Indexed (IsNewCaller Contents opening.table_id (base_of opening.key))
+        opening.passes }
+    requires formed { let b = base_of opening.key in
+        (s : State) × (k : ℕ) × Contents b.order b.image s k }
+    ensures order { result.closed.session.order ≡ (base_of opening.key).order }
+    ensures image { result.closed.session.image ≡ (base_of opening.key).image }
+    ensures opening_faults { result.closed.session.faults ≡ (base_of opening.key).faults }
+    ensures story { HasStory trio Contents result.closed.session }
+    ensures left { HasClosed S.shown stream.old stream.new result.tally result.stop
+        result.closed.session }
+    ensures closed { EachStory trio Contents result.closed.session (λ story.
+        IsClosed trio story 1) }
+    ensures now { IsTrue D.shown.tells_images → EachStory trio Contents result.closed.session
+        (λ story. (i : List ℕ) → D.shown.leaves result.closed.device i →
+        ImageNow Contents (on_words trio) story i) }
+    ensures since { IsTrue D.shown.tells_images → EachStory trio Contents result.closed.session
+        (λ story. Leaves D.shown (SessionImage Contents (on_words trio) story) opening.device
+        result.closed.device) }
+    ensures went { EachStory trio Contents result.closed.session (λ story. WentThrough D.shown
+        Contents (on_words trio) story (HasStarted D.shown (base_of opening.key).faults
+        (start_of D.shown opening.device)) result.closed.device) }
+    ensures size { D.shown.size result.closed.device ≡ D.shown.size opening.device }
+    ensures outside { IsTrue D.shown.tells_words → WithinHeap (base_of opening.key).order
+        (D.shown.words opening.device) (D.shown.words result.closed.device) }
+    ensures faults { faults_after result.closed.session.faults result.closed.session.records
+        ≤ D.shown.faults result.closed.device }
+    ensures asked_once { IsAskedOnce S.shown stream.old stream.new }
+{
+    follow_as::<D, Brand, S, R, G>(rt, opening, stream, gate)
+}
+
+// Opens the heap and follows the stream, or prints why it is refused; then the stream is not read.
+fn follow_heap<D: Device + Send, S: Source, O: Sink, R: Wait, G: Gate>(
+    rt: &R,
+    alloc: Global,
+    device: D,
+    stream: &mut S,
+    out: &mut O,
+    gate: &G,
+) -> Result<Outcome<D>, Worked<D>>
+    ensures session { IfOk result (λ f. HasSession trio Contents D.shown Standing device
+        f.closed.device (IsFollowed S.shown stream.old stream.new f.tally f.stop)
+        f.closed.session) }
+    ensures kept { IfOk result (λ f. IsDeviceKept D.shown Standing device f.closed.device) }
+    ensures unprinted { OnOk result (out.new ≡ out.old) }
+    ensures none { IfErr result (λ worked. HasNone trio Contents D.shown O.shown Rejects earlier
+        Standing device worked.device out.old out.new (run.number_of worked.status)) }
+    ensures none_kept { IfErr result (λ worked.
+        IsDeviceKept D.shown Standing device worked.device) }
+    ensures none_statuses { IfErr result (λ worked. (worked.status ≡ Status.HeapRefused)
+        ⊎ (worked.status ≡ Status.NoMemory) ⊎ (worked.status ≡ Status.DeviceFailed)) }
+    ensures none_ran { IfErr result (λ worked. IsNone worked.session) }
+    ensures unread { OnErr result (stream.new ≡ stream.old) }
+    ensures asked_once { IsAskedOnce S.shown stream.old stream.new }
+    ensures writing { StopsWriting O.shown out.old out.new }
+    ensures rest { O.shown.rest out.new ≡ O.shown.rest out.old }
+{
+    match open_store::<D, Trio>(alloc, device, 1) {
+        Ok(opening) => Ok(follow_on(rt, opening, stream, gate)),
+        Err(refused) => Err(end_refused::<Trio, D, O>(refused, out)),
+    }
+}
+
+// So on the one stream of these inputs.
+fn follow_only<D: Device + Send, S: Source, O: Sink, R: Wait, G: Gate>(
+    rt: &R,
+    alloc: Global,
+    device: D,
+    inputs: &mut [S],
+    out: &mut O,
+    gate: &G,
+) -> Result<Outcome<D>, Worked<D>>
+    requires one { length inputs.old ≡ 1 }
+    ensures session { IfOk result (λ f. HasSession trio Contents D.shown Standing device
+        f.closed.device (λ story. OfOne inputs.old inputs.new (λ was now.
+        IsFollowed S.shown was now f.tally f.stop story)) f.closed.session) }
+    ensures kept { IfOk result (λ f. IsDeviceKept D.shown Standing device f.closed.device) }
+    ensures unprinted { OnOk result (out.new ≡ out.old) }
+    ensures none { IfErr result (λ worked. HasNone trio Contents D.shown O.shown Rejects earlier
+        Standing device worked.device out.old out.new (run.number_of worked.status)) }
+    ensures none_kept { IfErr result (λ worked.
+        IsDeviceKept D.shown Standing device worked.device) }
+    ensures none_statuses { IfErr result (λ worked. (worked.status ≡ Status.HeapRefused)
+        ⊎ (worked.status ≡ Status.NoMemory) ⊎ (worked.status ≡ Status.DeviceFailed)) }
+    ensures none_ran { IfErr result (λ worked. IsNone worked.session) }
+    ensures unread { OnErr result (inputs.new ≡ inputs.old) }
+    ensures many { length inputs.new ≡ length inputs.old }
+    ensures asked_once { AreAskedOnce S.shown inputs.old inputs.new }
+    ensures writing { StopsWriting O.shown out.old out.new }
+    ensures rest { O.shown.rest out.new ≡ O.shown.rest out.old }
+{
+    follow_heap(rt, alloc, device, &mut inputs[0], out, gate)
+}
+
+/// Prints what came of a stream, and gives the status.
+fn tell_followed<O: Sink>(out: &mut O, tally: Tally, stop: Stop, count: u64) -> u8
+    ensures printed { IsFollowText O.shown tally stop count out.old out.new result }
+    ensures statuses { HasTaken result ⊎ (result ≡ 7) }
+    ensures sink_failed { result ≡ 5 → WriteFailed O.shown out.old out.new }
+    ensures writing { StopsWriting O.shown out.old out.new }
+    ensures rest { O.shown.rest out.new ≡ O.shown.rest out.old }
+{
+    match print_followed(out, tally, count) {
+        Ok(()) => stop.number(),
+        Err(_) => Status::SinkFailed.number(),
+    }
+}
+
+// Prints what came of a stream, and ends the session.
+fn end_followed<D: Device, S, O: Sink>(
+    followed: Outcome<D>,
+    inputs: Vec<S>,
+    out: &mut O,
+) -> Ended<D, S>
+    ensures device { result.device ≡ followed.closed.device }
+    ensures session { result.session ≡ Some followed.closed.session }
+    ensures inputs { result.scripts ≡ inputs }
+    ensures printed { EachStory trio Contents followed.closed.session (λ story. IsFollowText O.shown
+        followed.tally followed.stop (count story) out.old out.new result.status) }
+    ensures statuses { HasTaken result.status ⊎ (result.status ≡ 7) }
+    ensures sink_failed { result.status ≡ 5 → WriteFailed O.shown out.old out.new }
+    ensures writing { StopsWriting O.shown out.old out.new }
+    ensures rest { O.shown.rest out.new ≡ O.shown.rest out.old }
+{
+    let Outcome {
+        tally,
+        stop,
+        closed,
+    } = followed;
+    let status = tell_followed(out, tally, stop, closed.count());
+    let (device, session) = closed.parts();
+    Ended {
+        status,
+        device,
+        scripts: inputs,
+        session: Some(session),
+    }
+}
+
+/// Opens the heap on the device for one caller, has it take the frames of the one stream, and prints what
+/// came of them; or prints why the heap is refused. The stream is not read before the heap is opened. All
+/// memory is taken by the opening.
+pub(crate) fn follow<D: Device + Send, S: Source, O: Sink, R: Wait, G: Gate>(
+    rt: &R,
+    alloc: Global,
+    device: D,
+    mut inputs: Vec<S>,
+    out: &mut O,
+    gate: &G,
+) -> Ended<D, S>
+    requires one { length inputs.items ≡ 1 }
+    ensures statuses { HasTaken result.status ⊎ HasNotTaken result.status ⊎ (result.status ≡ 7) }
+    ensures taken { HasTaken result.status → IsSome result.session }
+    ensures not_taken { HasNotTaken result.status → IsNone result.session }
+    ensures story { IfSome result.session (HasSession trio Contents D.shown Standing device
+        result.device (λ story. OfOne inputs.items result.scripts.items (λ was now. IsToldOfStream
+        S.shown O.shown was now out.old out.new result.status story))) }
+    ensures none { IsNone result.session → HasNone trio Contents D.shown O.shown Rejects earlier
+        Standing device result.device out.old out.new result.status }
+    ensures unread { IsNone result.session → result.scripts.items ≡ inputs.items }
+    ensures kept { IsDeviceKept D.shown Standing device result.device }
+    ensures many { length result.scripts.items ≡ length inputs.items }
+    ensures asked_once { AreAskedOnce S.shown inputs.items result.scripts.items }
+    ensures sink_failed { result.status ≡ 5 → WriteFailed O.shown out.old out.new }
+    ensures writing { StopsWriting O.shown out.old out.new }
+    ensures rest { O.shown.rest out.new ≡ O.shown.rest out.old }
+{
+    match follow_only(rt, alloc, device, &mut inputs, out, gate) {
+        Ok(followed) => end_followed(followed, inputs, out),
+        Err(worked) => Ended::after(worked, inputs),
+    }
+}

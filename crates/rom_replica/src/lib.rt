@@ -1,0 +1,27 @@
+//! A replica of a heap over any carrier of bytes: one program writes what it does as frames, and another
+//! does what the frames say on a heap of its own.
+//!
+//! `run_replica` does all that the program does, and its contract carries the promise of the whole. `ship`
+//! plays scripts on a heap with the promise that `run` has, and its text is the frames of the history, in
+//! order. `follow` takes the frames of a stream, one after another, up to the first stop: which frames
+//! became entries of the heap's history, which were known and which came early is told by their places and
+//! the count alone, each stop has its cause and its status, and what the device failing or stopping at any
+//! moment leaves is told by that history.
+#![tactic(auto)]
+
+mod counting;
+mod follow;
+mod program;
+mod stop;
+mod stream;
+mod tally;
+mod text;
+mod words;
+
+pub use program::run_replica;
+pub use rom_run::{Ended, Status};
+pub use rom_store::{NoGate, Session};
+pub use rom_text::{DeviceWant, Wanted};
+pub use stop::Stop;
+pub use tally::Tally;
+pub use words::{Asked, files_of, read_command};
