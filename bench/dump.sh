@@ -1,7 +1,9 @@
 #!/bin/sh
 # Looks at a heap in a file that is write-protected, locked by others or damaged, and fails where
-# romulus_dump tells another thing, or where the file changes. Stored runs are one process alone, so this is
-# no part of `rt ci`. Usage, from any folder, once the program is built: bench/dump.sh
+# romulus_dump tells another thing, or where the file changes. By strace it fails too where a file is opened
+# to write, or written to or synced: that shows it for root as well, who may write a file that is protected.
+# Stored runs are one process alone, so this is no part of `rt ci`. Usage, from any folder, once the program
+# is built: bench/dump.sh
 cd "$(dirname "$0")/.." || exit 1
 program=$PWD/crates/romulus_dump/out/romulus_dump
 kept=$PWD/crates/romulus_dump/data/heap
@@ -43,5 +45,24 @@ told 5 "" sh -c "exec '$program' script heap >/dev/full"
 told 5 "" sh -c "exec '$program' script heap >&-"
 told 0 "" sh -c "exec '$program' check heap >&-"
 cmp heap "$kept" || wrong=1
+
+# The calls of a command on files, but for those that make its output.
+looks() {
+    strace -f -o calls -e trace=file,desc "$program" "$@" >told 2>&1
+    grep -E '"heap", O_RDONLY' calls >/dev/null || { echo "WRONG: $*: not opened to read"; wrong=1; }
+    grep -E 'O_WRONLY|O_CREAT|O_TRUNC|"heap".*O_RDWR|pwrite|ftruncate|fallocate|fsync|fdatasync|sync_file_range' calls && {
+        echo "WRONG: $*: it could write"
+        wrong=1
+    }
+    grep -E '^[0-9]+ +write(v)?\(' calls | grep -vE 'write(v)?\([12],' && { echo "WRONG: $*: it writes"; wrong=1; }
+}
+
+if strace -o calls true 2>/dev/null; then
+    looks check heap
+    looks script heap
+else
+    echo "no strace here: that files are opened to read alone was not looked at"
+    [ "$(id -u)" != 0 ] || echo "and root may write a file that is protected"
+fi
 [ "$wrong" = 0 ] && echo "all as it is to be"
 exit "$wrong"

@@ -20,7 +20,7 @@ use Rattle.rom_open.specs.declared.reasons.Why.{Why}
 use Rattle.rom_open.specs.declared.reasons.Why.TheVariants.{OutOfMemory}
 use Rattle.rom_elements.specs.declared.element.Element.{Element}
 use Rattle.rom_elements.specs.Elements.{AreElements, ElementFits}
-use Rattle.rom_rebuild.proofs.Rebuilding.{elements_many, rebuilt}
+use Rattle.rom_rebuild.proofs.Rebuilding.{elements_many, rebuilt_parts, rebuilt_whole}
 use Rattle.rom_rebuild.proofs.Spans.{part_fits, parts_whole}
 use Rattle.rom_run.specs.Refusing.{refusal_line, refusal_status}
 use Rattle.rom_run.specs.Statuses.{number_of}
@@ -55,7 +55,8 @@ module _ {K : Type 0} (sink : ShownSink K) where
       record {
         elements = es;
         are = are;
-        rebuilds = λ greater le is. rebuilt greater s es are fit (omega (arith, fits, cap_rises n greater le));
+        rebuilds = λ greater le is. rebuilt_whole greater s es are (omega (arith, fits, cap_rises n greater le)) fit;
+        in_parts = λ greater le is. rebuilt_parts greater s es are (omega (arith, fits, cap_rises n greater le)) fit few;
         few = few;
         parts = parts_whole es few;
         fit = λ number. part_fits number es fit;

@@ -17,10 +17,10 @@ named_file (Some file) = Some file.now
 named_file None = None
 
 -- a script has three parts at most
-abbrev pub IsPart : ℕ → Type 0
-IsPart part = (1 ≤ part) × (part ≤ 3)
+abbrev pub IsPartNumber : ℕ → Type 0
+IsPartNumber part = (1 ≤ part) × (part ≤ 3)
 
 -- a part that is asked for is one of them
 abbrev pub AsksForPart : Dump → Type 0
-AsksForPart (dump.Script file part) = IfSome part IsPart
+AsksForPart (dump.Script file part) = IfSome part IsPartNumber
 AsksForPart (dump.Check file) = Unit {0}

@@ -1,5 +1,5 @@
 -- What is shown of a heap that a device holds.
-use Rattle.std.specs.Prelude.{◌≡◌, ◌⊎◌, ℕ, ◌≤◌, List, ◌++◌, IsTrue, length, slice_index, codes, decimal, Option, Some, None, Err}
+use Rattle.std.specs.Prelude.{◌≡◌, ◌⊎◌, ℕ, ◌≤◌, List, [], ◌∷◌, ◌++◌, IsTrue, length, slice_index, codes, decimal, Option, Some, None, Err}
 use Rattle.rom_model.specs.Blocks.{IsOrder}
 use Rattle.rom_model.specs.Region.{Contents}
 use Rattle.rom_model.specs.State as model
@@ -18,7 +18,7 @@ use Rattle.rom_elements.specs.declared.element.Element.{Element}
 use Rattle.rom_elements.specs.Elements.{AreElements}
 use Rattle.rom_rebuild.specs.Parts.{IsTooLong}
 use Rattle.rom_rebuild.specs.Rebuilds.{Rebuilds}
-use Rattle.rom_rebuild.specs.Script.{part_of, parts_needed, script_of}
+use Rattle.rom_rebuild.specs.Script.{part_of, parts_needed, parts_of, script_of}
 use Rattle.rom_run.specs.Refusing.{refusal_line, refusal_status}
 use Rattle.rom_run.specs.Statuses.{number_of}
 use Rattle.rom_stat.specs.Stat.{IsPut, stat_text}
@@ -58,11 +58,12 @@ module _ {K : Type 0} (sink : ShownSink K) where
   EndsAsScript (Some part) elements old new status = EndsAsText (script_of (part_of part elements)) old new status
   EndsAsScript None elements old new status = EndsAsWhole elements old new status
 
-  -- The script of this state in a heap of this order. Its lines rebuild the state in a new heap of this order, and of each greater one; three parts, each within a script's limits, are the script; and it is printed, or the part of it that is asked for.
+  -- The script of this state in a heap of this order. It rebuilds the state in a new heap of this order, and of each greater one; so do its three parts, each a script within the limits, run one after another; they are the script; and it is printed, or the part of it that is asked for.
   pub record IsPutAgain (order : ℕ) (state : model.State) (part : Option ℕ) (old new : K) (status : ℕ) : Type 0 where
     pub elements : List Element
     pub are : AreElements state elements
-    pub rebuilds : (greater : ℕ) → order ≤ greater → IsOrder greater → Rebuilds greater (script_of elements) state
+    pub rebuilds : (greater : ℕ) → order ≤ greater → IsOrder greater → Rebuilds greater (script_of elements ∷ []) state
+    pub in_parts : (greater : ℕ) → order ≤ greater → IsOrder greater → Rebuilds greater (parts_of elements) state
     pub few : length elements ≤ 61440
     pub parts : script_of elements ≡ script_of (part_of 1 elements) ++ (script_of (part_of 2 elements) ++ script_of (part_of 3 elements))
     pub fit : (number : ℕ) → FitsScript (script_of (part_of number elements))

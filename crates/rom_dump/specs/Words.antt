@@ -12,30 +12,30 @@ pub data Command : Type 0 where
   Check : List ℕ → Command
 
 -- the whole script of a file
-abbrev pub whole_of : List ℕ → Option Command
-whole_of file = if is_name file then Some (Script file None) else None
+abbrev pub whole_words : List ℕ → Option Command
+whole_words file = if is_name file then Some (Script file None) else None
 
 -- a part of it, of which there are three at most
-abbrev pub part_of : List ℕ → List ℕ → List ℕ → Option Command
-part_of file option part =
+abbrev pub part_words : List ℕ → List ℕ → List ℕ → Option Command
+part_words file option part =
     if is_name file then (if bytes_eq option (codes "--part") then option_map (λ k. Script file (Some k)) (number_within 1 3 part) else None) else None
 
 -- what the words behind `script` ask for
-abbrev pub script_of : List (List ℕ) → Option Command
-script_of (file ∷ []) = whole_of file
-script_of (file ∷ option ∷ part ∷ []) = part_of file option part
-script_of words = None
+abbrev pub script_words : List (List ℕ) → Option Command
+script_words (file ∷ []) = whole_words file
+script_words (file ∷ option ∷ part ∷ []) = part_words file option part
+script_words words = None
 
 -- behind `check`
-abbrev pub check_of : List (List ℕ) → Option Command
-check_of (file ∷ []) = if is_name file then Some (Check file) else None
-check_of words = None
+abbrev pub check_words : List (List ℕ) → Option Command
+check_words (file ∷ []) = if is_name file then Some (Check file) else None
+check_words words = None
 
 -- the command of this name, with these words behind it
 abbrev pub command_of : List ℕ → List (List ℕ) → Option Command
 command_of name words =
-    if bytes_eq name (codes "script") then script_of words else
-    if bytes_eq name (codes "check") then check_of words else None
+    if bytes_eq name (codes "script") then script_words words else
+    if bytes_eq name (codes "check") then check_words words else None
 
 -- the command that the words are, if they are one
 abbrev pub command : List (List ℕ) → Option Command

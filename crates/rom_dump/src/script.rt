@@ -1,7 +1,7 @@
 //! The script of a heap.
 ghost use Rattle.std.specs.Prelude.{◌≡◌, ℕ, List, IfSome};
 ghost use Rattle.rom_device.specs.Device.{OnlyReads};
-ghost use Rattle.rom_dump.specs.Named.{IsPart};
+ghost use Rattle.rom_dump.specs.Named.{IsPartNumber};
 ghost use Rattle.rom_dump.specs.Shown.{EndsAsText, EndsAsWhole, IsAnswered, too_long_line};
 ghost use Rattle.rom_dump.specs.Words.{Script};
 ghost use Rattle.rom_rebuild.specs.Parts.{lines_in};
@@ -65,7 +65,7 @@ pub fn show_script<D: Device, O: Sink>(
     part: Option<u64>,
     out: &mut O,
 ) -> Status
-    requires { IfSome part IsPart }
+    requires { IfSome part IsPartNumber }
     ensures answered { (file : List ℕ) → IsAnswered D.shown O.shown (Script file part)
         device.old device.new out.old out.new (number_of result) }
     ensures only { OnlyReads D.shown device.old device.new }

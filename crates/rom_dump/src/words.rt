@@ -20,7 +20,7 @@ pub enum Dump<'a> {
 
 /// A file, whose whole script is asked for.
 fn read_whole(file: &Name) -> Option<Dump<'_>>
-    ensures named { named result ≡ asks.whole_of file.now }
+    ensures named { named result ≡ asks.whole_words file.now }
     ensures part { IfSome result AsksForPart }
 {
     if is_name(file) {
@@ -32,7 +32,7 @@ fn read_whole(file: &Name) -> Option<Dump<'_>>
 
 /// A file, and the part of its script that is asked for.
 fn read_part<'a>(file: &'a Name, option: &Name, part: &Name) -> Option<Dump<'a>>
-    ensures named { named result ≡ asks.part_of file.now option.now part.now }
+    ensures named { named result ≡ asks.part_words file.now option.now part.now }
     ensures part { IfSome result AsksForPart }
 {
     if !is_name(file) || option.as_str() != "--part" {
@@ -47,7 +47,7 @@ fn read_part<'a>(file: &'a Name, option: &Name, part: &Name) -> Option<Dump<'a>>
 
 /// What the words behind `script` ask for.
 fn read_script(words: &[Name]) -> Option<Dump<'_>>
-    ensures named { named result ≡ asks.script_of words.now }
+    ensures named { named result ≡ asks.script_words words.now }
     ensures part { IfSome result AsksForPart }
 {
     match words {
@@ -59,7 +59,7 @@ fn read_script(words: &[Name]) -> Option<Dump<'_>>
 
 /// Behind `check`.
 fn read_check(words: &[Name]) -> Option<Dump<'_>>
-    ensures named { named result ≡ asks.check_of words.now }
+    ensures named { named result ≡ asks.check_words words.now }
     ensures part { IfSome result AsksForPart }
 {
     let [file] = words else {

@@ -1,4 +1,4 @@
-//! Full heaps that are made again from the scripts that are printed of them.
+//! Full heaps that are made again, or greater, from the scripts that are printed of them.
 
 use crate::rows::names_of;
 use rom_device::Ram;
@@ -219,6 +219,25 @@ fn a_full_heap_is_made_again(rt: HostRuntime) -> Result<(), Fail> {
         let stat = stat_of(&rt, device)?;
         assert!(rt; stat.contains("\nfree 0\n"), "order {}", full.order);
         assert_eq!(rt; stat_of(&rt, again)?.as_str(), stat.as_str());
+    }
+    Ok(())
+}
+
+#[test]
+fn a_full_heap_grows(rt: HostRuntime) -> Result<(), Fail> {
+    let alloc = rt.alloc();
+    let [small, greater, _] = &FULL;
+    let mut device = made(&rt, small, &lines_of(alloc, small, false)?)?;
+    let parts = parts_of(alloc, small, &mut device)?;
+    let mut grown = made(&rt, greater, &parts)?;
+    let told = dumped(alloc, &["check", "heap"], &mut grown, 0)?;
+    assert_eq!(rt;
+        told.as_str(),
+        "counts both: idle\norder 9\ncount 15\nqueue 5 set 4 map 6\nfree 465\ntotal 15\n"
+    );
+    let again = parts_of(alloc, small, &mut grown)?;
+    for (part, was) in again.iter().zip(parts.iter()) {
+        assert_eq!(rt; part.as_str(), was.as_str());
     }
     Ok(())
 }

@@ -5,4 +5,6 @@
 #[cfg(test)]
 mod again;
 #[cfg(test)]
+mod heaps;
+#[cfg(test)]
 mod rows;

@@ -1,94 +1,12 @@
-//! What the commands tell of heaps of order 4, as rows of data. The words of the heaps are those that the
-//! formats name, and what is to be told of them was written by hand.
-ghost use Rattle.std.specs.Prelude.{◌≡◌, length};
+//! What the commands tell of heaps of order 4, as rows of data. What is to be told was written by hand.
 
+use crate::heaps::{PAIRS, PUT, QUEUED, TAKEN, TORN, WORDS, change, heap_of};
 use rom_device::{Device, Fuse, Memory};
 use rom_dump::dump;
 use rom_text::{Collect, Names};
 use std::alloc::{AllocError, Global};
 use std::process::Abort;
 use std::test::Fail;
-
-/// The ASCII letters `ROMULUS1`.
-const MAGIC: u64 = 0x524F_4D55_4C55_5331;
-
-/// How many words a heap of order 4 has, and where its regions begin.
-const WORDS: usize = 232;
-
-const MAIN: usize = 8;
-
-const BACK: usize = 120;
-
-/// A new region's words that are not 0, up to its blocks: offset and word.
-const FRESH: [(usize, u64); 33] = [
-    (0, 1),
-    (1, 2),
-    (8, 48),
-    (17, 4),
-    (18, 3),
-    (19, 4),
-    (20, 2),
-    (21, 3),
-    (22, 3),
-    (23, 3),
-    (24, 1),
-    (25, 2),
-    (26, 2),
-    (27, 2),
-    (28, 2),
-    (29, 2),
-    (30, 2),
-    (31, 2),
-    (33, 1),
-    (34, 1),
-    (35, 1),
-    (36, 1),
-    (37, 1),
-    (38, 1),
-    (39, 1),
-    (40, 1),
-    (41, 1),
-    (42, 1),
-    (43, 1),
-    (44, 1),
-    (45, 1),
-    (46, 1),
-    (47, 1),
-];
-
-/// What differs from it after `enq 9`, after `deq` on that, after `put 5 7`, and after `put 0 1` and `put 5 2`.
-const QUEUED: [(usize, u64); 7] = [(2, 1), (3, 52), (4, 52), (5, 1), (24, 0), (33, 0), (52, 9)];
-
-const TAKEN: [(usize, u64); 2] = [(2, 2), (52, 9)];
-
-const PUT: [(usize, u64); 8] = [
-    (2, 1),
-    (9, 1),
-    (24, 0),
-    (33, 0),
-    (48, 52),
-    (52, 5),
-    (53, 7),
-    (55, 1),
-];
-
-const PAIRS: [(usize, u64); 12] = [
-    (2, 2),
-    (9, 2),
-    (20, 1),
-    (24, 0),
-    (25, 1),
-    (33, 0),
-    (34, 0),
-    (48, 52),
-    (53, 1),
-    (54, 56),
-    (56, 5),
-    (57, 2),
-];
-
-/// A region that an update has left half done.
-const TORN: [(usize, u64); 2] = [(3, 52), (52, 9)];
 
 /// A heap, what is asked, and what is to be told.
 #[derive(Clone, Copy, Debug)]
@@ -360,26 +278,9 @@ static ROWS: [Row; 39] = [
     },
 ];
 
-/// Puts these words at their places behind that one.
-fn change(words: &mut [u64], from: usize, changes: &[(usize, u64)])
-    ensures { length words.new ≡ length words.old }
-{
-    for (at, word) in changes {
-        if let Some(place) = words.get_mut(from.saturating_add(*at)) {
-            *place = *word;
-        }
-    }
-}
-
 /// The words of a row's device.
 fn device_of(alloc: Global, row: &Row) -> Result<Vec<u64>, AllocError> {
-    let mut words = vec![in alloc; 0u64; WORDS]?;
-    change(&mut words, 0, &[(0, MAGIC), (1, 1), (2, 4), (3, row.state)]);
-    for from in [MAIN, BACK] {
-        change(&mut words, from, &FRESH);
-    }
-    change(&mut words, MAIN, row.main);
-    change(&mut words, BACK, row.back);
+    let mut words = heap_of(alloc, row.state, row.main, row.back)?;
     change(&mut words, 0, row.changes);
     words.truncate(row.len);
     Ok(words)

@@ -12,11 +12,11 @@ use Rattle.rom_model.specs.State.{State, Stamped, value_of}
 use Rattle.rom_elements.specs.declared.element.Element.TheVariants.{Pair}
 use Rattle.rom_elements.specs.Elements.{paired}
 
-first : (a b : Bool) → T (a && b) → T a
+pub first : (a b : Bool) → T (a && b) → T a
 first true b is = tt
 first false b is = absurd is
 
-second : (a b : Bool) → T (a && b) → T b
+pub second : (a b : Bool) → T (a && b) → T b
 second true b is = is
 second false b is = absurd is
 

@@ -32,12 +32,16 @@ fn open_old(rt: &HostRuntime, name: &str) -> io::Result<FileDevice> {
 }
 
 /// The words of a file that is only read: it is opened for reading alone, so that each write and each sync of
-/// it would fail, and locked against those who write, while others may read it too.
+/// it would fail, and locked against those who write, while others may read it too. A folder can be opened so,
+/// and has no words, whatever length the system tells of it; nor has anything else that is no file.
 fn open_to_read(rt: &HostRuntime, name: &str) -> io::Result<FileDevice> {
     let file = File::open(rt, name)?;
     file.try_lock_shared()?;
-    let bytes = file.metadata()?.len();
-    Ok(FileDevice::new(file, bytes))
+    let metadata = file.metadata()?;
+    if !metadata.is_file() {
+        return Err(ErrorKind::InvalidInput.into());
+    }
+    Ok(FileDevice::new(file, metadata.len()))
 }
 
 /// The words of a file that is made if need be, and lengthened with zeros to so many. It is never
@@ -74,7 +78,7 @@ fn file_or_missing(opened: io::Result<FileDevice>) -> Result<HostDevice, AllocEr
 }
 
 /// A device over a file for who only reads it. It fails where there is no file or another program has locked
-/// it to write.
+/// it to write. `AllocError` is told where the system has no memory to open it.
 pub fn reader_of(rt: &HostRuntime, name: &str) -> Result<FileDevice, AllocError> {
     or_missing(open_to_read(rt, name))
 }

@@ -3,7 +3,7 @@ use Rattle.std.proofs.Common.{◌≡◌, ℕ, zero, suc, ◌-◌, Bool, true, fa
 use Rattle.std.specs.Prelude.{◌==◌, ◌&&◌, nat_lt, slice_index, if◌then◌else◌}
 use Rattle.std.specs.List.{AllByRecursion, list_all}
 use Rattle.std.proofs.lemmas.Bool.{lt-ltb, ltb-true}
-use Rattle.std.proofs.lemmas.List.{length-map}
+use Rattle.std.proofs.lemmas.List.{length-map, map-append}
 use Rattle.std.proofs.lemmas.List.Concat.{flat_map-cons}
 use Rattle.rom_model.specs.Singles.{call_of}
 use Rattle.rom_model.specs.declared.call.Call.{Call}
@@ -83,3 +83,6 @@ read_each (e ∷ es) fit = (reads e fit.0, read_each es fit.1)
 
 pub script_read : (es : List Element) → AllByRecursion ElementFits es → AreRead (lines_of (script_of es)) (steps_of es)
 script_read es fit = subst (λ ls. AreRead ls (steps_of es)) (sym (script_lines es)) (read_each es fit)
+
+pub steps_append : (xs ys : List Element) → steps_of (xs ++ ys) ≡ steps_of xs ++ steps_of ys
+steps_append xs ys = map-append (λ e. Update (call_of (update_of e))) xs ys

@@ -34,12 +34,16 @@ between_part from to at many es from_is to_is =
     let size : to - from ≡ min many (length (drop at es)) = omega (arith, from_is, to_is, length-drop at es) in
     (λ i. take (size i) (rest i)) ∙ take_min many (drop at es)
 
--- three parts are all lines
+-- three parts are all elements, and all lines
+pub parts_all : (es : List Element) → length es ≤ 61440 → part_of 1 es ++ (part_of 2 es ++ part_of 3 es) ≡ es
+parts_all es few =
+    let rest : drop PART (drop PART es) ≡ part_of 3 es = drop-drop PART PART es ∙ sym (take_all PART (drop (PART + PART) es) (omega (arith, length-drop (PART + PART) es, few))) in
+    ap (λ xs. take PART es ++ (take PART (drop PART es) ++ xs)) (sym rest) ∙ ap (λ xs. take PART es ++ xs) (take-append-drop PART (drop PART es)) ∙ take-append-drop PART es
+
 pub parts_whole : (es : List Element) → length es ≤ 61440 → script_of es ≡ script_of (part_of 1 es) ++ (script_of (part_of 2 es) ++ script_of (part_of 3 es))
 parts_whole es few =
-    let rest : drop PART (drop PART es) ≡ part_of 3 es = drop-drop PART PART es ∙ sym (take_all PART (drop (PART + PART) es) (omega (arith, length-drop (PART + PART) es, few))) in
-    ap script_of (sym (take-append-drop PART es)) ∙ flat_map-append element_text (take PART es) (drop PART es)
-    ∙ ap (λ t. script_of (take PART es) ++ t) (ap script_of (sym (take-append-drop PART (drop PART es))) ∙ flat_map-append element_text (take PART (drop PART es)) (drop PART (drop PART es)) ∙ ap (λ xs. script_of (take PART (drop PART es)) ++ script_of xs) rest)
+    ap script_of (sym (parts_all es few)) ∙ flat_map-append element_text (part_of 1 es) (part_of 2 es ++ part_of 3 es)
+    ∙ ap (λ t. script_of (part_of 1 es) ++ t) (flat_map-append element_text (part_of 2 es) (part_of 3 es))
 
 -- a line has at most 46 bytes
 pub digits_few : (n : ℕ) → n < 2 ^ 64 → length (decimal n) ≤ 20
@@ -64,10 +68,13 @@ fit_drop zero es fit = fit
 fit_drop (suc n) [] fit = tt
 fit_drop (suc n) (e ∷ es) fit = fit_drop n es fit.1
 
+pub part_all_fit : (part : ℕ) (es : List Element) → AllByRecursion ElementFits es → AllByRecursion ElementFits (part_of part es)
+part_all_fit part es fit = fit_take PART (drop ((part - 1) * PART) es) (fit_drop ((part - 1) * PART) es fit)
+
 -- each part is within what a script may have
 pub part_fits : (part : ℕ) (es : List Element) → AllByRecursion ElementFits es → FitsScript (script_of (part_of part es))
 part_fits part es fit =
     let few = length-take PART (drop ((part - 1) * PART) es) in (
-      omega (arith, script_short (part_of part es) (fit_take PART (drop ((part - 1) * PART) es) (fit_drop ((part - 1) * PART) es fit)), few),
+      omega (arith, script_short (part_of part es) (part_all_fit part es fit), few),
       omega (arith, lines_many (part_of part es), few),
     )

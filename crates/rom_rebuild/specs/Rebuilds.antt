@@ -1,6 +1,6 @@
 -- What the lines of a script make of a state, and the scripts that make a state again.
 use Rattle.std.specs.Prelude.{◌≡◌, ◌≢◌, ℕ, ◌+◌, List, [], ◌∷◌, length}
-use Rattle.std.specs.List.{AllByRecursion}
+use Rattle.std.specs.List.{AllByRecursion, flat_map}
 use Rattle.rom_model.specs.Machine.{Machine}
 use Rattle.rom_model.specs.State.{State, empty, live, value_of}
 use Rattle.rom_model.specs.Trio.{trio}
@@ -33,11 +33,19 @@ pub record SameElements (s t : State) : Type 0 where
   pub members : t.members ≡ s.members
   pub values : (key : ℕ) → value_of t key ≡ value_of s key
 
--- The bytes of a script, read as scripts are read, are updates: as many as this state has elements. Taken from the empty state in a new heap of this order they give it again, and none is told that the heap is full.
-pub record Rebuilds (order : ℕ) (bytes : List ℕ) (s : State) : Type 0 where
+-- each script, read by itself as scripts are read, has these steps
+abbrev pub AreEachRead : List (List ℕ) → List (List (Step Call Query)) → Type 0
+AreEachRead [] [] = Unit {0}
+AreEachRead (bytes ∷ scripts) (steps ∷ each_of) = AreRead (lines_of bytes) steps × AreEachRead scripts each_of
+AreEachRead scripts each_of = ⊥
+
+-- Scripts that are run one after another. The lines of each, read by itself as scripts are read, are updates: together as many as this state has elements. Taken from the empty state in a new heap of this order they give it again, and none is told that the heap is full.
+pub record Rebuilds (order : ℕ) (scripts : List (List ℕ)) (s : State) : Type 0 where
+  pub each_of : List (List (Step Call Query))
+  pub read : AreEachRead scripts each_of
   pub steps : List (Step Call Query)
-  pub read : AreRead (lines_of bytes) steps
+  pub in_turn : steps ≡ flat_map (λ xs. xs) each_of
   pub many : length steps ≡ live s
   pub same : SameElements s (after_steps trio order empty 0 steps)
   pub none_full : AllByRecursion (λ reply. reply ≢ Full) (told_to trio order empty 0 steps)
-  pub each : length (told_to trio order empty 0 steps) ≡ live s
+  pub answered : length (told_to trio order empty 0 steps) ≡ live s

@@ -1,5 +1,5 @@
 -- The script of some elements.
-use Rattle.std.specs.Prelude.{ℕ, ◌+◌, ◌-◌, ◌*◌, ◌/◌, List, length, take, drop}
+use Rattle.std.specs.Prelude.{ℕ, ◌+◌, ◌-◌, ◌*◌, ◌/◌, List, [], ◌∷◌, length, take, drop}
 use Rattle.std.specs.List.{flat_map}
 use Rattle.rom_model.specs.declared.call.Single.{Single}
 use Rattle.rom_model.specs.declared.call.Single.TheVariants.{Enq, Add, Put}
@@ -33,6 +33,10 @@ PART = 20480
 -- the elements whose lines that part has, counted from 1
 abbrev pub part_of : ℕ → List Element → List Element
 part_of part elements = take PART (drop ((part - 1) * PART) elements)
+
+-- the scripts of the three parts that there are at most
+abbrev pub parts_of : List Element → List (List ℕ)
+parts_of elements = script_of (part_of 1 elements) ∷ script_of (part_of 2 elements) ∷ script_of (part_of 3 elements) ∷ []
 
 -- how many parts a script has
 abbrev pub parts_needed : List Element → ℕ
