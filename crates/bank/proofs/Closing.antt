@@ -1,9 +1,11 @@
 -- What the books of a bank say once its store is closed.
-use Rattle.std.proofs.Common.{◌≡◌, inl, inr, ℕ, zero, suc, ◌+◌, ◌<◌, ◌≤◌, List, [], ◌∷◌, ◌++◌, map, length, refl, sym, ◌∙◌, ap, subst, arith, length-append}
+use Rattle.std.proofs.Common.{◌≡◌, inl, inr, ℕ, zero, suc, ◌+◌, ◌*◌, ◌<◌, ◌≤◌, List, [], ◌∷◌, ◌++◌, map, take, length, refl, sym, ◌∙◌, ap, subst, arith, length-append}
 use Rattle.std.specs.Prelude.{All, ◌==◌, filter, slice_get, slice_index_or, None, Some}
 use Rattle.std.specs.List.{AllByRecursion, enumerate_from}
 use Rattle.std.proofs.lemmas.Bool.{cases_eq}
+use Rattle.std.proofs.lemmas.Option.{slice_get-get_or, slice_get_within}
 use Rattle.atomic_table.specs.Seated.{TableId}
+use Rattle.rom_model.specs.Lawful.{told_to}
 use Rattle.rom_model.specs.Leaving.{IsClosed, IsKept}
 use Rattle.rom_model.specs.Region.{Contents}
 use Rattle.rom_model.specs.Seen.{StartsWith, done_in}
@@ -20,22 +22,35 @@ use Rattle.rom_store.specs.Closing.{kept_in}
 use Rattle.rom_store.specs.Indexed.{Indexed}
 use Rattle.rom_store.specs.Sessions.{EachStory, IsStoryOf, SessionSeen}
 use Rattle.bank.specs.Moved.{IsMove, moved_in}
-use Rattle.bank.specs.Tellers.{IsTeller, total_after}
+use Rattle.bank.specs.Promise.{IsBalanced, IsTallyOf, total_after}
+use Rattle.bank.specs.Tellers.{IsTeller}
+use Rattle.bank.specs.declared.bank.Tally.{Tally}
 use Rattle.bank.specs.declared.bank.Teller.{Teller}
-use Rattle.bank.proofs.Splitting.{IsBankOf, own_is, total_stays}
-use Rattle.bank.proofs.Telling.{same_total, starts_further}
+use Rattle.bank.proofs.Splitting.{IsBankOf, all_of_one, own_is, rest_moves, total_stays}
+use Rattle.bank.proofs.Telling.{args_of, moves_of, same_total, starts_further}
+
+pub all_four : {X : Type 0} (P : X → Type 0) (a b c d : X) → P a → P b → P c → P d → All P (a ∷ b ∷ c ∷ d ∷ [])
+all_four {X} P a b c d one two three four = λ i x within. at i x within
+  where
+    at : (i : ℕ) (x : X) → i < 4 → P (slice_index_or (a ∷ b ∷ c ∷ d ∷ []) i x)
+    at zero x within = one
+    at (suc zero) x within = two
+    at (suc (suc zero)) x within = three
+    at (suc (suc (suc zero))) x within = four
+    at (suc (suc (suc (suc i)))) x within = absurd (omega arith)
 
 -- What was put in is the total after these first updates, which the manager has seen; the session has of each of the five callers what it keeps.
 pub record HasEnded (table : TableId) (base : Base) (session : SessionSeen) (put_in : ℕ) (first : List Entry) (m : Caller) (a b c d : Teller) : Type 0 where
+  pub five : base.callers ≡ 5
   pub order : session.order ≡ base.order
   pub image : session.image ≡ base.image
   pub closed : EachStory trio Contents session (λ story. IsClosed trio story 5)
   pub kept : EachStory trio Contents session (λ story. Indexed (λ _ v. IsKept trio story v) (map kept_in (a.pass ∷ b.pass ∷ c.pass ∷ d.pass ∷ m ∷ [])))
   pub manager : IsCallerOf Contents table base m × (m.view.number ≡ 5) × (m.view.seen ≡ first)
-  pub one : IsTeller table base first a × (a.pass.view.number ≡ 1)
-  pub two : IsTeller table base first b × (b.pass.view.number ≡ 2)
-  pub three : IsTeller table base first c × (c.pass.view.number ≡ 3)
-  pub four : IsTeller table base first d × (d.pass.view.number ≡ 4)
+  pub one : IsTeller table base first 64 4 a × (a.pass.view.number ≡ 1)
+  pub two : IsTeller table base first 64 4 b × (b.pass.view.number ≡ 2)
+  pub three : IsTeller table base first 64 4 c × (c.pass.view.number ≡ 3)
+  pub four : IsTeller table base first 64 4 d × (d.pass.view.number ≡ 4)
   pub total : (s : State) (k : ℕ) → Contents base.order base.image s k → put_in ≡ total_after base.order s k first
 
 module _ (table : TableId) (base : Base) (session : SessionSeen) (put_in : ℕ) (first : List Entry) (m : Caller) (a b c d : Teller) (e : HasEnded table base session put_in first m a b c d) where
@@ -51,12 +66,12 @@ module _ (table : TableId) (base : Base) (session : SessionSeen) (put_in : ℕ) 
 
     told_of : (n : ℕ) → 0 < n → n ≤ 4 → Told n
     told_of n above most = elim (cases_eq n 1) [
-      | inl same ↦ subst Told (sym same) (kept_in a.pass, e.one.1, kept_at 0 (kept_in a.pass) refl, e.one.0.moves)
+      | inl same ↦ subst Told (sym same) (kept_in a.pass, e.one.1, kept_at 0 (kept_in a.pass) refl, moves_of a.pass.view.outcomes 64 e.one.0.asked)
       | inr not_one ↦ elim (cases_eq n 2) [
-        | inl same ↦ subst Told (sym same) (kept_in b.pass, e.two.1, kept_at 1 (kept_in b.pass) refl, e.two.0.moves)
+        | inl same ↦ subst Told (sym same) (kept_in b.pass, e.two.1, kept_at 1 (kept_in b.pass) refl, moves_of b.pass.view.outcomes 64 e.two.0.asked)
         | inr not_two ↦ elim (cases_eq n 3) [
-          | inl same ↦ subst Told (sym same) (kept_in c.pass, e.three.1, kept_at 2 (kept_in c.pass) refl, e.three.0.moves)
-          | inr not_three ↦ subst Told (let same : 4 ≡ n = omega (arith, above, most, not_one, not_two, not_three) in same) (kept_in d.pass, e.four.1, kept_at 3 (kept_in d.pass) refl, e.four.0.moves)
+          | inl same ↦ subst Told (sym same) (kept_in c.pass, e.three.1, kept_at 2 (kept_in c.pass) refl, moves_of c.pass.view.outcomes 64 e.three.0.asked)
+          | inr not_three ↦ subst Told (let same : 4 ≡ n = omega (arith, above, most, not_one, not_two, not_three) in same) (kept_in d.pass, e.four.1, kept_at 3 (kept_in d.pass) refl, moves_of d.pass.view.outcomes 64 e.four.0.asked)
         ]
       ]
     ]
@@ -78,58 +93,103 @@ module _ (table : TableId) (base : Base) (session : SessionSeen) (put_in : ℕ) 
     starts : StartsWith story.history first
     starts = subst (λ zs. StartsWith story.history zs) e.manager.2 kept_of_manager.seen
 
+    at_order : (at : List Entry) → total_after base.order story.opening story.opening_count at ≡ total_after story.order story.opening story.opening_count at
+    at_order at = ap (λ n. total_after n story.opening story.opening_count at) (sym (is.order_is ∙ e.order))
+
     put_in_is : put_in ≡ total_after story.order story.opening story.opening_count first
-    put_in_is = e.total story.opening story.opening_count (at_opening story is) ∙ ap (λ n. total_after n story.opening story.opening_count first) (sym (is.order_is ∙ e.order))
+    put_in_is = e.total story.opening story.opening_count (at_opening story is) ∙ at_order first
+
+    four_of : (t : Teller) → IsTeller table base first 64 4 t → (round : ℕ) (read : ℕ × ℕ) → slice_get t.tally.reads round ≡ Some read → round < 4
+    four_of t teller round read there = let four = teller.four in let within = slice_get_within t.tally.reads round read there in omega (arith, four, within)
+
+    -- the first updates are the manager's, since the tellers had done nothing when they learnt of them
+    paid : AllByRecursion (λ x. x.caller ≡ 5) first
+    paid = all_of_one story.opening_count first known other
+      where
+        at : Contents base.order base.image story.opening story.opening_count
+        at = at_opening story is
+
+        known : AllByRecursion (λ x. (0 < x.caller) × (x.caller ≤ 5)) first
+        known = subst (λ (z : ℕ × List Entry). AllByRecursion (λ x. (0 < x.caller) × (x.caller ≤ z.0)) z.1) (λ i. (e.five i, e.manager.2 i)) (e.manager.0.knows story.opening story.opening_count at).known
+
+        None_of : ℕ → Type 0
+        None_of n = filter (λ x. x.1.caller == n) (enumerate_from story.opening_count first) ≡ []
+
+        of : (t : Teller) (n : ℕ) → IsTeller table base first 64 4 t → t.pass.view.number ≡ n → None_of n
+        of t n teller number = subst None_of number (teller.others story.opening story.opening_count at)
+
+        other : (n : ℕ) → 0 < n → n ≤ 4 → None_of n
+        other n above most = elim (cases_eq n 1) [
+          | inl same ↦ of a n e.one.0 (e.one.1 ∙ sym same)
+          | inr not_one ↦ elim (cases_eq n 2) [
+            | inl same ↦ of b n e.two.0 (e.two.1 ∙ sym same)
+            | inr not_two ↦ elim (cases_eq n 3) [
+              | inl same ↦ of c n e.three.0 (e.three.1 ∙ sym same)
+              | inr not_three ↦ of d n e.four.0 (e.four.1 ∙ (let same : 4 ≡ n = omega (arith, above, most, not_one, not_two, not_three) in same))
+            ]
+          ]
+        ]
 
     stays : (seen : List Entry) → StartsWith seen first → StartsWith story.history seen → total_after story.order story.opening story.opening_count seen ≡ put_in
     stays seen past within = total_stays story first seen bank_of past within ∙ sym put_in_is
 
-    reads : (t : Teller) → IsTeller table base first t → IsKept trio story (kept_in t.pass) → All (λ total. total ≡ put_in) t.totals
-    reads t teller kept = λ i x within.
-        let (at, past, seen, same) = (teller.totals i x within).state story.opening story.opening_count (at_opening story is) in
-        same ∙ (ap (λ n. total_after n story.opening story.opening_count at) (sym (is.order_is ∙ e.order)) ∙ stays at past (starts_further at t.pass.view.seen story.history seen kept.seen))
+    -- what a teller has done
+    tally_of : (t : Teller) (n : ℕ) → IsTeller table base first 64 4 t → t.pass.view.number ≡ n → IsKept trio story (kept_in t.pass) → IsTallyOf story n t.tally
+    tally_of t n teller number kept =
+        let told : told_to trio story n ≡ t.pass.view.outcomes = ap (λ (z : ℕ). told_to trio story z) (sym number) ∙ kept.told in
+        record {
+          asked = ap args_of told ∙ teller.asked;
+          moved = teller.moved ∙ (ap moved_in (sym (own_is story (e.closed story is) (kept_in t.pass) kept)) ∙ ap (λ (z : ℕ). moved_in (own story z)) number);
+          reads = record {
+            at = λ round read there.
+                let (at, past, within, front, total, of) = ((teller.reads round (four_of t teller round read there)).1 read there).state story.opening story.opening_count (at_opening story is) in
+                record {
+                  at = at;
+                  begins = starts_further at t.pass.view.seen story.history within kept.seen;
+                  front = front;
+                  total = total ∙ at_order at;
+                  own = ap (λ (z : ℕ). filter (λ x. x.1.caller == z) (enumerate_from story.opening_count at)) (sym number) ∙ of ∙ ap (λ zs. done_in (take (16 * (round + 1)) zs)) (sym told);
+                };
+          };
+        }
 
-    count : (t : Teller) (n : ℕ) → IsTeller table base first t → t.pass.view.number ≡ n → IsKept trio story (kept_in t.pass) → t.moved ≡ moved_in (own story n)
-    count t n teller number kept = teller.moved ∙ (ap moved_in (sym (own_is story (e.closed story is) (kept_in t.pass) kept)) ∙ ap (λ (z : ℕ). moved_in (own story z)) number)
+    -- and read
+    reads : (t : Teller) → IsTeller table base first 64 4 t → IsKept trio story (kept_in t.pass) → All (λ read. read.0 ≡ put_in) t.tally.reads
+    reads t teller kept = λ i d within.
+        let there = slice_get-get_or t.tally.reads i d within in
+        let (at, past, seen, front, total, of) = ((teller.reads i (four_of t teller i (slice_index_or t.tally.reads i d) there)).1 (slice_index_or t.tally.reads i d) there).state story.opening story.opening_count (at_opening story is) in
+        total ∙ at_order at ∙ stays at past (starts_further at t.pass.view.seen story.history seen kept.seen)
 
-    whole : story.history ≡ story.history ++ []
-    whole = nothing story.history
+    pub balance : IsBalanced put_in story
+    balance = record {
+      first = first;
+      rest = starts.0;
+      split = starts.1;
+      paid = paid;
+      moves = rest_moves story first starts.0 starts.1 bank_of;
+      stays = λ at past within. stays at past within;
+    }
+
+    pub tallies : Indexed (λ i tally. IsTallyOf story (i + 1) tally) (a.tally ∷ b.tally ∷ c.tally ∷ d.tally ∷ [])
+    tallies = record { at = at }
       where
-        nothing : {X : Type 0} (zs : List X) → zs ≡ zs ++ []
-        nothing [] = refl
-        nothing (z ∷ zs) = ap (λ ys. z ∷ ys) (nothing zs)
+        at : (i : ℕ) (x : Tally) → slice_get (a.tally ∷ b.tally ∷ c.tally ∷ d.tally ∷ []) i ≡ Some x → IsTallyOf story (i + 1) x
+        at zero x is = subst (IsTallyOf story 1) (let same : a.tally ≡ x = cc in same) (tally_of a 1 e.one.0 e.one.1 (kept_at 0 (kept_in a.pass) refl))
+        at (suc zero) x is = subst (IsTallyOf story 2) (let same : b.tally ≡ x = cc in same) (tally_of b 2 e.two.0 e.two.1 (kept_at 1 (kept_in b.pass) refl))
+        at (suc (suc zero)) x is = subst (IsTallyOf story 3) (let same : c.tally ≡ x = cc in same) (tally_of c 3 e.three.0 e.three.1 (kept_at 2 (kept_in c.pass) refl))
+        at (suc (suc (suc zero))) x is = subst (IsTallyOf story 4) (let same : d.tally ≡ x = cc in same) (tally_of d 4 e.four.0 e.four.1 (kept_at 3 (kept_in d.pass) refl))
+        at (suc (suc (suc (suc i)))) x is = absurd (let no : None ≡ Some x = is in cc)
 
-    -- the total at the end
-    pub last_total : total_after story.order story.opening story.opening_count story.history ≡ put_in
-    last_total = stays story.history starts ([], whole)
-
-    pub first_total : (from : List Entry) × StartsWith story.history from × (put_in ≡ total_after story.order story.opening story.opening_count from)
-    first_total = (first, starts, put_in_is)
-
-    pub counts : a.moved ∷ b.moved ∷ c.moved ∷ d.moved ∷ [] ≡ map (λ caller. moved_in (own story caller)) (1 ∷ 2 ∷ 3 ∷ 4 ∷ [])
-    counts =
-        let one = count a 1 e.one.0 e.one.1 (kept_at 0 (kept_in a.pass) refl) in let two = count b 2 e.two.0 e.two.1 (kept_at 1 (kept_in b.pass) refl) in
-        let three = count c 3 e.three.0 e.three.1 (kept_at 2 (kept_in c.pass) refl) in let four = count d 4 e.four.0 e.four.1 (kept_at 3 (kept_in d.pass) refl) in
-        λ i. one i ∷ two i ∷ three i ∷ four i ∷ []
-
-    pub all_reads : All (All (λ total. total ≡ put_in)) (a.totals ∷ b.totals ∷ c.totals ∷ d.totals ∷ [])
-    all_reads = λ i xs within. at i xs within
-      where
-        at : (i : ℕ) (xs : List ℕ) → i < 4 → All (λ total. total ≡ put_in) (slice_index_or (a.totals ∷ b.totals ∷ c.totals ∷ d.totals ∷ []) i xs)
-        at zero xs within = reads a e.one.0 (kept_at 0 (kept_in a.pass) refl)
-        at (suc zero) xs within = reads b e.two.0 (kept_at 1 (kept_in b.pass) refl)
-        at (suc (suc zero)) xs within = reads c e.three.0 (kept_at 2 (kept_in c.pass) refl)
-        at (suc (suc (suc zero))) xs within = reads d e.four.0 (kept_at 3 (kept_in d.pass) refl)
-        at (suc (suc (suc (suc i)))) xs within = absurd (omega arith)
+    pub all_reads : All (λ tally. All (λ read. read.0 ≡ put_in) tally.reads) (a.tally ∷ b.tally ∷ c.tally ∷ d.tally ∷ [])
+    all_reads = all_four (λ (tally : Tally). All (λ read. read.0 ≡ put_in) tally.reads) a.tally b.tally c.tally d.tally
+        (reads a e.one.0 (kept_at 0 (kept_in a.pass) refl)) (reads b e.two.0 (kept_at 1 (kept_in b.pass) refl)) (reads c e.three.0 (kept_at 2 (kept_in c.pass) refl)) (reads d e.four.0 (kept_at 3 (kept_in d.pass) refl))
 
   -- what the closed store is asked for
   pub told_total : (story : Story State) → IsStoryOf trio Contents session story → (answer : Answer) (total : ℕ) → ((s : State) (k : ℕ) → Contents session.order session.image s k → answer ≡ Total (total_after session.order s k session.history)) → answer ≡ Total total →
-      total ≡ put_in
+      total ≡ total_after story.order story.opening story.opening_count story.history
   told_total story is answer total told in_answer =
       let there = told story.opening story.opening_count is.opening in
-      let same : total_after session.order story.opening story.opening_count session.history ≡ total_after story.order story.opening story.opening_count story.history
-      = λ i. total_after (sym is.order_is i) story.opening story.opening_count (sym is.history i) in
-      same_total _ _ (sym in_answer ∙ there) ∙ (same ∙ last_total story is)
+      same_total _ _ (sym in_answer ∙ there) ∙ (λ i. total_after (sym is.order_is i) story.opening story.opening_count (sym is.history i))
 
 earlier_at : {X : Type 0} (xs : List X) (y : X) (i : ℕ) (x : X) → slice_get xs i ≡ Some x → slice_get (xs ++ y ∷ []) i ≡ Some x
 earlier_at [] y i x e = absurd (let no_one : None ≡ Some x = e in cc)
@@ -159,16 +219,6 @@ back_again q0 q1 q2 q3 q4 q5 a b c d m none e1 e2 e3 e4 e5 =
     let three = e3 ∙ ap (λ zs. zs ++ c ∷ []) two in
     let four = e4 ∙ ap (λ zs. zs ++ d ∷ []) three in
     e5 ∙ ap (λ zs. zs ++ m ∷ []) four
-
-pub all_four : {X : Type 0} (P : X → Type 0) (a b c d : X) → P a → P b → P c → P d → All P (a ∷ b ∷ c ∷ d ∷ [])
-all_four {X} P a b c d one two three four = λ i x within. at i x within
-  where
-    at : (i : ℕ) (x : X) → i < 4 → P (slice_index_or (a ∷ b ∷ c ∷ d ∷ []) i x)
-    at zero x within = one
-    at (suc zero) x within = two
-    at (suc (suc zero)) x within = three
-    at (suc (suc (suc zero))) x within = four
-    at (suc (suc (suc (suc i)))) x within = absurd (omega arith)
 
 -- passes with these numbers are those of a store
 pub numbered_five : (table : TableId) (base : Base) (a b c d m : Caller) → IsNumbered Contents table base 0 a → IsNumbered Contents table base 1 b → IsNumbered Contents table base 2 c → IsNumbered Contents table base 3 d → IsNumbered Contents table base 4 m →

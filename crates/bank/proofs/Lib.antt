@@ -4,3 +4,4 @@ pub mod Splitting
 pub mod Telling
 pub mod Sharing
 pub mod Closing
+pub mod Refusing

@@ -82,9 +82,31 @@ nothing_more : {X : Type 0} (xs ys : List X) → xs ++ ys ≡ xs → ys ≡ []
 nothing_more xs [] is = refl
 nothing_more xs (y ∷ ys) is = absurd (omega (arith, ap length is, length-append xs (y ∷ ys)))
 
-unplaced : (n : ℕ) (es : List Entry) → AllByRecursion (λ y. IsMove y.1.args) (enumerate_from n es) → AllByRecursion (λ e. IsMove e.args) es
-unplaced n [] all = tt
-unplaced n (e ∷ es) all = (all.0, unplaced (n + 1) es all.1)
+module _ (P : Entry → Type 0) where
+  unplaced : (n : ℕ) (es : List Entry) → AllByRecursion (λ y. P y.1) (enumerate_from n es) → AllByRecursion P es
+  unplaced n [] all = tt
+  unplaced n (e ∷ es) all = (all.0, unplaced (n + 1) es all.1)
+
+  placed_all : (n : ℕ) (es : List Entry) → AllByRecursion P es → AllByRecursion (λ y. P y.1) (enumerate_from n es)
+  placed_all n [] all = tt
+  placed_all n (e ∷ es) all = (all.0, placed_all (n + 1) es all.1)
+
+those_of : (c : ℕ) (zs : List (ℕ × Entry)) → AllByRecursion (λ z. z.1.caller ≡ c) (filter (λ z. z.1.caller == c) zs)
+those_of c [] = tt
+those_of c (z ∷ zs) = elim (cases_eq z.1.caller c) [
+  | inl same ↦ let test : (z.1.caller == c) ≡ true = grind (arith, nat_tests) in rw test (same, those_of c zs)
+  | inr other ↦ let test : (z.1.caller == c) ≡ false = grind (arith, nat_tests) in rw test (those_of c zs)
+]
+
+-- entries of five callers of which four have none are of the fifth
+pub all_of_one : (k : ℕ) (es : List Entry) → AllByRecursion (λ e. (0 < e.caller) × (e.caller ≤ 5)) es → ((c : ℕ) → 0 < c → c ≤ 4 → filter (λ x. x.1.caller == c) (enumerate_from k es) ≡ []) → AllByRecursion (λ e. e.caller ≡ 5) es
+all_of_one k es known none = unplaced (λ e. e.caller ≡ 5) k es (by_callers (λ z. z.1.caller ≡ 5) (enumerate_from k es) (placed_all (λ e. (0 < e.caller) × (e.caller ≤ 5)) k es known) each)
+  where
+    each : (c : ℕ) → IsOne c → AllByRecursion (λ z. z.1.caller ≡ 5) (filter (λ z. z.1.caller == c) (enumerate_from k es))
+    each c one = elim (cases_eq c 5) [
+      | inl last ↦ subst (λ (n : ℕ). AllByRecursion (λ z. z.1.caller ≡ 5) (filter (λ z. z.1.caller == n) (enumerate_from k es))) (sym last) (those_of 5 (enumerate_from k es))
+      | inr other ↦ subst (AllByRecursion (λ z. z.1.caller ≡ 5)) (sym (none c one.0 (omega (arith, one.1, other)))) tt
+    ]
 
 -- What the end of a session has of five callers: the last was told of no update but those among the first entries, and the others of moves alone.
 pub record IsBankOf (story : Story State) (first : List Entry) : Type 0 where
@@ -142,7 +164,7 @@ module _ (story : Story State) where
 
     -- all entries behind the first ones are moves
     pub rest_moves : AllByRecursion (λ e. IsMove e.args) rest
-    rest_moves = unplaced (k + length first) rest (by_callers (λ y. IsMove y.1.args) later known each)
+    rest_moves = unplaced (λ e. IsMove e.args) (k + length first) rest (by_callers (λ y. IsMove y.1.args) later known each)
 
   -- so the total in each state behind the first entries is the one behind these
   pub total_stays : (first seen : List Entry) → IsBankOf story first → StartsWith seen first → StartsWith story.history seen →

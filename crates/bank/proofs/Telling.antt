@@ -1,13 +1,17 @@
 -- What a teller's calls leave of what it has seen and was told.
-use Rattle.std.proofs.Common.{◌≡◌, inl, inr, ℕ, ◌+◌, ◌<◌, ◌≤◌, Bool, true, false, cond, List, [], ◌∷◌, ◌++◌, length, refl, sym, ◌∙◌, ap, subst, arith, append_assoc}
+use Rattle.std.proofs.Common.{◌≡◌, ◌≢◌, inl, inr, ℕ, zero, suc, ◌+◌, ◌*◌, ◌<◌, ◌≤◌, Bool, true, false, cond, List, [], ◌∷◌, ◌++◌, map, length, refl, sym, ◌∙◌, ap, subst, arith, append_assoc, append-nil, length-append, length-set, get_or-set_other, get_or-set_same, take}
 use mir.Val.{bool_byte}
-use Rattle.std.specs.List.{AllByRecursion}
-use Rattle.std.proofs.lemmas.Bool.{cases_lt}
+use Rattle.std.specs.List.{AllByRecursion, enumerate_from}
+use Rattle.std.proofs.lemmas.Bool.{cases_eq}
 use Rattle.std.proofs.Math.ListN.{replicate}
-use Rattle.std.specs.Prelude.{slice_set}
-use Rattle.std.proofs.lemmas.List.Elements.{All-replicate, All-set}
+use Rattle.std.specs.Prelude.{◌%◌, ◌==◌, filter, slice_get, slice_set, Some}
+use Rattle.std.proofs.lemmas.List.{length-map, map-append, take-append-le}
+use Rattle.std.proofs.lemmas.List.Elements.{filter-append}
+use Rattle.std.proofs.lemmas.Option.{get_or_from_slice_get, slice_get-get_or, slice_get_within}
+use Rattle.std.proofs.Math.Seq.{take-length}
 use Rattle.std.proofs.lemmas.List.Sums.{sum_by-append}
 use Rattle.atomic_table.specs.Seated.{TableId}
+use Rattle.rom_model.specs.Codes.{call_words}
 use Rattle.rom_model.specs.History.{LAST_COUNT}
 use Rattle.rom_model.specs.Lawful.{as_words}
 use Rattle.rom_model.specs.Region.{Contents}
@@ -16,16 +20,19 @@ use Rattle.rom_model.specs.State.{State}
 use Rattle.rom_model.specs.Trio.{trio}
 use Rattle.rom_model.specs.declared.call.Answer.{Answer}
 use Rattle.rom_model.specs.declared.call.Answer.TheVariants.{Total}
+use Rattle.rom_model.specs.declared.call.Call.TheVariants.{Move}
 use Rattle.rom_model.specs.declared.call.Reply.{Reply}
 use Rattle.rom_model.specs.declared.call.Reply.TheVariants.{Queued, Full, Head, Empty, Added, Present, Removed, Absent, NoPrior, Was, Moved, Short, Over, All}
 use Rattle.rom_model.specs.declared.call.Updated.{Updated}
 use Rattle.rom_model.specs.declared.call.Updated.TheVariants.{Done, Spent, Failed, Doubt}
 use Rattle.rom_model.specs.declared.entry.Entry.{Entry}
 use Rattle.rom_model.specs.declared.record.Found.{Found}
+use Rattle.rom_model.proofs.Placed.{enumerate_append}
 use Rattle.rom_rule.specs.declared.views.Base.{Base}
 use Rattle.rom_store.specs.Callers.{Caller, IsCallerOf}
 use Rattle.bank.specs.Moved.{IsMove, is_made, is_moved, moved_in}
-use Rattle.bank.specs.Tellers.{IsRead, IsTeller, total_after}
+use Rattle.bank.specs.Promise.{rounds, total_after}
+use Rattle.bank.specs.Tellers.{IsRead, IsTeller}
 use Rattle.bank.specs.declared.bank.Teller.{Teller}
 use Rattle.bank.proofs.Splitting.{all_both}
 
@@ -74,70 +81,125 @@ done_last (y ∷ xs) x =
     let rest = done_last xs x in
     omega (arith, one, two, rest)
 
+-- what an update was asked for
+abbrev pub args_of : List (Found × Updated (List ℕ)) → List (List ℕ)
+args_of xs = map (λ x. x.0.args) xs
+
+length_rounds : (n : ℕ) → length (rounds n) ≡ n
+length_rounds zero = refl
+length_rounds (suc n) = let last = length-append (rounds n) (call_words (Move (n % 16) ((n + 1) % 16) 1) ∷ []) in let rest = length_rounds n in omega (arith, last, rest)
+
+pub tried : (xs : List (Found × Updated (List ℕ))) (n : ℕ) → args_of xs ≡ rounds n → length xs ≡ n
+tried xs n is = sym (length-map xs (λ x. x.0.args)) ∙ ap length is ∙ length_rounds n
+
+rounds_move : (n : ℕ) → AllByRecursion IsMove (rounds n)
+rounds_move zero = tt
+rounds_move (suc n) = all_both IsMove (rounds n) (call_words (Move (n % 16) ((n + 1) % 16) 1) ∷ []) (rounds_move n) ((n % 16, (n + 1) % 16, 1, refl), tt)
+
+of_args : (xs : List (Found × Updated (List ℕ))) → AllByRecursion IsMove (args_of xs) → AllByRecursion (λ x. IsMove x.0.args) xs
+of_args [] all = tt
+of_args (x ∷ xs) all = (all.0, of_args xs all.1)
+
+-- who asks for the first moves of a teller's rounds asks for moves alone
+pub moves_of : (xs : List (Found × Updated (List ℕ))) (n : ℕ) → args_of xs ≡ rounds n → AllByRecursion (λ x. IsMove x.0.args) xs
+moves_of xs n is = of_args xs (subst (AllByRecursion IsMove) (sym is) (rounds_move n))
+
+one_more : (n : ℕ) → rounds n ++ call_words (Move (n % 16) ((n + 1) % 16) 1) ∷ [] ≡ rounds (n + 1)
+one_more n = ap rounds (let next : suc n ≡ n + 1 = omega arith in next)
+
+-- what is read of a list after a store
+get_stored : {X : Type 0} (xs : List X) (i : ℕ) (v x : X) → i < length xs → slice_get (slice_set xs i v) i ≡ Some x → x ≡ v
+get_stored xs i v x within there = sym (get_or_from_slice_get (slice_set xs i v) i x v there) ∙ get_or-set_same xs i v v within
+
+get_other : {X : Type 0} (xs : List X) (i j : ℕ) (v x : X) → j ≢ i → slice_get (slice_set xs i v) j ≡ Some x → slice_get xs j ≡ Some x
+get_other xs i j v x other there =
+    let long = length-set xs i v in let least = slice_get_within (slice_set xs i v) j x there in
+    let same = sym (get_or-set_other xs i j v x other) ∙ get_or_from_slice_get (slice_set xs i v) j x x there in
+    slice_get-get_or xs j x (omega (arith, long, least)) ∙ ap (λ y. Some y) same
+
+none_first : {X : Type 0} (xs ys : List X) → xs ++ ys ≡ [] → xs ≡ []
+none_first [] ys is = refl
+none_first (x ∷ xs) ys is = is_none is
+  where
+    is_none : x ∷ (xs ++ ys) ≡ [] → x ∷ xs ≡ []
+    is_none e = absurd (let no : suc (length (xs ++ ys)) ≡ 0 = ap length e in omega (arith, no))
+
 module _ (table : TableId) (base : Base) (first : List Entry) where
-  pub later_read : (seen more : List Entry) (total : ℕ) → StartsWith more seen → IsRead base first seen total → IsRead base first more total
-  later_read seen more total on read = record {
-    state = λ s k is. let (at, past, within, same) = read.state s k is in (at, past, starts_further at seen more within on, same);
+  -- what is read stays read
+  later_read : (p q : Caller) (more : List (Found × Updated (List ℕ))) (round : ℕ) (read : ℕ × ℕ) → StartsWith q.view.seen p.view.seen → q.view.number ≡ p.view.number → q.view.outcomes ≡ p.view.outcomes ++ more → 16 * (round + 1) ≤ length p.view.outcomes →
+      IsRead base first p round read → IsRead base first q round read
+  later_read p q more round read on number told fits is = record {
+    state = λ s k at. let (seen, past, within, front, total, own) = is.state s k at in
+        let same = ap (λ (n : ℕ). filter (λ x. x.1.caller == n) (enumerate_from k seen)) number in
+        let then : take (16 * (round + 1)) q.view.outcomes ≡ take (16 * (round + 1)) p.view.outcomes = ap (λ xs. take (16 * (round + 1)) xs) told ∙ take-append-le (16 * (round + 1)) p.view.outcomes more fits in
+        (seen, past, starts_further seen p.view.seen q.view.seen within on, front, total, same ∙ own ∙ ap done_in (sym then));
   }
 
   -- after a move
-  pub moved_one : (t : Teller) (q : Caller) (f : Found) (u : Updated Reply) (moved : ℕ) → IsCallerOf Contents table base q → StartsWith q.view.seen t.pass.view.seen → IsMove f.args →
-      (LAST_COUNT ≤ length t.pass.view.outcomes → (u ≡ Spent) × (q ≡ t.pass)) → (length t.pass.view.outcomes < LAST_COUNT → q.view.outcomes ≡ t.pass.view.outcomes ++ (f, as_words trio u) ∷ []) →
-      moved ≡ t.moved + made u → IsTeller table base first t → IsTeller table base first (record { pass = q; moved = moved; totals = t.totals })
-  moved_one t q f u moved of on move unposted posted count is = elim (cases_lt (length t.pass.view.outcomes) LAST_COUNT) [
-    | inl few ↦
-        let told = posted few in let last = done_last t.pass.view.outcomes (f, as_words trio u) in let one = one_moved f u in let had = is.moved in
-        record {
-          of = of;
-          learnt = starts_further first t.pass.view.seen q.view.seen is.learnt on;
-          moves = subst (AllByRecursion (λ x. IsMove x.0.args)) (sym told) (all_both _ t.pass.view.outcomes ((f, as_words trio u) ∷ []) is.moves (move, tt));
-          moved = (let all : moved ≡ moved_in (done_in (t.pass.view.outcomes ++ (f, as_words trio u) ∷ [])) = omega (arith, count, had, one, last) in all) ∙ ap (λ zs. moved_in (done_in zs)) (sym told);
-          totals = λ i d within. later_read t.pass.view.seen q.view.seen _ on (is.totals i d within);
-        }
-    | inr many ↦
-        let none : made u ≡ 0 = ap made (unposted many).0 in
-        let same : q ≡ t.pass = (unposted many).1 in
-        record {
-          of = of;
-          learnt = starts_further first t.pass.view.seen q.view.seen is.learnt on;
-          moves = subst (λ (z : Caller). AllByRecursion (λ x. IsMove x.0.args) z.view.outcomes) (sym same) is.moves;
-          moved = (let still : moved ≡ t.moved = omega (arith, count, none) in still) ∙ (is.moved ∙ ap (λ (z : Caller). moved_in (done_in z.view.outcomes)) (sym same));
-          totals = λ i d within. later_read t.pass.view.seen q.view.seen _ on (is.totals i d within);
-        }
-  ]
+  pub moved_one : (t : Teller) (n round : ℕ) (q : Caller) (f : Found) (u : Updated Reply) (moved : ℕ) → n < 64 → IsCallerOf Contents table base q → StartsWith q.view.seen t.pass.view.seen → q.view.number ≡ t.pass.view.number → f.args ≡ call_words (Move (n % 16) ((n + 1) % 16) 1) →
+      (length t.pass.view.outcomes < LAST_COUNT → q.view.outcomes ≡ t.pass.view.outcomes ++ (f, as_words trio u) ∷ []) → moved ≡ t.tally.moved + made u →
+      IsTeller table base first n round t → IsTeller table base first (n + 1) round (record { pass = q; tally = record { moved = moved; reads = t.tally.reads } })
+  moved_one t n round q f u moved low of on number move posted count is =
+      let outcomes = t.pass.view.outcomes in let many = tried outcomes n is.asked in
+      let told : q.view.outcomes ≡ t.pass.view.outcomes ++ (f, as_words trio u) ∷ [] = posted (omega (arith, low, many)) in
+      let last = done_last outcomes (f, as_words trio u) in let one = one_moved f u in let had = is.moved in
+      record {
+        of = of;
+        learnt = starts_further first t.pass.view.seen q.view.seen is.learnt on;
+        others = λ s k at. ap (λ (c : ℕ). filter (λ x. x.1.caller == c) (enumerate_from k first)) number ∙ is.others s k at;
+        asked = ap args_of told ∙ map-append (λ x. x.0.args) outcomes ((f, as_words trio u) ∷ []) ∙ ap (λ zs. zs ++ f.args ∷ []) is.asked ∙ ap (λ z. rounds n ++ z ∷ []) move ∙ one_more n;
+        moved = (let all : moved ≡ moved_in (done_in (outcomes ++ (f, as_words trio u) ∷ [])) = omega (arith, count, had, one, last) in all) ∙ ap (λ zs. moved_in (done_in zs)) (sym told);
+        four = is.four;
+        reads = λ r within. let fits = (is.reads r within).0 in
+            (omega (arith, fits), λ read there. later_read t.pass q ((f, as_words trio u) ∷ []) r read on number told (omega (arith, fits, many)) ((is.reads r within).1 read there));
+      }
 
-  -- a total that is read now
-  pub read_now : (seen more : List Entry) (total : ℕ) → StartsWith seen first → StartsWith more seen → ((s : State) (k : ℕ) → Contents base.order base.image s k → total ≡ total_after base.order s k more) → IsRead base first more total
-  read_now seen more total learnt on is = record { state = λ s k at. (more, starts_further first seen more learnt on, ([], self more), is s k at) }
-    where
-      self : {X : Type 0} (zs : List X) → zs ≡ zs ++ []
-      self [] = refl
-      self (z ∷ zs) = ap (λ ys. z ∷ ys) (self zs)
-
-  -- after a look
-  pub looked : (t : Teller) (q : Caller) (turn total : ℕ) → IsCallerOf Contents table base q → StartsWith q.view.seen t.pass.view.seen → q.view.outcomes ≡ t.pass.view.outcomes →
-      ((s : State) (k : ℕ) → Contents base.order base.image s k → total ≡ total_after base.order s k q.view.seen) → IsTeller table base first t → IsTeller table base first (record { pass = q; moved = t.moved; totals = slice_set t.totals turn total })
-  looked t q turn total of on told now is = record {
-    of = of;
-    learnt = starts_further first t.pass.view.seen q.view.seen is.learnt on;
-    moves = subst (AllByRecursion (λ x. IsMove x.0.args)) (sym told) is.moves;
-    moved = is.moved ∙ ap (λ zs. moved_in (done_in zs)) (sym told);
-    totals = All-set (IsRead base first q.view.seen) t.totals turn total (read_now t.pass.view.seen q.view.seen total is.learnt on now) (λ i d within. later_read t.pass.view.seen q.view.seen _ on (is.totals i d within));
+  -- a total that is read now, behind as many rounds as were tried
+  read_now : (q : Caller) (round total front : ℕ) → IsCallerOf Contents table base q → StartsWith q.view.seen first → length q.view.outcomes ≡ 16 * (round + 1) →
+      ((s : State) (k : ℕ) → Contents base.order base.image s k → front ≡ k + length q.view.seen) → ((s : State) (k : ℕ) → Contents base.order base.image s k → total ≡ total_after base.order s k q.view.seen) → IsRead base first q round (total, front)
+  read_now q round total front of learnt many front_is total_is = record {
+    state = λ s k at. let all : q.view.outcomes ≡ take (16 * (round + 1)) q.view.outcomes = sym (take-length q.view.outcomes) ∙ ap (λ (n : ℕ). take n q.view.outcomes) many in
+        (q.view.seen, learnt, ([], sym (append-nil q.view.seen)), front_is s k at, total_is s k at, (of.knows s k at).own ∙ ap done_in all);
   }
 
-  -- a teller who has just learnt these first updates, in the state after which the total was read
-  pub hired : (q : Caller) (total : ℕ) → IsCallerOf Contents table base q → StartsWith q.view.seen first → q.view.outcomes ≡ [] → ((s : State) (k : ℕ) → Contents base.order base.image s k → total ≡ total_after base.order s k first) →
-      IsTeller table base first (record { pass = q; moved = 0; totals = replicate 4 total })
-  hired q total of learnt none is =
-      let whole : first ≡ first ++ [] = sym (nothing first) in
-      let read : IsRead base first q.view.seen total = record { state = λ s k at. (first, ([], whole), learnt, is s k at) } in record {
+  -- after a look
+  pub looked : (t : Teller) (q : Caller) (round total front : ℕ) → round < 4 → IsCallerOf Contents table base q → StartsWith q.view.seen t.pass.view.seen → q.view.number ≡ t.pass.view.number → q.view.outcomes ≡ t.pass.view.outcomes →
+      ((s : State) (k : ℕ) → Contents base.order base.image s k → front ≡ k + length q.view.seen) → ((s : State) (k : ℕ) → Contents base.order base.image s k → total ≡ total_after base.order s k q.view.seen) →
+      IsTeller table base first (16 * (round + 1)) round t → IsTeller table base first (16 * (round + 1)) (round + 1) (record { pass = q; tally = record { moved = t.tally.moved; reads = slice_set t.tally.reads round (total, front) } })
+  looked t q round total front low of on number told front_is total_is is =
+      let many = tried t.pass.view.outcomes (16 * (round + 1)) is.asked in let learnt = starts_further first t.pass.view.seen q.view.seen is.learnt on in let four = is.four in
+      record {
         of = of;
         learnt = learnt;
-        moves = subst (AllByRecursion (λ x. IsMove x.0.args)) (sym none) tt;
-        moved = sym (ap (λ zs. moved_in (done_in zs)) none);
-        totals = All-replicate (IsRead base first q.view.seen) 4 total read;
+        others = λ s k at. ap (λ (c : ℕ). filter (λ x. x.1.caller == c) (enumerate_from k first)) number ∙ is.others s k at;
+        asked = ap args_of told ∙ is.asked;
+        moved = is.moved ∙ ap (λ zs. moved_in (done_in zs)) (sym told);
+        four = length-set t.tally.reads round (total, front) ∙ is.four;
+        reads = λ r within. (
+          omega (arith, within),
+          λ read there. elim (cases_eq r round) [
+            | inl same ↦
+                let now = read_now q round total front of learnt (ap length told ∙ many) front_is total_is in
+                let stored = get_stored t.tally.reads round (total, front) read (omega (arith, low, four)) (subst (λ (i : ℕ). slice_get (slice_set t.tally.reads round (total, front)) i ≡ Some read) same there) in
+                subst (λ (z : ℕ × (ℕ × ℕ)). IsRead base first q z.0 z.1) (λ i. (sym same i, sym stored i)) now
+            | inr other ↦
+                let before : r < round = omega (arith, within, other) in let had = is.reads r before in let fits = had.0 in
+                later_read t.pass q [] r read on number (told ∙ sym (append-nil t.pass.view.outcomes)) (omega (arith, fits, many)) (had.1 read (get_other t.tally.reads round r (total, front) read other there))
+          ],
+        );
       }
-    where
-      nothing : {X : Type 0} (zs : List X) → zs ++ [] ≡ zs
-      nothing [] = refl
-      nothing (z ∷ zs) = ap (λ ys. z ∷ ys) (nothing zs)
+
+  -- a teller who has just learnt these first updates, and has done nothing
+  pub hired : (q : Caller) → IsCallerOf Contents table base q → StartsWith q.view.seen first → q.view.outcomes ≡ [] → IsTeller table base first 0 0 (record { pass = q; tally = record { moved = 0; reads = replicate 4 (0, 0) } })
+  hired q of learnt none = record {
+    of = of;
+    learnt = learnt;
+    others = λ s k at. let (more, is) = learnt in
+        let parts = ap (λ es. enumerate_from k es) is ∙ enumerate_append k first more in
+        let both = sym (filter-append (λ x. x.1.caller == q.view.number) (enumerate_from k first) (enumerate_from (k + length first) more)) ∙ ap (λ zs. filter (λ x. x.1.caller == q.view.number) zs) (sym parts) in
+        none_first (filter (λ x. x.1.caller == q.view.number) (enumerate_from k first)) (filter (λ x. x.1.caller == q.view.number) (enumerate_from (k + length first) more)) (both ∙ (of.knows s k at).own ∙ ap done_in none);
+    asked = ap args_of none;
+    moved = sym (ap (λ zs. moved_in (done_in zs)) none);
+    four = refl;
+    reads = λ r within. absurd (omega (arith, within));
+  }

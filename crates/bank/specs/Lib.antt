@@ -1,3 +1,4 @@
--- Moves, and what the bank's callers have seen and were told.
+-- Moves, what a bank promises, and what its callers have seen and were told.
 pub mod Moved
+pub mod Promise
 pub mod Tellers

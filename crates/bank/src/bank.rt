@@ -1,22 +1,25 @@
 //! The bank: four tellers, and a manager who opens the accounts. Each of them is a caller of one store.
-ghost use Rattle.std.specs.Prelude.{◌≡◌, ◌+◌, ◌<◌, ◌≤◌, ◌^◌, ℕ, [], ◌∷◌, List, All, IfOk, IsTrue, length, map, slice_get, Some};
+ghost use Rattle.std.specs.Prelude.{◌≡◌, ◌⊎◌, ◌+◌, ◌*◌, ◌/◌, ◌<◌, ◌≤◌, ℕ, [], ◌∷◌, List, All, IfErr, IfOk, IsTrue, length, slice_get, Some};
+ghost use Rattle.rom_header.specs.Held.{Holds};
+ghost use Rattle.rom_model.specs.Faults.{Rose};
+ghost use Rattle.rom_model.specs.Leaving.{IsClosed};
 ghost use Rattle.rom_model.specs.Machine.{on_words};
 ghost use Rattle.rom_model.specs.History.{after};
 ghost use Rattle.rom_model.specs.Region.{Contents};
 ghost use Rattle.rom_model.specs.Seen.{StartsWith};
 ghost use Rattle.rom_model.specs.State.{State, tell};
-ghost use Rattle.rom_model.specs.Story.{own};
 ghost use Rattle.rom_model.specs.Trio.{trio};
 ghost use Rattle.rom_model.specs.declared.call.Answer.TheVariants.{Total};
-ghost use Rattle.rom_model.specs.declared.entry.Entry.{Entry};
+ghost use Rattle.rom_open.specs.declared.reasons.Why.TheVariants.{Device, OutOfMemory};
 ghost use Rattle.rom_lr.specs.Seats.{noted};
 ghost use Rattle.rom_rule.specs.Views.{base_of};
 ghost use Rattle.rom_store.specs.Callers.{IsCallerOf, IsNewCaller};
 ghost use Rattle.rom_store.specs.Indexed.{Indexed};
 ghost use Rattle.rom_store.specs.Sessions.{EachStory, HasStory};
 ghost use Rattle.rom_store.specs.Start.{start_of};
-ghost use Rattle.bank.specs.Moved.{is_made, moved_in};
-ghost use Rattle.bank.specs.Tellers.{IsAfter, IsTeller, total_after};
+ghost use Rattle.bank.specs.Moved.{is_made};
+ghost use Rattle.bank.specs.Promise.{HasOpened, IsBalanced, IsTallyOf, total_after};
+ghost use Rattle.bank.specs.Tellers.{IsAfter, IsTeller};
 
 use rom_device::Device;
 use rom_heap::Trio;
@@ -38,32 +41,37 @@ const ACCOUNTS: u64 = 16;
 /// The heap that callers share.
 type Heap<D, N> = Store<D, Trio, N>;
 
-/// A caller's right to call, how many of its moves were made, and the totals that it has read.
+/// How many of a teller's moves were made, and of each total that it has read the total and its front.
+#[derive(Clone, Copy)]
+pub struct Tally {
+    pub moved: u64,
+    pub reads: [(u128, u64); 4],
+}
+
+/// A caller's right to call, and what it has done with it.
 #[derive(Drop)]
 struct Teller {
     pass: Pass,
-    moved: u64,
-    totals: [u128; 4],
+    tally: Tally,
 }
 
 /// What the bank has to tell.
 #[derive(Drop)]
 pub struct Books<D: Device> {
-    /// The total when the tellers came, what each has done and read, and the total when they had gone.
+    /// The total when the tellers came, what each has done, and the total when they had gone.
     pub put_in: u128,
-    pub moved: [u64; 4],
-    pub totals: [[u128; 4]; 4],
+    pub tallies: [Tally; 4],
     pub total: u128,
     pub closed: Closed<D, Trio>,
 }
 
-// An answer from one committed state. A read counts its steps, which nobody looks at here.
+// An answer from one committed state, and its front. A read counts its steps, which nobody looks at here.
 fn counted<D: Device, N: Label, L: Ledger>(
     blank: Blank,
     store: &Heap<D, N>,
     pass: &mut Pass,
     query: &Query,
-) -> Answer
+) -> (Answer, u64)
     requires name { blank.name ≡ L.name }
     requires parts { (blank.parts ≡ L.parts) × (0 < blank.parts) }
     requires of { IsCallerOf Contents N.table N.base pass.old }
@@ -71,19 +79,23 @@ fn counted<D: Device, N: Label, L: Ledger>(
     ensures number { pass.new.view.number ≡ pass.old.view.number }
     ensures later { StartsWith pass.new.view.seen pass.old.view.seen }
     ensures told { pass.new.view.outcomes ≡ pass.old.view.outcomes }
-    ensures answer { (s : State) (k : ℕ) → Contents N.base.order N.base.image s k → result
+    ensures front { (s : State) (k : ℕ) → Contents N.base.order N.base.image s k →
+        result.1 ≡ k + length pass.new.view.seen }
+    ensures answer { (s : State) (k : ℕ) → Contents N.base.order N.base.image s k → result.0
         ≡ tell (after (on_words trio) N.base.order s k pass.new.view.seen) query.now }
 {
-    store.read(pass, query, &mut Steps::<L>::of(blank)).0
+    store.read(pass, query, &mut Steps::<L>::of(blank))
 }
 
-fn ask<D: Device, N: Label>(store: &Heap<D, N>, pass: &mut Pass, query: &Query) -> Answer
+fn ask<D: Device, N: Label>(store: &Heap<D, N>, pass: &mut Pass, query: &Query) -> (Answer, u64)
     requires of { IsCallerOf Contents N.table N.base pass.old }
     ensures of { IsCallerOf Contents N.table N.base pass.new }
     ensures number { pass.new.view.number ≡ pass.old.view.number }
     ensures later { StartsWith pass.new.view.seen pass.old.view.seen }
     ensures told { pass.new.view.outcomes ≡ pass.old.view.outcomes }
-    ensures answer { (s : State) (k : ℕ) → Contents N.base.order N.base.image s k → result
+    ensures front { (s : State) (k : ℕ) → Contents N.base.order N.base.image s k →
+        result.1 ≡ k + length pass.new.view.seen }
+    ensures answer { (s : State) (k : ℕ) → Contents N.base.order N.base.image s k → result.0
         ≡ tell (after (on_words trio) N.base.order s k pass.new.view.seen) query.now }
 {
     counted::<D, N, Brand>(Blank::new(1), store, pass, query)
@@ -117,69 +129,69 @@ fn pay_in<D: Device, N: Label, R: Wait>(rt: &R, store: &Heap<D, N>, pass: &mut P
         result ≡ total_after N.base.order s k pass.new.view.seen }
 {
     for account in 0..ACCOUNTS {
-        if ask(store, pass, &Query::Get(account)) == Answer::Missing {
+        if ask(store, pass, &Query::Get(account)).0 == Answer::Missing {
             let _ = store.update(rt, pass, &Call::Put(account, 1000), &NoGate);
         }
     }
-    total_in(ask(store, pass, &Query::Total))
+    total_in(ask(store, pass, &Query::Total).0)
 }
 
-// A teller who has learnt what the manager has seen and done, and read that total.
-fn hire<D: Device, N: Label>(store: &Heap<D, N>, note: Note, mut pass: Pass, sum: u128) -> Teller
+// A teller who has learnt what the manager has seen and done, and has done nothing yet.
+fn hire<D: Device, N: Label>(store: &Heap<D, N>, note: Note, mut pass: Pass) -> Teller
     requires of { IsCallerOf Contents N.table N.base pass }
     requires new { pass.view.outcomes ≡ [] }
     requires note { note.token.table_id ≡ N.table }
-    requires sum { (s : State) (k : ℕ) → Contents N.base.order N.base.image s k →
-        sum ≡ total_after N.base.order s k (noted note).seen }
-    ensures teller { IsTeller N.table N.base (noted note).seen result }
+    ensures teller { IsTeller N.table N.base (noted note).seen 0 0 result }
     ensures number { result.pass.view.number ≡ pass.view.number }
-    ensures none { result.moved ≡ 0 }
+    ensures none { result.tally.moved ≡ 0 }
 {
     store.learn(&mut pass, note);
-    Teller {
-        pass,
+    let tally = Tally {
         moved: 0,
-        totals: [sum; 4],
-    }
+        reads: [(0, 0); 4],
+    };
+    Teller { pass, tally }
 }
 
 // Moves 1 from this account to the next one.
 fn move_one<D: Device, N: Label, R: Wait>(rt: &R, store: &Heap<D, N>, teller: &mut Teller, i: u64)
     requires i { i < 64 }
     requires of { IsCallerOf Contents N.table N.base teller.old.pass }
-    requires few { teller.old.moved ≤ i }
+    requires few { teller.old.tally.moved ≤ i }
     ensures of { IsCallerOf Contents N.table N.base teller.new.pass }
     ensures number { teller.new.pass.view.number ≡ teller.old.pass.view.number }
-    ensures few { teller.new.moved ≤ i + 1 }
-    ensures teller { IsAfter N.table N.base teller.old teller.new }
+    ensures few { teller.new.tally.moved ≤ i + 1 }
+    ensures teller { (round : ℕ) → IsAfter N.table N.base i round teller.old (i + 1) round teller.new }
 {
     let call = Call::Move(i % ACCOUNTS, (i + 1) % ACCOUNTS, 1);
     let told = store.update(rt, &mut teller.pass, &call, &NoGate);
-    teller.moved += u64::from(was_moved(&told));
+    teller.tally.moved += u64::from(was_moved(&told));
 }
 
-// Reads the total beside the moves of others.
-fn look<D: Device, N: Label>(store: &Heap<D, N>, teller: &mut Teller, turn: u64)
-    requires turn { turn < 4 }
+// Reads the total beside the moves of others, behind the teller's own of this round and those before.
+fn look<D: Device, N: Label>(store: &Heap<D, N>, teller: &mut Teller, round: u64)
+    requires round { round < 4 }
     requires of { IsCallerOf Contents N.table N.base teller.old.pass }
     requires opened { (s : State) × (k : ℕ) × Contents N.base.order N.base.image s k }
     ensures of { IsCallerOf Contents N.table N.base teller.new.pass }
     ensures number { teller.new.pass.view.number ≡ teller.old.pass.view.number }
-    ensures moved { teller.new.moved ≡ teller.old.moved }
-    ensures teller { IsAfter N.table N.base teller.old teller.new }
+    ensures moved { teller.new.tally.moved ≡ teller.old.tally.moved }
+    ensures teller { let tried = 16 * (round + 1) in
+        IsAfter N.table N.base tried round teller.old tried (round + 1) teller.new }
 {
-    let total = total_in(ask(store, &mut teller.pass, &Query::Total));
-    teller.totals[turn as usize] = total;
+    let (answer, front) = ask(store, &mut teller.pass, &Query::Total);
+    let total = total_in(answer);
+    teller.tally.reads[round as usize] = (total, front);
 }
 
 // All that a teller does: four times round the accounts, and behind each round it reads the total.
 fn work<D: Device, N: Label, R: Wait>(rt: &R, store: &Heap<D, N>, teller: &mut Teller)
     requires of { IsCallerOf Contents N.table N.base teller.old.pass }
     requires opened { (s : State) × (k : ℕ) × Contents N.base.order N.base.image s k }
-    requires none { teller.old.moved ≡ 0 }
+    requires none { teller.old.tally.moved ≡ 0 }
     ensures of { IsCallerOf Contents N.table N.base teller.new.pass }
     ensures number { teller.new.pass.view.number ≡ teller.old.pass.view.number }
-    ensures teller { IsAfter N.table N.base teller.old teller.new }
+    ensures teller { IsAfter N.table N.base 0 0 teller.old 64 4 teller.new }
 {
     for i in 0..4 * ACCOUNTS {
         move_one(rt, store, teller, i);
@@ -196,12 +208,12 @@ fn work_all<D: Device + Send, N: Label + Send + Sync, R: Threads + Wait + Sync>(
     tellers: &mut [Teller],
 )
     requires opened { (s : State) × (k : ℕ) × Contents N.base.order N.base.image s k }
-    requires ready { All (λ t. IsCallerOf Contents N.table N.base t.pass × (t.moved ≡ 0))
+    requires ready { All (λ t. IsCallerOf Contents N.table N.base t.pass × (t.tally.moved ≡ 0))
         tellers.old }
     ensures number { (i : ℕ) (a : _) (c : _) → slice_get tellers.old i ≡ Some a →
         slice_get tellers.new i ≡ Some c → c.pass.view.number ≡ a.pass.view.number }
     ensures teller { (i : ℕ) (a : _) (c : _) → slice_get tellers.old i ≡ Some a →
-        slice_get tellers.new i ≡ Some c → IsAfter N.table N.base a c }
+        slice_get tellers.new i ≡ Some c → IsAfter N.table N.base 0 0 a 64 4 c }
 {
     thread::for_each_mut(rt, tellers, 4, &|_, teller| work(rt, store, teller));
 }
@@ -226,22 +238,25 @@ fn bank<D: Device + Send, N: Label + Send + Sync, R: Threads + Wait + Sync>(
     requires opened { (s : State) × (k : ℕ) × Contents N.base.order N.base.image s k }
     requires many { (length opening.passes ≡ 5) × (N.base.callers ≡ 5) }
     requires new { Indexed (IsNewCaller Contents N.table N.base) opening.passes }
+    ensures based { (result.closed.session.order ≡ N.base.order)
+        × (result.closed.session.image ≡ N.base.image) }
     ensures story { HasStory trio Contents result.closed.session }
-    ensures put_in { EachStory trio Contents result.closed.session (λ story. (first : List Entry)
-        × StartsWith story.history first × (result.put_in
-        ≡ total_after story.order story.opening story.opening_count first)) }
-    ensures totals { All (All (λ total. total ≡ result.put_in)) result.totals }
-    ensures total { result.total ≡ result.put_in }
-    ensures moved { EachStory trio Contents result.closed.session (λ story. result.moved
-        ≡ map (λ caller. moved_in (own story caller)) (1 ∷ 2 ∷ 3 ∷ 4 ∷ [])) }
+    ensures closed { EachStory trio Contents result.closed.session (λ story.
+        IsClosed trio story 5) }
+    ensures balanced { EachStory trio Contents result.closed.session (IsBalanced result.put_in) }
+    ensures tallies { EachStory trio Contents result.closed.session (λ story.
+        Indexed (λ i tally. IsTallyOf story (i + 1) tally) result.tallies) }
+    ensures reads { All (λ tally. All (λ read. read.0 ≡ result.put_in) tally.reads) result.tallies }
+    ensures total { EachStory trio Contents result.closed.session (λ story. result.total
+        ≡ total_after story.order story.opening story.opening_count story.history) }
 {
     let (store, mut passes) = opening.start::<N>();
     let mut manager = passes.take_last();
     let put_in = pay_in(rt, &store, &mut manager);
-    let fourth = hire(&store, store.note(&mut manager), passes.take_last(), put_in);
-    let third = hire(&store, store.note(&mut manager), passes.take_last(), put_in);
-    let second = hire(&store, store.note(&mut manager), passes.take_last(), put_in);
-    let first = hire(&store, store.note(&mut manager), passes.take_last(), put_in);
+    let fourth = hire(&store, store.note(&mut manager), passes.take_last());
+    let third = hire(&store, store.note(&mut manager), passes.take_last());
+    let second = hire(&store, store.note(&mut manager), passes.take_last());
+    let first = hire(&store, store.note(&mut manager), passes.take_last());
     let mut tellers = [first, second, third, fourth];
     work_all(rt, &store, &mut tellers);
     let (first, second, third, fourth) = parted(tellers);
@@ -250,12 +265,10 @@ fn bank<D: Device + Send, N: Label + Send + Sync, R: Threads + Wait + Sync>(
     passes.push_reserved(third.pass);
     passes.push_reserved(fourth.pass);
     passes.push_reserved(manager);
-    let (a, b, c, d) = (first.totals, second.totals, third.totals, fourth.totals);
     let mut closed = store.close(rt, passes);
     Books {
         put_in,
-        moved: [first.moved, second.moved, third.moved, fourth.moved],
-        totals: [a, b, c, d],
+        tallies: [first.tally, second.tally, third.tally, fourth.tally],
         total: total_in(closed.ask(&Query::Total)),
         closed,
     }
@@ -267,20 +280,34 @@ pub fn run_bank<D: Device + Send, R: Threads + Wait + Sync + AllocGlobal>(
     rt: &R,
     mut device: D,
 ) -> Result<Books<D>, Refused<D>>
+    // Words that hold a heap are refused for no other reason than these, and `Device` has its cause.
+    ensures kept { IsTrue D.shown.tells_words → (n : ℕ) (s : State) (k : ℕ) →
+        Holds Contents n (D.shown.words device) s k →
+        IfErr result (λ refused. (refused.why ≡ Device) ⊎ (refused.why ≡ OutOfMemory)) }
+    ensures faults { IfErr result (λ refused. refused.why ≡ Device →
+        Rose (D.shown.faults device) (D.shown.faults refused.device)) }
+
+    // What they hold is what it goes on from.
+    ensures stood { IsTrue D.shown.tells_words → (n : ℕ) (s : State) (k : ℕ) →
+        Holds Contents n (D.shown.words device) s k → IfOk result (λ books.
+        EachStory trio Contents books.closed.session (HasOpened n s k)) }
+
+    // There is a history of five callers, the tellers, numbered from 1, and the manager, and of nobody else.
     ensures story { IfOk result (λ books. HasStory trio Contents books.closed.session) }
+    ensures closed { IfOk result (λ books. EachStory trio Contents books.closed.session (λ story.
+        IsClosed trio story 5)) }
 
-    // What was put in is what the map had after the first updates of the session, before any move of a
-    // teller; each total that a teller read is that, and so is the one at the end.
-    ensures put_in { IfOk result (λ books. EachStory trio Contents books.closed.session (λ story.
-        (first : List Entry) × StartsWith story.history first × (books.put_in
-        ≡ total_after story.order story.opening story.opening_count first))) }
-    ensures totals { IfOk result (λ books.
-        All (All (λ total. total ≡ books.put_in)) books.totals) }
-    ensures total { IfOk result (λ books. books.total ≡ books.put_in) }
+    // Behind what the manager has paid in there are moves alone, and the total stays.
+    ensures balanced { IfOk result (λ books.
+        EachStory trio Contents books.closed.session (IsBalanced books.put_in)) }
 
-    // Each teller has made as many moves as the history has of it.
-    ensures moved { IfOk result (λ books. EachStory trio Contents books.closed.session (λ story.
-        books.moved ≡ map (λ caller. moved_in (own story caller)) (1 ∷ 2 ∷ 3 ∷ 4 ∷ []))) }
+    // Each teller has tried its moves, and tells how many were made and what it read in between.
+    ensures tallies { IfOk result (λ books. EachStory trio Contents books.closed.session (λ story.
+        Indexed (λ i tally. IsTallyOf story (i + 1) tally) books.tallies)) }
+    ensures reads { IfOk result (λ books.
+        All (λ tally. All (λ read. read.0 ≡ books.put_in) tally.reads) books.tallies) }
+    ensures total { IfOk result (λ books. EachStory trio Contents books.closed.session (λ story.
+        books.total ≡ total_after story.order story.opening story.opening_count story.history)) }
 {
     let _ = format_device::<D, Trio>(rt.alloc(), &mut device, ORDER);
     let opening = open_store::<D, Trio>(rt.alloc(), device, 5)?;

@@ -1,32 +1,57 @@
 //! A heap in a program of one's own: `bank FILE` keeps sixteen accounts in the map of a heap in a file,
 //! and makes that heap where the file holds none. Four tellers in threads move money between them, and
-//! now and then read the total beside each other. It prints how many moves each has made, what was put
-//! in and what there is.
+//! now and then read the total beside each other. It prints of each teller how many moves were made and
+//! what it read, then what was put in and what there is. FILE must be new or a heap: the front of any other
+//! file is overwritten.
 //!
-//! `run_bank` does all of it on any device. Its contract says that each total that is read, and the one
-//! at the end, is the one that was put in.
+//! `run_bank` does all of it on any device. Its contract says that behind what was paid in the history has
+//! moves alone, and that each total that is read, and the one at the end, is the one that was put in.
 #![tactic(auto)]
 
 mod bank;
 
 use bank::{ORDER, run_bank};
+use rom_device::Device;
 use rom_header::Geometry;
 use rom_host::{HostDevice, device_of, hold_streams, words_of};
 use rom_text::{DeviceWant, Name};
 use std::io;
+use std::process::ExitCode;
+use std::sync::Wait;
+use std::thread::Threads;
 
-fn main(rt: HostRuntime) -> io::Result<()> {
+/// Runs the bank on this device and prints its books, or why there are none. Gives the status.
+fn run_on<R: Threads + Wait + Sync + AllocGlobal + Print + Eprint, D: Device + Send + Drop>(
+    rt: &R,
+    device: D,
+) -> io::Result<u8> {
+    let books = match run_bank(rt, device) {
+        Ok(books) => books,
+        Err(refused) => {
+            eprintln!(rt; "no heap: {:?}", refused.why)?;
+            return Ok(1);
+        }
+    };
+    for tally in books.tallies {
+        let [(a, _), (b, _), (c, _), (d, _)] = tally.reads;
+        println!(rt; "moved {}, read {a} {b} {c} {d}", tally.moved)?;
+    }
+    println!(rt; "put in {}, total {}", books.put_in, books.total)?;
+    Ok(0)
+}
+
+fn main(rt: HostRuntime) -> io::Result<ExitCode> {
     hold_streams(&rt)?;
     let words = words_of(&rt)?;
-    let file = Name::of(rt.alloc(), words.at(0).unwrap_or("accounts"))?;
+    let (Some(file), None) = (words.at(0), words.at(1)) else {
+        eprintln!(&rt; "usage: bank FILE")?;
+        return Ok(ExitCode::from(2));
+    };
+    let file = Name::of(rt.alloc(), file)?;
     let wanted = DeviceWant::Made(file, Geometry::of_order(ORDER).need());
-    let HostDevice::File(device) = device_of(&rt, &wanted)? else {
-        return Ok(());
+    let status = match device_of(&rt, &wanted)? {
+        HostDevice::File(device) => run_on(&rt, device),
+        HostDevice::Memory(device) => run_on(&rt, device),
     };
-    let Ok(books) = run_bank(&rt, device) else {
-        return println!(&rt; "no heap");
-    };
-    let [first, second, third, fourth] = books.moved;
-    println!(&rt; "moved {first} {second} {third} {fourth}")?;
-    println!(&rt; "put in {}, total {}", books.put_in, books.total)
+    Ok(ExitCode::from(status?))
 }

@@ -1,7 +1,9 @@
-use Rattle.std.proofs.Common.{◌≡◌, ℕ, List, [], ◌∷◌, map, ap, sym, subst, ◌∙◌, refl, length, Some}
+use Rattle.std.proofs.Common.{◌≡◌, ℕ, ◌+◌, List, [], ◌∷◌, map, ap, sym, subst, ◌∙◌, refl, length, Some}
 use Rattle.std.specs.Prelude.{slice_get}
 use Rattle.rom_model.specs.Leaving.{IsClosed, IsKept}
 use Rattle.rom_model.specs.Region.{Contents}
+use Rattle.rom_model.specs.State.{State}
+use Rattle.rom_model.specs.Story.{Story}
 use Rattle.rom_model.specs.Trio.{trio}
 use Rattle.rom_model.specs.declared.entry.Entry.{Entry}
 use Rattle.rom_rule.specs.declared.views.View.{View}
@@ -9,12 +11,10 @@ use Rattle.rom_store.specs.Callers.{Caller, IsCallerOf, IsNewCaller, IsNumbered}
 use Rattle.rom_store.specs.Closing.{ClosedSeen, kept_in}
 use Rattle.rom_store.specs.Indexed.{Indexed}
 use Rattle.rom_store.specs.Sessions.{EachStory, HasStory, SessionSeen}
-use Rattle.rom_model.specs.Seen.{StartsWith}
-use Rattle.rom_model.specs.Story.{own}
-use Rattle.bank.specs.Moved.{moved_in}
-use Rattle.bank.specs.Tellers.{IsTeller, total_after}
+use Rattle.bank.specs.Promise.{IsBalanced, IsTallyOf, total_after}
+use Rattle.bank.specs.Tellers.{IsTeller}
 use Rattle.bank.specs.declared.bank.Teller.{Teller}
-use Rattle.bank.proofs.Closing.{HasEnded, all_four, all_reads, back_again, counts, first_total, none_left, numbered_five, taken, told_total}
+use Rattle.bank.proofs.Closing.{HasEnded, all_four, all_reads, back_again, balance, none_left, numbered_five, taken, tallies, told_total}
 use Rattle.bank.proofs.bank.bank.Given as given
 use Rattle.bank.proofs.bank.bank.Goals as goal
 
@@ -31,12 +31,10 @@ hire-fourth-requires g c =
     let new = subst (Indexed P) (sym c.start-store.ensures.passes) c.requires.new in let many : length c.start-store.result.1.items ≡ 5 = ap length c.start-store.ensures.passes ∙ c.requires.many.0 in
     let at4 = taken P 4 c.start-store.result.1.items c.take_last-manager.new.self.items c.take_last-manager.result c.take_last-manager.ensures.items many new in
     let at3 = taken P 3 c.take_last-manager.new.self.items c.take_last.new.self.items c.take_last.result c.take_last.ensures.items at4.2 at4.1 in
-    let seen = c.note.ensures.seen in
     record {
       of = at3.0.numbered.of;
       new = ap (λ (v : View). v.outcomes) at3.0.bare;
       note = c.note.ensures.note;
-      sum = λ s k at. c.pay_in-put_in.ensures.total s k at ∙ ap (λ (zs : List Entry). total_after g.N.Label.base.order s k zs) (sym (seen));
     }
 
 pub hire-third-requires : goal.hire-third-requires
@@ -46,12 +44,10 @@ hire-third-requires g c =
     let at4 = taken P 4 c.start-store.result.1.items c.take_last-manager.new.self.items c.take_last-manager.result c.take_last-manager.ensures.items many new in
     let at3 = taken P 3 c.take_last-manager.new.self.items c.take_last.new.self.items c.take_last.result c.take_last.ensures.items at4.2 at4.1 in
     let at2 = taken P 2 c.take_last.new.self.items c.take_last-2.new.self.items c.take_last-2.result c.take_last-2.ensures.items at3.2 at3.1 in
-    let seen = c.note-2.ensures.seen ∙ ap (λ (v : View). v.seen) c.note.ensures.still in
     record {
       of = at2.0.numbered.of;
       new = ap (λ (v : View). v.outcomes) at2.0.bare;
       note = c.note-2.ensures.note;
-      sum = λ s k at. c.pay_in-put_in.ensures.total s k at ∙ ap (λ (zs : List Entry). total_after g.N.Label.base.order s k zs) (sym (seen));
     }
 
 pub hire-second-requires : goal.hire-second-requires
@@ -62,12 +58,10 @@ hire-second-requires g c =
     let at3 = taken P 3 c.take_last-manager.new.self.items c.take_last.new.self.items c.take_last.result c.take_last.ensures.items at4.2 at4.1 in
     let at2 = taken P 2 c.take_last.new.self.items c.take_last-2.new.self.items c.take_last-2.result c.take_last-2.ensures.items at3.2 at3.1 in
     let at1 = taken P 1 c.take_last-2.new.self.items c.take_last-3.new.self.items c.take_last-3.result c.take_last-3.ensures.items at2.2 at2.1 in
-    let seen = c.note-3.ensures.seen ∙ ap (λ (v : View). v.seen) c.note-2.ensures.still ∙ ap (λ (v : View). v.seen) c.note.ensures.still in
     record {
       of = at1.0.numbered.of;
       new = ap (λ (v : View). v.outcomes) at1.0.bare;
       note = c.note-3.ensures.note;
-      sum = λ s k at. c.pay_in-put_in.ensures.total s k at ∙ ap (λ (zs : List Entry). total_after g.N.Label.base.order s k zs) (sym (seen));
     }
 
 pub hire-first-requires : goal.hire-first-requires
@@ -79,17 +73,15 @@ hire-first-requires g c =
     let at2 = taken P 2 c.take_last.new.self.items c.take_last-2.new.self.items c.take_last-2.result c.take_last-2.ensures.items at3.2 at3.1 in
     let at1 = taken P 1 c.take_last-2.new.self.items c.take_last-3.new.self.items c.take_last-3.result c.take_last-3.ensures.items at2.2 at2.1 in
     let at0 = taken P 0 c.take_last-3.new.self.items c.take_last-4.new.self.items c.take_last-4.result c.take_last-4.ensures.items at1.2 at1.1 in
-    let seen = c.note-4.ensures.seen ∙ ap (λ (v : View). v.seen) c.note-3.ensures.still ∙ ap (λ (v : View). v.seen) c.note-2.ensures.still ∙ ap (λ (v : View). v.seen) c.note.ensures.still in
     record {
       of = at0.0.numbered.of;
       new = ap (λ (v : View). v.outcomes) at0.0.bare;
       note = c.note-4.ensures.note;
-      sum = λ s k at. c.pay_in-put_in.ensures.total s k at ∙ ap (λ (zs : List Entry). total_after g.N.Label.base.order s k zs) (sym (seen));
     }
 
 pub work_all-requires-clause-ready : goal.work_all-requires-clause-ready
 work_all-requires-clause-ready g c κs within =
-    all_four (λ (t : Teller). IsCallerOf Contents g.N.Label.table g.N.Label.base t.pass × (t.moved ≡ 0)) c.hire-first.result c.hire-second.result c.hire-third.result c.hire-fourth.result
+    all_four (λ (t : Teller). IsCallerOf Contents g.N.Label.table g.N.Label.base t.pass × (t.tally.moved ≡ 0)) c.hire-first.result c.hire-second.result c.hire-third.result c.hire-fourth.result
     (c.hire-first.ensures.teller.of, c.hire-first.ensures.none) (c.hire-second.ensures.teller.of, c.hire-second.ensures.none)
     (c.hire-third.ensures.teller.of, c.hire-third.ensures.none) (c.hire-fourth.ensures.teller.of, c.hire-fourth.ensures.none)
 
@@ -105,16 +97,16 @@ close-closed-requires-clause-passes g c =
     let table = g.N.Label.table in let base = g.N.Label.base in let seen = c.pay_in-put_in.new.pass.view.seen in let m = c.note-4.new.pass in
     let a = c.parted-first.result.0 in let b = c.parted-first.result.1 in let c' = c.parted-first.result.2 in let d = c.parted-first.result.3 in
     let there0 : slice_get c.work_all.new.tellers 0 ≡ Some a = ap (λ (zs : List Teller). slice_get zs 0) c.parted-first.ensures in
-    let is0 : IsTeller table base seen a = (c.work_all.ensures.teller 0 c.hire-first.result a refl there0).keeps seen (subst (λ (zs : List Entry). IsTeller table base zs c.hire-first.result) (c.note-4.ensures.seen ∙ ap (λ (v : View). v.seen) c.note-3.ensures.still ∙ ap (λ (v : View). v.seen) c.note-2.ensures.still ∙ ap (λ (v : View). v.seen) c.note.ensures.still) c.hire-first.ensures.teller) in
+    let is0 : IsTeller table base seen 64 4 a = (c.work_all.ensures.teller 0 c.hire-first.result a refl there0).keeps seen (subst (λ (zs : List Entry). IsTeller table base zs 0 0 c.hire-first.result) (c.note-4.ensures.seen ∙ ap (λ (v : View). v.seen) c.note-3.ensures.still ∙ ap (λ (v : View). v.seen) c.note-2.ensures.still ∙ ap (λ (v : View). v.seen) c.note.ensures.still) c.hire-first.ensures.teller) in
     let number0 : a.pass.view.number ≡ 1 = c.work_all.ensures.number 0 c.hire-first.result a refl there0 ∙ (c.hire-first.ensures.number ∙ at0.0.numbered.number) in
     let there1 : slice_get c.work_all.new.tellers 1 ≡ Some b = ap (λ (zs : List Teller). slice_get zs 1) c.parted-first.ensures in
-    let is1 : IsTeller table base seen b = (c.work_all.ensures.teller 1 c.hire-second.result b refl there1).keeps seen (subst (λ (zs : List Entry). IsTeller table base zs c.hire-second.result) (c.note-3.ensures.seen ∙ ap (λ (v : View). v.seen) c.note-2.ensures.still ∙ ap (λ (v : View). v.seen) c.note.ensures.still) c.hire-second.ensures.teller) in
+    let is1 : IsTeller table base seen 64 4 b = (c.work_all.ensures.teller 1 c.hire-second.result b refl there1).keeps seen (subst (λ (zs : List Entry). IsTeller table base zs 0 0 c.hire-second.result) (c.note-3.ensures.seen ∙ ap (λ (v : View). v.seen) c.note-2.ensures.still ∙ ap (λ (v : View). v.seen) c.note.ensures.still) c.hire-second.ensures.teller) in
     let number1 : b.pass.view.number ≡ 2 = c.work_all.ensures.number 1 c.hire-second.result b refl there1 ∙ (c.hire-second.ensures.number ∙ at1.0.numbered.number) in
     let there2 : slice_get c.work_all.new.tellers 2 ≡ Some c' = ap (λ (zs : List Teller). slice_get zs 2) c.parted-first.ensures in
-    let is2 : IsTeller table base seen c' = (c.work_all.ensures.teller 2 c.hire-third.result c' refl there2).keeps seen (subst (λ (zs : List Entry). IsTeller table base zs c.hire-third.result) (c.note-2.ensures.seen ∙ ap (λ (v : View). v.seen) c.note.ensures.still) c.hire-third.ensures.teller) in
+    let is2 : IsTeller table base seen 64 4 c' = (c.work_all.ensures.teller 2 c.hire-third.result c' refl there2).keeps seen (subst (λ (zs : List Entry). IsTeller table base zs 0 0 c.hire-third.result) (c.note-2.ensures.seen ∙ ap (λ (v : View). v.seen) c.note.ensures.still) c.hire-third.ensures.teller) in
     let number2 : c'.pass.view.number ≡ 3 = c.work_all.ensures.number 2 c.hire-third.result c' refl there2 ∙ (c.hire-third.ensures.number ∙ at2.0.numbered.number) in
     let there3 : slice_get c.work_all.new.tellers 3 ≡ Some d = ap (λ (zs : List Teller). slice_get zs 3) c.parted-first.ensures in
-    let is3 : IsTeller table base seen d = (c.work_all.ensures.teller 3 c.hire-fourth.result d refl there3).keeps seen (subst (λ (zs : List Entry). IsTeller table base zs c.hire-fourth.result) (c.note.ensures.seen) c.hire-fourth.ensures.teller) in
+    let is3 : IsTeller table base seen 64 4 d = (c.work_all.ensures.teller 3 c.hire-fourth.result d refl there3).keeps seen (subst (λ (zs : List Entry). IsTeller table base zs 0 0 c.hire-fourth.result) (c.note.ensures.seen) c.hire-fourth.ensures.teller) in
     let number3 : d.pass.view.number ≡ 4 = c.work_all.ensures.number 3 c.hire-fourth.result d refl there3 ∙ (c.hire-fourth.ensures.number ∙ at3.0.numbered.number) in
     let last : m.view.number ≡ 5 = c.note-4.ensures.same.2 ∙ (c.note-3.ensures.same.2 ∙ (c.note-2.ensures.same.2 ∙ (c.note.ensures.same.2 ∙ (c.pay_in-put_in.ensures.number ∙ at4.0.numbered.number)))) in
     let knows : m.view.seen ≡ seen = ap (λ (v : View). v.seen) c.note-4.ensures.still ∙ (ap (λ (v : View). v.seen) c.note-3.ensures.still ∙ (ap (λ (v : View). v.seen) c.note-2.ensures.still ∙ ap (λ (v : View). v.seen) c.note.ensures.still)) in
@@ -141,21 +133,22 @@ ended g c =
     let table = g.N.Label.table in let base = g.N.Label.base in let seen = c.pay_in-put_in.new.pass.view.seen in let m = c.note-4.new.pass in
     let a = c.parted-first.result.0 in let b = c.parted-first.result.1 in let c' = c.parted-first.result.2 in let d = c.parted-first.result.3 in
     let there0 : slice_get c.work_all.new.tellers 0 ≡ Some a = ap (λ (zs : List Teller). slice_get zs 0) c.parted-first.ensures in
-    let is0 : IsTeller table base seen a = (c.work_all.ensures.teller 0 c.hire-first.result a refl there0).keeps seen (subst (λ (zs : List Entry). IsTeller table base zs c.hire-first.result) (c.note-4.ensures.seen ∙ ap (λ (v : View). v.seen) c.note-3.ensures.still ∙ ap (λ (v : View). v.seen) c.note-2.ensures.still ∙ ap (λ (v : View). v.seen) c.note.ensures.still) c.hire-first.ensures.teller) in
+    let is0 : IsTeller table base seen 64 4 a = (c.work_all.ensures.teller 0 c.hire-first.result a refl there0).keeps seen (subst (λ (zs : List Entry). IsTeller table base zs 0 0 c.hire-first.result) (c.note-4.ensures.seen ∙ ap (λ (v : View). v.seen) c.note-3.ensures.still ∙ ap (λ (v : View). v.seen) c.note-2.ensures.still ∙ ap (λ (v : View). v.seen) c.note.ensures.still) c.hire-first.ensures.teller) in
     let number0 : a.pass.view.number ≡ 1 = c.work_all.ensures.number 0 c.hire-first.result a refl there0 ∙ (c.hire-first.ensures.number ∙ at0.0.numbered.number) in
     let there1 : slice_get c.work_all.new.tellers 1 ≡ Some b = ap (λ (zs : List Teller). slice_get zs 1) c.parted-first.ensures in
-    let is1 : IsTeller table base seen b = (c.work_all.ensures.teller 1 c.hire-second.result b refl there1).keeps seen (subst (λ (zs : List Entry). IsTeller table base zs c.hire-second.result) (c.note-3.ensures.seen ∙ ap (λ (v : View). v.seen) c.note-2.ensures.still ∙ ap (λ (v : View). v.seen) c.note.ensures.still) c.hire-second.ensures.teller) in
+    let is1 : IsTeller table base seen 64 4 b = (c.work_all.ensures.teller 1 c.hire-second.result b refl there1).keeps seen (subst (λ (zs : List Entry). IsTeller table base zs 0 0 c.hire-second.result) (c.note-3.ensures.seen ∙ ap (λ (v : View). v.seen) c.note-2.ensures.still ∙ ap (λ (v : View). v.seen) c.note.ensures.still) c.hire-second.ensures.teller) in
     let number1 : b.pass.view.number ≡ 2 = c.work_all.ensures.number 1 c.hire-second.result b refl there1 ∙ (c.hire-second.ensures.number ∙ at1.0.numbered.number) in
     let there2 : slice_get c.work_all.new.tellers 2 ≡ Some c' = ap (λ (zs : List Teller). slice_get zs 2) c.parted-first.ensures in
-    let is2 : IsTeller table base seen c' = (c.work_all.ensures.teller 2 c.hire-third.result c' refl there2).keeps seen (subst (λ (zs : List Entry). IsTeller table base zs c.hire-third.result) (c.note-2.ensures.seen ∙ ap (λ (v : View). v.seen) c.note.ensures.still) c.hire-third.ensures.teller) in
+    let is2 : IsTeller table base seen 64 4 c' = (c.work_all.ensures.teller 2 c.hire-third.result c' refl there2).keeps seen (subst (λ (zs : List Entry). IsTeller table base zs 0 0 c.hire-third.result) (c.note-2.ensures.seen ∙ ap (λ (v : View). v.seen) c.note.ensures.still) c.hire-third.ensures.teller) in
     let number2 : c'.pass.view.number ≡ 3 = c.work_all.ensures.number 2 c.hire-third.result c' refl there2 ∙ (c.hire-third.ensures.number ∙ at2.0.numbered.number) in
     let there3 : slice_get c.work_all.new.tellers 3 ≡ Some d = ap (λ (zs : List Teller). slice_get zs 3) c.parted-first.ensures in
-    let is3 : IsTeller table base seen d = (c.work_all.ensures.teller 3 c.hire-fourth.result d refl there3).keeps seen (subst (λ (zs : List Entry). IsTeller table base zs c.hire-fourth.result) (c.note.ensures.seen) c.hire-fourth.ensures.teller) in
+    let is3 : IsTeller table base seen 64 4 d = (c.work_all.ensures.teller 3 c.hire-fourth.result d refl there3).keeps seen (subst (λ (zs : List Entry). IsTeller table base zs 0 0 c.hire-fourth.result) (c.note.ensures.seen) c.hire-fourth.ensures.teller) in
     let number3 : d.pass.view.number ≡ 4 = c.work_all.ensures.number 3 c.hire-fourth.result d refl there3 ∙ (c.hire-fourth.ensures.number ∙ at3.0.numbered.number) in
     let last : m.view.number ≡ 5 = c.note-4.ensures.same.2 ∙ (c.note-3.ensures.same.2 ∙ (c.note-2.ensures.same.2 ∙ (c.note.ensures.same.2 ∙ (c.pay_in-put_in.ensures.number ∙ at4.0.numbered.number)))) in
     let knows : m.view.seen ≡ seen = ap (λ (v : View). v.seen) c.note-4.ensures.still ∙ (ap (λ (v : View). v.seen) c.note-3.ensures.still ∙ (ap (λ (v : View). v.seen) c.note-2.ensures.still ∙ ap (λ (v : View). v.seen) c.note.ensures.still)) in
     let all : c.push_reserved-5.new.self.items ≡ a.pass ∷ b.pass ∷ c'.pass ∷ d.pass ∷ m ∷ [] = back_again _ _ _ _ _ _ a.pass b.pass c'.pass d.pass m (none_left _ at0.2) c.push_reserved.ensures.items c.push_reserved-2.ensures.items c.push_reserved-3.ensures.items c.push_reserved-4.ensures.items c.push_reserved-5.ensures.items in
     let closed = c.close-closed.ensures in record {
+      five = c.requires.many.1;
       order = closed.order;
       image = closed.image;
       closed = λ story is. subst (λ (zs : List Caller). IsClosed trio story (length zs)) all (closed.closed story is);
@@ -174,12 +167,14 @@ returns g c =
     let m = c.note-4.new.pass in let a = c.parted-first.result.0 in let b = c.parted-first.result.1 in let c' = c.parted-first.result.2 in let d = c.parted-first.result.3 in
     let e = ended g c in let (some, of) = c.close-closed.ensures.story in
     let same : session ≡ c.ask.new.self.session = ap (λ (z : ClosedSeen g.row.D.Denot). z.session) (sym c.ask.ensures.still) in
+    let each : (P : Story State → Type 0) → EachStory trio Contents session P → EachStory trio Contents c.ask.new.self.session P = λ P all. subst (λ (z : SessionSeen). EachStory trio Contents z P) same all in
     record {
+      based = subst (λ (z : SessionSeen). (z.order ≡ g.N.Label.base.order) × (z.image ≡ g.N.Label.base.image)) same (e.order, e.image);
       story = subst (λ (z : SessionSeen). HasStory trio Contents z) same c.close-closed.ensures.story;
-      put_in = subst (λ (z : SessionSeen). EachStory trio Contents z (λ story. (from : List Entry) × StartsWith story.history from × (put_in ≡ total_after story.order story.opening story.opening_count from))) same
-          (λ story is. first_total table base session put_in seen m a b c' d e story is);
-      totals = all_reads table base session put_in seen m a b c' d e some of;
-      total = told_total table base session put_in seen m a b c' d e some of c.ask.result c.total_in.result c.ask.ensures.told c.total_in.ensures;
-      moved = subst (λ (z : SessionSeen). EachStory trio Contents z (λ story. a.moved ∷ b.moved ∷ c'.moved ∷ d.moved ∷ [] ≡ map (λ caller. moved_in (own story caller)) (1 ∷ 2 ∷ 3 ∷ 4 ∷ []))) same
-          (λ story is. counts table base session put_in seen m a b c' d e story is);
+      closed = each (λ story. IsClosed trio story 5) e.closed;
+      balanced = each (IsBalanced put_in) (balance table base session put_in seen m a b c' d e);
+      tallies = each (λ story. Indexed (λ i tally. IsTallyOf story (i + 1) tally) (a.tally ∷ b.tally ∷ c'.tally ∷ d.tally ∷ [])) (tallies table base session put_in seen m a b c' d e);
+      reads = all_reads table base session put_in seen m a b c' d e some of;
+      total = each (λ story. c.total_in.result ≡ total_after story.order story.opening story.opening_count story.history)
+          (λ story is. told_total table base session put_in seen m a b c' d e story is c.ask.result c.total_in.result c.ask.ensures.told c.total_in.ensures);
     }

@@ -18,4 +18,4 @@ pub returns-clause-number : goal.returns-clause-number
 returns-clause-number g c = of_each _ _ (λ x y. y.pass.view.number ≡ x.pass.view.number) _ _ c.for_each_mut.ensures (λ n p q post. search rules)
 
 pub returns-clause-teller : goal.returns-clause-teller
-returns-clause-teller g c = of_each _ _ (IsAfter g.N.Label.table g.N.Label.base) _ _ c.for_each_mut.ensures (λ n p q post. search rules)
+returns-clause-teller g c = of_each _ _ (λ a b. IsAfter g.N.Label.table g.N.Label.base 0 0 a 64 4 b) _ _ c.for_each_mut.ensures (λ n p q post. search rules)
