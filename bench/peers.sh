@@ -18,6 +18,7 @@ here=$(cd "$(dirname "$0")" && pwd)
 command -v gcc >/dev/null || { echo "gcc is not here: skipped"; exit 0; }
 server=
 trap '[ -z "$server" ] || kill "$server" 2>/dev/null; rm -rf "$folder"' EXIT
+trap 'exit 130' INT TERM
 [ "$reads" -le 100000 ] || { echo "a script has no room for so many reads" >&2; exit 1; }
 
 # A script of so many lines of that kind, over keys 0 to 999, by the caller with this number. Values are
@@ -125,9 +126,9 @@ while [ "$turn" -lt "$turns" ]; do
     names="${names#* } ${names%% *}"
 done
 
-# The middle of the turns: microseconds each, how many a second, and the time over that of `romulus` in the same turn, with the least and the most.
+# The middle of the turns (of `romulus` one line a script was taken off): microseconds each, how many a second, and the time over that of `romulus` in the same turn, with the least and the most.
 awk '
-    { key = $3 " " $4; time[$1, $2, key] = $6 / ($4 * $5); kinds[key] = 1; names[$2] = 1; if ($1 > turns) turns = $1 }
+    { key = $3 " " $4; each = $5 - ($2 == "romulus"); time[$1, $2, key] = $6 / ($4 * each); kinds[key] = 1; names[$2] = 1; if ($1 > turns) turns = $1 }
     function sorted(n,  i, j, x) { for (i = 2; i <= n; i++) { x = list[i]; for (j = i - 1; j > 0 && list[j] > x; j--) list[j + 1] = list[j]; list[j + 1] = x } }
     END {
         split("put 1,put 16,get 1,get 4", order, ",")
