@@ -32,9 +32,8 @@ use rom_device::Device;
 use rom_frame::{Frame, read_frame};
 use rom_heap::Trio;
 use rom_store::{Closed, Gate, Label, Opening, Pass, Store};
-use std::marker::{Brand, Model};
+use std::marker::Model;
 use std::sync::Wait;
-use std::sync::ledger::Blank;
 
 /// A heap of its own that does the updates whose frames it is sent, each once and in the order of their
 /// places. It is the one caller of its store.
@@ -83,7 +82,7 @@ impl<D: Device, N: Label> Follower<D, N> {
             Follows N.base s0 n0 history first result }
     {
         let (store, mut passes) = opening.start::<N>();
-        let count = count_of::<D, N, Brand>(Blank::new(1), &store, &mut passes[0]);
+        let count = count_of(&store, &mut passes[0]);
         Follower {
             store,
             passes,

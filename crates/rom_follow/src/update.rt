@@ -14,26 +14,18 @@ ghost use Rattle.rom_follow.specs.Taking.{found_at};
 use rom_device::Device;
 use rom_heap::Trio;
 use rom_model::{Call, Query, Reply, Updated};
-use rom_store::{Gate, Label, Pass, Steps, Store};
+use rom_store::{Gate, Label, Pass, Store};
 use std::sync::Wait;
-use std::sync::ledger::{Blank, Ledger};
 
-/// The count of updates, where nothing was done since the opening. No code reads the counter of steps.
-pub(crate) fn count_of<D: Device, N: Label, L: Ledger>(
-    blank: Blank,
-    store: &Store<D, Trio, N>,
-    pass: &mut Pass,
-) -> u64
-    requires name { blank.name ≡ L.name }
-    requires parts { (blank.parts ≡ L.parts) × (0 < blank.parts) }
+/// The count of updates, where nothing was done since the opening.
+pub(crate) fn count_of<D: Device, N: Label>(store: &Store<D, Trio, N>, pass: &mut Pass) -> u64
     requires alone { IsAlone N.table N.base pass.old }
     requires none { pass.old.view.outcomes ≡ [] }
     ensures alone { IsAlone N.table N.base pass.new }
     ensures none { (pass.new.view.outcomes ≡ []) × (pass.new.view.seen ≡ []) }
     ensures count { (s : State) (k : ℕ) → Contents N.base.order N.base.image s k → result ≡ k }
 {
-    let mut steps = Steps::<L>::of(blank);
-    let (_peeked, count) = store.read(pass, &Query::Peek, &mut steps);
+    let (_peeked, count) = store.query(pass, &Query::Peek);
     count
 }
 

@@ -271,22 +271,6 @@ fn a_reading_keeps_its_state_beside_an_update(rt: HostRuntime) -> Result<(), Fai
     Ok(())
 }
 
-/// What caller 2 reads with a counter of its own.
-fn read_len<D: Device, N: Label, L: Ledger>(
-    blank: Blank,
-    store: &Store<D, Trio, N>,
-    pass: &mut Pass,
-) -> (Answer, u64)
-    requires name { blank.name ≡ L.name }
-    requires parts { blank.parts ≡ L.parts }
-    requires part { 0 < blank.parts }
-    requires second { IsNumbered Contents N.table N.base 1 pass.old }
-    ensures second { IsNumbered Contents N.table N.base 1 pass.new }
-{
-    let mut steps = Steps::<L>::of(blank);
-    store.read(pass, &Query::Len, &mut steps)
-}
-
 /// Caller 1 updates, and caller 2 learns what it has seen and reads.
 fn read_after_a_note<D: Device + Drop, N: Label, R: Wait>(
     rt: &R,
@@ -303,7 +287,7 @@ fn read_after_a_note<D: Device + Drop, N: Label, R: Wait>(
     let told = store.update(rt, &mut one, &Call::Enq(7), &NoGate);
     let note = store.note(&mut one);
     store.learn(&mut two, note);
-    let read = read_len::<D, N, Brand>(Blank::new(1), &store, &mut two);
+    let read = store.query(&mut two, &Query::Len);
     let closed = close(rt, store, passes, one, two);
     (told, read, closed.count())
 }

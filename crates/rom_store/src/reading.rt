@@ -1,5 +1,5 @@
 //! How callers read. No call here takes the lock, waits, takes memory or can be refused.
-ghost use Rattle.std.specs.Prelude.{◌≡◌, ℕ, ◌+◌, ◌≤◌, ◌++◌, ◌∷◌, [], IsTrue, length};
+ghost use Rattle.std.specs.Prelude.{◌≡◌, ℕ, ◌+◌, ◌<◌, ◌≤◌, ◌++◌, ◌∷◌, [], IsTrue, length};
 ghost use Rattle.rom_model.specs.History.{after};
 ghost use Rattle.rom_model.specs.Machine.{on_words};
 ghost use Rattle.rom_model.specs.Seen.{StartsWith};
@@ -16,8 +16,8 @@ use crate::store::Store;
 use rom_device::Device;
 use rom_lr::{Seat, Steps, ask};
 use rom_model::{COUNT, Object};
-use std::marker::Model;
-use std::sync::ledger::Ledger;
+use std::marker::{Brand, Model};
+use std::sync::ledger::{Blank, Ledger};
 
 // A caller enters in three steps: it loads the version, arrives, and loads the side.
 const ENTER_STEPS: u64 = 3;
@@ -80,6 +80,57 @@ impl<D: Device, O: Object, N: Label> Store<D, O, N> {
         self.shared.leave(&mut pass.seat);
         steps.add(1);
         told
+    }
+
+    // As `query`, with a count of its own, whose ledger has to be a type parameter.
+    #[inline(always)]
+    fn read_counted<L: Ledger>(
+        &self,
+        blank: Blank,
+        pass: &mut Pass,
+        query: &O::Query,
+    ) -> (O::Answer, u64)
+        requires name { blank.name ≡ L.name }
+        requires parts { (blank.parts ≡ L.parts) × (0 < blank.parts) }
+        requires of { IsCallerOf O.Contents N.table N.base pass.old }
+        ensures of { IsCallerOf O.Contents N.table N.base pass.new }
+        ensures same { IsSameCaller pass.old pass.new }
+        ensures later { StartsWith pass.new.view.seen pass.old.view.seen }
+        ensures front { (s : O.State) (k : ℕ) → O.Contents N.base.order N.base.image s k →
+            result.1 ≡ k + length pass.new.view.seen }
+        ensures answer { (s : O.State) (k : ℕ) → O.Contents N.base.order N.base.image s k →
+            result.0 ≡ O.machine.tell
+            (after (on_words O.machine) N.base.order s k pass.new.view.seen) query.now }
+        ensures fronts { pass.new.view.fronts ≡ pass.old.view.fronts ++ result.1 ∷ [] }
+        ensures still { pass.new.view ≡ record pass.old.view {
+          seen = pass.new.view.seen;
+          fronts = pass.new.view.fronts;
+          steps = pass.new.view.steps;
+        } }
+    {
+        self.read(pass, query, &mut Steps::<L>::of(blank))
+    }
+
+    /// Answers a query as [`Store::read`] does, for who has no use for the count of its steps.
+    #[inline(always)]
+    pub fn query(&self, pass: &mut Pass, query: &O::Query) -> (O::Answer, u64)
+        requires of { IsCallerOf O.Contents N.table N.base pass.old }
+        ensures of { IsCallerOf O.Contents N.table N.base pass.new }
+        ensures same { IsSameCaller pass.old pass.new }
+        ensures later { StartsWith pass.new.view.seen pass.old.view.seen }
+        ensures front { (s : O.State) (k : ℕ) → O.Contents N.base.order N.base.image s k →
+            result.1 ≡ k + length pass.new.view.seen }
+        ensures answer { (s : O.State) (k : ℕ) → O.Contents N.base.order N.base.image s k →
+            result.0 ≡ O.machine.tell
+            (after (on_words O.machine) N.base.order s k pass.new.view.seen) query.now }
+        ensures fronts { pass.new.view.fronts ≡ pass.old.view.fronts ++ result.1 ∷ [] }
+        ensures still { pass.new.view ≡ record pass.old.view {
+          seen = pass.new.view.seen;
+          fronts = pass.new.view.fronts;
+          steps = pass.new.view.steps;
+        } }
+    {
+        self.read_counted::<Brand>(Blank::new(1), pass, query)
     }
 
     /// Enters, in three steps: from now on the caller reads one committed state.
