@@ -191,6 +191,10 @@ module _ (table : TableId) (base : Base) (session : SessionSeen) (put_in : ℕ) 
       let there = told story.opening story.opening_count is.opening in
       same_total _ _ (sym in_answer ∙ there) ∙ (λ i. total_after (sym is.order_is i) story.opening story.opening_count (sym is.history i))
 
+-- one of four, where it is told apart by its place
+pub at_place : {X : Type 0} (xs : List X) (i : ℕ) (x : X) → length xs ≡ 4 → i < 4 → x ≡ slice_index_or xs i x → slice_get xs i ≡ Some x
+at_place xs i x four low is = slice_get-get_or xs i x (omega (arith, four, low)) ∙ ap Some (sym is)
+
 earlier_at : {X : Type 0} (xs : List X) (y : X) (i : ℕ) (x : X) → slice_get xs i ≡ Some x → slice_get (xs ++ y ∷ []) i ≡ Some x
 earlier_at [] y i x e = absurd (let no_one : None ≡ Some x = e in cc)
 earlier_at (z ∷ xs) y zero x e = e

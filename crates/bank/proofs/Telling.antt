@@ -3,7 +3,6 @@ use Rattle.std.proofs.Common.{◌≡◌, ◌≢◌, inl, inr, ℕ, zero, suc, �
 use mir.Val.{bool_byte}
 use Rattle.std.specs.List.{AllByRecursion, enumerate_from}
 use Rattle.std.proofs.lemmas.Bool.{cases_eq}
-use Rattle.std.proofs.Math.ListN.{replicate}
 use Rattle.std.specs.Prelude.{◌%◌, ◌==◌, filter, slice_get, slice_set, Some}
 use Rattle.std.proofs.lemmas.List.{length-map, map-append, take-append-le}
 use Rattle.std.proofs.lemmas.List.Elements.{filter-append}
@@ -33,6 +32,7 @@ use Rattle.rom_store.specs.Callers.{Caller, IsCallerOf}
 use Rattle.bank.specs.Moved.{IsMove, is_made, is_moved, moved_in}
 use Rattle.bank.specs.Promise.{rounds, total_after}
 use Rattle.bank.specs.Tellers.{IsRead, IsTeller}
+use Rattle.bank.specs.declared.bank.Tally.{Tally}
 use Rattle.bank.specs.declared.bank.Teller.{Teller}
 use Rattle.bank.proofs.Splitting.{all_both}
 
@@ -190,8 +190,8 @@ module _ (table : TableId) (base : Base) (first : List Entry) where
       }
 
   -- a teller who has just learnt these first updates, and has done nothing
-  pub hired : (q : Caller) → IsCallerOf Contents table base q → StartsWith q.view.seen first → q.view.outcomes ≡ [] → IsTeller table base first 0 0 (record { pass = q; tally = record { moved = 0; reads = replicate 4 (0, 0) } })
-  hired q of learnt none = record {
+  pub hired : (q : Caller) (tally : Tally) → IsCallerOf Contents table base q → StartsWith q.view.seen first → q.view.outcomes ≡ [] → tally.moved ≡ 0 → length tally.reads ≡ 4 → IsTeller table base first 0 0 (record { pass = q; tally = tally })
+  hired q tally of learnt none unmoved four = record {
     of = of;
     learnt = learnt;
     others = λ s k at. let (more, is) = learnt in
@@ -199,7 +199,7 @@ module _ (table : TableId) (base : Base) (first : List Entry) where
         let both = sym (filter-append (λ x. x.1.caller == q.view.number) (enumerate_from k first) (enumerate_from (k + length first) more)) ∙ ap (λ zs. filter (λ x. x.1.caller == q.view.number) zs) (sym parts) in
         none_first (filter (λ x. x.1.caller == q.view.number) (enumerate_from k first)) (filter (λ x. x.1.caller == q.view.number) (enumerate_from (k + length first) more)) (both ∙ (of.knows s k at).own ∙ ap done_in none);
     asked = ap args_of none;
-    moved = sym (ap (λ zs. moved_in (done_in zs)) none);
-    four = refl;
+    moved = unmoved ∙ sym (ap (λ zs. moved_in (done_in zs)) none);
+    four = four;
     reads = λ r within. absurd (omega (arith, within));
   }

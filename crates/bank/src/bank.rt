@@ -1,13 +1,11 @@
 //! The bank: four tellers, and a manager who opens the accounts. Each of them is a caller of one store.
-ghost use Rattle.std.specs.Prelude.{◌≡◌, ◌⊎◌, ◌+◌, ◌*◌, ◌/◌, ◌<◌, ◌≤◌, ℕ, [], ◌∷◌, List, All, IfErr, IfOk, IsTrue, length, slice_get, Some};
+ghost use Rattle.std.specs.Prelude.{◌≡◌, ◌⊎◌, ◌+◌, ◌*◌, ◌/◌, ◌<◌, ◌≤◌, ℕ, [], List, All, IfErr, IfOk, IsTrue, length, slice_get, Some};
 ghost use Rattle.rom_header.specs.Held.{Holds};
 ghost use Rattle.rom_model.specs.Faults.{Rose};
 ghost use Rattle.rom_model.specs.Leaving.{IsClosed};
-ghost use Rattle.rom_model.specs.Machine.{on_words};
-ghost use Rattle.rom_model.specs.History.{after};
 ghost use Rattle.rom_model.specs.Region.{Contents};
 ghost use Rattle.rom_model.specs.Seen.{StartsWith};
-ghost use Rattle.rom_model.specs.State.{State, tell};
+ghost use Rattle.rom_model.specs.State.{State};
 ghost use Rattle.rom_model.specs.Trio.{trio};
 ghost use Rattle.rom_model.specs.declared.call.Answer.TheVariants.{Total};
 ghost use Rattle.rom_open.specs.declared.reasons.Why.TheVariants.{Device, OutOfMemory};
@@ -23,14 +21,13 @@ ghost use Rattle.bank.specs.Tellers.{IsAfter, IsTeller};
 
 use rom_device::Device;
 use rom_heap::Trio;
-use rom_lr::{Note, Steps};
 use rom_model::{Answer, Call, Query, Reply, Updated};
-use rom_store::{Closed, Label, NoGate, Opening, Pass, Refused, Store, format_device, open_store};
+use rom_store::{
+    Closed, Label, NoGate, Note, Opening, Pass, Refused, Store, format_device, open_store,
+};
 use std::marker::Brand;
 use std::sync::Wait;
-use std::sync::ledger::{Blank, Ledger};
-use std::thread;
-use std::thread::Threads;
+use std::thread::{Threads, for_each_mut};
 
 /// The order of a heap that is made here: it has room for 30 elements.
 pub const ORDER: u32 = 5;
@@ -42,7 +39,7 @@ const ACCOUNTS: u64 = 16;
 type Heap<D, N> = Store<D, Trio, N>;
 
 /// How many of a teller's moves were made, and of each total that it has read the total and its front.
-#[derive(Clone, Copy)]
+#[derive(Clone, Copy, Default)]
 pub struct Tally {
     pub moved: u64,
     pub reads: [(u128, u64); 4],
@@ -65,51 +62,15 @@ pub struct Books<D: Device> {
     pub closed: Closed<D, Trio>,
 }
 
-// An answer from one committed state, and its front. A read counts its steps, which nobody looks at here.
-fn counted<D: Device, N: Label, L: Ledger>(
-    blank: Blank,
-    store: &Heap<D, N>,
-    pass: &mut Pass,
-    query: &Query,
-) -> (Answer, u64)
-    requires name { blank.name ≡ L.name }
-    requires parts { (blank.parts ≡ L.parts) × (0 < blank.parts) }
-    requires of { IsCallerOf Contents N.table N.base pass.old }
-    ensures of { IsCallerOf Contents N.table N.base pass.new }
-    ensures number { pass.new.view.number ≡ pass.old.view.number }
-    ensures later { StartsWith pass.new.view.seen pass.old.view.seen }
-    ensures told { pass.new.view.outcomes ≡ pass.old.view.outcomes }
-    ensures front { (s : State) (k : ℕ) → Contents N.base.order N.base.image s k →
-        result.1 ≡ k + length pass.new.view.seen }
-    ensures answer { (s : State) (k : ℕ) → Contents N.base.order N.base.image s k → result.0
-        ≡ tell (after (on_words trio) N.base.order s k pass.new.view.seen) query.now }
-{
-    store.read(pass, query, &mut Steps::<L>::of(blank))
-}
-
-fn ask<D: Device, N: Label>(store: &Heap<D, N>, pass: &mut Pass, query: &Query) -> (Answer, u64)
-    requires of { IsCallerOf Contents N.table N.base pass.old }
-    ensures of { IsCallerOf Contents N.table N.base pass.new }
-    ensures number { pass.new.view.number ≡ pass.old.view.number }
-    ensures later { StartsWith pass.new.view.seen pass.old.view.seen }
-    ensures told { pass.new.view.outcomes ≡ pass.old.view.outcomes }
-    ensures front { (s : State) (k : ℕ) → Contents N.base.order N.base.image s k →
-        result.1 ≡ k + length pass.new.view.seen }
-    ensures answer { (s : State) (k : ℕ) → Contents N.base.order N.base.image s k → result.0
-        ≡ tell (after (on_words trio) N.base.order s k pass.new.view.seen) query.now }
-{
-    counted::<D, N, Brand>(Blank::new(1), store, pass, query)
-}
-
 // The number of an answer that is a total.
 fn total_in(answer: Answer) -> u128
     requires { (total : ℕ) × (answer ≡ Total total) }
     ensures { answer ≡ Total result }
 {
-    match answer {
-        Answer::Total(total) => total,
-        _ => unreachable!(),
-    }
+    let Answer::Total(total) = answer else {
+        unreachable!()
+    };
+    total
 }
 
 // Whether a move was made: the account that it was to take from had enough, and the device did not fail.
@@ -129,11 +90,11 @@ fn pay_in<D: Device, N: Label, R: Wait>(rt: &R, store: &Heap<D, N>, pass: &mut P
         result ≡ total_after N.base.order s k pass.new.view.seen }
 {
     for account in 0..ACCOUNTS {
-        if ask(store, pass, &Query::Get(account)).0 == Answer::Missing {
+        if store.query(pass, &Query::Get(account)).0 == Answer::Missing {
             let _ = store.update(rt, pass, &Call::Put(account, 1000), &NoGate);
         }
     }
-    total_in(ask(store, pass, &Query::Total).0)
+    total_in(store.query(pass, &Query::Total).0)
 }
 
 // A teller who has learnt what the manager has seen and done, and has done nothing yet.
@@ -146,10 +107,7 @@ fn hire<D: Device, N: Label>(store: &Heap<D, N>, note: Note, mut pass: Pass) -> 
     ensures none { result.tally.moved ≡ 0 }
 {
     store.learn(&mut pass, note);
-    let tally = Tally {
-        moved: 0,
-        reads: [(0, 0); 4],
-    };
+    let tally = Tally::default();
     Teller { pass, tally }
 }
 
@@ -179,7 +137,7 @@ fn look<D: Device, N: Label>(store: &Heap<D, N>, teller: &mut Teller, round: u64
     ensures teller { let tried = 16 * (round + 1) in
         IsAfter N.table N.base tried round teller.old tried (round + 1) teller.new }
 {
-    let (answer, front) = ask(store, &mut teller.pass, &Query::Total);
+    let (answer, front) = store.query(&mut teller.pass, &Query::Total);
     let total = total_in(answer);
     teller.tally.reads[round as usize] = (total, front);
 }
@@ -215,14 +173,7 @@ fn work_all<D: Device + Send, N: Label + Send + Sync, R: Threads + Wait + Sync>(
     ensures teller { (i : ℕ) (a : _) (c : _) → slice_get tellers.old i ≡ Some a →
         slice_get tellers.new i ≡ Some c → IsAfter N.table N.base 0 0 a 64 4 c }
 {
-    thread::for_each_mut(rt, tellers, 4, &|_, teller| work(rt, store, teller));
-}
-
-fn parted(tellers: [Teller; 4]) -> (Teller, Teller, Teller, Teller)
-    ensures { tellers ≡ result.0 ∷ result.1 ∷ result.2 ∷ result.3 ∷ [] }
-{
-    let [first, second, third, fourth] = tellers;
-    (first, second, third, fourth)
+    for_each_mut(rt, tellers, 4, &|_, teller| work(rt, store, teller));
 }
 
 fn bank<D: Device + Send, N: Label + Send + Sync, R: Threads + Wait + Sync>(
@@ -259,7 +210,7 @@ fn bank<D: Device + Send, N: Label + Send + Sync, R: Threads + Wait + Sync>(
     let first = hire(&store, store.note(&mut manager), passes.take_last());
     let mut tellers = [first, second, third, fourth];
     work_all(rt, &store, &mut tellers);
-    let (first, second, third, fourth) = parted(tellers);
+    let (first, second, third, fourth) = tellers.into();
     passes.push_reserved(first.pass);
     passes.push_reserved(second.pass);
     passes.push_reserved(third.pass);

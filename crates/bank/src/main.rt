@@ -11,34 +11,10 @@
 mod bank;
 
 use bank::{ORDER, run_bank};
-use rom_device::Device;
 use rom_header::Geometry;
-use rom_host::{HostDevice, device_of, hold_streams, words_of};
-use rom_text::{DeviceWant, Name};
+use rom_host::{file_of, hold_streams, words_of};
 use std::io;
 use std::process::ExitCode;
-use std::sync::Wait;
-use std::thread::Threads;
-
-/// Runs the bank on this device and prints its books, or why there are none. Gives the status.
-fn run_on<R: Threads + Wait + Sync + AllocGlobal + Print + Eprint, D: Device + Send + Drop>(
-    rt: &R,
-    device: D,
-) -> io::Result<u8> {
-    let books = match run_bank(rt, device) {
-        Ok(books) => books,
-        Err(refused) => {
-            eprintln!(rt; "no heap: {:?}", refused.why)?;
-            return Ok(1);
-        }
-    };
-    for tally in books.tallies {
-        let [(a, _), (b, _), (c, _), (d, _)] = tally.reads;
-        println!(rt; "moved {}, read {a} {b} {c} {d}", tally.moved)?;
-    }
-    println!(rt; "put in {}, total {}", books.put_in, books.total)?;
-    Ok(0)
-}
 
 fn main(rt: HostRuntime) -> io::Result<ExitCode> {
     hold_streams(&rt)?;
@@ -47,11 +23,18 @@ fn main(rt: HostRuntime) -> io::Result<ExitCode> {
         eprintln!(&rt; "usage: bank FILE")?;
         return Ok(ExitCode::from(2));
     };
-    let file = Name::of(rt.alloc(), file)?;
-    let wanted = DeviceWant::Made(file, Geometry::of_order(ORDER).need());
-    let status = match device_of(&rt, &wanted)? {
-        HostDevice::File(device) => run_on(&rt, device),
-        HostDevice::Memory(device) => run_on(&rt, device),
+    let device = file_of(&rt, file, Geometry::of_order(ORDER).need())?;
+    let books = match run_bank(&rt, device) {
+        Ok(books) => books,
+        Err(refused) => {
+            eprintln!(&rt; "no heap: {:?}", refused.why)?;
+            return Ok(ExitCode::FAILURE);
+        }
     };
-    Ok(ExitCode::from(status?))
+    for tally in books.tallies {
+        let [(a, _), (b, _), (c, _), (d, _)] = tally.reads;
+        println!(&rt; "moved {}, read {a} {b} {c} {d}", tally.moved)?;
+    }
+    println!(&rt; "put in {}, total {}", books.put_in, books.total)?;
+    Ok(ExitCode::SUCCESS)
 }

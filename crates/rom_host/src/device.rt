@@ -72,15 +72,17 @@ fn or_missing(opened: io::Result<FileDevice>) -> Result<FileDevice, AllocError> 
     }
 }
 
-/// The device of a file, or one that fails where there is none.
-fn file_or_missing(opened: io::Result<FileDevice>) -> Result<HostDevice, AllocError> {
-    Ok(HostDevice::File(or_missing(opened)?))
-}
-
 /// A device over a file for who only reads it. It fails where there is no file or another program has locked
 /// it to write. `AllocError` is told where the system has no memory to open it.
 pub fn reader_of(rt: &HostRuntime, name: &str) -> Result<FileDevice, AllocError> {
     or_missing(open_to_read(rt, name))
+}
+
+/// The words of a file, locked for this program alone, which is made if need be, and lengthened with zeros to
+/// so many. They fail where it cannot be opened or lengthened, or another program has locked it. `AllocError`
+/// is told where the system has no memory to open it.
+pub fn file_of(rt: &HostRuntime, name: &str, words: u64) -> Result<FileDevice, AllocError> {
+    or_missing(open_made(rt, name, words))
 }
 
 /// So many words in memory, each 0.
@@ -93,7 +95,7 @@ pub fn device_of(rt: &HostRuntime, wanted: &DeviceWant) -> Result<HostDevice, Al
     match wanted {
         DeviceWant::Nothing => memory_of(rt, 0),
         DeviceWant::Fresh(words) => memory_of(rt, *words),
-        DeviceWant::Old(name) => file_or_missing(open_old(rt, name.as_str())),
-        DeviceWant::Made(name, words) => file_or_missing(open_made(rt, name.as_str(), *words)),
+        DeviceWant::Old(name) => Ok(HostDevice::File(or_missing(open_old(rt, name.as_str()))?)),
+        DeviceWant::Made(name, words) => Ok(HostDevice::File(file_of(rt, name.as_str(), *words)?)),
     }
 }

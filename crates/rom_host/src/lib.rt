@@ -9,5 +9,5 @@
 mod device;
 mod streams;
 
-pub use device::{HostDevice, device_of, reader_of};
+pub use device::{HostDevice, device_of, file_of, reader_of};
 pub use streams::{hold_streams, no_memory, sources_of, words_of};

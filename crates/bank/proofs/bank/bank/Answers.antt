@@ -1,4 +1,4 @@
-use Rattle.std.proofs.Common.{◌≡◌, ℕ, ◌+◌, List, [], ◌∷◌, map, ap, sym, subst, ◌∙◌, refl, length, Some}
+use Rattle.std.proofs.Common.{◌≡◌, ℕ, ◌+◌, List, [], ◌∷◌, map, ap, sym, subst, ◌∙◌, refl, length, Some, arith}
 use Rattle.std.specs.Prelude.{slice_get}
 use Rattle.rom_model.specs.Leaving.{IsClosed, IsKept}
 use Rattle.rom_model.specs.Region.{Contents}
@@ -14,7 +14,7 @@ use Rattle.rom_store.specs.Sessions.{EachStory, HasStory, SessionSeen}
 use Rattle.bank.specs.Promise.{IsBalanced, IsTallyOf, total_after}
 use Rattle.bank.specs.Tellers.{IsTeller}
 use Rattle.bank.specs.declared.bank.Teller.{Teller}
-use Rattle.bank.proofs.Closing.{HasEnded, all_four, all_reads, back_again, balance, none_left, numbered_five, taken, tallies, told_total}
+use Rattle.bank.proofs.Closing.{HasEnded, all_four, all_reads, at_place, back_again, balance, none_left, numbered_five, taken, tallies, told_total}
 use Rattle.bank.proofs.bank.bank.Given as given
 use Rattle.bank.proofs.bank.bank.Goals as goal
 
@@ -95,17 +95,18 @@ close-closed-requires-clause-passes g c =
     let at1 = taken P 1 c.take_last-2.new.self.items c.take_last-3.new.self.items c.take_last-3.result c.take_last-3.ensures.items at2.2 at2.1 in
     let at0 = taken P 0 c.take_last-3.new.self.items c.take_last-4.new.self.items c.take_last-4.result c.take_last-4.ensures.items at1.2 at1.1 in
     let table = g.N.Label.table in let base = g.N.Label.base in let seen = c.pay_in-put_in.new.pass.view.seen in let m = c.note-4.new.pass in
-    let a = c.parted-first.result.0 in let b = c.parted-first.result.1 in let c' = c.parted-first.result.2 in let d = c.parted-first.result.3 in
-    let there0 : slice_get c.work_all.new.tellers 0 ≡ Some a = ap (λ (zs : List Teller). slice_get zs 0) c.parted-first.ensures in
+    let a = c.into-first.result.0 in let b = c.into-first.result.1 in let c' = c.into-first.result.2 in let d = c.into-first.result.3 in
+    let four : length c.work_all.new.tellers ≡ 4 = c.work_all.auto.tellers in
+    let there0 : slice_get c.work_all.new.tellers 0 ≡ Some a = at_place c.work_all.new.tellers 0 a four (omega arith) c.into-first.ensures.0 in
     let is0 : IsTeller table base seen 64 4 a = (c.work_all.ensures.teller 0 c.hire-first.result a refl there0).keeps seen (subst (λ (zs : List Entry). IsTeller table base zs 0 0 c.hire-first.result) (c.note-4.ensures.seen ∙ ap (λ (v : View). v.seen) c.note-3.ensures.still ∙ ap (λ (v : View). v.seen) c.note-2.ensures.still ∙ ap (λ (v : View). v.seen) c.note.ensures.still) c.hire-first.ensures.teller) in
     let number0 : a.pass.view.number ≡ 1 = c.work_all.ensures.number 0 c.hire-first.result a refl there0 ∙ (c.hire-first.ensures.number ∙ at0.0.numbered.number) in
-    let there1 : slice_get c.work_all.new.tellers 1 ≡ Some b = ap (λ (zs : List Teller). slice_get zs 1) c.parted-first.ensures in
+    let there1 : slice_get c.work_all.new.tellers 1 ≡ Some b = at_place c.work_all.new.tellers 1 b four (omega arith) c.into-first.ensures.1 in
     let is1 : IsTeller table base seen 64 4 b = (c.work_all.ensures.teller 1 c.hire-second.result b refl there1).keeps seen (subst (λ (zs : List Entry). IsTeller table base zs 0 0 c.hire-second.result) (c.note-3.ensures.seen ∙ ap (λ (v : View). v.seen) c.note-2.ensures.still ∙ ap (λ (v : View). v.seen) c.note.ensures.still) c.hire-second.ensures.teller) in
     let number1 : b.pass.view.number ≡ 2 = c.work_all.ensures.number 1 c.hire-second.result b refl there1 ∙ (c.hire-second.ensures.number ∙ at1.0.numbered.number) in
-    let there2 : slice_get c.work_all.new.tellers 2 ≡ Some c' = ap (λ (zs : List Teller). slice_get zs 2) c.parted-first.ensures in
+    let there2 : slice_get c.work_all.new.tellers 2 ≡ Some c' = at_place c.work_all.new.tellers 2 c' four (omega arith) c.into-first.ensures.2 in
     let is2 : IsTeller table base seen 64 4 c' = (c.work_all.ensures.teller 2 c.hire-third.result c' refl there2).keeps seen (subst (λ (zs : List Entry). IsTeller table base zs 0 0 c.hire-third.result) (c.note-2.ensures.seen ∙ ap (λ (v : View). v.seen) c.note.ensures.still) c.hire-third.ensures.teller) in
     let number2 : c'.pass.view.number ≡ 3 = c.work_all.ensures.number 2 c.hire-third.result c' refl there2 ∙ (c.hire-third.ensures.number ∙ at2.0.numbered.number) in
-    let there3 : slice_get c.work_all.new.tellers 3 ≡ Some d = ap (λ (zs : List Teller). slice_get zs 3) c.parted-first.ensures in
+    let there3 : slice_get c.work_all.new.tellers 3 ≡ Some d = at_place c.work_all.new.tellers 3 d four (omega arith) c.into-first.ensures.3 in
     let is3 : IsTeller table base seen 64 4 d = (c.work_all.ensures.teller 3 c.hire-fourth.result d refl there3).keeps seen (subst (λ (zs : List Entry). IsTeller table base zs 0 0 c.hire-fourth.result) (c.note.ensures.seen) c.hire-fourth.ensures.teller) in
     let number3 : d.pass.view.number ≡ 4 = c.work_all.ensures.number 3 c.hire-fourth.result d refl there3 ∙ (c.hire-fourth.ensures.number ∙ at3.0.numbered.number) in
     let last : m.view.number ≡ 5 = c.note-4.ensures.same.2 ∙ (c.note-3.ensures.same.2 ∙ (c.note-2.ensures.same.2 ∙ (c.note.ensures.same.2 ∙ (c.pay_in-put_in.ensures.number ∙ at4.0.numbered.number)))) in
@@ -121,7 +122,7 @@ total_in-requires g c =
 
 -- what the closed store has of its callers
 ended : (g : given.Over) (c : goal.After-total_in g) → HasEnded g.N.Label.table g.N.Label.base c.close-closed.result.session c.pay_in-put_in.result c.pay_in-put_in.new.pass.view.seen c.note-4.new.pass
-    c.parted-first.result.0 c.parted-first.result.1 c.parted-first.result.2 c.parted-first.result.3
+    c.into-first.result.0 c.into-first.result.1 c.into-first.result.2 c.into-first.result.3
 ended g c =
     let P = IsNewCaller Contents g.N.Label.table g.N.Label.base in
     let new = subst (Indexed P) (sym c.start-store.ensures.passes) c.requires.new in let many : length c.start-store.result.1.items ≡ 5 = ap length c.start-store.ensures.passes ∙ c.requires.many.0 in
@@ -131,17 +132,18 @@ ended g c =
     let at1 = taken P 1 c.take_last-2.new.self.items c.take_last-3.new.self.items c.take_last-3.result c.take_last-3.ensures.items at2.2 at2.1 in
     let at0 = taken P 0 c.take_last-3.new.self.items c.take_last-4.new.self.items c.take_last-4.result c.take_last-4.ensures.items at1.2 at1.1 in
     let table = g.N.Label.table in let base = g.N.Label.base in let seen = c.pay_in-put_in.new.pass.view.seen in let m = c.note-4.new.pass in
-    let a = c.parted-first.result.0 in let b = c.parted-first.result.1 in let c' = c.parted-first.result.2 in let d = c.parted-first.result.3 in
-    let there0 : slice_get c.work_all.new.tellers 0 ≡ Some a = ap (λ (zs : List Teller). slice_get zs 0) c.parted-first.ensures in
+    let a = c.into-first.result.0 in let b = c.into-first.result.1 in let c' = c.into-first.result.2 in let d = c.into-first.result.3 in
+    let four : length c.work_all.new.tellers ≡ 4 = c.work_all.auto.tellers in
+    let there0 : slice_get c.work_all.new.tellers 0 ≡ Some a = at_place c.work_all.new.tellers 0 a four (omega arith) c.into-first.ensures.0 in
     let is0 : IsTeller table base seen 64 4 a = (c.work_all.ensures.teller 0 c.hire-first.result a refl there0).keeps seen (subst (λ (zs : List Entry). IsTeller table base zs 0 0 c.hire-first.result) (c.note-4.ensures.seen ∙ ap (λ (v : View). v.seen) c.note-3.ensures.still ∙ ap (λ (v : View). v.seen) c.note-2.ensures.still ∙ ap (λ (v : View). v.seen) c.note.ensures.still) c.hire-first.ensures.teller) in
     let number0 : a.pass.view.number ≡ 1 = c.work_all.ensures.number 0 c.hire-first.result a refl there0 ∙ (c.hire-first.ensures.number ∙ at0.0.numbered.number) in
-    let there1 : slice_get c.work_all.new.tellers 1 ≡ Some b = ap (λ (zs : List Teller). slice_get zs 1) c.parted-first.ensures in
+    let there1 : slice_get c.work_all.new.tellers 1 ≡ Some b = at_place c.work_all.new.tellers 1 b four (omega arith) c.into-first.ensures.1 in
     let is1 : IsTeller table base seen 64 4 b = (c.work_all.ensures.teller 1 c.hire-second.result b refl there1).keeps seen (subst (λ (zs : List Entry). IsTeller table base zs 0 0 c.hire-second.result) (c.note-3.ensures.seen ∙ ap (λ (v : View). v.seen) c.note-2.ensures.still ∙ ap (λ (v : View). v.seen) c.note.ensures.still) c.hire-second.ensures.teller) in
     let number1 : b.pass.view.number ≡ 2 = c.work_all.ensures.number 1 c.hire-second.result b refl there1 ∙ (c.hire-second.ensures.number ∙ at1.0.numbered.number) in
-    let there2 : slice_get c.work_all.new.tellers 2 ≡ Some c' = ap (λ (zs : List Teller). slice_get zs 2) c.parted-first.ensures in
+    let there2 : slice_get c.work_all.new.tellers 2 ≡ Some c' = at_place c.work_all.new.tellers 2 c' four (omega arith) c.into-first.ensures.2 in
     let is2 : IsTeller table base seen 64 4 c' = (c.work_all.ensures.teller 2 c.hire-third.result c' refl there2).keeps seen (subst (λ (zs : List Entry). IsTeller table base zs 0 0 c.hire-third.result) (c.note-2.ensures.seen ∙ ap (λ (v : View). v.seen) c.note.ensures.still) c.hire-third.ensures.teller) in
     let number2 : c'.pass.view.number ≡ 3 = c.work_all.ensures.number 2 c.hire-third.result c' refl there2 ∙ (c.hire-third.ensures.number ∙ at2.0.numbered.number) in
-    let there3 : slice_get c.work_all.new.tellers 3 ≡ Some d = ap (λ (zs : List Teller). slice_get zs 3) c.parted-first.ensures in
+    let there3 : slice_get c.work_all.new.tellers 3 ≡ Some d = at_place c.work_all.new.tellers 3 d four (omega arith) c.into-first.ensures.3 in
     let is3 : IsTeller table base seen 64 4 d = (c.work_all.ensures.teller 3 c.hire-fourth.result d refl there3).keeps seen (subst (λ (zs : List Entry). IsTeller table base zs 0 0 c.hire-fourth.result) (c.note.ensures.seen) c.hire-fourth.ensures.teller) in
     let number3 : d.pass.view.number ≡ 4 = c.work_all.ensures.number 3 c.hire-fourth.result d refl there3 ∙ (c.hire-fourth.ensures.number ∙ at3.0.numbered.number) in
     let last : m.view.number ≡ 5 = c.note-4.ensures.same.2 ∙ (c.note-3.ensures.same.2 ∙ (c.note-2.ensures.same.2 ∙ (c.note.ensures.same.2 ∙ (c.pay_in-put_in.ensures.number ∙ at4.0.numbered.number)))) in
@@ -164,7 +166,7 @@ ended g c =
 pub returns : goal.returns
 returns g c =
     let table = g.N.Label.table in let base = g.N.Label.base in let session = c.close-closed.result.session in let put_in = c.pay_in-put_in.result in let seen = c.pay_in-put_in.new.pass.view.seen in
-    let m = c.note-4.new.pass in let a = c.parted-first.result.0 in let b = c.parted-first.result.1 in let c' = c.parted-first.result.2 in let d = c.parted-first.result.3 in
+    let m = c.note-4.new.pass in let a = c.into-first.result.0 in let b = c.into-first.result.1 in let c' = c.into-first.result.2 in let d = c.into-first.result.3 in
     let e = ended g c in let (some, of) = c.close-closed.ensures.story in
     let same : session ≡ c.ask.new.self.session = ap (λ (z : ClosedSeen g.row.D.Denot). z.session) (sym c.ask.ensures.still) in
     let each : (P : Story State → Type 0) → EachStory trio Contents session P → EachStory trio Contents c.ask.new.self.session P = λ P all. subst (λ (z : SessionSeen). EachStory trio Contents z P) same all in
