@@ -19,6 +19,8 @@ command -v gcc >/dev/null || { echo "gcc is not here: skipped"; exit 0; }
 server=
 trap '[ -z "$server" ] || kill "$server" 2>/dev/null; rm -rf "$folder"' EXIT
 trap 'exit 130' INT TERM
+[ "$updates" -ge 1000 ] && [ "$reads" -ge 100000 ] ||
+    echo "with fewer than 1,000 updates or 100,000 reads the start of the program hides the rest" >&2
 [ "$reads" -le 100000 ] || { echo "a script has no room for so many reads" >&2; exit 1; }
 
 # A script of so many lines of that kind, over keys 0 to 999, by the caller with this number. Values are
