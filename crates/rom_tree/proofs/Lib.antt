@@ -17,5 +17,6 @@ pub mod Detaching
 pub mod Finding
 pub mod Inside
 pub mod Walked
+pub mod Summed
 pub mod Filled
 pub mod Revalued

@@ -81,6 +81,44 @@ pub struct Sum {
     pub sum: u128,
 }
 
+/// Adds the keys from `low` to `high`, both included, to what was found before. The sum is carried along
+/// and not handed up, so that the last step of each way is a call of the function itself, and the walk to
+/// either end of the range is a loop.
+fn add_between<M: Look>(space: &mut M, order: u32, top: u64, low: u64, high: u64, all: &mut Sum)
+    requires order { IsOrder order }
+    requires sized { length (M.shown.image space.old) ≡ region_len order }
+    requires tree { (t : Tree) × IsTree order (M.shown.image space.old) top t × KeysRise (entries t)
+        × (all.old.count + length (inside low high (entries t)) ≤ 32768) }
+    requires small { all.old.sum ≤ all.old.count * 0xFFFF_FFFF_FFFF_FFFF }
+    ensures count { (t : Tree) → IsTree order (M.shown.image space.old) top t → KeysRise (entries t)
+        → all.new.count ≡ all.old.count + length (inside low high (entries t)) }
+    ensures sum { (t : Tree) → IsTree order (M.shown.image space.old) top t → KeysRise (entries t)
+        → all.new.sum ≡ all.old.sum + total (inside low high (entries t)) }
+    ensures small { all.new.sum ≤ all.new.count * 0xFFFF_FFFF_FFFF_FFFF }
+    ensures looks { (c : ℕ) → all.new.count ≡ all.old.count + c
+        → Looks M.shown ((c + 1) * (2 * level_at (M.shown.image space.old) top)) space.old space.new }
+{
+    if top == 0 {
+        return;
+    }
+    let there = space.load(top);
+    if there < low {
+        let higher = space.load(top + RIGHT);
+        return add_between(space, order, higher, low, high, all);
+    }
+    if high < there {
+        let lower = space.load(top + LEFT);
+        return add_between(space, order, lower, low, high, all);
+    }
+    let value = space.load(top + VALUE);
+    let left = space.load(top + LEFT);
+    let right = space.load(top + RIGHT);
+    all.count += 1;
+    all.sum += value as u128;
+    add_between(space, order, left, low, high, all);
+    add_between(space, order, right, low, high, all);
+}
+
 /// The keys from `low` to `high`, both included.
 pub fn sum_between<M: Look>(space: &mut M, order: u32, top: u64, low: u64, high: u64) -> Sum
     requires order { IsOrder order }
@@ -94,25 +132,7 @@ pub fn sum_between<M: Look>(space: &mut M, order: u32, top: u64, low: u64, high:
     ensures looks { Looks M.shown ((result.count + 1) * (2 * level_at (M.shown.image space.old) top))
         space.old space.new }
 {
-    if top == 0 {
-        return Sum { count: 0, sum: 0 };
-    }
-    let there = space.load(top);
-    if there < low {
-        let higher = space.load(top + RIGHT);
-        return sum_between(space, order, higher, low, high);
-    }
-    if high < there {
-        let lower = space.load(top + LEFT);
-        return sum_between(space, order, lower, low, high);
-    }
-    let value = space.load(top + VALUE);
-    let left = space.load(top + LEFT);
-    let right = space.load(top + RIGHT);
-    let before = sum_between(space, order, left, low, high);
-    let behind = sum_between(space, order, right, low, high);
-    Sum {
-        count: before.count + behind.count + 1,
-        sum: before.sum + behind.sum + value as u128,
-    }
+    let mut all = Sum { count: 0, sum: 0 };
+    add_between(space, order, top, low, high, &mut all);
+    all
 }
