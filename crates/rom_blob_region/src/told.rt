@@ -1,45 +1,24 @@
 //! The texts of what calls and queries are told. They stand here since an `impl` stands with its trait
 //! or with its type.
-ghost use Rattle.std.specs.Prelude.{◌≡◌, ◌∷◌, [], ◌<◌, OnOk};
+ghost use Rattle.std.specs.Prelude.{◌≡◌, ◌*◌, length, OnOk};
+ghost use Rattle.std.specs.List.{flat_map};
 ghost use Rattle.rom_text.specs.Streams.{Prints};
-ghost use Rattle.rom_blob_region.specs.Texts.{AreBytes, bytes_text, digit_of, digits_of, shown_answer, shown_reply};
+ghost use Rattle.rom_blob_region.specs.Texts.{AreBytes, bytes_text, digits_of, shown_answer, shown_reply};
 
 use crate::call::{BlobAnswer, BlobReply};
 use itoa::Buffer;
 use rom_bytes::Chunk;
 use rom_text::{IoFailed, Sink, Told, print_pieces, print_text};
 
-/// The digit of a number.
-fn digit_text(digit: u8) -> &'static str
-    requires { digit < 16 }
-    ensures { result.now ≡ digit_of digit ∷ [] }
+/// Writes bytes in their digits, the one for the higher four bits first.
+fn write_digits(bytes: &[u8], digits: &mut [u8])
+    requires room { length digits.old ≡ 2 * length bytes.now }
+    ensures { digits.new ≡ flat_map digits_of bytes.now }
 {
-    match digit {
-        0 => "0",
-        1 => "1",
-        2 => "2",
-        3 => "3",
-        4 => "4",
-        5 => "5",
-        6 => "6",
-        7 => "7",
-        8 => "8",
-        9 => "9",
-        10 => "a",
-        11 => "b",
-        12 => "c",
-        13 => "d",
-        14 => "e",
-        15 => "f",
-        _ => unreachable!(),
+    match hex::encode_to_slice(bytes, digits) {
+        Ok(()) => (),
+        Err(_) => unreachable!(),
     }
-}
-
-/// Prints a byte in two digits.
-fn print_byte<O: Sink>(out: &mut O, byte: u8) -> Result<(), IoFailed>
-    ensures prints { Prints O.shown out.old out.new result (digits_of byte) }
-{
-    print_pieces(out, &[digit_text(byte / 16), digit_text(byte % 16)])
 }
 
 /// Prints bytes in their digits, or a dash where there are none.
@@ -47,15 +26,14 @@ fn print_bytes<O: Sink>(out: &mut O, bytes: &Chunk) -> Result<(), IoFailed>
     ensures prints { Prints O.shown out.old out.new result (bytes_text bytes.now) }
     ensures fits { OnOk result (AreBytes bytes.now) }
 {
-    if bytes.len() == 0 {
+    let len = bytes.len() as usize;
+    if len == 0 {
         return print_text(out, "-");
     }
-    let mut i = 0;
-    while let Some(byte) = bytes.at(i) {
-        print_byte(out, byte)?;
-        i += 1;
-    }
-    Ok(())
+    let padded = bytes.padded();
+    let mut digits = [0; 512];
+    write_digits(&padded[..len], &mut digits[..2 * len]);
+    rom_text::print_bytes(out, &digits[..2 * len])
 }
 
 impl Told for BlobReply {

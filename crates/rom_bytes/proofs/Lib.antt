@@ -3,3 +3,4 @@ pub mod Carried
 pub mod Packing
 pub mod Numbers
 pub mod Reading
+pub mod Padding

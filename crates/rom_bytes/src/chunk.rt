@@ -1,9 +1,10 @@
 //! Up to 256 bytes that take no memory, kept as the words in which they are stored.
-ghost use Rattle.std.specs.Prelude.{◌≡◌, ℕ, ◌+◌, ◌≤◌, ◌<◌, ◌^◌, [], length, slice_get, slice_index, nat_le, Some, None, if◌then◌else◌};
+ghost use Rattle.std.specs.Prelude.{◌≡◌, ℕ, ◌+◌, ◌-◌, ◌≤◌, ◌<◌, ◌^◌, [], ◌++◌, length, replicate, slice_index, nat_le, Some, None, if◌then◌else◌};
 ghost use Rattle.std.specs.Bool.{OnTrue, OnFalse};
 ghost use Rattle.rom_model.specs.Space.{Costs, Looks, HasRoom, ChangesOnly};
 ghost use Rattle.rom_bytes.specs.Bytes.{bytes_at, bytes_in, words_for, word_of, EndsInZeros};
 
+use byteorder::{ByteOrder, LittleEndian};
 use rom_model::{Look, Space, store_changed};
 use std::marker::Model;
 
@@ -12,19 +13,6 @@ use std::marker::Model;
 pub struct Chunk {
     words: [u64; 32],
     len: u64,
-}
-
-/// Word i of bytes, the least byte first; bytes that are not there are 0.
-fn word_of(bytes: &[u8], i: usize) -> u64
-    requires few { i < 32 }
-    ensures { result ≡ word_of bytes.now i }
-{
-    let mut word = 0;
-    for r in (0..8).rev() {
-        let byte = bytes.get(8 * i + r).copied().unwrap_or(0);
-        word = 256 * word + u64::from(byte);
-    }
-    word
 }
 
 /// Whether the words, which are as many as so many bytes take, have zeros behind the last of them.
@@ -74,10 +62,10 @@ impl Chunk {
         if bytes.len() > 256 {
             return None;
         }
+        let mut padded = [0; 256];
+        padded[..bytes.len()].copy_from_slice(bytes);
         let mut words = [0; 32];
-        for i in 0..32 {
-            words[i] = word_of(bytes, i);
-        }
+        LittleEndian::read_u64_into(&padded, &mut words);
         Some(Chunk {
             words,
             len: bytes.len() as u64,
@@ -106,14 +94,13 @@ impl Chunk {
         self.len
     }
 
-    /// The byte at an index, counted from 0.
-    pub fn at(&self, i: u64) -> Option<u8>
-        ensures { result ≡ slice_get self.now i }
+    /// The bytes, with zeros behind them.
+    pub fn padded(&self) -> [u8; 256]
+        ensures { result ≡ self.now ++ replicate (256 - length self.now) 0 }
     {
-        if i >= self.len {
-            return None;
-        }
-        Some(((self.words[(i / 8) as usize] >> (8 * (i % 8))) % 256) as u8)
+        let mut bytes = [0; 256];
+        LittleEndian::write_u64_into(&self.words, &mut bytes);
+        bytes
     }
 
     /// The word that has the bytes from 8 * i on, the least first; bytes that are not there are 0.
