@@ -82,10 +82,11 @@ expected() {
             print "count " count + 2
         }'
 }
-# Which rule may refuse a number that the state is made of.
+# Which rule may refuse a number that the state is made of. The count is refused as too great, or as less
+# than the stamp of a key.
 rule_of() {
     case $1 in
-        2) echo root ;;
+        2) echo '\(root\|stamp\)' ;;
         60 | 64) echo order ;;
         68 | 72) echo bucket ;;
         *) echo none ;;
