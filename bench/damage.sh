@@ -5,7 +5,7 @@
 # and on another copy `run` of a script that tells the whole state, is to refuse the heap by name, with
 # status 3, or to tell the same state. Where a word that the state is made of (the count, a number, a key
 # or a value) is changed in both copies alike, nothing can know, and then it is to be told with that word or
-# refused by the rule that its place has. A run that takes longer than 20 seconds or ends by a signal is
+# refused by a rule of its place (the count has two, any other one). A run that takes longer than 20 seconds or ends by a signal is
 # wrong. With STATE 1 or 2 the heap says that its main, or its back, is to be made again: then no word of
 # that region may matter.
 # It needs the `od` and `timeout` of GNU's coreutils.
@@ -86,7 +86,7 @@ expected() {
 # than the stamp of a key.
 rule_of() {
     case $1 in
-        2) echo '\(root\|stamp\)' ;;
+        2) echo '(root|stamp)' ;;
         60 | 64) echo order ;;
         68 | 72) echo bucket ;;
         *) echo none ;;
@@ -122,7 +122,7 @@ while read -r place second bytes number; do
         elif [ "$status" -eq 3 ] && [ "$must" = no ] && [ "$(wc -l <"$folder/text")" -eq 1 ] && grep -q '^refused: ' "$folder/text"; then
             case $offset in
                 52 | 56 | 69 | 73) is_wrong "$command refused" ;;
-                2 | 60 | 64 | 68 | 72) grep -q "^refused: malformed at [0-9]*, rule $(rule_of "$offset")\$" "$folder/text" || is_wrong "$command refused by another rule" ;;
+                2 | 60 | 64 | 68 | 72) grep -Eq "^refused: malformed at [0-9]*, rule $(rule_of "$offset")\$" "$folder/text" || is_wrong "$command refused by another rule" ;;
             esac
             echo "$command refused" >>"$folder/outcomes"
         elif [ "$status" -eq 0 ] && [ "$offset" != - ] && expected "$offset" "$number" "$command" | cmp -s "$folder/text" -; then

@@ -1,5 +1,5 @@
 -- What the books of a bank say once its store is closed.
-use Rattle.std.proofs.Common.{◌≡◌, inl, inr, ℕ, zero, suc, ◌+◌, ◌*◌, ◌<◌, ◌≤◌, List, [], ◌∷◌, ◌++◌, map, take, length, refl, sym, ◌∙◌, ap, subst, arith, length-append}
+use Rattle.std.proofs.Common.{◌≡◌, inl, inr, ℕ, zero, suc, ◌+◌, ◌*◌, ◌<◌, ◌≤◌, List, [], ◌∷◌, ◌++◌, map, take, length, refl, sym, ◌∙◌, ap, subst, arith, append-nil, length-append}
 use Rattle.std.specs.Prelude.{All, ◌==◌, filter, slice_get, slice_index_or, None, Some}
 use Rattle.std.specs.List.{AllByRecursion, enumerate_from}
 use Rattle.std.proofs.lemmas.Bool.{cases_eq}
@@ -132,6 +132,10 @@ module _ (table : TableId) (base : Base) (session : SessionSeen) (put_in : ℕ) 
 
     stays : (seen : List Entry) → StartsWith seen first → StartsWith story.history seen → total_after story.order story.opening story.opening_count seen ≡ put_in
     stays seen past within = total_stays story first seen bank_of past within ∙ sym put_in_is
+
+    -- the total at the end
+    pub same_at_end : (total : ℕ) → total ≡ total_after story.order story.opening story.opening_count story.history → total ≡ put_in
+    same_at_end total told = told ∙ stays story.history starts ([], sym (append-nil story.history))
 
     -- what a teller has done
     tally_of : (t : Teller) (n : ℕ) → IsTeller table base first 64 4 t → t.pass.view.number ≡ n → IsKept trio story (kept_in t.pass) → IsTallyOf story n t.tally

@@ -200,6 +200,7 @@ fn bank<D: Device + Send, N: Label + Send + Sync, R: Threads + Wait + Sync>(
     ensures reads { All (λ tally. All (λ read. read.0 ≡ result.put_in) tally.reads) result.tallies }
     ensures total { EachStory trio Contents result.closed.session (λ story. result.total
         ≡ total_after story.order story.opening story.opening_count story.history) }
+    ensures same { result.total ≡ result.put_in }
 {
     let (store, mut passes) = opening.start::<N>();
     let mut manager = passes.take_last();
@@ -259,6 +260,7 @@ pub fn run_bank<D: Device + Send, R: Threads + Wait + Sync + AllocGlobal>(
         All (λ tally. All (λ read. read.0 ≡ books.put_in) tally.reads) books.tallies) }
     ensures total { IfOk result (λ books. EachStory trio Contents books.closed.session (λ story.
         books.total ≡ total_after story.order story.opening story.opening_count story.history)) }
+    ensures same { IfOk result (λ books. books.total ≡ books.put_in) }
 {
     let _ = format_device::<D, Trio>(rt.alloc(), &mut device, ORDER);
     let opening = open_store::<D, Trio>(rt.alloc(), device, 5)?;

@@ -14,7 +14,7 @@ use Rattle.rom_store.specs.Sessions.{EachStory, HasStory, SessionSeen}
 use Rattle.bank.specs.Promise.{IsBalanced, IsTallyOf, total_after}
 use Rattle.bank.specs.Tellers.{IsTeller}
 use Rattle.bank.specs.declared.bank.Teller.{Teller}
-use Rattle.bank.proofs.Closing.{HasEnded, all_four, all_reads, at_place, back_again, balance, none_left, numbered_five, taken, tallies, told_total}
+use Rattle.bank.proofs.Closing.{HasEnded, all_four, all_reads, at_place, back_again, balance, none_left, numbered_five, same_at_end, taken, tallies, told_total}
 use Rattle.bank.proofs.bank.bank.Given as given
 use Rattle.bank.proofs.bank.bank.Goals as goal
 
@@ -179,4 +179,5 @@ returns g c =
       reads = all_reads table base session put_in seen m a b c' d e some of;
       total = each (λ story. c.total_in.result ≡ total_after story.order story.opening story.opening_count story.history)
           (λ story is. told_total table base session put_in seen m a b c' d e story is c.ask.result c.total_in.result c.ask.ensures.told c.total_in.ensures);
+      same = same_at_end table base session put_in seen m a b c' d e some of c.total_in.result (told_total table base session put_in seen m a b c' d e some of c.ask.result c.total_in.result c.ask.ensures.told c.total_in.ensures);
     }
