@@ -5,9 +5,9 @@
 # and on another copy `run` of a script that tells the whole state, is to refuse the heap by name, with
 # status 3, or to tell the same state. Where a word that the state is made of (the count, a number, a key
 # or a value) is changed in both copies alike, nothing can know, and then it is to be told with that word or
-# refused by a rule of its place (the count has two, any other one). A run that takes longer than 20 seconds or ends by a signal is
-# wrong. With STATE 1 or 2 the heap says that its main, or its back, is to be made again: then no word of
-# that region may matter.
+# refused by a rule of its place (the count has two, any other one). A run that takes longer than 20 seconds
+# or ends by a signal is wrong. With STATE 1 or 2 the heap says that its main, or its back, is to be made
+# again: then no word of that region may matter.
 # It needs the `od` and `timeout` of GNU's coreutils.
 # Usage, from any folder, once the program is built: bench/damage.sh [STATE]
 state=${1:-0}
