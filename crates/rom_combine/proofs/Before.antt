@@ -15,10 +15,10 @@ use Rattle.rom_combine.proofs.Since.{becomes_by, becomes_then}
 module _ (order : ℕ) (c i : List ℕ) where
   pub back_before : (p : Phase) → HasBack order c i → BeforeCommit p order c i
   back_before phase.Clean is = is
-  back_before phase.Begun is = inl is
-  back_before phase.Persisted is = inl is
-  back_before phase.Committed is = inl is
-  back_before phase.Copied is = inl is
+  back_before phase.Begun is = is
+  back_before phase.Persisted is = is
+  back_before phase.Committed is = is
+  back_before phase.Copied is = is
   back_before phase.Undo is = inl is
   back_before phase.Doubt is = inl is
   back_before phase.Redo is = inl is

@@ -9,7 +9,7 @@ use Rattle.rom_header.specs.Layout.{MAIN}
 use Rattle.rom_header.specs.Writing.{StateOrWithin}
 use Rattle.rom_twin.specs.Calls.{repair_writes, repair_syncs}
 use Rattle.rom_twin.specs.declared.phase.Phase.{Phase}
-use Rattle.rom_twin.specs.declared.phase.Phase.TheVariants.{Clean}
+use Rattle.rom_twin.specs.declared.phase.Phase.TheVariants.{Clean, Begun, Persisted, Committed, Copied, Undo, Doubt, Redo}
 use Rattle.rom_rule.specs.Calls.{found_of}
 use Rattle.rom_rule.specs.declared.views.Plan.{Plan}
 
@@ -26,14 +26,26 @@ weights_found weight p = weights weight (map (λ (f : Found). f.args) (map found
 abbrev pub weights_added : (List ℕ → ℕ) → List Entry → List Entry → ℕ
 weights_added weight old new = weights weight (map (λ (e : Entry). e.args) (drop (length old) new))
 
--- Those that lead from a phase at rest to `Clean`: none from `Clean` itself, and else a repair's.
+-- Those that lead from a phase at rest to `Clean`: a repair's from those that a fault leaves, and none from `Clean` itself; nor from those of a batch under way, in which no batch begins.
 abbrev pub mending_writes : Phase → ℕ → ℕ
 mending_writes Clean order = 0
-mending_writes other order = repair_writes other order
+mending_writes Begun order = 0
+mending_writes Persisted order = 0
+mending_writes Committed order = 0
+mending_writes Copied order = 0
+mending_writes Undo order = repair_writes Undo order
+mending_writes Doubt order = repair_writes Doubt order
+mending_writes Redo order = repair_writes Redo order
 
 abbrev pub mending_syncs : Phase → ℕ
 mending_syncs Clean = 0
-mending_syncs other = repair_syncs other
+mending_syncs Begun = 0
+mending_syncs Persisted = 0
+mending_syncs Committed = 0
+mending_syncs Copied = 0
+mending_syncs Undo = repair_syncs Undo
+mending_syncs Doubt = repair_syncs Doubt
+mending_syncs Redo = repair_syncs Redo
 
 -- those of a whole batch that changes so many words: MUTATING, these words of main, COPYING, these words of back, each with a sync, and IDLE with none
 abbrev pub batch_writes : Phase → ℕ → ℕ → ℕ

@@ -13,10 +13,16 @@ use Rattle.rom_twin.specs.declared.phase.Phase.TheVariants as phase
 abbrev pub Counting : ℕ → List ℕ → List ℕ → Type 0
 Counting order region i = IsCurrentRegion order i region
 
--- Each image that is made before COPYING is to be written, by the phase that the batch began in: it is under MUTATING and has the committed region in back, or is one of the repair.
+-- Each image that is made before COPYING is to be written, by the phase that the batch began in: it is under MUTATING and has the committed region in back, or is one of the repair where that phase needs one.
 abbrev pub BeforeCommit : Phase → ℕ → List ℕ → List ℕ → Type 0
 BeforeCommit phase.Clean order c i = HasBack order c i
-BeforeCommit other order c i = HasBack order c i ⊎ Repairing other order c i
+BeforeCommit phase.Begun order c i = HasBack order c i
+BeforeCommit phase.Persisted order c i = HasBack order c i
+BeforeCommit phase.Committed order c i = HasBack order c i
+BeforeCommit phase.Copied order c i = HasBack order c i
+BeforeCommit phase.Undo order c i = HasBack order c i ⊎ Repairing phase.Undo order c i
+BeforeCommit phase.Doubt order c i = HasBack order c i ⊎ Repairing phase.Doubt order c i
+BeforeCommit phase.Redo order c i = HasBack order c i ⊎ Repairing phase.Redo order c i
 
 -- the committed region counts, or the new one, but not where the phase after is `Undo`
 abbrev pub Committable : Phase → ℕ → List ℕ → List ℕ → List ℕ → Type 0

@@ -22,7 +22,7 @@ use Rattle.rom_twin.specs.declared.phase.Phase.TheVariants as phase
 use Rattle.rom_twin.proofs.Repairs.{state_or_joins}
 use Rattle.rom_combine.proofs.Sessions.{len_more}
 use Rattle.rom_combine.specs.AtRest.{Locked}
-use Rattle.rom_combine.specs.Costs.{SpendsAtMost, WithinHeap, WritesHeap, batch_syncs, batch_writes}
+use Rattle.rom_combine.specs.Costs.{SpendsAtMost, WithinHeap, WritesHeap, batch_syncs, batch_writes, syncs_before_commit, writes_before_commit}
 use Rattle.rom_combine.specs.Histories.{Doubted, HoldsHistory, ImageAt, PassMakes}
 use Rattle.rom_combine.specs.Images.{HoldsIn, MayPublish}
 use Rattle.rom_combine.proofs.Sessions.{state_whole}
@@ -46,6 +46,10 @@ use Rattle.rom_store.specs.Held.{IsHeld, story_at}
 use Rattle.rom_store.specs.Start.{HasStarted, Start}
 use Rattle.rom_store.specs.Traced.{ArePassesOn, HasCause, IsPassOn, MayMake, PassImage, WentThrough}
 use Rattle.rom_store.proofs.Tracing.{passes_on, passes_stay, state_stays}
+
+-- The device failed before COPYING was to be written, with no more writes and syncs than come before it.
+abbrev FailsEarly : {D : Type 0} → ShownDevice D → ℕ → List ℕ → Seen D → Seen D → Type 0
+FailsEarly shown order region t u = FailsBeforeCommit shown t.phase order region t.device u.device × SpendsAtMost shown (writes_before_commit t.phase order (region_len order)) (syncs_before_commit t.phase) t.device u.device
 
 -- none of these is in doubt
 abbrev NoDoubt : List PassRecord → Type 0
@@ -281,17 +285,17 @@ module _ {S : Type 0} (Contents : ℕ → List ℕ → S → ℕ → Type 0) (st
   made_by outcome.Nothing e may i holds = holds_whole Contents step b s k q i (subst (λ (l : List Entry). HoldsHistory Contents step b s k l i) (sym (x.history ∙ ap (λ (o : Outcome). p.history ++ published (fate_of o) x.more) e)) holds)
   made_by outcome.Published e may i holds = holds_whole Contents step b s k q i (subst (λ (l : List Entry). HoldsHistory Contents step b s k l i) (sym (x.history ∙ ap (λ (o : Outcome). p.history ++ published (fate_of o) x.more) e)) holds)
 
-  cause_by : (o : Outcome) → r.outcome ≡ o → (r.outcome ≡ outcome.Failed → FailsBeforeCommit shown t.phase b.order p.main t.device u.device) → (r.outcome ≡ outcome.Doubt → FailsAtCommit shown t.phase b.order p.main t.device u.device)
-      → HasCause shown Contents step Story' (fate_of o) t.device u.device
+  cause_by : (o : Outcome) → r.outcome ≡ o → (r.outcome ≡ outcome.Failed → FailsEarly shown b.order p.main t u) → (r.outcome ≡ outcome.Doubt → FailsAtCommit shown t.phase b.order p.main t.device u.device)
+      → HasCause shown Contents step Story' (fate_of o) t.phase t.device u.device
   cause_by outcome.Nothing e failed doubt = tt
   cause_by outcome.Published e failed doubt = tt
-  cause_by outcome.Failed e failed doubt = (t.phase, p.main, failed e)
-  cause_by outcome.Doubt e failed doubt = (t.phase, p.main, doubt e)
+  cause_by outcome.Failed e failed doubt = (p.main, (failed e).0, (failed e).1)
+  cause_by outcome.Doubt e failed doubt = (p.main, doubt e)
 
   -- The pass is one that the device went through.
   pass_on : len_after 0 (records_of p) ≡ length p.history
       → shown.reads u.device ≡ shown.reads t.device → (NeedsRepair t.phase → IsTrue (shown.failing t.device) × Rose b.faults (shown.faults t.device)) → SpendsAtMost shown (batch_writes t.phase b.order (region_len b.order)) (batch_syncs t.phase) t.device u.device
-      → (r.outcome ≡ outcome.Failed → FailsBeforeCommit shown t.phase b.order p.main t.device u.device) → (r.outcome ≡ outcome.Doubt → FailsAtCommit shown t.phase b.order p.main t.device u.device)
+      → (r.outcome ≡ outcome.Failed → FailsEarly shown b.order p.main t u) → (r.outcome ≡ outcome.Doubt → FailsAtCommit shown t.phase b.order p.main t.device u.device)
       → (IsTrue shown.tells_images → Runs shown (Becomes (PassMakes Contents step b s k (fate_of r.outcome) p.history x.more)) t.device u.device)
       → (0 < r.done → (u.phase ≡ phase.Clean) ⊎ (u.phase ≡ phase.Redo))
       → (IsTrue shown.tells_images → (i : List ℕ) → shown.leaves u.device i → ImageAt Contents step b s k u.phase q i)
@@ -301,9 +305,11 @@ module _ {S : Type 0} (Contents : ℕ → List ℕ → S → ℕ → Type 0) (st
       record {
         before = refl;
         after = refl;
+        phase = t.phase;
+        needed = needed;
         cause = cause_by r.outcome refl failed doubt;
         unread = unread;
-        most = (t.phase, needed, most);
+        most = most;
         reached = (omega (arith, ends, grown), omega arith);
         images = λ told. becomes_by shown _ (PassImage shown Contents step Story' (len_after 0 (records_of p)) Record) (λ i made. ⊎_elim
             (λ holds. inl (was_held ends grown i holds))
@@ -324,7 +330,7 @@ module _ {S : Type 0} (Contents : ℕ → List ℕ → S → ℕ → Type 0) (st
   -- So the device went through one pass more, or through none where no call was found.
   pub went_on : (First : D → Type 0) → len_after 0 (records_of p) ≡ length p.history
       → shown.reads u.device ≡ shown.reads t.device → (NeedsRepair t.phase → IsTrue (shown.failing t.device) × Rose b.faults (shown.faults t.device)) → SpendsAtMost shown (batch_writes t.phase b.order (region_len b.order)) (batch_syncs t.phase) t.device u.device
-      → (r.outcome ≡ outcome.Failed → FailsBeforeCommit shown t.phase b.order p.main t.device u.device) → (r.outcome ≡ outcome.Doubt → FailsAtCommit shown t.phase b.order p.main t.device u.device)
+      → (r.outcome ≡ outcome.Failed → FailsEarly shown b.order p.main t u) → (r.outcome ≡ outcome.Doubt → FailsAtCommit shown t.phase b.order p.main t.device u.device)
       → (IsTrue shown.tells_images → Runs shown (Becomes (PassMakes Contents step b s k (fate_of r.outcome) p.history x.more)) t.device u.device)
       → (r.outcome ≡ outcome.Nothing → u ≡ t) → (0 < r.done → (u.phase ≡ phase.Clean) ⊎ (u.phase ≡ phase.Redo))
       → (IsTrue shown.tells_images → (i : List ℕ) → shown.leaves u.device i → ImageAt Contents step b s k u.phase q i)
@@ -372,7 +378,7 @@ module _ {S : Type 0} (Contents : ℕ → List ℕ → S → ℕ → Type 0) (st
       → (NeedsRepair c.twin.phase → IsTrue (shown.failing c.twin.device))
       → (0 < r.done → d.twin.phase ≡ phase.Redo → Rose (shown.faults c.twin.device) (shown.faults d.twin.device))
       → SpendsAtMost shown (batch_writes c.twin.phase c.twin.order (region_len c.twin.order)) (batch_syncs c.twin.phase) c.twin.device d.twin.device
-      → (r.outcome ≡ outcome.Failed → FailsBeforeCommit shown c.twin.phase c.twin.order (plan_of c.view).main c.twin.device d.twin.device)
+      → (r.outcome ≡ outcome.Failed → FailsEarly shown c.twin.order (plan_of c.view).main c.twin d.twin)
       → (r.outcome ≡ outcome.Doubt → FailsAtCommit shown c.twin.phase c.twin.order (plan_of c.view).main c.twin.device d.twin.device)
       → IsHeld shown Contents step c.table_id c.view.base start test d
   held_on h same kept x runs spent untouched repaired failed now_is writes needed undone most failed_by doubt_by = record {
@@ -394,7 +400,7 @@ module _ {S : Type 0} (Contents : ℕ → List ℕ → S → ℕ → Type 0) (st
     since = λ told s k op t i left. ⊎_elim (past told s k op t i) (here told s k op t i) ((runs told s k op).nothing_else t i left);
     went = λ s k op. went_on Contents step shown b p q callers r c.twin d.twin x s k op (HasStarted shown b.faults start) h.ends writes.only.reads (λ is. (needed is, h.needed is))
         (subst (λ (n : ℕ). SpendsAtMost shown (batch_writes c.twin.phase n (region_len n)) (batch_syncs c.twin.phase) c.twin.device d.twin.device) h.order_is most)
-        (λ e. subst (λ (n : ℕ). FailsBeforeCommit shown c.twin.phase n p.main c.twin.device d.twin.device) h.order_is (failed_by e))
+        (λ e. subst (λ (n : ℕ). FailsEarly shown n p.main c.twin d.twin) h.order_is (failed_by e))
         (λ e. subst (λ (n : ℕ). FailsAtCommit shown c.twin.phase n p.main c.twin.device d.twin.device) h.order_is (doubt_by e))
         (λ told. runs told s k op) untouched repaired (λ told. now_is told s k op) (h.went s k op);
   }
@@ -429,7 +435,7 @@ module _ {S : Type 0} (Contents : ℕ → List ℕ → S → ℕ → Type 0) (st
       needs : (o : Outcome) → r.outcome ≡ o → NeedsRepair d.twin.phase → Rose b.faults now
       needs outcome.Nothing e is = left_so (untouched e) is
       needs outcome.Published e is = done_or_none r.done refl e is
-      needs outcome.Failed e is = rose (failed_by e).rose
+      needs outcome.Failed e is = rose (failed_by e).0.rose
       needs outcome.Doubt e is = let f = doubt_by e in let later = f.later in let once = f.failed.once in rose (omega (arith, later, once))
 
       stays : (s : S) (k : ℕ) (i : List ℕ) → SessionImage Contents step (story_at b s k p) i → SessionImage Contents step (story_at b s k q) i
