@@ -16,7 +16,9 @@ use Rattle.rom_twin.specs.Seen.{Seen, InPhase, NeedsRepair, Rests, committed}
 use Rattle.rom_twin.specs.declared.phase.Phase.{Phase}
 use Rattle.rom_twin.specs.declared.phase.Phase.TheVariants as phase
 use Rattle.rom_combine.proofs.Since.{now_since}
-use Rattle.rom_combine.proofs.Counting.{undo_region}
+use Rattle.rom_twin.specs.Images.{Twins}
+use Rattle.rom_combine.specs.Causes.{BeginsIn}
+use Rattle.rom_combine.proofs.Counting.{each_of, undo_region}
 use Rattle.rom_combine.specs.Told as outcomes
 use Rattle.rom_combine.specs.declared.passed.Outcome.{Outcome}
 use Rattle.rom_combine.specs.declared.passed.Outcome.TheVariants as outcome
@@ -74,6 +76,15 @@ pub clean_needs_none : (p : Phase) → p ≡ phase.Clean → NeedsRepair p → �
 clean_needs_none p e (inl undo) = let no : phase.Clean ≡ phase.Undo = sym e ∙ undo in cc
 clean_needs_none p e (inr (inl doubt)) = let no : phase.Clean ≡ phase.Doubt = sym e ∙ doubt in cc
 clean_needs_none p e (inr (inr redo)) = let no : phase.Clean ≡ phase.Redo = sym e ∙ redo in cc
+
+-- where no batch is under way, one may begin
+pub begins_in : {D : Type 0} (shown : ShownDevice D) (t : Seen D) (region : List ℕ) → Rests t.phase → (IsTrue shown.tells_images → InPhase shown t) → (IsTrue shown.tells_images → committed shown t ≡ region) → (NeedsRepair t.phase → IsTrue (shown.failing t.device))
+    → BeginsIn shown t.phase t.order region t.device
+begins_in shown t region (inl clean) known same failing = subst (λ (z : Phase). BeginsIn shown z t.order region t.device) (sym clean)
+    (λ told i left. subst (λ (c : List ℕ). Twins t.order c i) (same told) (each_of shown t phase.Clean clean (known told) i left))
+begins_in shown t region (inr (inl undo)) known same failing = subst (λ (z : Phase). BeginsIn shown z t.order region t.device) (sym undo) (failing (inl undo))
+begins_in shown t region (inr (inr (inl doubt))) known same failing = subst (λ (z : Phase). BeginsIn shown z t.order region t.device) (sym doubt) (failing (inr (inl doubt)))
+begins_in shown t region (inr (inr (inr redo))) known same failing = subst (λ (z : Phase). BeginsIn shown z t.order region t.device) (sym redo) (failing (inr (inr redo)))
 
 -- in a pass that did no call the device's last call failed
 pub failing_refused : {D : Type 0} (shown : ShownDevice D) (d : D) (o : Outcome) → o ≢ outcome.Published → o ≢ outcome.Nothing → (o ≡ outcome.Failed → IsTrue (shown.failing d)) → (o ≡ outcome.Doubt → IsTrue (shown.failing d)) → IsTrue (shown.failing d)

@@ -1,13 +1,25 @@
--- Why a batch failed, as the device shows it.
+-- How the device stands as a batch begins, and why one failed, as the device shows it.
 use Rattle.std.specs.Prelude.{ℕ, ◌≤◌, List, IsTrue}
 use Rattle.rom_model.specs.Faults.{Adds, AtMost, FailedLast, Rose}
 use Rattle.rom_device.specs.Device.{ShownDevice, Becomes, Does, Runs, Writes}
 use Rattle.rom_header.specs.Headers.{state_word}
 use Rattle.rom_header.specs.Layout.{STATE}
 use Rattle.rom_header.specs.declared.header.State.TheVariants.{Copying}
-use Rattle.rom_twin.specs.Images.{HasBack}
+use Rattle.rom_twin.specs.Images.{HasBack, Twins}
 use Rattle.rom_twin.specs.declared.phase.Phase.{Phase}
+use Rattle.rom_twin.specs.declared.phase.Phase.TheVariants.{Clean, Begun, Persisted, Committed, Copied, Undo, Doubt, Redo}
 use Rattle.rom_combine.specs.Images.{BeforeCommit}
+
+-- How the device stands as a batch begins in this phase: in `Clean` whatever a stop leaves has the committed region twice; in those that a fault leaves its last call failed. None begins in another.
+abbrev pub BeginsIn : {D : Type 0} → ShownDevice D → Phase → ℕ → List ℕ → D → Type 0
+BeginsIn shown Clean order region was = IsTrue shown.tells_images → (i : List ℕ) → shown.leaves was i → Twins order region i
+BeginsIn shown Begun order region was = ⊥
+BeginsIn shown Persisted order region was = ⊥
+BeginsIn shown Committed order region was = ⊥
+BeginsIn shown Copied order region was = ⊥
+BeginsIn shown Undo order region was = IsTrue (shown.failing was)
+BeginsIn shown Doubt order region was = IsTrue (shown.failing was)
+BeginsIn shown Redo order region was = IsTrue (shown.failing was)
 
 -- The phase and the devices are those before the batch and after it, and the region is the committed image.
 module _ {D : Type 0} (shown : ShownDevice D) (phase : Phase) (order : ℕ) (region : List ℕ) (old new : D) where

@@ -8,7 +8,7 @@ ghost use Rattle.rom_device.specs.Device.{Becomes, Runs};
 ghost use Rattle.rom_lr.specs.Seats.{writer_view};
 ghost use Rattle.rom_twin.specs.Seen.{NeedsRepair, committed};
 ghost use Rattle.rom_combine.specs.AtRest.{IsAtRest, IsCoreOf, IsReady};
-ghost use Rattle.rom_combine.specs.Causes.{FailsAtCommit, FailsBeforeCommit};
+ghost use Rattle.rom_combine.specs.Causes.{BeginsIn, FailsAtCommit, FailsBeforeCommit};
 ghost use Rattle.rom_combine.specs.Costs.{IsUnfailed, SpendsAtMost, SpendsWithin, WritesHeap, batch_syncs, batch_writes, syncs_before_commit, weights_added, weights_found, writes_before_commit};
 ghost use Rattle.rom_combine.specs.Histories.{ImageAt, PassMakes};
 ghost use Rattle.rom_combine.specs.Passing.{IsPass};
@@ -158,7 +158,9 @@ impl<D: Device, O: Object> Core<D, O> {
             ImageAt O.Contents (on_words O.machine) b s n self.new.twin.phase
             (plan_of self.new.view) i }
 
-        // What the device needed, and what it needs afterwards.
+        // How the device stood, what it needed, and what it needs afterwards.
+        ensures began { BeginsIn D.shown self.old.twin.phase self.old.twin.order
+            (plan_of self.old.view).main self.old.twin.device }
         ensures needed { NeedsRepair self.old.twin.phase →
             IsTrue (D.shown.failing self.old.twin.device) }
         ensures repaired { 0 < result.done → (self.new.twin.phase ≡ Phase.Clean)
@@ -205,6 +207,8 @@ impl<D: Device, O: Object> Core<D, O> {
             (syncs_before_commit self.old.twin.phase)
             self.old.twin.device self.new.twin.device }
     {
+        // Its contract tells what images a stop may leave now.
+        let _ = self.twin.phase();
         let before = self.twin.fault_count();
         let seat = &mut self.seat;
         scan(shared, seat, &mut self.found);

@@ -27,7 +27,7 @@ use Rattle.rom_combine.specs.Histories.{Doubted, HoldsHistory, ImageAt, PassMake
 use Rattle.rom_combine.specs.Images.{HoldsIn, MayPublish}
 use Rattle.rom_combine.proofs.Sessions.{state_whole}
 use Rattle.rom_combine.specs.Passing.{IsPass}
-use Rattle.rom_combine.specs.Causes.{FailsAtCommit, FailsBeforeCommit}
+use Rattle.rom_combine.specs.Causes.{BeginsIn, FailsAtCommit, FailsBeforeCommit}
 use Rattle.rom_combine.specs.Session.{HoldsAfter, SessionImage}
 use Rattle.rom_combine.specs.Told.{fate_of}
 use Rattle.rom_combine.specs.declared.passed.Outcome.{Outcome}
@@ -286,26 +286,28 @@ module _ {S : Type 0} (Contents : ℕ → List ℕ → S → ℕ → Type 0) (st
   made_by outcome.Published e may i holds = holds_whole Contents step b s k q i (subst (λ (l : List Entry). HoldsHistory Contents step b s k l i) (sym (x.history ∙ ap (λ (o : Outcome). p.history ++ published (fate_of o) x.more) e)) holds)
 
   cause_by : (o : Outcome) → r.outcome ≡ o → (r.outcome ≡ outcome.Failed → FailsEarly shown b.order p.main t u) → (r.outcome ≡ outcome.Doubt → FailsAtCommit shown t.phase b.order p.main t.device u.device)
-      → HasCause shown Contents step Story' (fate_of o) t.phase t.device u.device
+      → HasCause shown Contents step Story' (fate_of o) t.phase p.main t.device u.device
   cause_by outcome.Nothing e failed doubt = tt
   cause_by outcome.Published e failed doubt = tt
-  cause_by outcome.Failed e failed doubt = (p.main, (failed e).0, (failed e).1)
-  cause_by outcome.Doubt e failed doubt = (p.main, doubt e)
+  cause_by outcome.Failed e failed doubt = failed e
+  cause_by outcome.Doubt e failed doubt = doubt e
 
   -- The pass is one that the device went through.
   pass_on : len_after 0 (records_of p) ≡ length p.history
-      → shown.reads u.device ≡ shown.reads t.device → (NeedsRepair t.phase → IsTrue (shown.failing t.device) × Rose b.faults (shown.faults t.device)) → SpendsAtMost shown (batch_writes t.phase b.order (region_len b.order)) (batch_syncs t.phase) t.device u.device
+      → shown.reads u.device ≡ shown.reads t.device → BeginsIn shown t.phase b.order p.main t.device → (NeedsRepair t.phase → Rose b.faults (shown.faults t.device)) → SpendsAtMost shown (batch_writes t.phase b.order (region_len b.order)) (batch_syncs t.phase) t.device u.device
       → (r.outcome ≡ outcome.Failed → FailsEarly shown b.order p.main t u) → (r.outcome ≡ outcome.Doubt → FailsAtCommit shown t.phase b.order p.main t.device u.device)
       → (IsTrue shown.tells_images → Runs shown (Becomes (PassMakes Contents step b s k (fate_of r.outcome) p.history x.more)) t.device u.device)
       → (0 < r.done → (u.phase ≡ phase.Clean) ⊎ (u.phase ≡ phase.Redo))
       → (IsTrue shown.tells_images → (i : List ℕ) → shown.leaves u.device i → ImageAt Contents step b s k u.phase q i)
       → IsPassOn shown Contents step Story' (len_after 0 (records_of p)) Record t.device u.device
-  pass_on ends unread needed most failed doubt runs repaired now_is =
+  pass_on ends unread began needed most failed doubt runs repaired now_is =
       let grown : length q.history ≡ length p.history + r.done = ap length x.history ∙ (length-append p.history _ ∙ ap (λ (n : ℕ). length p.history + n) (sym x.done)) in
       record {
         before = refl;
         after = refl;
         phase = t.phase;
+        region = p.main;
+        began = began;
         needed = needed;
         cause = cause_by r.outcome refl failed doubt;
         unread = unread;
@@ -329,13 +331,13 @@ module _ {S : Type 0} (Contents : ℕ → List ℕ → S → ℕ → Type 0) (st
 
   -- So the device went through one pass more, or through none where no call was found.
   pub went_on : (First : D → Type 0) → len_after 0 (records_of p) ≡ length p.history
-      → shown.reads u.device ≡ shown.reads t.device → (NeedsRepair t.phase → IsTrue (shown.failing t.device) × Rose b.faults (shown.faults t.device)) → SpendsAtMost shown (batch_writes t.phase b.order (region_len b.order)) (batch_syncs t.phase) t.device u.device
+      → shown.reads u.device ≡ shown.reads t.device → BeginsIn shown t.phase b.order p.main t.device → (NeedsRepair t.phase → Rose b.faults (shown.faults t.device)) → SpendsAtMost shown (batch_writes t.phase b.order (region_len b.order)) (batch_syncs t.phase) t.device u.device
       → (r.outcome ≡ outcome.Failed → FailsEarly shown b.order p.main t u) → (r.outcome ≡ outcome.Doubt → FailsAtCommit shown t.phase b.order p.main t.device u.device)
       → (IsTrue shown.tells_images → Runs shown (Becomes (PassMakes Contents step b s k (fate_of r.outcome) p.history x.more)) t.device u.device)
       → (r.outcome ≡ outcome.Nothing → u ≡ t) → (0 < r.done → (u.phase ≡ phase.Clean) ⊎ (u.phase ≡ phase.Redo))
       → (IsTrue shown.tells_images → (i : List ℕ) → shown.leaves u.device i → ImageAt Contents step b s k u.phase q i)
       → WentThrough shown Contents step (story_at b s k p) First t.device → WentThrough shown Contents step (story_at b s k q) First u.device
-  went_on First ends unread needed most failed doubt runs untouched repaired now_is was = record {
+  went_on First ends unread began needed most failed doubt runs untouched repaired now_is was = record {
     first = was.first;
     begun = was.begun;
     passes = by (founds Contents step b p q callers (shown.faults t.device) (shown.faults u.device) r x) refl;
@@ -355,7 +357,7 @@ module _ {S : Type 0} (Contents : ℕ → List ℕ → S → ℕ → Type 0) (st
       by (f ∷ fs) e =
           let records : records_of p ++ Record ∷ [] ≡ records_of q = sym (x.records ∙ ap (λ (l : List Found). records_of p ++ record_list l Record) e) in
           subst (λ (l : List PassRecord). ArePassesOn shown Contents step Story' 0 l was.first u.device) records
-          (passes_on shown Contents step Story' 0 (records_of p) Record was.first t.device u.device stayed (pass_on ends unread needed most failed doubt runs repaired now_is))
+          (passes_on shown Contents step Story' 0 (records_of p) Record was.first t.device u.device stayed (pass_on ends unread began needed most failed doubt runs repaired now_is))
 
 -- in `Clean` no repair is needed
 clean_needs_none : (ph : Phase) → ph ≡ phase.Clean → NeedsRepair ph → ⊥
@@ -375,13 +377,13 @@ module _ {S : Type 0} (Contents : ℕ → List ℕ → S → ℕ → Type 0) (st
       → (r.outcome ≡ outcome.Failed → (d.twin.phase ≡ phase.Undo) ⊎ ((d.twin.phase ≡ c.twin.phase) × NeedsRepair c.twin.phase))
       → (let b = c.view.base in IsTrue shown.tells_images → (s : S) (n : ℕ) → Contents b.order b.image s n → (i : List ℕ) → shown.leaves d.twin.device i → ImageAt Contents step b s n d.twin.phase (plan_of d.view) i)
       → WritesHeap shown c.twin.order c.twin.device d.twin.device
-      → (NeedsRepair c.twin.phase → IsTrue (shown.failing c.twin.device))
+      → BeginsIn shown c.twin.phase c.twin.order (plan_of c.view).main c.twin.device
       → (0 < r.done → d.twin.phase ≡ phase.Redo → Rose (shown.faults c.twin.device) (shown.faults d.twin.device))
       → SpendsAtMost shown (batch_writes c.twin.phase c.twin.order (region_len c.twin.order)) (batch_syncs c.twin.phase) c.twin.device d.twin.device
       → (r.outcome ≡ outcome.Failed → FailsEarly shown c.twin.order (plan_of c.view).main c.twin d.twin)
       → (r.outcome ≡ outcome.Doubt → FailsAtCommit shown c.twin.phase c.twin.order (plan_of c.view).main c.twin.device d.twin.device)
       → IsHeld shown Contents step c.table_id c.view.base start test d
-  held_on h same kept x runs spent untouched repaired failed now_is writes needed undone most failed_by doubt_by = record {
+  held_on h same kept x runs spent untouched repaired failed now_is writes began undone most failed_by doubt_by = record {
     table_is = same.0;
     base_is = same.2;
     order_is = same.3 ∙ h.order_is;
@@ -398,7 +400,8 @@ module _ {S : Type 0} (Contents : ℕ → List ℕ → S → ℕ → Type 0) (st
     later = λ told. let on = (writes.does.images told).later in omega (arith, on, h.later told);
     keeps = λ told t i le was. (writes.does.images told).keeps t i (omega (arith, le, h.later told)) (h.keeps told t i le was);
     since = λ told s k op t i left. ⊎_elim (past told s k op t i) (here told s k op t i) ((runs told s k op).nothing_else t i left);
-    went = λ s k op. went_on Contents step shown b p q callers r c.twin d.twin x s k op (HasStarted shown b.faults start) h.ends writes.only.reads (λ is. (needed is, h.needed is))
+    went = λ s k op. went_on Contents step shown b p q callers r c.twin d.twin x s k op (HasStarted shown b.faults start) h.ends writes.only.reads
+        (subst (λ (n : ℕ). BeginsIn shown c.twin.phase n p.main c.twin.device) h.order_is began) h.needed
         (subst (λ (n : ℕ). SpendsAtMost shown (batch_writes c.twin.phase n (region_len n)) (batch_syncs c.twin.phase) c.twin.device d.twin.device) h.order_is most)
         (λ e. subst (λ (n : ℕ). FailsEarly shown n p.main c.twin d.twin) h.order_is (failed_by e))
         (λ e. subst (λ (n : ℕ). FailsAtCommit shown c.twin.phase n p.main c.twin.device d.twin.device) h.order_is (doubt_by e))

@@ -38,18 +38,20 @@ module _ {D S : Type 0} (shown : ShownDevice D) (Contents : ℕ → List ℕ →
       made_stays fate.Failed r reached i none = none
       made_stays fate.Doubt r reached i holds = subst (λ (y : S). let n = x.opening_count + r.len in let l = batch step x.order y n r.found in HoldsIn Contents x.order (after step x.order y n l) (n + length l) i) (same r.len reached) holds
 
-      cause_stays : (f : Fate) (at : Phase) (was now : D) → HasCause shown Contents step x f at was now → HasCause shown Contents step On f at was now
-      cause_stays fate.Published at was now none = tt
-      cause_stays fate.Failed at was now why = why
-      cause_stays fate.Doubt at was now why = why
+      cause_stays : (f : Fate) (at : Phase) (region : List ℕ) (was now : D) → HasCause shown Contents step x f at region was now → HasCause shown Contents step On f at region was now
+      cause_stays fate.Published at region was now none = tt
+      cause_stays fate.Failed at region was now why = why
+      cause_stays fate.Doubt at region was now why = why
 
       pass_stays : (len : ℕ) (r : PassRecord) (was now : D) → IsPassOn shown Contents step x len r was now → IsPassOn shown Contents step On len r was now
       pass_stays len r was now of = record {
         before = of.before;
         after = of.after;
         phase = of.phase;
+        region = of.region;
+        began = of.began;
         needed = of.needed;
-        cause = cause_stays r.fate of.phase was now of.cause;
+        cause = cause_stays r.fate of.phase of.region was now of.cause;
         unread = of.unread;
         most = of.most;
         reached = (omega (arith, of.reached.0, long), omega (arith, of.reached.1, long));

@@ -9,7 +9,7 @@ use Rattle.rom_model.specs.declared.record.PassRecord.{PassRecord}
 use Rattle.rom_device.specs.Device.{ShownDevice, Becomes, Runs}
 use Rattle.rom_twin.specs.Seen.{NeedsRepair}
 use Rattle.rom_twin.specs.declared.phase.Phase.{Phase}
-use Rattle.rom_combine.specs.Causes.{FailsAtCommit, FailsBeforeCommit}
+use Rattle.rom_combine.specs.Causes.{BeginsIn, FailsAtCommit, FailsBeforeCommit}
 use Rattle.rom_combine.specs.Costs.{SpendsAtMost, batch_syncs, batch_writes, syncs_before_commit, writes_before_commit}
 use Rattle.rom_combine.specs.Session.{HoldsAfter}
 
@@ -24,21 +24,23 @@ module _ {D S : Type 0} (shown : ShownDevice D) (Contents : ℕ → List ℕ →
   abbrev pub PassImage : ℕ → PassRecord → List ℕ → Type 0
   PassImage len r i = HoldsAfter Contents step story len [] i ⊎ MayMake r.fate r i
 
-  -- Why a pass that began in this phase and ended so failed, if it did: before COPYING was to be written, with no more writes and syncs than come before it; or at it.
-  abbrev pub HasCause : Fate → Phase → D → D → Type 0
-  HasCause Published phase was now = Unit {0}
-  HasCause Failed phase was now = (region : List ℕ) × FailsBeforeCommit shown phase story.order region was now × SpendsAtMost shown (writes_before_commit phase story.order (region_len story.order)) (syncs_before_commit phase) was now
-  HasCause Doubt phase was now = (region : List ℕ) × FailsAtCommit shown phase story.order region was now
+  -- Why a pass that began in this phase, on this region, and ended so failed, if it did: before COPYING was to be written, with no more writes and syncs than come before it; or at it.
+  abbrev pub HasCause : Fate → Phase → List ℕ → D → D → Type 0
+  HasCause Published phase region was now = Unit {0}
+  HasCause Failed phase region was now = FailsBeforeCommit shown phase story.order region was now × SpendsAtMost shown (writes_before_commit phase story.order (region_len story.order)) (syncs_before_commit phase) was now
+  HasCause Doubt phase region was now = FailsAtCommit shown phase story.order region was now
 
   -- The pass of this record, which found the history at this length and the device so, and left it so.
   pub record IsPassOn (len : ℕ) (r : PassRecord) (was now : D) : Type 0 where
     -- the record's counts are the device's
     pub before : shown.faults was ≡ r.faults_before
     pub after : shown.faults now ≡ r.faults_after
-    -- The phase that it began in: one that needs a repair only where the device's last call had failed, and its count of faults had risen since the opening.
+    -- The phase that it began in, and the committed region: the device stood so, and its count of faults had risen since the opening where it needs a repair.
     pub phase : Phase
-    pub needed : NeedsRepair phase → IsTrue (shown.failing was) × Rose story.opening_faults (shown.faults was)
-    pub cause : HasCause r.fate phase was now
+    pub region : List ℕ
+    pub began : BeginsIn shown phase story.order region was
+    pub needed : NeedsRepair phase → Rose story.opening_faults (shown.faults was)
+    pub cause : HasCause r.fate phase region was now
     -- nothing is read, and no more is called than one batch takes, with the repair before it where that phase needs one
     pub unread : shown.reads now ≡ shown.reads was
     pub most : SpendsAtMost shown (batch_writes phase story.order (region_len story.order)) (batch_syncs phase) was now

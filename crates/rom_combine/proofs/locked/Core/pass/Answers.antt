@@ -9,6 +9,7 @@ use Rattle.rom_twin.specs.Seen.{committed}
 use Rattle.rom_header.specs.Regions.{IsCurrentRegion}
 use Rattle.rom_device.specs.Device.{Runs}
 use Rattle.rom_device.specs.Device.{Becomes}
+use Rattle.rom_combine.specs.Causes.{BeginsIn}
 use Rattle.rom_combine.specs.Costs.{SpendsAtMost, WritesHeap, batch_syncs, batch_writes, syncs_before_commit, weights_added, weights_found, writes_before_commit}
 use Rattle.rom_ranges.specs.Changes.{IsLogOf}
 use Rattle.rom_ranges.specs.Ranges.{held_count}
@@ -50,7 +51,7 @@ use Rattle.rom_combine.specs.AtRest.{IsAtRest, Locked}
 use Rattle.rom_combine.proofs.Bridge.{batch_now, same_held, list_settled}
 use Rattle.rom_combine.specs.Passing.{IsPass}
 use Rattle.rom_combine.proofs.Keeping.{ready_by, scan_stays, rest_same, now_of, pass_nothing, none_answered}
-use Rattle.rom_combine.proofs.Failing.{clean_needs_none, failing_refused, first_left, made_by, pass_refused, passed_refused, none_refused, core_refused, core_spent, batch_done, passed_published, clear_by}
+use Rattle.rom_combine.proofs.Failing.{begins_in, clean_needs_none, failing_refused, first_left, made_by, pass_refused, passed_refused, none_refused, core_refused, core_spent, batch_done, passed_published, clear_by}
 use Rattle.rom_combine.proofs.Refusing.{is_refused, may_spend}
 use Rattle.rom_combine.proofs.Writing.{keeps_by, keeps_then}
 use Rattle.rom_combine.proofs.locked.Core.pass.Given.{Over}
@@ -539,6 +540,26 @@ some_done g c = let v : View = c.self.inside.seat.token.me.0 in let w : View = c
 
 pub returns-clause-spent : goal.returns-clause-spent
 returns-clause-spent g c published none = let done : c.of-2.result.done ≡ c.load_main.result - c.load_main-place.result = ap (λ (r : Passed). r.done) c.of-2.ensures.is in absurd (omega (arith, none, done, some_done g c))
+
+pub returns-then-is_empty-clause-began : goal.returns-then-is_empty-clause-began
+returns-then-is_empty-clause-began g c = let shown = g.D.Device.shown in let v : View = c.self.inside.seat.token.me.0 in let inv = c.self.invariant.0 in
+    subst (λ (r : Locked g.row.D.Denot). BeginsIn shown r.twin.phase r.twin.order (plan_of r.view).main r.twin.device) c.self.view_is
+    (begins_in shown c.self.inside.twin (plan_of v).main inv.rests c.phase.ensures.images inv.committed_is inv.failed)
+
+pub returns-then-place-eq-LAST_COUNT-clause-began : goal.returns-then-place-eq-LAST_COUNT-clause-began
+returns-then-place-eq-LAST_COUNT-clause-began g c = let shown = g.D.Device.shown in let v : View = c.self.inside.seat.token.me.0 in let inv = c.self.invariant.0 in
+    subst (λ (r : Locked g.row.D.Denot). BeginsIn shown r.twin.phase r.twin.order (plan_of r.view).main r.twin.device) c.self.view_is
+    (begins_in shown c.self.inside.twin (plan_of v).main inv.rests c.phase.ensures.images inv.committed_is inv.failed)
+
+pub returns-then-ne-clause-began : goal.returns-then-ne-clause-began
+returns-then-ne-clause-began g c = let shown = g.D.Device.shown in let v : View = c.self.inside.seat.token.me.0 in let inv = c.self.invariant.0 in
+    subst (λ (r : Locked g.row.D.Denot). BeginsIn shown r.twin.phase r.twin.order (plan_of r.view).main r.twin.device) c.self.view_is
+    (begins_in shown c.self.inside.twin (plan_of v).main inv.rests c.phase.ensures.images inv.committed_is inv.failed)
+
+pub returns-clause-began : goal.returns-clause-began
+returns-clause-began g c = let shown = g.D.Device.shown in let v : View = c.self.inside.seat.token.me.0 in let inv = c.self.invariant.0 in
+    subst (λ (r : Locked g.row.D.Denot). BeginsIn shown r.twin.phase r.twin.order (plan_of r.view).main r.twin.device) c.self.view_is
+    (begins_in shown c.self.inside.twin (plan_of v).main inv.rests c.phase.ensures.images inv.committed_is inv.failed)
 
 pub returns-clause-unwaited : goal.returns-clause-unwaited
 returns-clause-unwaited g c none = let done : c.of-2.result.done ≡ c.load_main.result - c.load_main-place.result = ap (λ (r : Passed). r.done) c.of-2.ensures.is in absurd (omega (arith, none, done, some_done g c))
