@@ -1,5 +1,5 @@
 -- What of a device's calls the opening of its heap comes to at most, and the making of one.
-use Rattle.std.specs.Prelude.{◌≡◌, ◌⊎◌, ℕ, ◌+◌, ◌*◌, ◌≤◌, slice_index, Err, IsTrue}
+use Rattle.std.specs.Prelude.{◌≡◌, ◌⊎◌, ℕ, ◌+◌, ◌*◌, ◌≤◌, List, slice_index, Err, IsTrue}
 use Rattle.rom_model.specs.Blocks.{IsOrder, region_len}
 use Rattle.rom_model.specs.Faults.{StopsAtFault}
 use Rattle.rom_device.specs.Device.{ShownDevice, Does, Makes, Stays}
@@ -7,6 +7,7 @@ use Rattle.rom_header.specs.Calls.{format_fault, format_reads, format_syncs, for
 use Rattle.rom_header.specs.Headers.{IsIdle}
 use Rattle.rom_header.specs.Layout.{STATE, words_needed}
 use Rattle.rom_recover.specs.Calls.{CallsWithin}
+use Rattle.rom_open.specs.AtRest.{IsAtRest}
 use Rattle.rom_open.specs.Calls.{opening_reads, opening_syncs, opening_writes}
 use Rattle.rom_open.specs.Refusals.{named_order}
 use Rattle.rom_open.specs.declared.new_heap.NotFormatted.{NotFormatted}
@@ -42,16 +43,22 @@ module _ {D : Type 0} (shown : ShownDevice D) where
     pub calls : CallsOfMaking order was now
     pub stops : StopsAtFault (shown.faults was) (shown.faults now) (shown.failing now)
 
-  -- Since this device a heap of this order was opened once at most, and no call failed.
+  -- Where the words are told, they are a heap of this order at rest: under IDLE, with both regions the same.
+  abbrev pub LiesAtRest : ℕ → D → Type 0
+  LiesAtRest order now = IsTrue shown.tells_words → (image : List ℕ) × IsAtRest order image (shown.words now)
+
+  -- Since this device a heap of this order was opened once at most, and no call failed; and it is at rest.
   pub record HasOpened (order : ℕ) (was now : D) : Type 0 where
     pub calls : CallsOfOpening was now
     pub by_order : CallsOfOrder order was now
     pub faults : shown.faults now ≡ shown.faults was
+    pub rest : LiesAtRest order now
 
   -- A heap of this order was made once at most, likewise.
   pub record HasMadeHeap (order : ℕ) (was now : D) : Type 0 where
     pub calls : CallsOfMaking order was now
     pub faults : shown.faults now ≡ shown.faults was
+    pub rest : LiesAtRest order now
 
 -- The calls where no heap was made, by the reason: those of the making that was refused so, and none for want of memory.
 abbrev pub MakesNone : {D : Type 0} → ShownDevice D → ℕ → NotFormatted → D → D → Type 0

@@ -10,9 +10,8 @@ use Rattle.rom_header.specs.Layout.{words_needed}
 use Rattle.rom_recover.specs.Recovered.{Mended}
 use Rattle.rom_text.specs.Runs.{IsTold}
 use Rattle.rom_text.specs.Streams.{ShownSink}
-use Rattle.rom_open.specs.AtRest.{IsAtRest}
 use Rattle.rom_open.specs.Refusals.{named_order}
-use Rattle.rom_open.specs.Within.{CallsOfOrder, WithinOpening}
+use Rattle.rom_open.specs.Within.{CallsOfOrder, LiesAtRest, WithinOpening}
 use Rattle.rom_store.specs.Sessions.{EachStory, HasStory, SessionSeen}
 use Rattle.rom_run.specs.Keeping.{CountsFaults, HasDeviceFailed, IsCalledWithin, IsHeapRefused, IsHeldNow, IsKept, IsLeft, IsLeftBySession, IsMade, IsOpening, IsSpared, IsUncalled, IsUpgraded}
 use Rattle.rom_run.specs.Use.{Makes, Plays, Shows, Upgrades, Use}
@@ -54,7 +53,7 @@ module _ {S C Q R A : Type 0} (machine : Machine S C Q R A) (Contents : ℕ → 
 -- A heap that is only shown is as it was: its words hold what the story begins with, under IDLE and in both regions; whatever a stop leaves, the same region counts as before; and the device was called no more often than to open it, by the words and by the order.
 pub record IsAsBefore {S D : Type 0} (Contents : ℕ → List ℕ → S → ℕ → Type 0) (shown : ShownDevice D) (was now : D) (story : Story S) : Type 0 where
   pub held : IsTrue shown.tells_words → Holds Contents story.order (shown.words now) story.opening story.opening_count
-  pub at_rest : IsTrue shown.tells_words → (image : List ℕ) × IsAtRest story.order image (shown.words now)
+  pub at_rest : LiesAtRest shown story.order now
   pub at_end : IsTrue shown.tells_images → (i : List ℕ) → shown.leaves now i → Holds Contents story.order i story.opening story.opening_count
   pub calls : WithinOpening shown was now
   pub by_order : CallsOfOrder shown story.order was now

@@ -8,7 +8,8 @@ use Rattle.rom_model.specs.declared.line.LineResult.{LineResult}
 use Rattle.rom_model.specs.declared.line.Step.{Step}
 use Rattle.rom_device.specs.Device.{ShownDevice}
 use Rattle.rom_recover.specs.Calls.{CallsWithin}
-use Rattle.rom_open.specs.Within.{CallsOfOrder, HasMadeHeap, HasOpened, WithinMaking, WithinOpening}
+use Rattle.rom_open.specs.AtRest.{IsAtRest}
+use Rattle.rom_open.specs.Within.{CallsOfOrder, HasMadeHeap, HasOpened, LiesAtRest, WithinMaking, WithinOpening}
 use Rattle.rom_store.specs.Closing.{ClosedSeen}
 use Rattle.rom_store.specs.Playing.{IsSession}
 use Rattle.rom_store.specs.Start.{HasStarted, start_of}
@@ -23,19 +24,25 @@ module _ {D : Type 0} (shown : ShownDevice D) where
     most_syncs = subst (λ (n : ℕ). AtMost syncs (shown.syncs was) n) (sym same.syncs) within.most_syncs;
   }
 
+  -- and it is at rest as it was then
+  rest_stays : (order faults : ℕ) (at d : D) → HasStarted shown faults (start_of shown at) d → LiesAtRest shown order at → LiesAtRest shown order d
+  rest_stays order faults at d same rests told = let is = rests told in (is.0, subst (λ (words : List ℕ). IsAtRest order is.0 words) (sym same.words) is.1)
+
   -- where the heap was opened by then
-  pub opened_first : (order : ℕ) (was at d : D) (faults : ℕ) → WithinOpening shown was at → CallsOfOrder shown order was at → faults ≡ shown.faults was → HasStarted shown faults (start_of shown at) d → HasOpened shown order was d
-  opened_first order was at d faults within by_order as_often same = record {
+  pub opened_first : (order : ℕ) (was at d : D) (faults : ℕ) → WithinOpening shown was at → CallsOfOrder shown order was at → faults ≡ shown.faults was → LiesAtRest shown order at → HasStarted shown faults (start_of shown at) d → HasOpened shown order was d
+  opened_first order was at d faults within by_order as_often rests same = record {
     calls = λ told. calls_stay _ _ _ faults was at d same (within.calls told);
     by_order = calls_stay _ _ _ faults was at d same by_order;
     faults = same.faults_are ∙ as_often;
+    rest = rest_stays order faults at d same rests;
   }
 
   -- where it was made
-  pub made_first : (order : ℕ) (was at d : D) (faults : ℕ) → WithinMaking shown order was at → faults ≡ shown.faults was → HasStarted shown faults (start_of shown at) d → HasMadeHeap shown order was d
-  made_first order was at d faults within as_often same = record {
+  pub made_first : (order : ℕ) (was at d : D) (faults : ℕ) → WithinMaking shown order was at → faults ≡ shown.faults was → LiesAtRest shown order at → HasStarted shown faults (start_of shown at) d → HasMadeHeap shown order was d
+  made_first order was at d faults within as_often rests same = record {
     calls = calls_stay _ _ _ faults was at d same within.calls;
     faults = same.faults_are ∙ as_often;
+    rest = rest_stays order faults at d same rests;
   }
 
 -- what is known of the device before the passes of a session

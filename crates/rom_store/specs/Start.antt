@@ -23,9 +23,10 @@ module _ {D : Type 0} (shown : ShownDevice D) where
     syncs = shown.syncs device;
   }
 
-  -- A device that has failed so often, and whose counts of calls are those of that start.
+  -- A device that has failed so often, and whose words and counts of calls are those of that start.
   pub record HasStarted (faults : ℕ) (start : Start) (device : D) : Type 0 where
     pub faults_are : shown.faults device ≡ faults
+    pub words : shown.words device ≡ start.words
     pub reads : shown.reads device ≡ start.reads
     pub writes : shown.writes device ≡ start.writes
     pub syncs : shown.syncs device ≡ start.syncs

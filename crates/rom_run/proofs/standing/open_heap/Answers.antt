@@ -7,7 +7,7 @@ use Rattle.rom_combine.specs.Session.{SessionImage}
 use Rattle.rom_header.specs.Layout.{words_needed}
 use Rattle.rom_open.specs.AtRest.{IsAtRest}
 use Rattle.rom_open.specs.Refusals.{named_order}
-use Rattle.rom_open.specs.Within.{CallsOfOrder, HasOpened}
+use Rattle.rom_open.specs.Within.{CallsOfOrder, HasOpened, LiesAtRest}
 use Rattle.rom_store.specs.Sessions.{IsStoryOf, unchanged}
 use Rattle.rom_store.proofs.Tracing.{went_none}
 use Rattle.rom_run.proofs.Lawful.{nothing_done}
@@ -58,8 +58,10 @@ returns-in-Ok-clause-session g c =
             record {
               before = omega (arith, of.faults_is, c.fault_count-faults.ensures, same);
               after = omega (arith, none, of.faults_is, c.fault_count-faults.ensures);
-              went = went_none shown o.Contents (on_words o.machine) story (HasOpened shown story.order was) heap.device of.records
-                  (record { calls = c.in-Ok.ensures.within.calls; by_order = subst (λ (n : ℕ). CallsOfOrder shown n was heap.device) (sym of.order_is) c.in-Ok.ensures.by_order; faults = same });
+              went =
+                  let rests : LiesAtRest shown story.order heap.device = λ told. (heap.image.items, subst (λ (n : ℕ). IsAtRest n heap.image.items (shown.words heap.device)) (sym of.order_is) (c.in-Ok.ensures.rest told)) in
+                  went_none shown o.Contents (on_words o.machine) story (HasOpened shown story.order was) heap.device of.records
+                  (record { calls = c.in-Ok.ensures.within.calls; by_order = subst (λ (n : ℕ). CallsOfOrder shown n was heap.device) (sym of.order_is) c.in-Ok.ensures.by_order; faults = same; rest = rests });
             };
       };
       told = λ story of. nothing_done o.machine story of.history of.records of.in_doubt

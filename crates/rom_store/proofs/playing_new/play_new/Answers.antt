@@ -5,7 +5,8 @@ use Rattle.rom_combine.specs.Costs.{WithinHeap}
 use Rattle.rom_combine.specs.Session.{SessionImage}
 use Rattle.rom_device.specs.Device.{Leaves}
 use Rattle.rom_model.specs.Machine.{on_words}
-use Rattle.rom_open.specs.Within.{WithinMaking}
+use Rattle.rom_header.specs.Fresh.{IsNew}
+use Rattle.rom_open.specs.Within.{LiesAtRest, WithinMaking}
 use Rattle.rom_model.specs.VecSpace.{words_of}
 use Rattle.rom_rule.specs.Views.{base_of}
 use Rattle.rom_store.specs.Openings.{Started}
@@ -37,8 +38,13 @@ returns-clause-session g c =
     let opening = c.of-opening.result in
     let base_is = (λ j. base_of (c.of-opening.ensures.opening j).key) ∙ c.in-Ok.ensures.base in
     let within = subst (λ d. WithinMaking shown c.args.order c.args.device d) (λ j. (sym c.of-opening.ensures.opening j).device) c.write_heap.ensures.within in
+    let region : List ℕ = words_of c.in-Ok.made.region in
+    let rests : LiesAtRest shown c.args.order c.write_heap.new.device = λ told.
+    let made = c.write_heap.ensures.made told in
+    let new : IsNew c.args.order region (shown.words c.write_heap.new.device) = search rules in
+    (region, record { heap = new.heap; idle = new.idle; main_is = new.main_is; back_is = new.back_is }) in
     session_since shown g.O.Object.machine g.O.Object.Contents c.args.scripts.now c.play_on.result.results.items _ _ c.play_on.result.closed
-    (λ d same. made_first shown c.args.order c.args.device opening.device d (base_of opening.key).faults within ((λ j. (base_is j).faults) ∙ c.fault_count.ensures) same) c.play_on.ensures.played.session
+    (λ d same. made_first shown c.args.order c.args.device opening.device d (base_of opening.key).faults within ((λ j. (base_is j).faults) ∙ c.fault_count.ensures) (subst (λ d. LiesAtRest shown c.args.order d) (λ j. (sym c.of-opening.ensures.opening j).device) rests) same) c.play_on.ensures.played.session
 
 pub returns-clause-order : goal.returns-clause-order
 returns-clause-order g c = c.play_on.ensures.played.order ∙ (λ j. (base_of (c.of-opening.ensures.opening j).key).order) ∙ (λ j. (c.in-Ok.ensures.base j).order)
