@@ -11,7 +11,7 @@ use Rattle.rom_header.specs.declared.fresh.FormatRefused.{FormatRefused}
 use Rattle.rom_header.specs.declared.fresh.FormatRefused.TheVariants as format
 use Rattle.rom_text.specs.Runs.{IsTold}
 use Rattle.rom_text.specs.Streams.{ShownSink}
-use Rattle.rom_open.specs.Calls.{Calls, HasFaults}
+use Rattle.rom_open.specs.Calls.{AreSyncs, AreWrites, Calls, HasFaults}
 use Rattle.rom_open.specs.Making.{HasFaultsUnmade, IfMade, NamesTooFewFor}
 use Rattle.rom_open.specs.declared.new_heap.NotFormatted.{NotFormatted}
 use Rattle.rom_open.specs.declared.new_heap.NotFormatted.TheVariants as unmade
@@ -19,6 +19,7 @@ use Rattle.rom_open.specs.declared.reasons.Why.{Why}
 use Rattle.rom_open.specs.declared.reasons.Why.TheVariants.{Device, OutOfMemory}
 use Rattle.rom_open.specs.Refusals.{IsRefusal, NamesTooFew}
 use Rattle.rom_open.specs.Within.{MakesNone, WithinMaking, WithinOpening}
+use Rattle.rom_upgrade.specs.Calls as upgrade
 use Rattle.rom_upgrade.specs.Calls.{HasUpgradeFaults, UpgradeCalls, WithinUpgrade}
 use Rattle.rom_upgrade.specs.Upgrading.{IsUpgradeRefusal}
 use Rattle.rom_run.specs.Keeping.{HasDeviceFailed, IsLeft, IsUnmade}
@@ -27,6 +28,22 @@ use Rattle.rom_run.specs.Statuses.{number_of}
 use Rattle.rom_run.specs.Working.{HasNone}
 use Rattle.rom_run.specs.declared.heap.Heap.TheVariants.{New, Standing, Upgraded}
 use Rattle.rom_run.specs.declared.status.Status.TheVariants.{DeviceFailed, HeapRefused, NoMemory}
+
+-- an upgrade that is refused by name made the calls of an opening that is refused so
+named_writes : (order state : ℕ) (why : Why) (before now : ℕ) → refusal_status why ≡ HeapRefused → upgrade.AreWrites {T = Unit {0}} order state (Err why) before now → AreWrites {T = Unit {0}} order state (Err why) before now
+named_writes order state Device before now named writes = let no : 7 ≡ 3 = ap number_of named in absurd (omega (arith, no))
+named_writes order state other before now named writes = writes
+
+named_syncs : (state : ℕ) (why : Why) (before now : ℕ) → refusal_status why ≡ HeapRefused → upgrade.AreSyncs {T = Unit {0}} state (Err why) before now → AreSyncs {T = Unit {0}} state (Err why) before now
+named_syncs state Device before now named syncs = let no : 7 ≡ 3 = ap number_of named in absurd (omega (arith, no))
+named_syncs state other before now named syncs = syncs
+
+named_calls : {D : Type 0} (shown : ShownDevice D) (words : List ℕ) (was now : D) (why : Why) → refusal_status why ≡ HeapRefused → UpgradeCalls {T = Unit {0}} shown words was now (Err why) → Calls {T = Unit {0}} shown words was now (Err why)
+named_calls shown words was now why named calls = record {
+  reads = calls.reads;
+  writes = named_writes _ _ why _ _ named calls.writes;
+  syncs = named_syncs _ why _ _ named calls.syncs;
+}
 
 module _ {D O : Type 0} (shown : ShownDevice D) (sink : ShownSink O) (was now : D) (old new : O) where
   -- a device that failed while its heap was opened
@@ -146,7 +163,7 @@ module _ {S C Q R A D K : Type 0} (machine : Machine S C Q R A) (Contents : ℕ 
       by_name why named three answer sizes calls faults told images = record {
         images = images;
         calls = within;
-        heap_refused = λ is. record { why = why; by_name = named; refused = answer; sizes = sizes; calls = calls; faults = faults; told = told };
+        heap_refused = λ is. record { why = why; by_name = named; refused = answer; sizes = sizes; calls = calls; within = within; images = images; faults = faults; told = told };
         device_failed = λ seven. absurd (omega (arith, three, seven));
         unfailed = λ six. absurd (omega (arith, three, six));
         uncalled = λ six. tt;
@@ -167,7 +184,7 @@ module _ {S C Q R A D K : Type 0} (machine : Machine S C Q R A) (Contents : ℕ 
       by_name = named why three;
       refused = answer;
       sizes = sizes;
-      calls = calls;
+      calls = λ tells. named_calls shown (shown.words was) was now why (named why three) (calls tells);
       within = opened (unfailed 3 why three (λ is. omega (arith, is)));
       images = λ tells. left tells (unfailed 3 why three (λ is. omega (arith, is)));
       faults = faults;

@@ -24,7 +24,7 @@ use Rattle.rom_open.specs.Within.{HasMadeHeap, HasOpened, MakesNone, WithinMakin
 use Rattle.rom_store.specs.Traced.{WentThrough}
 use Rattle.rom_open.specs.declared.new_heap.NotFormatted.TheVariants.{Refused}
 use Rattle.rom_open.specs.declared.reasons.Why.{Why}
-use Rattle.rom_upgrade.specs.Calls.{HasUpgradeFaults, UpgradeCalls, WithinUpgrade}
+use Rattle.rom_upgrade.specs.Calls.{WithinUpgrade}
 use Rattle.rom_upgrade.specs.Upgrading.{IsUpgradeRefusal, UpgradeImage}
 use Rattle.rom_run.specs.Refusing.{refusal_line, refusal_status, unmade_line, unmade_status}
 use Rattle.rom_run.specs.declared.heap.Heap.{Heap}
@@ -127,31 +127,21 @@ module _ {D K : Type 0} (shown : ShownDevice D) (sink : ShownSink K) where
     pub failed : FailedLast (shown.faults was) (shown.faults now) (shown.failing now)
     pub told : IsTold sink old new (codes "device failed")
 
+  -- The heap isn't opened, to be worked on or to be upgraded, likewise: it is as an opening that is refused so leaves it, with no call more.
+  pub record IsUnopened (Refuses : List ℕ → Why → Type 0) (was now : D) (old new : K) : Type 0 where
+    pub why : Why
+    pub by_name : refusal_status why ≡ HeapRefused
+    pub refused : IsTrue shown.tells_words → Refuses (shown.words was) why
+    pub sizes : NamesTooFew (shown.size was) why
+    pub calls : IsTrue shown.tells_words → Calls {T = Unit {0}} shown (shown.words was) was now (Err why)
+    pub within : WithinOpening shown was now
+    pub images : IsTrue shown.tells_images → Leaves shown (Mended (named_order (shown.words was)) (shown.words was)) was now
+    pub faults : HasFaults {T = Unit {0}} (Err why) (shown.faults was) (shown.faults now) (shown.failing now)
+    pub told : IsTold sink old new (refusal_line why)
+
   module _ {S : Type 0} (Contents : ℕ → List ℕ → S → ℕ → Type 0) (Rejects : ℕ → List ℕ → Unfit → Type 0) (earlier : Earlier S) where
-    -- The heap isn't opened, likewise.
-    pub record IsUnopened (was now : D) (old new : K) : Type 0 where
-      pub why : Why
-      pub by_name : refusal_status why ≡ HeapRefused
-      pub refused : IsTrue shown.tells_words → IsRefusal Contents Rejects (shown.words was) why
-      pub sizes : NamesTooFew (shown.size was) why
-      pub calls : IsTrue shown.tells_words → Calls {T = Unit {0}} shown (shown.words was) was now (Err why)
-      pub faults : HasFaults {T = Unit {0}} (Err why) (shown.faults was) (shown.faults now) (shown.failing now)
-      pub told : IsTold sink old new (refusal_line why)
-
-    -- The heap isn't upgraded, likewise, by what the version before says of the region that counts. It is as an opening leaves it, with no call more.
-    pub record IsNotUpgraded (was now : D) (old new : K) : Type 0 where
-      pub why : Why
-      pub by_name : refusal_status why ≡ HeapRefused
-      pub refused : IsTrue shown.tells_words → IsUpgradeRefusal earlier (shown.words was) why
-      pub sizes : NamesTooFew (shown.size was) why
-      pub calls : IsTrue shown.tells_words → UpgradeCalls {T = Unit {0}} shown (shown.words was) was now (Err why)
-      pub within : WithinOpening shown was now
-      pub images : IsTrue shown.tells_images → Leaves shown (Mended (named_order (shown.words was)) (shown.words was)) was now
-      pub faults : HasUpgradeFaults {T = Unit {0}} (Err why) (shown.faults was) (shown.faults now) (shown.failing now)
-      pub told : IsTold sink old new (refusal_line why)
-
-    -- why a heap is refused by name
+    -- why a heap is refused by name: one that is upgraded by what the version before says of the region that counts
     abbrev pub IsHeapRefused : Heap → D → D → K → K → Type 0
     IsHeapRefused (New order) was now old new = IsUnmade order was now old new
-    IsHeapRefused Standing was now old new = IsUnopened was now old new
-    IsHeapRefused Upgraded was now old new = IsNotUpgraded was now old new
+    IsHeapRefused Standing was now old new = IsUnopened (IsRefusal Contents Rejects) was now old new
+    IsHeapRefused Upgraded was now old new = IsUnopened (IsUpgradeRefusal earlier) was now old new
