@@ -19,21 +19,24 @@ use Rattle.rom_run.specs.Working.{HasMade, HasNone, HasSession, IsDeviceKept, Is
 -- of a program's object, device, sources and sink; which scripts it plays, and what it prints of their results
 module _ {S C Q R A D X K : Type 0} (machine : Machine S C Q R A) (Contents : ℕ → List ℕ → S → ℕ → Type 0) (Rejects : ℕ → List ℕ → Unfit → Type 0) (earlier : Earlier S) (shown : ShownDevice D) (source : ShownSource X) (sink : ShownSink K)
     (AreRun : List X → List (List (Step C Q)) → Type 0) (Prints : Story S → List (List (LineResult R A)) → K → K → ℕ → Type 0) where
+  -- What follows from the promises below, where the status printed is that of the results (`Completing.antt`): whoever reads those need not read these.
+  pub record Corollaries (asked : Option Use) (was now : D) (sources left : Vec X) (old new : K) (status : ℕ) (session : Option SessionSeen) : Type 0 where
+    -- how a command ends where it can begin and nothing fails
+    pub complete : IsComplete shown source sink was now sources.items left.items old new AreRun Contents earlier asked status
+    -- that the status is 3 exactly where the heap is refused by name
+    pub refused : IsRefusedExactly Contents Rejects earlier shown was now asked status
+    -- and that no more lines of a caller tell of a fault than the device counted
+    pub few_faults : IfSome session (λ s. EachStory machine Contents s (HasFewFaults machine shown was now))
+
   -- A command that asks for this use of the device's heap, or words that are none: whatever becomes of it, it ends so and prints so.
   pub record Promise (asked : Option Use) (was now : D) (sources left : Vec X) (old new : K) (status : ℕ) (session : Option SessionSeen) : Type 0 where
     -- the status, and where a session is left
     pub statuses : IsStatus asked status
     pub ran : HasRun asked status → IsSome session
     pub not_run : HasNotRun asked status → IsNone session
-    -- and which it is where the command can begin and nothing fails
-    pub complete : IsComplete shown source sink was now sources.items left.items old new AreRun Contents earlier asked status
-    -- and that it is 3 exactly where the heap is refused by name
-    pub refused : IsRefusedExactly Contents Rejects earlier shown was now asked status
     -- where scripts were run or a heap was shown, the results of one history are printed, and what a stop leaves is told by it
     pub story : IfSome asked (λ does. IfSome session (HasSession machine Contents shown (heap_of does) was now (HasReplies machine AreRun Prints sources.items old new status)))
     pub still : IfSome session (λ s. EachStory machine Contents s (IsStill Contents shown asked was now))
-    -- and no more lines of a caller tell of a fault than the device counted
-    pub few_faults : IfSome session (λ s. EachStory machine Contents s (HasFewFaults machine shown was now))
     -- else what a stop may leave, and why scripts were not run, or a heap not shown or not upgraded
     pub none : IfSome asked (λ does. IsNone session → HasNone machine Contents shown sink Rejects earlier (heap_of does) was now old new status)
     pub made : status ≡ 0 → HasMade machine Contents earlier shown sink asked was now old new
@@ -57,3 +60,5 @@ module _ {S C Q R A D X K : Type 0} (machine : Machine S C Q R A) (Contents : �
     pub sink_failed : status ≡ 5 → WriteFailed sink old new
     pub writing : StopsWriting sink old new
     pub rest : sink.rest new ≡ sink.rest old
+    -- and what follows from all this
+    pub corollaries : Corollaries asked was now sources left old new status session

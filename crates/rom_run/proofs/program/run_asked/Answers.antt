@@ -45,11 +45,8 @@ returns g c =
         statuses = is.statuses;
         ran = is.ran;
         not_run = is.not_run;
-        complete = both.0;
-        refused = both.1;
         story = is.story;
         still = is.still;
-        few_faults = few_faults o.machine o.Contents g.D.Device.shown c.args.device ended.device _ (use_of c.args.asked) ended.status ended.session is.not_run is.story;
         none = is.none;
         made = is.made;
         kept = is.kept;
@@ -69,5 +66,10 @@ returns g c =
         sink_failed = is.sink_failed;
         writing = is.writing;
         rest = is.rest;
+        corollaries = record {
+          complete = both.0;
+          refused = both.1;
+          few_faults = few_faults o.machine o.Contents g.D.Device.shown c.args.device ended.device _ (use_of c.args.asked) ended.status ended.session is.not_run is.story;
+        };
       };
     }

@@ -37,11 +37,8 @@ returns-clause-promise g c =
       statuses = is.statuses;
       ran = is.ran;
       not_run = is.not_run;
-      complete = both.0;
-      refused = both.1;
       story = is.story;
       still = is.still;
-      few_faults = few_faults trio Contents shown c.args.device ended.device _ (use_of asked) ended.status ended.session is.not_run is.story;
       none = is.none;
       made = is.made;
       kept = is.kept;
@@ -61,6 +58,11 @@ returns-clause-promise g c =
       sink_failed = is.sink_failed;
       writing = is.writing;
       rest = is.rest;
+      corollaries = record {
+        complete = both.0;
+        refused = both.1;
+        few_faults = few_faults trio Contents shown c.args.device ended.device _ (use_of asked) ended.status ended.session is.not_run is.story;
+      };
     }
 
 pub returns-clause-determined : goal.returns-clause-determined
