@@ -1,7 +1,8 @@
 //! A medium whose words are read ahead, and gathered before they are handed over.
-ghost use Rattle.std.specs.Prelude.{◌≡◌, ◌≢◌, ◌⊎◌, ◌+◌, ◌-◌, ◌*◌, ◌<◌, ◌≤◌, ◌^◌, ℕ, length, not, slice_index, Some, None, IfSome, IsTrue, IsFalse};
+ghost use Rattle.std.specs.Prelude.{◌≡◌, ◌≢◌, ◌⊎◌, ◌+◌, ◌-◌, ◌*◌, ◌<◌, ◌≤◌, ◌^◌, ℕ, Bool, length, not, slice_index, Some, None, IfSome, IsTrue, IsFalse};
 ghost use Rattle.std.specs.Bool.{OnTrue, OnFalse};
-ghost use Rattle.rom_device.specs.Run.{word_of, with_run};
+ghost use Rattle.rom_device.specs.Medium.{HandsOver};
+ghost use Rattle.rom_device.specs.Run.{nth_of, word_of, with_run};
 ghost use Rattle.rom_device.specs.Windows.{word_in, Agrees, IsApart, IsMissed, IsRead, Knows};
 
 use crate::medium::Medium;
@@ -75,6 +76,24 @@ impl<M: Medium> Cached<M> {
             apart: _,
             sync_failed: _,
         } = self;
+        medium
+    }
+
+    /// The medium, to which what waits was handed over, or was tried to be: where that fails, each of these
+    /// words is as it was or as it waited. All that a drop does is done here.
+    fn hand_over(self) -> M
+        ensures hands { (done : Bool) × HandsOver M.shown self.pending.first (nth_of self.pending)
+            self.pending.count self.medium result done }
+    {
+        let Cached {
+            mut medium,
+            len: _,
+            windows: _,
+            pending,
+            apart: _,
+            sync_failed: _,
+        } = self;
+        let _ = pending.write(&mut medium);
         medium
     }
 
@@ -284,16 +303,6 @@ impl<M: Medium> Cached<M> {
 /// Hands over what waits, as far as the medium takes it. No sync has promised it.
 impl<M: Medium> Drop for Cached<M> {
     fn drop(self) {
-        let Cached {
-            mut medium,
-            len: _,
-            windows: _,
-            pending,
-            apart: _,
-            sync_failed: _,
-        } = self;
-        if !pending.is_empty() {
-            let _ = pending.write(&mut medium);
-        }
+        let _medium = self.hand_over();
     }
 }
