@@ -44,6 +44,10 @@ module _ {M : Type 0} {bound : _} where
   abbrev pub IsUncertain : CachedDevice M bound → Type 0
   IsUncertain device = IsTrue (has_waiting device) ⊎ IsTrue (has_failed_sync device)
 
+  -- how often the medium has failed
+  abbrev pub medium_faults : ShownDevice M → CachedDevice M bound → ℕ
+  medium_faults shown device = shown.faults (medium_of device)
+
   -- no call was made of it
   abbrev pub IsUnused : CachedDevice M bound → Type 0
   IsUnused device = (read_count device ≡ 0) × (write_count device ≡ 0) × (sync_count device ≡ 0) × (fault_count_of device ≡ 0) × IsFalse (is_failing device)

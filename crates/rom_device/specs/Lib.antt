@@ -16,3 +16,4 @@ pub mod CachedDevice
 pub mod Page
 pub mod Run
 pub mod Windows
+pub mod FileMedium

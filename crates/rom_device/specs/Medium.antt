@@ -1,6 +1,7 @@
 -- What calls of a medium do to its words, and what a stop may leave of them.
-use Rattle.std.specs.Prelude.{◌≡◌, ℕ, ◌+◌, ◌≤◌, Bool, false, IsTrue, List, [], length}
+use Rattle.std.specs.Prelude.{◌≡◌, ℕ, ◌+◌, ◌≤◌, Bool, false, if◌then◌else◌, IsTrue, List, [], length}
 use Rattle.std.specs.Bool.{OnTrue}
+use Rattle.rom_model.specs.Faults.{counted}
 use Rattle.rom_device.specs.Device.{ShownDevice, After, Does, WritesMany}
 use Rattle.rom_device.specs.Laid.{firsts, laid}
 
@@ -19,9 +20,13 @@ pub record HandsOver {M : Type 0} (shown : ShownDevice M) (at : ℕ) (value : �
   -- and where all were handed over, that with any of them in their places
   pub each : IsTrue shown.tells_images → OnTrue done ((i : List ℕ) → After (WritesMany at (firsts value count)) (shown.leaves old) i → shown.leaves new i)
 
--- what a medium shows that tells nothing
-abbrev pub tells_nothing : {M : Type 0} → ShownDevice M
-tells_nothing = record {
+-- a count of faults stays where a call was done, and else rises by one
+abbrev pub Blames : Bool → ℕ → ℕ → Type 0
+Blames done before now = now ≡ (if done then before else counted before)
+
+-- what a medium shows that tells nothing but how often it failed
+abbrev pub tells_faults : {M : Type 0} → (M → ℕ) → ShownDevice M
+tells_faults failed = record {
   size = λ _. 0;
   tells_words = false;
   words = λ _. [];
@@ -32,6 +37,6 @@ tells_nothing = record {
   reads = λ _. 0;
   writes = λ _. 0;
   syncs = λ _. 0;
-  faults = λ _. 0;
+  faults = failed;
   failing = λ _. false;
 }

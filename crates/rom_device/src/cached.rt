@@ -1,7 +1,8 @@
 //! A medium whose words are read ahead, and gathered before they are handed over.
-ghost use Rattle.std.specs.Prelude.{◌≡◌, ◌≢◌, ◌⊎◌, ◌+◌, ◌-◌, ◌*◌, ◌<◌, ◌≤◌, ◌^◌, ℕ, Bool, length, not, slice_index, Some, None, IfSome, IsTrue, IsFalse};
+ghost use Rattle.std.specs.Prelude.{◌≡◌, ◌≢◌, ◌⊎◌, ◌+◌, ◌-◌, ◌*◌, ◌<◌, ◌≤◌, ◌^◌, ℕ, Bool, length, not, slice_index, Some, None, IfSome, is_some, IsTrue, IsFalse};
 ghost use Rattle.std.specs.Bool.{OnTrue, OnFalse};
-ghost use Rattle.rom_device.specs.Medium.{HandsOver};
+ghost use Rattle.rom_model.specs.Faults.{counted};
+ghost use Rattle.rom_device.specs.Medium.{Blames, HandsOver};
 ghost use Rattle.rom_device.specs.Run.{nth_of, word_of, with_run};
 ghost use Rattle.rom_device.specs.Windows.{word_in, Agrees, IsApart, IsMissed, IsRead, Knows};
 
@@ -82,8 +83,10 @@ impl<M: Medium> Cached<M> {
     /// The medium, to which what waits was handed over, or was tried to be: where that fails, each of these
     /// words is as it was or as it waited. All that a drop does is done here.
     fn hand_over(self) -> M
-        ensures hands { (done : Bool) × HandsOver M.shown self.pending.first (nth_of self.pending)
-            self.pending.count self.medium result done }
+        ensures hands { (done : Bool)
+            × HandsOver M.shown self.pending.first (nth_of self.pending) self.pending.count
+            self.medium result done
+            × Blames done (M.shown.faults self.medium) (M.shown.faults result) }
     {
         let Cached {
             mut medium,
@@ -113,6 +116,7 @@ impl<M: Medium> Cached<M> {
         ensures waits { OnFalse result (0 < self.new.pending.count) }
         ensures windows { self.new.windows ≡ self.old.windows }
         ensures only { OnlyReads (shown_by_cached M.shown) self.old self.new }
+        ensures faults { Blames result (M.shown.faults self.old.medium) (M.shown.faults self.new.medium) }
         ensures missing { M.missing self.new.medium ≡ M.missing self.old.medium }
         ensures failed { has_failed_sync self.new ≡ has_failed_sync self.old }
     {
@@ -138,12 +142,17 @@ impl<M: Medium> Cached<M> {
             word ≡ slice_index (with_run self.old.pending (M.shown.words self.old.medium)) at) }
         ensures pending { self.new.pending ≡ self.old.pending }
         ensures only { OnlyReads (shown_by_cached M.shown) self.old self.new }
+        ensures faults { Blames (is_some result) (M.shown.faults self.old.medium)
+            (M.shown.faults self.new.medium) }
         ensures missing { M.missing self.new.medium ≡ M.missing self.old.medium }
         ensures failed { has_failed_sync self.new ≡ has_failed_sync self.old }
     {
         let count = (self.len - at).min(PAGE_WORDS as u64) as usize;
-        self.windows.read(&mut self.medium, at, count);
+        let read = self.windows.read(&mut self.medium, at, count);
         self.apart = self.apart && !self.windows.meet(self.pending.first());
+        if !read {
+            return None;
+        }
         self.windows.get(at)
     }
 
@@ -155,6 +164,7 @@ impl<M: Medium> Cached<M> {
         ensures pending { HandedOver self.old.pending self.new.pending }
         ensures windows { self.new.windows ≡ self.old.windows }
         ensures only { OnlyReads (shown_by_cached M.shown) self.old self.new }
+        ensures faults { Blames result (M.shown.faults self.old.medium) (M.shown.faults self.new.medium) }
         ensures missing { M.missing self.new.medium ≡ M.missing self.old.medium }
         ensures failed { has_failed_sync self.new ≡ has_failed_sync self.old }
     {
@@ -177,6 +187,8 @@ impl<M: Medium> Cached<M> {
         ensures pending { HandedOver self.old.pending self.new.pending }
         ensures none { IsTrue (M.missing self.old.medium) → result ≡ None }
         ensures only { OnlyReads (shown_by_cached M.shown) self.old self.new }
+        ensures faults { IsFalse (M.missing self.old.medium) → Blames (is_some result)
+            (M.shown.faults self.old.medium) (M.shown.faults self.new.medium) }
         ensures missing { M.missing self.new.medium ≡ M.missing self.old.medium }
         ensures failed { has_failed_sync self.new ≡ has_failed_sync self.old }
     {
@@ -206,6 +218,8 @@ impl<M: Medium> Cached<M> {
         ensures pending { HandedOver self.old.pending self.new.pending }
         ensures none { IsTrue (M.missing self.old.medium) → result ≡ None }
         ensures only { OnlyReads (shown_by_cached M.shown) self.old self.new }
+        ensures faults { IsFalse (M.missing self.old.medium) → Blames (is_some result)
+            (M.shown.faults self.old.medium) (M.shown.faults self.new.medium) }
         ensures missing { M.missing self.new.medium ≡ M.missing self.old.medium }
         ensures failed { has_failed_sync self.new ≡ has_failed_sync self.old }
     {
@@ -242,6 +256,10 @@ impl<M: Medium> Cached<M> {
         ensures pending { HandedOver self.old.pending self.new.pending }
         ensures none { IsTrue (M.missing self.old.medium) → result ≡ 0 }
         ensures only { OnlyReads (shown_by_cached M.shown) self.old self.new }
+        ensures all { IsFalse (M.missing self.old.medium) → result ≡ length into.old →
+            M.shown.faults self.new.medium ≡ M.shown.faults self.old.medium }
+        ensures fewer { IsFalse (M.missing self.old.medium) → result < length into.old →
+            M.shown.faults self.new.medium ≡ counted (M.shown.faults self.old.medium) }
         ensures missing { M.missing self.new.medium ≡ M.missing self.old.medium }
         ensures failed { has_failed_sync self.new ≡ has_failed_sync self.old }
     {
@@ -268,6 +286,7 @@ impl<M: Medium> Cached<M> {
         ensures certain { OnTrue result (IsSynced (shown_by_cached M.shown) self.new) }
         ensures does { Does (shown_by_cached M.shown) Stays self.old self.new }
         ensures pending { self.new.pending ≡ self.old.pending }
+        ensures faults { Blames result (M.shown.faults self.old.medium) (M.shown.faults self.new.medium) }
         ensures missing { M.missing self.new.medium ≡ M.missing self.old.medium }
         ensures none { IsTrue (M.missing self.old.medium) → IsFalse result }
         ensures failed { has_failed_sync self.new ≡ not result }
@@ -283,6 +302,8 @@ impl<M: Medium> Cached<M> {
     pub fn sync(&mut self) -> bool
         ensures certain { OnTrue result (IsSynced (shown_by_cached M.shown) self.new) }
         ensures does { Does (shown_by_cached M.shown) Stays self.old self.new }
+        ensures faults { IsFalse (has_failed_sync self.old) → Blames result
+            (M.shown.faults self.old.medium) (M.shown.faults self.new.medium) }
         ensures handed { OnTrue result (self.new.pending.count ≡ 0) }
         ensures missing { M.missing self.new.medium ≡ M.missing self.old.medium }
         ensures none { IsTrue (M.missing self.old.medium) → IsFalse result }

@@ -10,8 +10,9 @@ use crate::medium::Medium;
 ///
 /// Words are read ahead, and written words are gathered before they are handed over. So a write
 /// promises no more than that the word reads so from now on, and a sync alone makes it certain.
-/// Once a sync of the medium has failed, each later sync of the device fails. Where the device is let
-/// go, what waits is handed over, and no sync has promised it.
+/// Once a sync of the medium has failed, each later sync of the device fails. No other call fails, and
+/// no sync before, but where a call of the medium failed in it or there is no medium (clauses `cause`,
+/// `all`, `fewer`). Where the device is let go, what waits is handed over, and no sync has promised it.
 #[derive(Drop)]
 pub struct CachedDevice<M: Medium> {
     words: Cached<M>,
@@ -85,9 +86,11 @@ impl<M: Medium> CachedDevice<M> {
 }
 
 impl<M: Medium> Device for CachedDevice<M> {
-    ghost use Rattle.std.specs.Prelude.{◌⊎◌, ◌+◌, ◌≤◌, ℕ, nat_lt, slice_index, slice_set, IfOk, IsErr, OnOk, OnErr, is_err};
+    ghost use Rattle.std.specs.Prelude.{◌⊎◌, ◌+◌, ◌≤◌, ℕ, nat_lt, slice_index, slice_set, IfOk, IsErr, OnOk, OnErr, is_err, is_ok};
     ghost use Rattle.rom_device.specs.Device.{Counts, Does, IsSynced, Makes, OnlyReads, ReadsUpTo, Stays, Writes, WritesMany, WritingFailed};
-    ghost use Rattle.rom_device.specs.CachedDevice.{length_of, is_failing, medium_of, has_failed_sync, shown_by_device, IsUncertain, Keeps};
+    ghost use Rattle.rom_model.specs.Faults.{counted};
+    ghost use Rattle.rom_device.specs.Medium.{Blames};
+    ghost use Rattle.rom_device.specs.CachedDevice.{length_of, is_failing, medium_faults, medium_of, has_failed_sync, shown_by_device, IsUncertain, Keeps};
     ghost use Rattle.std.proofs.Common.{arith};
 
     ghost shown = { shown_by_device M.shown };
@@ -108,6 +111,8 @@ impl<M: Medium> Device for CachedDevice<M> {
         ensures only { OnlyReads (shown_by_device M.shown) self.old self.new }
         ensures counts { Counts (shown_by_device M.shown) 1 0 0 self.old self.new result }
         ensures keeps { Keeps M.missing (IsErr result) self.old self.new }
+        ensures cause { IsFalse (M.missing (medium_of self.old)) → Blames (is_ok result)
+            (medium_faults M.shown self.old) (medium_faults M.shown self.new) }
     {
         self.reads = self.reads.saturating_add(1);
         let Some(word) = self.words.find(at) else {
@@ -130,6 +135,10 @@ impl<M: Medium> Device for CachedDevice<M> {
             is_failing self.new ≡ nat_lt result (length into.old) }
         ensures none { length into.old ≡ 0 → self.new ≡ self.old }
         ensures keeps { Keeps M.missing (result ≡ 0) self.old self.new }
+        ensures all { IsFalse (M.missing (medium_of self.old)) → result ≡ length into.old →
+            medium_faults M.shown self.new ≡ medium_faults M.shown self.old }
+        ensures fewer { IsFalse (M.missing (medium_of self.old)) → result < length into.old →
+            medium_faults M.shown self.new ≡ counted (medium_faults M.shown self.old) }
     {
         if into.is_empty() {
             return 0;
@@ -154,6 +163,8 @@ impl<M: Medium> Device for CachedDevice<M> {
         ensures does { Does (shown_by_device M.shown) (Writes at value) self.old self.new }
         ensures counts { Counts (shown_by_device M.shown) 0 1 0 self.old self.new result }
         ensures keeps { Keeps M.missing (IsErr result) self.old self.new }
+        ensures cause { IsFalse (M.missing (medium_of self.old)) → Blames (is_ok result)
+            (medium_faults M.shown self.old) (medium_faults M.shown self.new) }
     {
         self.writes = self.writes.saturating_add(1);
         if !self.words.keep(at, value) {
@@ -177,6 +188,8 @@ impl<M: Medium> Device for CachedDevice<M> {
         ensures failing { 0 < length values.now → is_failing self.new ≡ is_err result }
         ensures none { length values.now ≡ 0 → self.new ≡ self.old }
         ensures keeps { Keeps M.missing (0 < length values.now → IsErr result) self.old self.new }
+        ensures cause { IsFalse (M.missing (medium_of self.old)) → Blames (is_ok result)
+            (medium_faults M.shown self.old) (medium_faults M.shown self.new) }
     {
         if values.is_empty() {
             return Ok(());
@@ -202,6 +215,8 @@ impl<M: Medium> Device for CachedDevice<M> {
             IsTrue (has_failed_sync self.new) }
         ensures synced { OnOk result (IsFalse (has_failed_sync self.new)) }
         ensures noted { OnErr result (IsUncertain self.new) }
+        ensures cause { IsFalse (has_failed_sync self.old) → Blames (is_ok result)
+            (medium_faults M.shown self.old) (medium_faults M.shown self.new) }
     {
         self.syncs = self.syncs.saturating_add(1);
         if !self.words.sync() {

@@ -1,6 +1,8 @@
 //! Written words that wait until they are handed over.
 ghost use Rattle.std.specs.Prelude.{◌≡◌, ◌≢◌, ◌+◌, ◌-◌, ◌<◌, ◌≤◌, ℕ, length, slice_index, slice_set, Some, None, IfSome, IsTrue, IsFalse};
 ghost use Rattle.std.specs.Bool.{OnTrue, OnFalse};
+ghost use Rattle.rom_model.specs.Faults.{counted};
+ghost use Rattle.rom_device.specs.Medium.{Blames};
 ghost use Rattle.rom_device.specs.Run.{word_of, with_run, Follows};
 ghost use Rattle.rom_device.specs.Windows.{word_in, PutsMany};
 
@@ -19,6 +21,7 @@ impl<M: Medium> Cached<M> {
             word_of self.new.pending b ≡ None }
         ensures kept { OnFalse result (self.new.pending ≡ self.old.pending) }
         ensures windows { self.new.windows ≡ self.old.windows }
+        ensures faults { Blames result (M.shown.faults self.old.medium) (M.shown.faults self.new.medium) }
         ensures only { OnlyReads (shown_by_cached M.shown) self.old self.new }
         ensures missing { M.missing self.new.medium ≡ M.missing self.old.medium }
         ensures failed { has_failed_sync self.new ≡ has_failed_sync self.old }
@@ -54,6 +57,7 @@ impl<M: Medium> Cached<M> {
             with_run self.new.pending (M.shown.words self.new.medium)
             ≡ slice_set (with_run self.old.pending (M.shown.words self.old.medium)) at value }
         ensures does { Does (shown_by_cached M.shown) (Writes at value) self.old self.new }
+        ensures faults { M.shown.faults self.new.medium ≡ M.shown.faults self.old.medium }
         ensures missing { M.missing self.new.medium ≡ M.missing self.old.medium }
         ensures failed { has_failed_sync self.new ≡ has_failed_sync self.old }
     {
@@ -79,6 +83,8 @@ impl<M: Medium> Cached<M> {
         ensures kept { OnFalse result (self.new.pending ≡ self.old.pending) }
         ensures stays { OnFalse result (self.new.windows ≡ self.old.windows) }
         ensures none { IsTrue (M.missing self.old.medium) → IsFalse result }
+        ensures faults { IsFalse (M.missing self.old.medium) → Blames result
+            (M.shown.faults self.old.medium) (M.shown.faults self.new.medium) }
         ensures missing { M.missing self.new.medium ≡ M.missing self.old.medium }
         ensures failed { has_failed_sync self.new ≡ has_failed_sync self.old }
     {
@@ -103,6 +109,7 @@ impl<M: Medium> Cached<M> {
             with_run self.new.pending (M.shown.words self.new.medium)
             ≡ slice_set (with_run self.old.pending (M.shown.words self.old.medium)) at value }
         ensures does { Does (shown_by_cached M.shown) (Writes at value) self.old self.new }
+        ensures faults { M.shown.faults self.new.medium ≡ M.shown.faults self.old.medium }
         ensures missing { M.missing self.new.medium ≡ M.missing self.old.medium }
         ensures failed { has_failed_sync self.new ≡ has_failed_sync self.old }
     {
@@ -126,6 +133,8 @@ impl<M: Medium> Cached<M> {
         ensures kept { OnFalse result (self.new.pending ≡ self.old.pending) }
         ensures stays { OnFalse result (self.new.windows ≡ self.old.windows) }
         ensures none { IsTrue (M.missing self.old.medium) → IsFalse result }
+        ensures faults { IsFalse (M.missing self.old.medium) → Blames result
+            (M.shown.faults self.old.medium) (M.shown.faults self.new.medium) }
         ensures missing { M.missing self.new.medium ≡ M.missing self.old.medium }
         ensures failed { has_failed_sync self.new ≡ has_failed_sync self.old }
     {
@@ -154,6 +163,10 @@ impl<M: Medium> Cached<M> {
             (with_run self.new.pending (M.shown.words self.new.medium)) }
         ensures does { Does (shown_by_cached M.shown) (WritesMany at values.now) self.old self.new }
         ensures none { IsTrue (M.missing self.old.medium) → result ≡ 0 }
+        ensures all { IsFalse (M.missing self.old.medium) → result ≡ length values.now →
+            M.shown.faults self.new.medium ≡ M.shown.faults self.old.medium }
+        ensures fewer { IsFalse (M.missing self.old.medium) → result < length values.now →
+            M.shown.faults self.new.medium ≡ counted (M.shown.faults self.old.medium) }
         ensures missing { M.missing self.new.medium ≡ M.missing self.old.medium }
         ensures failed { has_failed_sync self.new ≡ has_failed_sync self.old }
     {

@@ -10,7 +10,7 @@
 //! of it gives each image that a stop may leave, and no other. `Fuse` fails from some call on.
 //! `CachedDevice` reads ahead and gathers the words of a `Medium`, and tells what its medium tells:
 //! over a `Memory` all, over a file nothing. `FileDevice` is the one over a file. What is trusted of a
-//! file stands where it is made a medium, in `medium.rt`.
+//! file stands where it is made a medium, in `file_medium.rt`.
 #![tactic(auto)]
 
 mod cached;
@@ -19,6 +19,7 @@ mod call;
 mod certain;
 mod device;
 mod file;
+mod file_medium;
 mod followed;
 mod fuse;
 mod keeping;
@@ -36,6 +37,7 @@ pub use call::{CallKind, LoggedCall};
 pub use certain::write_certain;
 pub use device::{Device, Failed};
 pub use file::FileDevice;
+pub use file_medium::FileMedium;
 pub use fuse::Fuse;
 pub use medium::Medium;
 pub use memory::Memory;

@@ -3,7 +3,7 @@ ghost use Rattle.std.specs.Prelude.{◌≡◌, ◌≢◌, ◌+◌, ◌*◌, ◌<
 ghost use Rattle.std.specs.Bool.{OnTrue};
 ghost use Rattle.rom_device.specs.Device.{OnlyReads};
 ghost use Rattle.rom_device.specs.Laid.{word_among};
-ghost use Rattle.rom_device.specs.Medium.{HasPlaces};
+ghost use Rattle.rom_device.specs.Medium.{Blames, HasPlaces};
 
 use crate::medium::Medium;
 use byteorder::{ByteOrder, LittleEndian};
@@ -84,6 +84,7 @@ impl Page {
             → word_at self.new k ≡ slice_index (M.shown.words medium.old) (at + k)) }
         ensures behind { (k : ℕ) → count ≤ k → word_at self.new k ≡ word_at self.old k }
         ensures only { OnlyReads M.shown medium.old medium.new }
+        ensures faults { Blames result (M.shown.faults medium.old) (M.shown.faults medium.new) }
         ensures stays { M.missing medium.new ≡ M.missing medium.old }
         ensures sure { M.doubtful medium.new ≡ M.doubtful medium.old }
     {

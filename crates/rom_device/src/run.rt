@@ -2,7 +2,7 @@
 ghost use Rattle.std.specs.Prelude.{◌≡◌, ◌+◌, ◌-◌, ◌*◌, ◌<◌, ◌≤◌, ◌^◌, IsTrue, ◌↔◌, IsSome, Some, None, ℕ, ◌≢◌, length, slice_index};
 ghost use Rattle.std.specs.Bool.{OnTrue, OnFalse};
 ghost use Rattle.rom_device.specs.Device.{OnlyReads};
-ghost use Rattle.rom_device.specs.Medium.{HandsOver, HasPlaces};
+ghost use Rattle.rom_device.specs.Medium.{Blames, HandsOver, HasPlaces};
 
 use crate::medium::Medium;
 use crate::page::{PAGE_WORDS, Page};
@@ -182,6 +182,8 @@ impl Run {
         ensures told { IsTrue M.shown.tells_words → (b seen : ℕ) → word_of self.new b ≡ Some seen
             → seen ≡ slice_index (M.shown.words medium.old) b }
         ensures only { OnlyReads M.shown medium.old medium.new }
+        ensures here { OnTrue result (0 < count → IsSome (word_of self.new first)) }
+        ensures faults { Blames result (M.shown.faults medium.old) (M.shown.faults medium.new) }
         ensures stays { M.missing medium.new ≡ M.missing medium.old }
         ensures sure { M.doubtful medium.new ≡ M.doubtful medium.old }
     {
@@ -200,6 +202,7 @@ impl Run {
         requires inside { HasPlaces M.shown self.now.first self.now.count medium.old }
         ensures hands { HandsOver M.shown self.now.first (nth_of self.now) self.now.count medium.old
             medium.new result }
+        ensures faults { Blames result (M.shown.faults medium.old) (M.shown.faults medium.new) }
         ensures stays { M.missing medium.new ≡ M.missing medium.old }
         ensures sure { M.doubtful medium.new ≡ M.doubtful medium.old }
     {

@@ -1,8 +1,8 @@
 //! Words read ahead of a medium.
-ghost use Rattle.std.specs.Prelude.{◌≡◌, ◌≢◌, ◌+◌, ◌*◌, ◌<◌, ◌≤◌, ◌^◌, ℕ, length, slice_index, IfSome, IfNone, IsTrue, None};
-ghost use Rattle.std.specs.Bool.{OnFalse};
+ghost use Rattle.std.specs.Prelude.{◌≡◌, ◌≢◌, ◌+◌, ◌*◌, ◌<◌, ◌≤◌, ◌^◌, ℕ, length, slice_index, IfSome, IfNone, IsSome, IsTrue, None};
+ghost use Rattle.std.specs.Bool.{OnFalse, OnTrue};
 ghost use Rattle.rom_device.specs.Device.{OnlyReads};
-ghost use Rattle.rom_device.specs.Medium.{HasPlaces};
+ghost use Rattle.rom_device.specs.Medium.{Blames, HasPlaces};
 
 use crate::medium::Medium;
 use crate::run::Run;
@@ -77,8 +77,8 @@ impl Windows {
     }
 
     /// Reads so many words of a medium ahead, from that place on, in place of those that were read
-    /// ahead before the others. Where the medium fails, these are gone all the same.
-    pub fn read<M: Medium>(&mut self, medium: &mut M, first: u64, count: usize)
+    /// ahead before the others. Where the medium fails, which `false` says, these are gone all the same.
+    pub fn read<M: Medium>(&mut self, medium: &mut M, first: u64, count: usize) -> bool
         requires place { first * 8 < 2 ^ 64 }
         requires room { count ≤ 512 }
         requires low { first + count ≤ 2 ^ 64 }
@@ -90,6 +90,8 @@ impl Windows {
         ensures right_told { IsTrue M.shown.tells_words
             → ReadsOf (M.shown.words medium.old) self.old.right self.new.right }
         ensures only { OnlyReads M.shown medium.old medium.new }
+        ensures here { OnTrue result (0 < count → IsSome (word_in self.new first)) }
+        ensures faults { Blames result (M.shown.faults medium.old) (M.shown.faults medium.new) }
         ensures stays { M.missing medium.new ≡ M.missing medium.old }
         ensures sure { M.doubtful medium.new ≡ M.doubtful medium.old }
     {
@@ -100,5 +102,6 @@ impl Windows {
         };
         // A window without words is never the newer one.
         self.left_is_newer = self.left_is_newer != read;
+        read
     }
 }

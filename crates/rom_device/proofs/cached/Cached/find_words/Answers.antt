@@ -25,6 +25,7 @@ loop-done-preserved g c =
           c.copy-ahead.ensures.told tells k lt ∙ ap (λ (x : List ℕ). slice_index x (at + done + k)) (c.loop-done.invariant.only.words tells) ∙ ap (λ (n : ℕ). slice_index (shown.words c.args.self.now) n) there);
       pending = search rules;
       none = λ gone. omega (arith, c.loop-done.invariant.none gone, c.copy-ahead.ensures.none (c.loop-done.invariant.missing ∙ gone));
+      faults = search rules;
       only = search rules;
       missing = search rules;
       failed = search rules;
@@ -58,6 +59,7 @@ loop-done-preserved-then-ahead-eq0 g c =
           (c.in-Some.ensures.word tells ∙ ap (λ (x : List ℕ). slice_index x (at + (done + ahead))) (c.loop-done.invariant.only.words tells));
       pending = search rules;
       none = λ gone. absurd (none_some c.find.result c.in-Some.word (c.find.ensures.none (c.loop-done.invariant.missing ∙ gone)) c.in-Some.is);
+      faults = search rules;
       only = reads_then shown c.args.self.now c.loop-done.self c.find.new.self c.loop-done.invariant.only c.find.ensures.only;
       missing = search rules;
       failed = search rules;

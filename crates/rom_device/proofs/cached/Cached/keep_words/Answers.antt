@@ -49,6 +49,7 @@ loop-index-preserved g c =
       written = λ told. now_written c.args.at index c.args.values.now (shown.words now) (shown.words c.keep.new.self)
           (omega (arith, length-with_run now.pending (g.M.Medium.shown.words now.medium), now.long told, c.loop-index.invariant.does.size, c.requires, c.loop-index-test.true)) (c.if-not-keep.ensures.written told) (c.loop-index.invariant.written told);
       none = search rules;
+      faults = search rules;
       missing = search rules;
       failed = search rules;
     }

@@ -1,4 +1,4 @@
-use Rattle.std.proofs.Common.{◌≡◌, ◌+◌, ◌-◌, ◌<◌, ℕ, IsTrue, Some, slice_index}
+use Rattle.std.proofs.Common.{◌≡◌, ◌+◌, ◌-◌, ◌<◌, ℕ, IsFalse, IsTrue, Some, slice_index}
 use Rattle.rom_model.specs.Space.{ChangesOnly}
 use Rattle.rom_device.specs.Device.{Does, WritesMany}
 use Rattle.rom_device.specs.Run.{word_of, with_run}
@@ -15,6 +15,7 @@ invariant-loop-index g l = record {
   only : IsTrue g.M.Medium.shown.tells_words → ChangesOnly l.at l.index (with_run l.fn.self.pending (g.M.Medium.shown.words l.fn.self.medium)) (with_run l.self.pending (g.M.Medium.shown.words l.self.medium));
   written : IsTrue g.M.Medium.shown.tells_words → (k : ℕ) → k < l.index → slice_index (with_run l.self.pending (g.M.Medium.shown.words l.self.medium)) (l.at + k) ≡ slice_index l.values k;
   none : IsTrue (g.M.Medium.missing l.fn.self.medium) → l.index ≡ 0;
+  faults : IsFalse (g.M.Medium.missing l.fn.self.medium) → g.M.Medium.shown.faults l.self.medium ≡ g.M.Medium.shown.faults l.fn.self.medium;
   missing : g.M.Medium.missing l.self.medium ≡ g.M.Medium.missing l.fn.self.medium;
   failed : has_failed_sync l.self ≡ has_failed_sync l.fn.self;
 }

@@ -31,4 +31,5 @@ loop-index-preserved c =
             stays ∙ c.loop-index.invariant.words k (omega (arith, lt, other))
       ];
       only = search rules;
+      faults = search rules;
     }

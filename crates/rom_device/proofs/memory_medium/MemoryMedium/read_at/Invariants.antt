@@ -10,4 +10,5 @@ invariant-loop-index l = record {
   len : length l.into ≡ length l.fn.into;
   words : (k : ℕ) → k < l.index → word_among l.into k ≡ slice_index (shown_by_memory.words l.fn.self) (l.at + k);
   only : OnlyReads shown_by_memory l.fn.self l.self;
+  faults : shown_by_memory.faults l.self ≡ shown_by_memory.faults l.fn.self;
 }

@@ -11,6 +11,7 @@ use Rattle.rom_device.proofs.memory_medium.MemoryMedium.write_at.Goals as goal
 pub loop-index-init : goal.loop-index-init
 loop-index-init c = record {
   does = does_none c.args.at _ c.args.self.now;
+  faults = refl;
   written = sym (laid_none c.args.at (word_among c.args.bytes.now) (shown_by_memory.words c.args.self.now));
   keeps = λ i left. left;
   each = leaves_first c.args.at (word_among c.args.bytes.now) c.args.self.now;
@@ -42,6 +43,7 @@ loop-index-preserved c =
     let put : shown_by_memory.words c.write.new.self ≡ set (shown_by_memory.words c.loop-index.self) (c.args.at + index) c.read_u64-value.result = search rules in
     record {
       does = does_next c.args.at (word_among bytes) index (words_among bytes) c.read_u64-value.result c.loop-index-test.true value c.args.self.now c.loop-index.self c.write.new.self c.loop-index.invariant.does c.write.ensures.does;
+      faults = search rules;
       written = put ∙ ap (λ (v : ℕ). set (shown_by_memory.words c.loop-index.self) (c.args.at + index) v) value ∙ ap (λ (x : List ℕ). set x (c.args.at + index) (word_among bytes index)) c.loop-index.invariant.written ∙ sym (laid_next c.args.at (word_among bytes) index (shown_by_memory.words c.args.self.now));
       keeps = λ i left. write_keeps (c.args.at + index) c.read_u64-value.result c.loop-index.self c.write.new.self c.write.result c.write.ensures.lists i (c.loop-index.invariant.keeps i left);
       each = leaves_next c.args.at (word_among bytes) index c.args.self.now c.loop-index.self c.write.new.self c.write.result well (λ i left. omega (arith, images_long c.args.self.now i left, c.requires.inside refl, c.loop-index-test.true)) lists c.loop-index.invariant.each;
