@@ -26,7 +26,7 @@ most_most k n before now le most = record { later = most.later; most = omega (ar
 reads_header : (k order state : ℕ) → k ≤ 5 → k ≤ opening_reads order state
 reads_header k order state le = omega (arith, le)
 
-one_sync : (idle : Bool) → 1 ≤ (if idle then 1 else 3)
+one_sync : (idle : Bool) → 1 ≤ (if idle then 1 else 4)
 one_sync true = omega arith
 one_sync false = omega arith
 

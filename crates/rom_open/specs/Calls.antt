@@ -46,13 +46,13 @@ HasFaults (Err OutOfMemory) before now failing = now ≡ before
 abbrev pub opening_reads : ℕ → ℕ → ℕ
 opening_reads order state = 5 + (if state == 0 then 2 else 1) * region_len order
 
--- how many words are written: none under IDLE, else the other region and the state
+-- how many words are written: none under IDLE, else the state as it reads, the other region, and the state
 abbrev pub opening_writes : ℕ → ℕ → ℕ
-opening_writes order state = if state == 0 then 0 else region_len order + 1
+opening_writes order state = if state == 0 then 0 else region_len order + 2
 
 -- how often it syncs
 abbrev pub opening_syncs : ℕ → ℕ
-opening_syncs state = if state == 0 then 1 else 3
+opening_syncs state = if state == 0 then 1 else 4
 
 -- The reads that an opening made, by its answer: a header is read up to the word that is refused, and regions that differ at most up to that place. Where the device failed some may be missing.
 abbrev pub AreReads : {T : Type 0} → ℕ → ℕ → Result T Why → ℕ → ℕ → Type 0

@@ -19,9 +19,9 @@ module _ {D : Type 0} (shown : ShownDevice D) where
   CallsOfOpening was now = let words = shown.words was in let state = slice_index words STATE in
       IsTrue shown.tells_words → CallsWithin shown (opening_reads (named_order words) state) (opening_writes (named_order words) state) (opening_syncs state) was now
 
-  -- No more than one opening of a heap of this order asks for, whatever its words are: the header and the state again, and both regions, are read, and one region and the state are written.
+  -- No more than one opening of a heap of this order asks for, whatever its words are: the header and the state again, and both regions, are read, and one region and twice the state are written.
   abbrev pub CallsOfOrder : ℕ → D → D → Type 0
-  CallsOfOrder order was now = CallsWithin shown (5 + 2 * region_len order) (region_len order + 1) 3 was now
+  CallsOfOrder order was now = CallsWithin shown (5 + 2 * region_len order) (region_len order + 2) 4 was now
 
   -- So of a heap of some order that there is, which the device has room for; or no more than the reads of a header.
   abbrev pub CallsOfSomeOrder : D → D → Type 0

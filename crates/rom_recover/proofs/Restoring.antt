@@ -1,7 +1,8 @@
 -- The copy of the region that counts over the other one, on a device.
-use Rattle.std.proofs.Common.{◌≡◌, inr, ℕ, ◌≤◌, IsTrue, List, Result, Ok, Err, OnOk, get_or, set, sym, subst, ◌∙◌}
+use Rattle.std.proofs.Common.{◌≡◌, inl, inr, ⊎_elim, ℕ, ◌≤◌, IsTrue, List, Result, Ok, Err, OnOk, get_or, set, sym, subst, ◌∙◌}
+use Rattle.std.proofs.lemmas.List.{set-get_or}
 use Rattle.rom_model.specs.Blocks.{region_len}
-use Rattle.rom_device.specs.Device.{ShownDevice, Does, IsSynced, Leaves, Stays, Writes}
+use Rattle.rom_device.specs.Device.{ShownDevice, After, Does, IsSynced, Leaves, Stays, Writes}
 use Rattle.rom_device.proofs.Going.{leaves_none, leaves_on, leaves_still, leaves_then}
 use Rattle.rom_header.proofs.Since.{leaves_from}
 use Rattle.rom_header.specs.Headers.{state_word}
@@ -45,6 +46,27 @@ module _ {D : Type 0} (shown : ShownDevice D) (n : ℕ) (s : State) (from to len
     end_done (Ok done) put told = subst (λ (l : List ℕ). IsDone n (shown.words a) l) (sym (put told))
         (subst (λ (k : ℕ). IsDone n (shown.words a) (set (shown.words b) 3 k)) (sym zero) (finished n (shown.words a) (heap told) s from to way (state told) (shown.words b) (copies.words told) (whole told)))
     end_done (Err failed) put told = tt
+
+-- a word that is written again, as it reads, where all words are certain
+module _ {D : Type 0} (shown : ShownDevice D) (at v : ℕ) (a b : D) where
+  again : (x y : List ℕ) → get_or x at 0 ≡ v → Writes at v x y → y ≡ x
+  again x y reads (inl same) = same
+  again x y reads (inr put) = put ∙ subst (λ (k : ℕ). set x at k ≡ x) reads (set-get_or x at 0)
+
+  pub written_again : (IsTrue shown.tells_images → IsTrue shown.tells_words) → (IsTrue shown.tells_words → get_or (shown.words a) at 0 ≡ v) → IsSynced shown a → Does shown (Writes at v) a b → Does shown Stays a b
+  written_again both reads certain does = record {
+    size = does.size;
+    words = λ told. again (shown.words a) (shown.words b) (reads told) (does.words told);
+    images = λ told. record {
+      later = (does.images told).later;
+      now = λ i left. after told i ((does.images told).now i left);
+      nothing_else = λ t i left. ⊎_elim (λ past. inl past) (λ here. inr (after told i here)) ((does.images told).nothing_else t i left);
+      keeps = (does.images told).keeps;
+    };
+  }
+    where
+      after : IsTrue shown.tells_images → (i : List ℕ) → After (Writes at v) (shown.leaves a) i → After Stays (shown.leaves a) i
+      after told i here = record { from = here.from; was = here.was; by = again here.from i (subst (λ (l : List ℕ). get_or l at 0 ≡ v) (sym (certain told here.from here.was)) (reads (both told))) here.by }
 
 -- what follows calls that write nothing
 module _ {D : Type 0} (shown : ShownDevice D) (n : ℕ) (a b : D) where

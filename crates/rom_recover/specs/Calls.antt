@@ -49,17 +49,17 @@ reads_from order Copying = 1 + region_len order
 abbrev pub reads_at_most : ℕ → ℕ → ℕ
 reads_at_most order state = 1 + (if state == 0 then 2 else 1) * region_len order
 
--- how many it writes: none under IDLE, else the other region and the state
+-- how many it writes: none under IDLE, else the state as it reads, the other region, and the state
 abbrev pub writes_from : ℕ → State → ℕ
 writes_from order Idle = 0
-writes_from order Mutating = region_len order + 1
-writes_from order Copying = region_len order + 1
+writes_from order Mutating = region_len order + 2
+writes_from order Copying = region_len order + 2
 
 -- how often it syncs
 abbrev pub syncs_from : State → ℕ
 syncs_from Idle = 1
-syncs_from Mutating = 3
-syncs_from Copying = 3
+syncs_from Mutating = 4
+syncs_from Copying = 4
 
 -- The reads that recovery made, by its answer: those of the state that it found; where the regions differ at most those up to that place, and where the device failed at most so many as any recovery makes.
 abbrev pub AreReads : ℕ → Result Recovered RecoverRefused → ℕ → ℕ → Type 0
@@ -70,17 +70,17 @@ AreReads order (Err refused) before now = AtMost (1 + reads_until {T = Recovered
 abbrev pub AreWrites : ℕ → Result Recovered RecoverRefused → ℕ → ℕ → Type 0
 AreWrites order (Ok recovered) before now = Adds (writes_from order recovered.found) before now
 AreWrites order (Err (Twins offset main back)) before now = now ≡ before
-AreWrites order (Err Device) before now = AtMost (region_len order + 1) before now
+AreWrites order (Err Device) before now = AtMost (region_len order + 2) before now
 
 -- the syncs, likewise, of which there is one where the regions differ
 abbrev pub AreSyncs : Result Recovered RecoverRefused → ℕ → ℕ → Type 0
 AreSyncs (Ok recovered) before now = Adds (syncs_from recovered.found) before now
 AreSyncs (Err (Twins offset main back)) before now = Adds 1 before now
-AreSyncs (Err Device) before now = AtMost 3 before now
+AreSyncs (Err Device) before now = AtMost 4 before now
 
 -- No more than any recovery of a heap of this order asks for, whatever its words are.
 abbrev pub WithinRecovery : {D : Type 0} → ShownDevice D → ℕ → D → D → Type 0
-WithinRecovery shown order was now = CallsWithin shown (1 + 2 * region_len order) (region_len order + 1) 3 was now
+WithinRecovery shown order was now = CallsWithin shown (1 + 2 * region_len order) (region_len order + 2) 4 was now
 
 -- The calls that recovery made.
 pub record Calls {D : Type 0} (shown : ShownDevice D) (order : ℕ) (old new : D) (result : Result Recovered RecoverRefused) : Type 0 where

@@ -221,9 +221,10 @@ fn a_heap_behind_a_cache_is_as_it_was_told(rt: HostRuntime) -> Result<(), Fail> 
         &[],
         1,
     )?;
-    // A new heap: each word is read and written once. Recovery: so is each word of a region, and IDLE.
+    // A new heap: each word is read and written once. Recovery: so is each word of a region, and the state
+    // is written twice, as it reads and as IDLE.
     let make = WORDS + WORDS + 3;
-    let recover = WORDS + 112 + 1 + 3;
+    let recover = WORDS + 112 + 2 + 4;
     let update = OPENING + COMMIT + FINISH + NEXT_COMMIT;
     let rows = [
         Row {

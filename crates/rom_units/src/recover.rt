@@ -3,7 +3,7 @@
 use crate::devices::{Failing, choice, device};
 use crate::files::{device_over, path};
 use crate::regions::{FRESH, QUEUED, change, heap, region};
-use rom_device::CallKind::{Read, Write};
+use rom_device::CallKind::{Read, Sync, Write};
 use rom_device::{Device, Fuse};
 use rom_header::{State, read_header};
 use rom_recover::{RecoverRefused, Recovered, recover};
@@ -16,8 +16,8 @@ use std::test::Fail;
 const HEADER_CALLS: u64 = 4;
 
 /// A state by its word and its name, whether main and back are torn there, and how many calls it takes
-/// to read the header and to recover. Under IDLE nothing is written, so the last two syncs and the
-/// write of the state are missing.
+/// to read the header and to recover. Under IDLE nothing is written, so both writes of the state and the
+/// three last syncs are missing.
 #[derive(Clone, Copy)]
 struct Row {
     state: u64,
@@ -37,13 +37,13 @@ const ROWS: [Row; 3] = [
         state: 1,
         found: State::Mutating,
         torn: (true, false),
-        calls: 233,
+        calls: 235,
     },
     Row {
         state: 2,
         found: State::Copying,
         torn: (false, true),
-        calls: 233,
+        calls: 235,
     },
 ];
 
@@ -110,7 +110,7 @@ fn recovers_once_stopped<R: Abort + AllocGlobal>(
     left: &[u64],
     kind: u64,
 ) -> Result<(), Fail> {
-    for calls in 0..234 {
+    for calls in 0..236 {
         let stop = stopped(rt, row, words, calls, &choice(kind))?;
         let mut memory = device(rt.alloc(), stop.as_slice(), &[])?;
         let again = recovered(&mut memory);
@@ -228,6 +228,23 @@ fn nothing_is_written_once_a_word_cannot_be_read(rt: HostRuntime) -> Result<(), 
     assert_eq!(rt; left.get(8..72), FRESH.get(..64));
     assert_eq!(rt; left.get(72..120), TORN.get(64..));
     assert_eq!(rt; left.get(3), Some(&1));
+    Ok(())
+}
+
+#[test]
+fn no_region_is_touched_before_the_state_is_written_again(rt: HostRuntime) -> Result<(), Fail> {
+    for row in &ROWS {
+        if row.found == State::Idle {
+            continue;
+        }
+        let (words, _) = words_of(rt.alloc(), row)?;
+        // The first write of the state, and the sync behind it.
+        for failing in [(Write, 3, 4, 1, true), (Sync, 0, 1, 2, false)] {
+            let mut memory = device(rt.alloc(), words.as_slice(), &[failing])?;
+            assert_eq!(rt; recovered(&mut memory), Some(Err(RecoverRefused::Device)));
+            assert_eq!(rt; memory.words(), words.as_slice(), "at {failing:?}");
+        }
+    }
     Ok(())
 }
 

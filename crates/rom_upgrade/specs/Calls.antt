@@ -68,7 +68,7 @@ module _ {D : Type 0} (shown : ShownDevice D) where
 
   -- No more than one upgrade of a heap of this order asks for, whatever its words are: one opening, and the batch.
   abbrev pub UpgradeOfOrder : ℕ → D → D → Type 0
-  UpgradeOfOrder order was now = CallsWithin shown (5 + 2 * region_len order) (region_len order + 1 + batch_writes order) (3 + batch_syncs) was now
+  UpgradeOfOrder order was now = CallsWithin shown (5 + 2 * region_len order) (region_len order + 2 + batch_writes order) (4 + batch_syncs) was now
 
   -- So of a heap of some order that there is, which the device has room for; or no more than the reads of a header.
   abbrev pub UpgradeOfSomeOrder : D → D → Type 0
