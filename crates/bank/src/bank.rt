@@ -1,6 +1,8 @@
 //! The bank: four tellers, and a manager who opens the accounts. Each of them is a caller of one store.
-ghost use Rattle.std.specs.Prelude.{◌≡◌, ◌⊎◌, ◌+◌, ◌*◌, ◌/◌, ◌<◌, ◌≤◌, ℕ, [], List, All, IfErr, IfOk, IsTrue, length, slice_get, Some};
+ghost use Rattle.std.specs.Prelude.{◌≡◌, ◌≢◌, ◌⊎◌, ◌+◌, ◌*◌, ◌/◌, ◌<◌, ◌≤◌, ℕ, [], List, All, IfErr, IfOk, IsErr, IsTrue, length, slice_get, slice_index, Some};
+ghost use Rattle.rom_device.specs.Device.{OnlyReads};
 ghost use Rattle.rom_header.specs.Held.{Holds};
+ghost use Rattle.rom_header.specs.Layout.{MAGIC};
 ghost use Rattle.rom_model.specs.Faults.{Rose};
 ghost use Rattle.rom_model.specs.Leaving.{IsClosed};
 ghost use Rattle.rom_model.specs.Region.{Contents};
@@ -8,7 +10,7 @@ ghost use Rattle.rom_model.specs.Seen.{StartsWith};
 ghost use Rattle.rom_model.specs.State.{State};
 ghost use Rattle.rom_model.specs.Trio.{trio};
 ghost use Rattle.rom_model.specs.declared.call.Answer.TheVariants.{Total};
-ghost use Rattle.rom_open.specs.declared.reasons.Why.TheVariants.{Device, OutOfMemory};
+ghost use Rattle.rom_open.specs.declared.reasons.Why.TheVariants.{Device, NotAHeap, OutOfMemory};
 ghost use Rattle.rom_lr.specs.Seats.{noted};
 ghost use Rattle.rom_rule.specs.Views.{base_of};
 ghost use Rattle.rom_store.specs.Callers.{IsCallerOf, IsNewCaller};
@@ -20,11 +22,13 @@ ghost use Rattle.bank.specs.Promise.{HasOpened, IsBalanced, IsTallyOf, total_aft
 ghost use Rattle.bank.specs.Tellers.{IsAfter, IsTeller};
 
 use rom_device::Device;
+use rom_header::MAGIC;
 use rom_heap::Trio;
 use rom_model::{Answer, Call, Query, Reply, Updated};
 use rom_store::{
-    Closed, Label, NoGate, Note, Opening, Pass, Refused, Store, format_device, open_store,
+    Closed, Label, NoGate, Note, Opening, Pass, Refused, Store, Why, format_device, open_store,
 };
+use std::alloc::Global;
 use std::marker::Brand;
 use std::sync::Wait;
 use std::thread::{Threads, for_each_mut};
@@ -226,8 +230,43 @@ fn bank<D: Device + Send, N: Label + Send + Sync, R: Threads + Wait + Sync>(
     }
 }
 
+/// Makes a heap where the first word is 0, as it is in a file that was just made. Where another word stands
+/// there, the device is only read: it may be the first word of a heap that was damaged, and a new heap would
+/// take the place of that one.
+fn make_where_new<D: Device>(alloc: Global, device: &mut D) -> Result<(), Why>
+    ensures read { IsTrue D.shown.tells_words → slice_index (D.shown.words device.old) 0 ≢ 0 →
+        OnlyReads D.shown device.old device.new }
+    ensures other { IsTrue D.shown.tells_words → 0 < D.shown.size device.old →
+        slice_index (D.shown.words device.old) 0 ≢ 0 →
+        slice_index (D.shown.words device.old) 0 ≢ MAGIC → IsErr result }
+    ensures why { IfErr result (λ why. (why ≡ NotAHeap) ⊎ (why ≡ Device)) }
+    ensures not_a_heap { IsTrue D.shown.tells_words → IfErr result (λ why. why ≡ NotAHeap →
+        slice_index (D.shown.words device.old) 0 ≢ MAGIC) }
+    ensures failed { IfErr result (λ why. why ≡ Device →
+        Rose (D.shown.faults device.old) (D.shown.faults device.new)) }
+    ensures later { D.shown.faults device.old ≤ D.shown.faults device.new }
+{
+    if device.len() == 0 {
+        return Ok(());
+    }
+    match device.read(0) {
+        Ok(word) => {
+            if word == 0 {
+                let _ = format_device::<D, Trio>(alloc, device, ORDER);
+                return Ok(());
+            }
+            if word != MAGIC {
+                return Err(Why::NotAHeap);
+            }
+            Ok(())
+        }
+        Err(_) => Err(Why::Device),
+    }
+}
+
 /// Opens the accounts on a device, and has four tellers move money between them, each in a thread. A
-/// heap that stands there is kept; where none can be made, the opening says why.
+/// heap that stands there is kept, and where the first word is 0 one is made; where another word stands
+/// first, or none can be made, the refusal says why.
 pub fn run_bank<D: Device + Send, R: Threads + Wait + Sync + AllocGlobal>(
     rt: &R,
     mut device: D,
@@ -238,6 +277,12 @@ pub fn run_bank<D: Device + Send, R: Threads + Wait + Sync + AllocGlobal>(
         IfErr result (λ refused. (refused.why ≡ Device) ⊎ (refused.why ≡ OutOfMemory)) }
     ensures faults { IfErr result (λ refused. refused.why ≡ Device →
         Rose (D.shown.faults device) (D.shown.faults refused.device)) }
+
+    // Where a first word is neither 0 nor a heap's, nothing is written, and they are refused as no heap.
+    ensures other { IsTrue D.shown.tells_words → 0 < D.shown.size device →
+        slice_index (D.shown.words device) 0 ≢ 0 → slice_index (D.shown.words device) 0 ≢ MAGIC →
+        IsErr result × IfErr result (λ refused. OnlyReads D.shown device refused.device
+        × ((refused.why ≡ NotAHeap) ⊎ (refused.why ≡ Device))) }
 
     // What they hold is what it goes on from.
     ensures stood { IsTrue D.shown.tells_words → (n : ℕ) (s : State) (k : ℕ) →
@@ -262,7 +307,9 @@ pub fn run_bank<D: Device + Send, R: Threads + Wait + Sync + AllocGlobal>(
         books.total ≡ total_after story.order story.opening story.opening_count story.history)) }
     ensures same { IfOk result (λ books. books.total ≡ books.put_in) }
 {
-    let _ = format_device::<D, Trio>(rt.alloc(), &mut device, ORDER);
+    if let Err(why) = make_where_new(rt.alloc(), &mut device) {
+        return Err(Refused { device, why });
+    }
     let opening = open_store::<D, Trio>(rt.alloc(), device, 5)?;
     Ok(bank::<D, Brand, R>(rt, opening))
 }

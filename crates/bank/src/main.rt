@@ -1,8 +1,8 @@
 //! A heap in a program of one's own: `bank FILE` keeps sixteen accounts in the map of a heap in a file,
 //! and makes that heap where the file holds none. Four tellers in threads move money between them, and
 //! now and then read the total beside each other. It prints of each teller how many moves were made and
-//! what it read, then what was put in and what there is. FILE must be new or a heap: the front of any other
-//! file is overwritten.
+//! what it read, then what was put in and what there is. FILE must be new or a heap: any other file is refused,
+//! unless its first word is 0.
 //!
 //! `run_bank` does all of it on any device. Its contract says that behind what was paid in the history has
 //! moves alone, and that each total that is read, and the one at the end, is the one that was put in.

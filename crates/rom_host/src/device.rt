@@ -5,6 +5,7 @@ use std::alloc::AllocError;
 use std::fs::{File, OpenFile, OpenOptions};
 use std::io;
 use std::io::ErrorKind;
+use std::os::unix::fs::OpenOptionsExt;
 
 /// A device that the words of a command line name.
 #[derive(Drop)]
@@ -31,8 +32,8 @@ fn open_old(rt: &HostRuntime, name: &str) -> io::Result<FileDevice> {
     Ok(FileDevice::new(file, bytes))
 }
 
-/// The words of a file that is only read: it is opened for reading alone, so that each write and each sync of
-/// it would fail, and locked against those who write, while others may read it too. A folder can be opened so,
+/// The words of a file that is only read: it is opened for reading alone, so that each write of it would fail,
+/// and locked against those who write, while others may read it too. A folder can be opened so,
 /// and has no words, whatever length the system tells of it; nor has anything else that is no file.
 fn open_to_read(rt: &HostRuntime, name: &str) -> io::Result<FileDevice> {
     let file = File::open(rt, name)?;
@@ -44,20 +45,32 @@ fn open_to_read(rt: &HostRuntime, name: &str) -> io::Result<FileDevice> {
     Ok(FileDevice::new(file, metadata.len()))
 }
 
-/// The words of a file that is made if need be, and lengthened with zeros to so many. It is never
-/// shortened.
+/// Makes certain that a file is found by its name: a sync of the file promises what the file holds, and the name
+/// stands in its folder. A folder that this user may not read, or whose system cannot sync it, is an error.
+fn sync_folder(rt: &HostRuntime, name: &str) -> io::Result<()> {
+    let folder = match name.rsplit_once('/') {
+        None => ".",
+        Some((folder, _)) => { if folder.is_empty() { "/" } else { folder } }
+    };
+    File::open(rt, folder)?.sync_all()
+}
+
+/// The words of a file that is made if need be, for its owner alone, and lengthened with zeros to so many. It
+/// is never shortened. Its name is certain before it is lengthened: so one that has its length has its name.
 fn open_made(rt: &HostRuntime, name: &str, words: u64) -> io::Result<FileDevice> {
     let file = locked(
         OpenOptions::new()
             .read(true)
             .write(true)
             .create(true)
+            .mode(0o600)
             .open(rt, name)?,
     )?;
     // Asked for once it is locked: until then another program may have lengthened it.
     let bytes = file.metadata()?.len();
     let wanted = words.saturating_mul(8);
     if bytes < wanted {
+        sync_folder(rt, name)?;
         file.set_len(wanted)?;
     }
     Ok(FileDevice::new(file, bytes.max(wanted)))
@@ -78,9 +91,10 @@ pub fn reader_of(rt: &HostRuntime, name: &str) -> Result<FileDevice, AllocError>
     or_missing(open_to_read(rt, name))
 }
 
-/// The words of a file, locked for this program alone, which is made if need be, and lengthened with zeros to
-/// so many. They fail where it cannot be opened or lengthened, or another program has locked it. `AllocError`
-/// is told where the system has no memory to open it.
+/// The words of a file, locked for this program alone, which is made if need be, for its owner alone, and
+/// lengthened with zeros to so many; then its name is on the disk too. They fail where it cannot be opened or
+/// lengthened, or its folder cannot be synced, or another program has locked it. `AllocError` is told where
+/// the system has no memory to open it.
 pub fn file_of(rt: &HostRuntime, name: &str, words: u64) -> Result<FileDevice, AllocError> {
     or_missing(open_made(rt, name, words))
 }

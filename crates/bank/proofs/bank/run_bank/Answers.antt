@@ -1,4 +1,4 @@
-use Rattle.std.proofs.Common.{◌≡◌, ◌⊎◌, inl, ℕ, List, subst, sym}
+use Rattle.std.proofs.Common.{◌≡◌, ◌⊎◌, ℕ, List, subst, sym, arith}
 use Rattle.rom_header.specs.Held.{Holds}
 use Rattle.rom_model.specs.Region.{Contents}
 use Rattle.rom_open.specs.declared.reasons.Why.TheVariants.{Device, OutOfMemory}
@@ -8,12 +8,14 @@ use Rattle.bank.proofs.bank.run_bank.Goals as goal
 
 pub returns-in_err-opening-clause-kept : goal.returns-in_err-opening-clause-kept
 returns-in_err-opening-clause-kept g c = λ tells n s k held.
-    let still = (c.format_device.ensures.refused tells (inl held.current.heap.header.magic)).words tells in
+    let magic = held.current.heap.header.magic in
+    let still = (c.make_where_new.ensures.read tells (λ zero. omega (arith, zero, magic))).words tells in
     let why = refused_held Contents n (g.D.Device.shown.words c.args.device) s k held c.in_err-opening.ensures.refused tells still in
     as_told (λ refused. (refused.why ≡ Device) ⊎ (refused.why ≡ OutOfMemory)) c.from_residual.result c.from_residual.ensures.1 (λ e same. subst (λ refused. (refused.why ≡ Device) ⊎ (refused.why ≡ OutOfMemory)) (sym same) why)
 
 pub returns-clause-stood : goal.returns-clause-stood
 returns-clause-stood g c = λ tells n s k held.
-    let still = (c.format_device.ensures.refused tells (inl held.current.heap.header.magic)).words tells in
-    goes_on (base_of c.in_ok-opening.opening.key) c.bank.result.closed.session (g.D.Device.shown.words c.format_device.new.device) n s k c.bank.ensures.based (c.in_ok-opening.ensures.held tells)
+    let magic = held.current.heap.header.magic in
+    let still = (c.make_where_new.ensures.read tells (λ zero. omega (arith, zero, magic))).words tells in
+    goes_on (base_of c.in_ok-opening.opening.key) c.bank.result.closed.session (g.D.Device.shown.words c.make_where_new.new.device) n s k c.bank.ensures.based (c.in_ok-opening.ensures.held tells)
     (subst (λ (w : List ℕ). Holds Contents n w s k) (sym still) held)
