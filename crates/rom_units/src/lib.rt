@@ -28,6 +28,8 @@ mod header;
 #[cfg(test)]
 mod heap;
 #[cfg(test)]
+mod host;
+#[cfg(test)]
 mod model;
 #[cfg(test)]
 mod recover;
