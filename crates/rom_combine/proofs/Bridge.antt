@@ -1,5 +1,5 @@
 -- From the images of a batch to the published list
-use Rattle.std.proofs.Common.{◌≡◌, ◌≢◌, inl, inr, ⊎_elim, ℕ, ◌+◌, List, ◌++◌, map, length, sym, subst, arith, Option}
+use Rattle.std.proofs.Common.{◌≡◌, ◌≢◌, ◌⊎◌, inl, inr, ⊎_elim, ℕ, ◌+◌, List, ◌++◌, map, length, sym, subst, arith, Option}
 use Rattle.std.proofs.lemmas.List.{take_all}
 use Rattle.rom_device.specs.Device.{Runs, ShownDevice}
 use Rattle.rom_header.specs.Regions.{IsCurrentRegion}
@@ -18,7 +18,7 @@ use Rattle.rom_rule.specs.Readers.{Held}
 use Rattle.rom_rule.proofs.Told.{length_map}
 use Rattle.rom_combine.specs.declared.answering.CallAnswer.{CallAnswer}
 use Rattle.rom_combine.specs.Applying.{IsApplied}
-use Rattle.rom_combine.specs.Histories.{PassMakes}
+use Rattle.rom_combine.specs.Histories.{HoldsHistory, IsCertainSince, PassMakes}
 
 module _ {S : Type 0} (Contents : ℕ → List ℕ → S → ℕ → Type 0) (step : ℕ → S → ℕ → List ℕ → Option (S × List ℕ)) (b : Base) (s : S) (n : ℕ) where
   -- the batch of all found calls
@@ -54,3 +54,15 @@ module _ {S : Type 0} (Contents : ℕ → List ℕ → S → ℕ → Type 0) (st
         → Runs shown (Becomes (PassMakes Contents step b s n f history more)) x y → Runs shown (Becomes (Counting o m)) y z → Runs shown (Becomes (PassMakes Contents step b s n f history more)) x z
     list_settled f history more o m x y z is may done first second = becomes_then shown (PassMakes Contents step b s n f history more) x y z first
         (becomes_by shown (Counting o m) (PassMakes Contents step b s n f history more) y z (λ i counts. inr (may, record { region = m; current = subst (λ (w : ℕ). IsCurrentRegion w i m) is counts; contents = done })) second)
+
+    -- where from the middle on that region counts
+    pub list_certain : (f : Fate) (history more : List Entry) (o : ℕ) (m : List ℕ) (x y z : D) → o ≡ b.order → Held Contents step b s n m (history ++ more) → Runs shown (Becomes (PassMakes Contents step b s n f history more)) x y
+        → ((i : List ℕ) → shown.leaves y i → Counting o m i) → Runs shown (Becomes (Counting o m)) y z → IsCertainSince Contents step b s n shown history (history ++ more) x y z
+    list_certain f history more o m x y z is done first counts second = record {
+      until = becomes_by shown (PassMakes Contents step b s n f history more) (λ i. HoldsHistory Contents step b s n history i ⊎ HoldsHistory Contents step b s n (history ++ more) i) x y (λ i. ⊎_elim (λ before. inl before) (λ by. inr by.1)) first;
+      certain = λ i left. holds i (counts i left);
+      since = becomes_by shown (Counting o m) (HoldsHistory Contents step b s n (history ++ more)) y z holds second;
+    }
+      where
+        holds : (i : List ℕ) → Counting o m i → HoldsHistory Contents step b s n (history ++ more) i
+        holds i counts = record { region = m; current = subst (λ (w : ℕ). IsCurrentRegion w i m) is counts; contents = done }

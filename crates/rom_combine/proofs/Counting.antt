@@ -5,9 +5,9 @@ use Rattle.rom_device.specs.Device.{ShownDevice}
 use Rattle.rom_header.specs.Regions.{IsCurrentRegion}
 use Rattle.rom_twin.specs.Images.{ImageOf, Twins, Stands, HasBack, HasMain, Repairing}
 use Rattle.rom_header.specs.declared.header.State.TheVariants.{Mutating, Copying}
-use Rattle.rom_twin.specs.Seen.{Seen, InPhase, NeedsRepair, Rests, committed, committed_in}
+use Rattle.rom_twin.specs.Seen.{Seen, InPhase, NeedsRepair, Rests, committed, committed_in, main_now}
 use Rattle.rom_twin.specs.declared.phase.Phase.{Phase}
-use Rattle.rom_twin.specs.declared.phase.Phase.TheVariants.{Clean, Undo, Doubt, Redo}
+use Rattle.rom_twin.specs.declared.phase.Phase.TheVariants.{Clean, Committed, Undo, Doubt, Redo}
 
 module _ (n : ℕ) (c i : List ℕ) where
   pub twins_region : Twins n c i → IsCurrentRegion n i c
@@ -73,6 +73,13 @@ module _ {D : Type 0} (shown : ShownDevice D) (t : Seen D) where
       either : HasBack t.order (committed shown t) i ⊎ Twins t.order (committed shown t) i → IsCurrentRegion t.order i (committed shown t)
       either (inl has) = back_region t.order (committed shown t) i has
       either (inr twins) = twins_region t.order (committed shown t) i twins
+
+  -- once it is committed, what main reads counts
+  pub committed_region : t.phase ≡ Committed → shown.leaves t.device (shown.words t.device) → InPhase shown t → (i : List ℕ) → shown.leaves t.device i → IsCurrentRegion t.order i (main_now shown t)
+  committed_region is reads known i left =
+      let all = each_of Committed is known in
+      let new_is : known.new ≡ main_now shown t = sym (all (shown.words t.device) reads).main_is in
+      copying_region t.order (main_now shown t) i (committed shown t) (subst (λ (z : List ℕ). Stands t.order Copying z (committed shown t) i) new_is (all i left))
 
   -- after a batch, and before its repair
   pub after_region : (t.phase ≡ Clean) ⊎ (t.phase ≡ Redo) → shown.leaves t.device (shown.words t.device) → InPhase shown t → (i : List ℕ) → shown.leaves t.device i → IsCurrentRegion t.order i (committed shown t)

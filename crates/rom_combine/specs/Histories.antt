@@ -6,6 +6,7 @@ use Rattle.rom_model.specs.declared.entry.Entry.{Entry}
 use Rattle.rom_model.specs.declared.record.Fate.{Fate}
 use Rattle.rom_model.specs.declared.record.Fate.TheVariants as fate
 use Rattle.rom_model.specs.declared.record.PassRecord.{PassRecord}
+use Rattle.rom_device.specs.Device.{ShownDevice, Becomes, Runs}
 use Rattle.rom_header.specs.Held.{Holds}
 use Rattle.rom_twin.specs.declared.phase.Phase.{Phase}
 use Rattle.rom_twin.specs.declared.phase.Phase.TheVariants as phase
@@ -38,3 +39,9 @@ module _ {S : Type 0} (Contents : ℕ → List ℕ → S → ℕ → Type 0) (st
   -- Each image that a pass with this fate makes holds the history before it, or that followed by its batch.
   abbrev pub PassMakes : Fate → List Entry → List Entry → List ℕ → Type 0
   PassMakes f history more i = HoldsHistory history i ⊎ (MayPublish f × HoldsHistory (history ++ more) i)
+
+  -- A pass made the one history the other, and its device was this one at its commit. Until then each image that it makes holds the one or the other; what a stop leaves then, and each image that is made from there on, holds the other.
+  pub record IsCertainSince {D : Type 0} (shown : ShownDevice D) (history longer : List Entry) (was mid now : D) : Type 0 where
+    pub until : Runs shown (Becomes (λ i. HoldsHistory history i ⊎ HoldsHistory longer i)) was mid
+    pub certain : (i : List ℕ) → shown.leaves mid i → HoldsHistory longer i
+    pub since : Runs shown (Becomes (HoldsHistory longer)) mid now

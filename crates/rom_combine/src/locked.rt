@@ -10,7 +10,7 @@ ghost use Rattle.rom_twin.specs.Seen.{NeedsRepair, committed};
 ghost use Rattle.rom_combine.specs.AtRest.{IsAtRest, IsCoreOf, IsReady};
 ghost use Rattle.rom_combine.specs.Causes.{BeginsIn, FailsAtCommit, FailsBeforeCommit};
 ghost use Rattle.rom_combine.specs.Costs.{IsUnfailed, SpendsAtMost, SpendsWithin, WritesHeap, batch_syncs, batch_writes, syncs_before_commit, weights_added, weights_found, writes_before_commit};
-ghost use Rattle.rom_combine.specs.Histories.{ImageAt, PassMakes};
+ghost use Rattle.rom_combine.specs.Histories.{ImageAt, IsCertainSince, PassMakes};
 ghost use Rattle.rom_combine.specs.Passing.{IsPass};
 ghost use Rattle.rom_combine.specs.Told.{fate_of};
 ghost use Rattle.rom_rule.specs.Views.{opening_plan, plan_of};
@@ -143,6 +143,14 @@ impl<D: Device, O: Object> Core<D, O> {
             Runs D.shown (Becomes (PassMakes O.Contents (on_words O.machine) b s n
             (fate_of result.outcome) p.history x.more))
             self.old.twin.device self.new.twin.device) }
+
+        // Where it did a call, a stop leaves the batch from the commit on, whatever becomes of the rest.
+        ensures certain { 0 < result.done → (mid : D) × (IsTrue D.shown.tells_images →
+            let b = self.old.view.base in
+            (s : O.State) (n : ℕ) → O.Contents b.order b.image s n →
+            IsCertainSince O.Contents (on_words O.machine) b s n D.shown
+            (plan_of self.old.view).history (plan_of self.new.view).history
+            self.old.twin.device mid self.new.twin.device) }
         ensures spent { result.outcome ≡ Outcome.Published → result.done ≡ 0 →
             self.new.twin ≡ self.old.twin }
         ensures untouched { result.outcome ≡ Outcome.Nothing → self.new.twin ≡ self.old.twin }

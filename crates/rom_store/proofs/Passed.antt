@@ -13,7 +13,7 @@ use Rattle.rom_model.specs.declared.record.Found.{Found}
 use Rattle.rom_model.specs.declared.record.PassRecord.{PassRecord}
 use Rattle.rom_model.proofs.Recorded.{after_append}
 use Rattle.rom_device.specs.Device.{ShownDevice, After, Becomes, Runs}
-use Rattle.rom_device.proofs.Going.{becomes_by}
+use Rattle.rom_device.proofs.Going.{becomes_by, runs_none}
 use Rattle.rom_header.specs.Layout.{MAIN}
 use Rattle.rom_model.specs.Blocks.{region_len}
 use Rattle.rom_twin.specs.Seen.{NeedsRepair, Seen}
@@ -23,7 +23,7 @@ use Rattle.rom_twin.proofs.Repairs.{state_or_joins}
 use Rattle.rom_combine.proofs.Sessions.{len_more}
 use Rattle.rom_combine.specs.AtRest.{Locked}
 use Rattle.rom_combine.specs.Costs.{SpendsAtMost, WithinHeap, WritesHeap, batch_syncs, batch_writes, syncs_before_commit, writes_before_commit}
-use Rattle.rom_combine.specs.Histories.{Doubted, HoldsHistory, ImageAt, PassMakes}
+use Rattle.rom_combine.specs.Histories.{Doubted, HoldsHistory, ImageAt, IsCertainSince, PassMakes}
 use Rattle.rom_combine.specs.Images.{HoldsIn, MayPublish}
 use Rattle.rom_combine.proofs.Sessions.{state_whole}
 use Rattle.rom_combine.specs.Passing.{IsPass}
@@ -292,16 +292,55 @@ module _ {S : Type 0} (Contents : ℕ → List ℕ → S → ℕ → Type 0) (st
   cause_by outcome.Failed e failed doubt = failed e
   cause_by outcome.Doubt e failed doubt = doubt e
 
+  grown : length q.history ≡ length p.history + r.done
+  grown = ap length x.history ∙ (length-append p.history _ ∙ ap (λ (n : ℕ). length p.history + n) (sym x.done))
+
+  was_held : len_after 0 (records_of p) ≡ length p.history → (i : List ℕ) → HoldsHistory Contents step b s k p.history i → HoldsAfter Contents step Story' (len_after 0 (records_of p)) [] i
+  was_held ends i holds = subst (λ (n : ℕ). HoldsAfter Contents step Story' n [] i) (sym ends)
+      (subst (λ (y : S). HoldsIn Contents b.order y (k + length p.history + 0) i) (state_stays step b s k p q (published (fate_of r.outcome) x.more) x.history (length p.history) (omega arith)) (holds_whole Contents step b s k p i holds))
+
+  -- a pass that added to the history published
+  made_whole : (o : Outcome) → r.outcome ≡ o → 0 < r.done → (i : List ℕ) → HoldsHistory Contents step b s k q.history i → MayMake shown Contents step Story' (fate_of o) Record i
+  made_whole outcome.Nothing e some i holds = holds_whole Contents step b s k q i holds
+  made_whole outcome.Published e some i holds = holds_whole Contents step b s k q i holds
+  made_whole outcome.Failed e some i holds = let none : r.done ≡ 0 = x.done ∙ ap (λ (o : Outcome). length (published (fate_of o) x.more)) e in absurd (omega (arith, some, none))
+  made_whole outcome.Doubt e some i holds = let none : r.done ≡ 0 = x.done ∙ ap (λ (o : Outcome). length (published (fate_of o) x.more)) e in absurd (omega (arith, some, none))
+
+  -- where it was certain, and what it made before and after that
+  abbrev Split : Type 0
+  Split = (mid : D) × (IsTrue shown.tells_images → Runs shown (Becomes (PassImage shown Contents step Story' (len_after 0 (records_of p)) Record)) t.device mid)
+      × (IsTrue shown.tells_images → Runs shown (Becomes (HoldsAfter Contents step Story' (length q.history) [])) mid u.device)
+      × (IsTrue shown.tells_images → len_after 0 (records_of p) < length q.history → (i : List ℕ) → shown.leaves mid i → HoldsAfter Contents step Story' (length q.history) [] i)
+
+  split : len_after 0 (records_of p) ≡ length p.history → (0 < r.done → (mid : D) × (IsTrue shown.tells_images → IsCertainSince Contents step b s k shown p.history q.history t.device mid u.device))
+      → (IsTrue shown.tells_images → Runs shown (Becomes (PassMakes Contents step b s k (fate_of r.outcome) p.history x.more)) t.device u.device) → (n : ℕ) → r.done ≡ n → Split
+  split ends certain runs zero none = (
+    u.device,
+    λ told. becomes_by shown (PassMakes Contents step b s k (fate_of r.outcome) p.history x.more) (PassImage shown Contents step Story' (len_after 0 (records_of p)) Record) (λ i made. ⊎_elim
+        (λ holds. inl (was_held ends i holds))
+        (λ (may, holds). inr (made_by r.outcome refl may i holds)) made) t.device u.device (runs told),
+    λ told. runs_none shown (Becomes (HoldsAfter Contents step Story' (length q.history) [])) (λ i. inl refl) u.device,
+    λ told grew. absurd (omega (arith, ends, grown, none, grew)),
+  )
+  split ends certain runs (suc n) some =
+      let c : (mid : D) × (IsTrue shown.tells_images → IsCertainSince Contents step b s k shown p.history q.history t.device mid u.device) = certain (omega (arith, some)) in (
+        c.0,
+        λ told. becomes_by shown (λ i. HoldsHistory Contents step b s k p.history i ⊎ HoldsHistory Contents step b s k q.history i) (PassImage shown Contents step Story' (len_after 0 (records_of p)) Record) (λ i made. ⊎_elim
+            (λ holds. inl (was_held ends i holds))
+            (λ holds. inr (made_whole r.outcome refl (omega (arith, some)) i holds)) made) t.device c.0 (c.1 told).until,
+        λ told. becomes_by shown (HoldsHistory Contents step b s k q.history) (HoldsAfter Contents step Story' (length q.history) []) (holds_whole Contents step b s k q) c.0 u.device (c.1 told).since,
+        λ told grew i left. holds_whole Contents step b s k q i ((c.1 told).certain i left),
+      )
+
   -- The pass is one that the device went through.
   pass_on : len_after 0 (records_of p) ≡ length p.history
       → shown.reads u.device ≡ shown.reads t.device → BeginsIn shown t.phase b.order p.main t.device → (NeedsRepair t.phase → Rose b.faults (shown.faults t.device)) → SpendsAtMost shown (batch_writes t.phase b.order (region_len b.order)) (batch_syncs t.phase) t.device u.device
       → (r.outcome ≡ outcome.Failed → FailsEarly shown b.order p.main t u) → (r.outcome ≡ outcome.Doubt → FailsAtCommit shown t.phase b.order p.main t.device u.device)
       → (IsTrue shown.tells_images → Runs shown (Becomes (PassMakes Contents step b s k (fate_of r.outcome) p.history x.more)) t.device u.device)
-      → (0 < r.done → (u.phase ≡ phase.Clean) ⊎ (u.phase ≡ phase.Redo))
-      → (IsTrue shown.tells_images → (i : List ℕ) → shown.leaves u.device i → ImageAt Contents step b s k u.phase q i)
+      → (0 < r.done → (mid : D) × (IsTrue shown.tells_images → IsCertainSince Contents step b s k shown p.history q.history t.device mid u.device))
       → IsPassOn shown Contents step Story' (len_after 0 (records_of p)) Record t.device u.device
-  pass_on ends unread began needed most failed doubt runs repaired now_is =
-      let grown : length q.history ≡ length p.history + r.done = ap length x.history ∙ (length-append p.history _ ∙ ap (λ (n : ℕ). length p.history + n) (sym x.done)) in
+  pass_on ends unread began needed most failed doubt runs certain =
+      let parts : Split = split ends certain runs r.done refl in
       record {
         before = refl;
         after = refl;
@@ -313,31 +352,20 @@ module _ {S : Type 0} (Contents : ℕ → List ℕ → S → ℕ → Type 0) (st
         unread = unread;
         most = most;
         reached = (omega (arith, ends, grown), omega arith);
-        images = λ told. becomes_by shown _ (PassImage shown Contents step Story' (len_after 0 (records_of p)) Record) (λ i made. ⊎_elim
-            (λ holds. inl (was_held ends grown i holds))
-            (λ (may, holds). inr (made_by r.outcome refl may i holds)) made) t.device u.device (runs told);
-        certain = λ told grew i left. ⊎_elim
-            (λ holds. holds_whole Contents step b s k q i holds)
-            (λ (in_doubt, d, is, holds). absurd (⊎_elim
-            (λ clean. let no : phase.Clean ≡ phase.Doubt = sym clean ∙ in_doubt in cc)
-            (λ redo. let no : phase.Redo ≡ phase.Doubt = sym redo ∙ in_doubt in cc)
-            (repaired (omega (arith, ends, grown, grew)))))
-            (now_is told i left);
+        mid = parts.0;
+        images = parts.1;
+        since = parts.2;
+        certain = parts.3;
       }
-    where
-      was_held : len_after 0 (records_of p) ≡ length p.history → length q.history ≡ length p.history + r.done → (i : List ℕ) → HoldsHistory Contents step b s k p.history i → HoldsAfter Contents step Story' (len_after 0 (records_of p)) [] i
-      was_held ends grown i holds = subst (λ (n : ℕ). HoldsAfter Contents step Story' n [] i) (sym ends)
-          (subst (λ (y : S). HoldsIn Contents b.order y (k + length p.history + 0) i) (state_stays step b s k p q (published (fate_of r.outcome) x.more) x.history (length p.history) (omega arith)) (holds_whole Contents step b s k p i holds))
 
   -- So the device went through one pass more, or through none where no call was found.
   pub went_on : (First : D → Type 0) → len_after 0 (records_of p) ≡ length p.history
       → shown.reads u.device ≡ shown.reads t.device → BeginsIn shown t.phase b.order p.main t.device → (NeedsRepair t.phase → Rose b.faults (shown.faults t.device)) → SpendsAtMost shown (batch_writes t.phase b.order (region_len b.order)) (batch_syncs t.phase) t.device u.device
       → (r.outcome ≡ outcome.Failed → FailsEarly shown b.order p.main t u) → (r.outcome ≡ outcome.Doubt → FailsAtCommit shown t.phase b.order p.main t.device u.device)
       → (IsTrue shown.tells_images → Runs shown (Becomes (PassMakes Contents step b s k (fate_of r.outcome) p.history x.more)) t.device u.device)
-      → (r.outcome ≡ outcome.Nothing → u ≡ t) → (0 < r.done → (u.phase ≡ phase.Clean) ⊎ (u.phase ≡ phase.Redo))
-      → (IsTrue shown.tells_images → (i : List ℕ) → shown.leaves u.device i → ImageAt Contents step b s k u.phase q i)
+      → (r.outcome ≡ outcome.Nothing → u ≡ t) → (0 < r.done → (mid : D) × (IsTrue shown.tells_images → IsCertainSince Contents step b s k shown p.history q.history t.device mid u.device))
       → WentThrough shown Contents step (story_at b s k p) First t.device → WentThrough shown Contents step (story_at b s k q) First u.device
-  went_on First ends unread began needed most failed doubt runs untouched repaired now_is was = record {
+  went_on First ends unread began needed most failed doubt runs untouched certain was = record {
     first = was.first;
     begun = was.begun;
     passes = by (founds Contents step b p q callers (shown.faults t.device) (shown.faults u.device) r x) refl;
@@ -357,7 +385,7 @@ module _ {S : Type 0} (Contents : ℕ → List ℕ → S → ℕ → Type 0) (st
       by (f ∷ fs) e =
           let records : records_of p ++ Record ∷ [] ≡ records_of q = sym (x.records ∙ ap (λ (l : List Found). records_of p ++ record_list l Record) e) in
           subst (λ (l : List PassRecord). ArePassesOn shown Contents step Story' 0 l was.first u.device) records
-          (passes_on shown Contents step Story' 0 (records_of p) Record was.first t.device u.device stayed (pass_on ends unread began needed most failed doubt runs repaired now_is))
+          (passes_on shown Contents step Story' 0 (records_of p) Record was.first t.device u.device stayed (pass_on ends unread began needed most failed doubt runs certain))
 
 -- in `Clean` no repair is needed
 clean_needs_none : (ph : Phase) → ph ≡ phase.Clean → NeedsRepair ph → ⊥
@@ -373,6 +401,7 @@ module _ {S : Type 0} (Contents : ℕ → List ℕ → S → ℕ → Type 0) (st
       → d.view ≡ record c.view { plan = Some (plan_of d.view); steps = d.view.steps }
       → (x : IsPass Contents step c.view.base (plan_of c.view) (plan_of d.view) callers (shown.faults c.twin.device) (shown.faults d.twin.device) r)
       → (let b = c.view.base in IsTrue shown.tells_images → (s : S) (n : ℕ) → Contents b.order b.image s n → Runs shown (Becomes (PassMakes Contents step b s n (fate_of r.outcome) (plan_of c.view).history x.more)) c.twin.device d.twin.device)
+      → (let b = c.view.base in 0 < r.done → (mid : D) × (IsTrue shown.tells_images → (s : S) (n : ℕ) → Contents b.order b.image s n → IsCertainSince Contents step b s n shown (plan_of c.view).history (plan_of d.view).history c.twin.device mid d.twin.device))
       → (r.outcome ≡ outcome.Published → r.done ≡ 0 → d.twin ≡ c.twin) → (r.outcome ≡ outcome.Nothing → d.twin ≡ c.twin) → (0 < r.done → (d.twin.phase ≡ phase.Clean) ⊎ (d.twin.phase ≡ phase.Redo))
       → (r.outcome ≡ outcome.Failed → (d.twin.phase ≡ phase.Undo) ⊎ ((d.twin.phase ≡ c.twin.phase) × NeedsRepair c.twin.phase))
       → (let b = c.view.base in IsTrue shown.tells_images → (s : S) (n : ℕ) → Contents b.order b.image s n → (i : List ℕ) → shown.leaves d.twin.device i → ImageAt Contents step b s n d.twin.phase (plan_of d.view) i)
@@ -383,7 +412,7 @@ module _ {S : Type 0} (Contents : ℕ → List ℕ → S → ℕ → Type 0) (st
       → (r.outcome ≡ outcome.Failed → FailsEarly shown c.twin.order (plan_of c.view).main c.twin d.twin)
       → (r.outcome ≡ outcome.Doubt → FailsAtCommit shown c.twin.phase c.twin.order (plan_of c.view).main c.twin.device d.twin.device)
       → IsHeld shown Contents step c.table_id c.view.base start test d
-  held_on h same kept x runs spent untouched repaired failed now_is writes began undone most failed_by doubt_by = record {
+  held_on h same kept x runs certain spent untouched repaired failed now_is writes began undone most failed_by doubt_by = record {
     table_is = same.0;
     base_is = same.2;
     order_is = same.3 ∙ h.order_is;
@@ -405,7 +434,7 @@ module _ {S : Type 0} (Contents : ℕ → List ℕ → S → ℕ → Type 0) (st
         (subst (λ (n : ℕ). SpendsAtMost shown (batch_writes c.twin.phase n (region_len n)) (batch_syncs c.twin.phase) c.twin.device d.twin.device) h.order_is most)
         (λ e. subst (λ (n : ℕ). FailsEarly shown n p.main c.twin d.twin) h.order_is (failed_by e))
         (λ e. subst (λ (n : ℕ). FailsAtCommit shown c.twin.phase n p.main c.twin.device d.twin.device) h.order_is (doubt_by e))
-        (λ told. runs told s k op) untouched repaired (λ told. now_is told s k op) (h.went s k op);
+        (λ told. runs told s k op) untouched (λ some. ((certain some).0, λ told. (certain some).1 told s k op)) (h.went s k op);
   }
     where
       before : ℕ

@@ -55,8 +55,10 @@ module _ {D S : Type 0} (shown : ShownDevice D) (Contents : ℕ → List ℕ →
         unread = of.unread;
         most = of.most;
         reached = (omega (arith, of.reached.0, long), omega (arith, of.reached.1, long));
+        mid = of.mid;
         images = λ told. becomes_by shown (PassImage shown Contents step x len r) (PassImage shown Contents step On len r)
-            (λ i made. ⊎_elim (λ holds. inl (held_stays len of.reached.0 i holds)) (λ by. inr (made_stays r.fate r of.reached.1 i by)) made) was now (of.images told);
+            (λ i made. ⊎_elim (λ holds. inl (held_stays len of.reached.0 i holds)) (λ by. inr (made_stays r.fate r of.reached.1 i by)) made) was of.mid (of.images told);
+        since = λ told. becomes_by shown (HoldsAfter Contents step x r.len []) (HoldsAfter Contents step On r.len []) (held_stays r.len of.reached.1) of.mid now (of.since told);
         certain = λ told grew i left. held_stays r.len of.reached.1 i (of.certain told grew i left);
       }
 

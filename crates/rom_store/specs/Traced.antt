@@ -45,9 +45,12 @@ module _ {D S : Type 0} (shown : ShownDevice D) (Contents : ℕ → List ℕ →
     pub unread : shown.reads now ≡ shown.reads was
     pub most : SpendsAtMost shown (batch_writes phase story.order (region_len story.order)) (batch_syncs phase) was now
     pub reached : (len ≤ length story.history) × (r.len ≤ length story.history)
-    pub images : IsTrue shown.tells_images → Runs shown (Becomes (PassImage len r)) was now
-    -- what it published is certain: a stop leaves it
-    pub certain : IsTrue shown.tells_images → len < r.len → (i : List ℕ) → shown.leaves now i → HoldsAfter Contents step story r.len [] i
+    -- the device at its commit, or at its end where it added nothing: each image that the pass makes until then is of the one history or the other, and each that it makes from there on of that with what it published
+    pub mid : D
+    pub images : IsTrue shown.tells_images → Runs shown (Becomes (PassImage len r)) was mid
+    pub since : IsTrue shown.tells_images → Runs shown (Becomes (HoldsAfter Contents step story r.len [])) mid now
+    -- what it published is certain from then on: a stop leaves it
+    pub certain : IsTrue shown.tells_images → len < r.len → (i : List ℕ) → shown.leaves mid i → HoldsAfter Contents step story r.len [] i
 
   -- The passes of these records, one after another, from the one device to the other: between two of them none is called.
   abbrev pub ArePassesOn : ℕ → List PassRecord → D → D → Type 0

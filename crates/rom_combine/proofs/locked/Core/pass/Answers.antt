@@ -4,7 +4,7 @@ use mathlib.Core.Option.{some}
 use lib.ListN.{get_elem?}
 use Rattle.rom_combine.proofs.Weights.{same_found}
 use Rattle.rom_combine.proofs.Since.{becomes_none}
-use Rattle.rom_combine.proofs.Counting.{after_region}
+use Rattle.rom_combine.proofs.Counting.{after_region, committed_region}
 use Rattle.rom_twin.specs.Seen.{committed}
 use Rattle.rom_header.specs.Regions.{IsCurrentRegion}
 use Rattle.rom_device.specs.Device.{Runs}
@@ -46,9 +46,9 @@ use Rattle.rom_combine.specs.Scanning.{IsUnanswered, IsScan, posted_of, but_requ
 use Rattle.rom_combine.specs.declared.scanning.Posted.{Posted}
 use Rattle.rom_combine.specs.Answering.{HasGiven, IsRecordedBy, SameCalls, caller_of}
 use Rattle.rom_combine.specs.Answering.{refused}
-use Rattle.rom_combine.specs.Histories.{PassMakes, ImageAt}
+use Rattle.rom_combine.specs.Histories.{IsCertainSince, PassMakes, ImageAt}
 use Rattle.rom_combine.specs.AtRest.{IsAtRest, Locked}
-use Rattle.rom_combine.proofs.Bridge.{batch_now, same_held, list_settled}
+use Rattle.rom_combine.proofs.Bridge.{batch_now, same_held, list_certain, list_settled}
 use Rattle.rom_combine.specs.Passing.{IsPass}
 use Rattle.rom_combine.proofs.Keeping.{ready_by, scan_stays, rest_same, now_of, pass_nothing, none_answered}
 use Rattle.rom_combine.proofs.Failing.{begins_in, clean_needs_none, failing_refused, first_left, made_by, pass_refused, passed_refused, none_refused, core_refused, core_spent, batch_done, passed_published, clear_by}
@@ -443,6 +443,40 @@ returns-clause-passed g c = let v : View = c.self.inside.seat.token.me.0 in let 
     rw c.of-2.ensures.is (subst (λ (r : Base × Locked g.row.D.Denot × ℕ). (z' : IsPass g.O.Object.Contents (on_words g.O.Object.machine) r.0 (plan_of r.1.view) (plan_of z) c.args.shared.now.layout.callers r.2 end (record { found = many; done = diff; outcome = o }))
     × (IsTrue g.D.Device.shown.tells_images → (s : g.O.Object.State) (n : ℕ) → g.O.Object.Contents r.0.order r.0.image s n → Runs g.D.Device.shown (Becomes (PassMakes g.O.Object.Contents (on_words g.O.Object.machine) r.0 s n (fate_of o) (plan_of r.1.view).history z'.more)) r.1.twin.device d))
     (λ j. ((base_x ∙ ap (λ r. r.view.base) c.self.view_is) j, c.self.view_is j, (c.fault_count-before.ensures ∙ ap (λ r. g.D.Device.shown.faults r.twin.device) c.self.view_is) j)) whole)
+
+pub returns-clause-certain : goal.returns-clause-certain
+returns-clause-certain g c some_done = let v : View = c.self.inside.seat.token.me.0 in let w : View = c.scan.new.seat.token.me.0 in let inv = c.self.invariant.0 in let sc = c.scan.ensures.scanned in
+    let base : w.base ≡ v.base = ap (λ (z : View). z.base) c.scan.ensures.same.2 in
+    let x : View = c.load_main-place.new.seat.token.me.0 in let q : Plan = plan_of w in let st = scan_stays (plan_of v) q sc.rest in
+    let plan_x : plan_of x ≡ q = ap plan_of c.load_main-place.ensures.still.2 in let base_x : x.base ≡ v.base = ap (λ (z : View). z.base) c.load_main-place.ensures.still.2 ∙ base in
+    let y : View = c.publish-outcome.new.seat.token.me.0 in let is_pub : c.publish-outcome.result ≡ outcome.Published = search rules in let pb = c.publish-outcome.ensures.published is_pub in let ph = c.publish-outcome.ensures.held is_pub in
+    let lm : View = c.load_main.new.seat.token.me.0 in let plan_lm : plan_of lm ≡ plan_of y = ap plan_of c.load_main.ensures.still.2 in
+    let base_lm : lm.base ≡ x.base = ap (λ (r : View). r.base) c.load_main.ensures.still.2 ∙ ap (λ (r : View). r.base) c.publish-outcome.ensures.same.2 in
+    let some_found : 0 < length c.scan.new.found.items = search rules in
+    let first = at_some (plan_of x).requests 0 (let e : 0 < length (plan_of x).requests = omega (arith, some_found, ap length sc.items_are, length_map posted_of q.requests, ap (λ (r : Plan). length r.requests) plan_x) in e) in
+    let made : is_made (plan_of y).mine ≡ true = ap is_made pb.mine ∙ made_some (map found_of (plan_of x).requests) _ 0 (found_of first.0) (at_map found_of (plan_of x).requests 0 first.0 first.1) in
+    let u : View = c.answer_all-2.new.seat.token.me.0 in let base_u : u.base ≡ x.base = ap (λ (r : View). r.base) c.answer_all-2.ensures.same.2 ∙ base_lm in
+    let given : but_requests (plan_of u) ≡ but_requests (plan_of y) = c.answer_all-2.ensures.kept (ap (λ (r : Plan). is_made r.mine) plan_lm ∙ made) ∙ ap but_requests plan_lm in
+    let main : (plan_of u).main ≡ (plan_of y).main = ap (λ (r : Plan). r.main) given in let history : (plan_of u).history ≡ (plan_of y).history = ap (λ (r : Plan). r.history) given in
+    let end : ℕ = g.D.Device.shown.faults c.settle.new.twin.device in let z : View = c.settle.new.seat.token.me.0 in
+    let settled : plan_of z ≡ rested end c.settle.ensures.rested.version c.settle.ensures.rested.clear (plan_of u) = ap plan_of c.settle.ensures.rested.writes.2 in let base_z : z.base ≡ x.base = ap (λ (r : View). r.base) c.settle.ensures.rested.writes.2 ∙ base_u in
+    let kept : but_requests (plan_of z) ≡ but_requests (rested end c.settle.ensures.rested.version c.settle.ensures.rested.clear (plan_of y)) = ap but_requests settled ∙ ap (λ (r : Plan). but_requests (rested end c.settle.ensures.rested.version c.settle.ensures.rested.clear r)) given in
+    let a = c.self.inside.twin.device in let m = c.publish-outcome.new.twin in let d = c.settle.new.twin.device in
+    let old : (plan_of x).history ≡ (plan_of v).history = ap (λ (r : Plan). r.history) plan_x ∙ st.history in
+    let new : (plan_of z).history ≡ (plan_of x).history ++ pb.more = ap (λ (r : Plan). r.history) kept ∙ pb.history in
+    let order : m.order ≡ x.base.order = c.publish-outcome.ensures.order ∙ (inv.order_is ∙ ap (λ (r : Base). r.order) (sym base_x)) in
+    (m.device, λ told.
+    subst (λ (r : Base × Locked g.row.D.Denot). (s : g.O.Object.State) (n : ℕ) → g.O.Object.Contents r.0.order r.0.image s n → IsCertainSince g.O.Object.Contents (on_words g.O.Object.machine) r.0 s n g.D.Device.shown (plan_of r.1.view).history (plan_of z).history r.1.twin.device m.device d)
+    (λ j. ((base_x ∙ ap (λ r. r.view.base) c.self.view_is) j, c.self.view_is j))
+    (λ s n op.
+    let bq : pb.more ≡ batch_now g.O.Object.Contents (on_words g.O.Object.machine) x.base s n (plan_of x) = (pb.batch s n op).1 ∙ ap (λ (k : ℕ). batch (on_words g.O.Object.machine) x.base.order (after (on_words g.O.Object.machine) x.base.order s n (plan_of x).history) k (map found_of (plan_of x).requests)) (pb.batch s n op).0 in
+    let heldm : rule.Held g.O.Object.Contents (on_words g.O.Object.machine) x.base s n (plan_of u).main ((plan_of x).history ++ pb.more) = subst (λ (r : List ℕ × List Entry). rule.Held g.O.Object.Contents (on_words g.O.Object.machine) x.base s n r.0 r.1) (λ j. (sym main j, pb.history j))
+    (same_held g.O.Object.Contents (on_words g.O.Object.machine) x.base s n ph.0 ph.1 (plan_of y).history (plan_of y).main (g.met.O.Object.one_contents x.base.order x.base.image s ph.0 n ph.1 op ph.2) ph.3) in
+    let counts : (i : List ℕ) → g.D.Device.shown.leaves m.device i → IsCurrentRegion m.order i (plan_of u).main = λ i left. subst (λ (r : List ℕ). IsCurrentRegion m.order i r) (c.publish-outcome.ensures.main is_pub told ∙ sym main)
+    (committed_region g.D.Device.shown m (c.publish-outcome.ensures.phase is_pub) (g.met.D.Device.reads_image m.device told) (c.publish-outcome.ensures.images told) i left) in
+    subst (λ (r : List Entry × List Entry). IsCertainSince g.O.Object.Contents (on_words g.O.Object.machine) x.base s n g.D.Device.shown r.0 r.1 a m.device d) (λ j. (old j, sym new j))
+    (list_certain g.O.Object.Contents (on_words g.O.Object.machine) x.base s n g.D.Device.shown (fate_of c.publish-outcome.result) (plan_of x).history pb.more m.order (plan_of u).main a m.device d order heldm
+    (subst (λ (l : List Entry). Runs g.D.Device.shown (Becomes (PassMakes g.O.Object.Contents (on_words g.O.Object.machine) x.base s n (fate_of c.publish-outcome.result) (plan_of x).history l)) a m.device) (sym bq) (c.publish-outcome.ensures.since told s n op)) counts (c.settle.ensures.since told))))
 
 pub returns-clause-now : goal.returns-clause-now
 returns-clause-now g c told s n op i left = let v : View = c.self.inside.seat.token.me.0 in let w : View = c.scan.new.seat.token.me.0 in let x : View = c.load_main-place.new.seat.token.me.0 in let z : View = c.settle.new.seat.token.me.0 in let t = c.settle.new.twin in
