@@ -2,6 +2,7 @@
 pub mod Joined
 pub mod Ending
 pub mod Leaving
+pub mod Lasting
 pub mod Sources
 pub mod Showing
 pub mod Lawful

@@ -21,6 +21,7 @@ use Rattle.rom_open.specs.Calls.{Calls, HasFaults}
 use Rattle.rom_open.specs.Making.{IsMadeThen, NoneOrHolds}
 use Rattle.rom_open.specs.Refusals.{IsRefusal, NamesTooFew, named_order}
 use Rattle.rom_open.specs.Within.{HasMadeHeap, HasOpened, MakesNone, WithinMaking, WithinOpening}
+use Rattle.rom_store.specs.Lasting.{HasLasted}
 use Rattle.rom_store.specs.Traced.{WentThrough}
 use Rattle.rom_open.specs.declared.new_heap.NotFormatted.TheVariants.{Refused}
 use Rattle.rom_open.specs.declared.reasons.Why.{Why}
@@ -80,6 +81,10 @@ module _ {S C Q R A : Type 0} (machine : Machine S C Q R A) (Contents : ℕ → 
       pub before : story.opening_faults ≡ shown.faults was
       pub after : faults_after story.opening_faults story.records ≤ shown.faults now
       pub went : WentThrough shown Contents (on_words machine) story (HasBegun shown heap story.order was) now
+
+    -- From the commit of each of these passes on that added to the history, whatever a stop left holds what it published, and all before.
+    abbrev pub IsLasting : Heap → D → D → Story S → Type 0
+    IsLasting heap was now story = HasLasted shown Contents (on_words machine) story (HasBegun shown heap story.order was) now
 
 module _ {D : Type 0} (shown : ShownDevice D) where
   -- Nothing changes where a heap that is to be made stands already, or there are too few words for it.

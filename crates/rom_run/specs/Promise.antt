@@ -12,6 +12,7 @@ use Rattle.rom_text.specs.Runs.{AreAskedOnce, AreAtEnd, AreWithin, IsTold, Sourc
 use Rattle.rom_text.specs.Streams.{ShownSink, ShownSource, StopsWriting, WriteFailed}
 use Rattle.rom_store.specs.Sessions.{EachStory, SessionSeen}
 use Rattle.rom_run.specs.Complete.{HasFewFaults, IsComplete, IsRefusedExactly}
+use Rattle.rom_run.specs.Keeping.{IsLasting}
 use Rattle.rom_run.specs.Played.{HasReplies}
 use Rattle.rom_run.specs.Use.{HasNotFailed, HasNotRun, HasRead, HasRun, IsStatus, Use, heap_of}
 use Rattle.rom_run.specs.Working.{HasMade, HasNone, HasSession, IsDeviceKept, IsStill}
@@ -37,6 +38,8 @@ module _ {S C Q R A D X K : Type 0} (machine : Machine S C Q R A) (Contents : �
     -- where scripts were run or a heap was shown, the results of one history are printed, and what a stop leaves is told by it
     pub story : IfSome asked (λ does. IfSome session (HasSession machine Contents shown (heap_of does) was now (HasReplies machine AreRun Prints sources.items old new status)))
     pub still : IfSome session (λ s. EachStory machine Contents s (IsStill Contents shown asked was now))
+    -- each pass that added to the history was certain at its commit: no stop since then has left less of it
+    pub lasting : IfSome asked (λ does. IfSome session (λ s. EachStory machine Contents s (IsLasting machine Contents shown (heap_of does) was now)))
     -- else what a stop may leave, and why scripts were not run, or a heap not shown or not upgraded
     pub none : IfSome asked (λ does. IsNone session → HasNone machine Contents shown sink Rejects earlier (heap_of does) was now old new status)
     pub made : status ≡ 0 → HasMade machine Contents earlier shown sink asked was now old new

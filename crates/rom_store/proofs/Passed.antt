@@ -352,6 +352,7 @@ module _ {S : Type 0} (Contents : ℕ → List ℕ → S → ℕ → Type 0) (st
         unread = unread;
         most = most;
         reached = (omega (arith, ends, grown), omega arith);
+        risen = omega (arith, ends, grown);
         mid = parts.0;
         images = parts.1;
         since = parts.2;

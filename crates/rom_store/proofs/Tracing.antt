@@ -55,6 +55,7 @@ module _ {D S : Type 0} (shown : ShownDevice D) (Contents : ℕ → List ℕ →
         unread = of.unread;
         most = of.most;
         reached = (omega (arith, of.reached.0, long), omega (arith, of.reached.1, long));
+        risen = of.risen;
         mid = of.mid;
         images = λ told. becomes_by shown (PassImage shown Contents step x len r) (PassImage shown Contents step On len r)
             (λ i made. ⊎_elim (λ holds. inl (held_stays len of.reached.0 i holds)) (λ by. inr (made_stays r.fate r of.reached.1 i by)) made) was of.mid (of.images told);

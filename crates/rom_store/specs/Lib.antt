@@ -11,6 +11,7 @@ pub mod Reading
 pub mod Updating
 pub mod Start
 pub mod Traced
+pub mod Lasting
 pub mod Held
 pub mod Openings
 pub mod Sessions

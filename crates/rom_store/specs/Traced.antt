@@ -45,6 +45,8 @@ module _ {D S : Type 0} (shown : ShownDevice D) (Contents : ℕ → List ℕ →
     pub unread : shown.reads now ≡ shown.reads was
     pub most : SpendsAtMost shown (batch_writes phase story.order (region_len story.order)) (batch_syncs phase) was now
     pub reached : (len ≤ length story.history) × (r.len ≤ length story.history)
+    -- none takes any of the history back
+    pub risen : len ≤ r.len
     -- the device at its commit, or at its end where it added nothing: each image that the pass makes until then is of the one history or the other, and each that it makes from there on of that with what it published
     pub mid : D
     pub images : IsTrue shown.tells_images → Runs shown (Becomes (PassImage len r)) was mid

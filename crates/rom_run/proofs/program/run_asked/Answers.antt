@@ -8,6 +8,7 @@ use Rattle.rom_run.specs.declared.program.Asked.{Asked}
 use Rattle.rom_run.specs.declared.program.Asked.TheVariants.{Play, Make}
 use Rattle.rom_run.proofs.Accepted.{AreApart, apart_played}
 use Rattle.rom_run.proofs.Completing.{ends, few_faults, output_faulted, output_unread}
+use Rattle.rom_run.proofs.Lasting.{lasting}
 use Rattle.rom_run.proofs.program.run_asked.Goals as goal
 
 -- no command of these upgrades a heap
@@ -16,7 +17,7 @@ apart_asked earlier (Some (Play heap)) order = apart_played earlier heap order
 apart_asked earlier (Some (Make order)) is = tt
 apart_asked earlier None order = tt
 
--- three of the promises follow from the others
+-- four of the promises follow from the others
 pub returns : goal.returns
 returns g c =
     let o = g.O.Object in
@@ -40,6 +41,8 @@ returns g c =
       sink_failed = is.sink_failed;
     })
     (apart_asked o.earlier c.args.asked c.requires.order) in
+    let w = g.world in
+    let only_now = (g.met.D.Device w.𝓛 w.𝓜 w.𝓡 ((λ s x. x), (λ x. x), (λ x. x), λ x. x)).only_now in
     record {
       promise = record {
         statuses = is.statuses;
@@ -47,6 +50,7 @@ returns g c =
         not_run = is.not_run;
         story = is.story;
         still = is.still;
+        lasting = lasting o.machine o.Contents g.D.Device.shown c.args.device ended.device only_now _ (use_of c.args.asked) ended.session is.story;
         none = is.none;
         made = is.made;
         kept = is.kept;

@@ -3,13 +3,14 @@ use Rattle.rom_model.specs.Region.{Contents}
 use Rattle.rom_model.specs.Trio.{trio}
 use Rattle.rom_script.proofs.Determined.{text_determines}
 use Rattle.rom_run.proofs.Completing.{ends, few_faults}
+use Rattle.rom_run.proofs.Lasting.{lasting}
 use Rattle.rom_shell.specs.Run.{AreRun, IsPrinted, use_of}
 use Rattle.rom_words.specs.Words.{command}
 use Rattle.rom_shell.proofs.Apart.{apart_asked}
 use Rattle.rom_shell.proofs.Printed.{printed_faulted, printed_unread}
 use Rattle.rom_shell.proofs.program.run.Goals as goal
 
--- three of the promises follow from the others
+-- four of the promises follow from the others
 pub returns-clause-promise : goal.returns-clause-promise
 returns-clause-promise g c =
     let shown = g.D.Device.shown in
@@ -33,12 +34,15 @@ returns-clause-promise g c =
       sink_failed = is.sink_failed;
     })
     (apart_asked asked) in
+    let w = g.world in
+    let only_now = (g.met.D.Device w.𝓛 w.𝓜 w.𝓡 ((λ s x. x), (λ x. x), (λ x. x), λ x. x)).only_now in
     record {
       statuses = is.statuses;
       ran = is.ran;
       not_run = is.not_run;
       story = is.story;
       still = is.still;
+      lasting = lasting trio Contents shown c.args.device ended.device only_now _ (use_of asked) ended.session is.story;
       none = is.none;
       made = is.made;
       kept = is.kept;

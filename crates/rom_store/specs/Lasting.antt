@@ -1,0 +1,27 @@
+-- What a pass published lasts: from its commit on, whatever a stop leaves holds it.
+use Rattle.std.specs.Prelude.{◌⊎◌, ℕ, ◌<◌, ◌≤◌, List, [], ◌∷◌, Option, IsTrue}
+use Rattle.rom_model.specs.Story.{Story}
+use Rattle.rom_model.specs.declared.record.PassRecord.{PassRecord}
+use Rattle.rom_device.specs.Device.{ShownDevice}
+use Rattle.rom_combine.specs.Session.{AtBoundary, AtDoubt}
+use Rattle.rom_store.specs.Traced.{ArePassesOn, WentThrough}
+
+module _ {D S : Type 0} (shown : ShownDevice D) (Contents : ℕ → List ℕ → S → ℕ → Type 0) (step : ℕ → S → ℕ → List ℕ → Option (S × List ℕ)) (story : Story S) where
+  -- An image of the session that holds no less of the history than this much: all up to a boundary there or behind it, and then nothing, or the batch of a pass in doubt.
+  abbrev pub HoldsAtLeast : ℕ → List ℕ → Type 0
+  HoldsAtLeast len i = ((at : AtBoundary Contents step story i) × (len ≤ at.len)) ⊎ ((at : AtDoubt Contents step story i) × (len ≤ at.pass.len))
+
+  -- At that device, or before it, the history was certain up to this length: so much is held by each image that a stop has left since.
+  pub record Lasts (len : ℕ) (at now : D) : Type 0 where
+    pub passed : shown.clock at ≤ shown.clock now
+    pub since : (i : List ℕ) → shown.left_since now (shown.clock at) i → HoldsAtLeast len i
+
+  -- So it is with each of these passes that added to the history, from its commit on, up to the last device.
+  abbrev pub AreLasting : D → (len : ℕ) (rs : List PassRecord) (was now : D) → ArePassesOn shown Contents step story len rs was now → Type 0
+  AreLasting last len [] was now same = Unit {0}
+  AreLasting last len (r ∷ rs) was now on = (len < r.len → Lasts r.len on.1.mid last) × AreLasting last r.len rs on.0 now on.2
+
+  -- and with all passes of the story, as the device went through them
+  pub record HasLasted (First : D → Type 0) (now : D) : Type 0 where
+    pub went : WentThrough shown Contents step story First now
+    pub lasts : IsTrue shown.tells_images → AreLasting now 0 story.records went.first now went.passes
