@@ -1,5 +1,5 @@
 //! What the lock holds: the device with its heap, and the writer's seat.
-ghost use Rattle.std.specs.Prelude.{Some, ◌≡◌, ◌≢◌, ◌⊎◌, ℕ, ◌*◌, ◌<◌, ◌≤◌, List, length, IsTrue};
+ghost use Rattle.std.specs.Prelude.{Some, ◌≡◌, ◌≢◌, ◌⊎◌, ℕ, ◌+◌, ◌*◌, ◌<◌, ◌≤◌, List, length, IsTrue};
 ghost use Rattle.rom_model.specs.Blocks.{IsOrder, region_len};
 ghost use Rattle.rom_model.specs.Faults.{Rose};
 ghost use Rattle.rom_model.specs.Machine.{on_words, weight_on_words};
@@ -144,8 +144,13 @@ impl<D: Device, O: Object> Core<D, O> {
             (fate_of result.outcome) p.history x.more))
             self.old.twin.device self.new.twin.device) }
 
-        // Where it did a call, a stop leaves the batch from the commit on, whatever becomes of the rest.
-        ensures certain { 0 < result.done → (mid : D) × (IsTrue D.shown.tells_images →
+        // Where it did a call, a stop leaves the batch from the commit on, whatever becomes of the rest;
+        // and no more is called until then than up to the commit's sync.
+        ensures certain { 0 < result.done → (mid : D)
+            × SpendsAtMost D.shown (writes_before_commit self.old.twin.phase self.old.twin.order
+            (region_len self.old.twin.order) + 1)
+            (syncs_before_commit self.old.twin.phase + 1) self.old.twin.device mid
+            × (IsTrue D.shown.tells_images →
             let b = self.old.view.base in
             (s : O.State) (n : ℕ) → O.Contents b.order b.image s n →
             IsCertainSince O.Contents (on_words O.machine) b s n D.shown

@@ -306,13 +306,18 @@ module _ {S : Type 0} (Contents : ℕ → List ℕ → S → ℕ → Type 0) (st
   made_whole outcome.Failed e some i holds = let none : r.done ≡ 0 = x.done ∙ ap (λ (o : Outcome). length (published (fate_of o) x.more)) e in absurd (omega (arith, some, none))
   made_whole outcome.Doubt e some i holds = let none : r.done ≡ 0 = x.done ∙ ap (λ (o : Outcome). length (published (fate_of o) x.more)) e in absurd (omega (arith, some, none))
 
+  -- the device at its commit
+  abbrev Commits : Type 0
+  Commits = (mid : D) × SpendsAtMost shown (writes_before_commit t.phase b.order (region_len b.order) + 1) (syncs_before_commit t.phase + 1) t.device mid × (IsTrue shown.tells_images → IsCertainSince Contents step b s k shown p.history q.history t.device mid u.device)
+
   -- where it was certain, and what it made before and after that
   abbrev Split : Type 0
   Split = (mid : D) × (IsTrue shown.tells_images → Runs shown (Becomes (PassImage shown Contents step Story' (len_after 0 (records_of p)) Record)) t.device mid)
       × (IsTrue shown.tells_images → Runs shown (Becomes (HoldsAfter Contents step Story' (length q.history) [])) mid u.device)
       × (IsTrue shown.tells_images → len_after 0 (records_of p) < length q.history → (i : List ℕ) → shown.leaves mid i → HoldsAfter Contents step Story' (length q.history) [] i)
+      × (len_after 0 (records_of p) < length q.history → SpendsAtMost shown (writes_before_commit t.phase b.order (region_len b.order) + 1) (syncs_before_commit t.phase + 1) t.device mid)
 
-  split : len_after 0 (records_of p) ≡ length p.history → (0 < r.done → (mid : D) × (IsTrue shown.tells_images → IsCertainSince Contents step b s k shown p.history q.history t.device mid u.device))
+  split : len_after 0 (records_of p) ≡ length p.history → (0 < r.done → Commits)
       → (IsTrue shown.tells_images → Runs shown (Becomes (PassMakes Contents step b s k (fate_of r.outcome) p.history x.more)) t.device u.device) → (n : ℕ) → r.done ≡ n → Split
   split ends certain runs zero none = (
     u.device,
@@ -321,15 +326,17 @@ module _ {S : Type 0} (Contents : ℕ → List ℕ → S → ℕ → Type 0) (st
         (λ (may, holds). inr (made_by r.outcome refl may i holds)) made) t.device u.device (runs told),
     λ told. runs_none shown (Becomes (HoldsAfter Contents step Story' (length q.history) [])) (λ i. inl refl) u.device,
     λ told grew. absurd (omega (arith, ends, grown, none, grew)),
+    λ grew. absurd (omega (arith, ends, grown, none, grew)),
   )
   split ends certain runs (suc n) some =
-      let c : (mid : D) × (IsTrue shown.tells_images → IsCertainSince Contents step b s k shown p.history q.history t.device mid u.device) = certain (omega (arith, some)) in (
+      let c : Commits = certain (omega (arith, some)) in (
         c.0,
         λ told. becomes_by shown (λ i. HoldsHistory Contents step b s k p.history i ⊎ HoldsHistory Contents step b s k q.history i) (PassImage shown Contents step Story' (len_after 0 (records_of p)) Record) (λ i made. ⊎_elim
             (λ holds. inl (was_held ends i holds))
-            (λ holds. inr (made_whole r.outcome refl (omega (arith, some)) i holds)) made) t.device c.0 (c.1 told).until,
-        λ told. becomes_by shown (HoldsHistory Contents step b s k q.history) (HoldsAfter Contents step Story' (length q.history) []) (holds_whole Contents step b s k q) c.0 u.device (c.1 told).since,
-        λ told grew i left. holds_whole Contents step b s k q i ((c.1 told).certain i left),
+            (λ holds. inr (made_whole r.outcome refl (omega (arith, some)) i holds)) made) t.device c.0 (c.2 told).until,
+        λ told. becomes_by shown (HoldsHistory Contents step b s k q.history) (HoldsAfter Contents step Story' (length q.history) []) (holds_whole Contents step b s k q) c.0 u.device (c.2 told).since,
+        λ told grew i left. holds_whole Contents step b s k q i ((c.2 told).certain i left),
+        λ grew. c.1,
       )
 
   -- The pass is one that the device went through.
@@ -337,7 +344,7 @@ module _ {S : Type 0} (Contents : ℕ → List ℕ → S → ℕ → Type 0) (st
       → shown.reads u.device ≡ shown.reads t.device → BeginsIn shown t.phase b.order p.main t.device → (NeedsRepair t.phase → Rose b.faults (shown.faults t.device)) → SpendsAtMost shown (batch_writes t.phase b.order (region_len b.order)) (batch_syncs t.phase) t.device u.device
       → (r.outcome ≡ outcome.Failed → FailsEarly shown b.order p.main t u) → (r.outcome ≡ outcome.Doubt → FailsAtCommit shown t.phase b.order p.main t.device u.device)
       → (IsTrue shown.tells_images → Runs shown (Becomes (PassMakes Contents step b s k (fate_of r.outcome) p.history x.more)) t.device u.device)
-      → (0 < r.done → (mid : D) × (IsTrue shown.tells_images → IsCertainSince Contents step b s k shown p.history q.history t.device mid u.device))
+      → (0 < r.done → Commits)
       → IsPassOn shown Contents step Story' (len_after 0 (records_of p)) Record t.device u.device
   pass_on ends unread began needed most failed doubt runs certain =
       let parts : Split = split ends certain runs r.done refl in
@@ -357,6 +364,7 @@ module _ {S : Type 0} (Contents : ℕ → List ℕ → S → ℕ → Type 0) (st
         images = parts.1;
         since = parts.2;
         certain = parts.3;
+        soon = parts.4;
       }
 
   -- So the device went through one pass more, or through none where no call was found.
@@ -364,7 +372,7 @@ module _ {S : Type 0} (Contents : ℕ → List ℕ → S → ℕ → Type 0) (st
       → shown.reads u.device ≡ shown.reads t.device → BeginsIn shown t.phase b.order p.main t.device → (NeedsRepair t.phase → Rose b.faults (shown.faults t.device)) → SpendsAtMost shown (batch_writes t.phase b.order (region_len b.order)) (batch_syncs t.phase) t.device u.device
       → (r.outcome ≡ outcome.Failed → FailsEarly shown b.order p.main t u) → (r.outcome ≡ outcome.Doubt → FailsAtCommit shown t.phase b.order p.main t.device u.device)
       → (IsTrue shown.tells_images → Runs shown (Becomes (PassMakes Contents step b s k (fate_of r.outcome) p.history x.more)) t.device u.device)
-      → (r.outcome ≡ outcome.Nothing → u ≡ t) → (0 < r.done → (mid : D) × (IsTrue shown.tells_images → IsCertainSince Contents step b s k shown p.history q.history t.device mid u.device))
+      → (r.outcome ≡ outcome.Nothing → u ≡ t) → (0 < r.done → Commits)
       → WentThrough shown Contents step (story_at b s k p) First t.device → WentThrough shown Contents step (story_at b s k q) First u.device
   went_on First ends unread began needed most failed doubt runs untouched certain was = record {
     first = was.first;
@@ -402,7 +410,7 @@ module _ {S : Type 0} (Contents : ℕ → List ℕ → S → ℕ → Type 0) (st
       → d.view ≡ record c.view { plan = Some (plan_of d.view); steps = d.view.steps }
       → (x : IsPass Contents step c.view.base (plan_of c.view) (plan_of d.view) callers (shown.faults c.twin.device) (shown.faults d.twin.device) r)
       → (let b = c.view.base in IsTrue shown.tells_images → (s : S) (n : ℕ) → Contents b.order b.image s n → Runs shown (Becomes (PassMakes Contents step b s n (fate_of r.outcome) (plan_of c.view).history x.more)) c.twin.device d.twin.device)
-      → (let b = c.view.base in 0 < r.done → (mid : D) × (IsTrue shown.tells_images → (s : S) (n : ℕ) → Contents b.order b.image s n → IsCertainSince Contents step b s n shown (plan_of c.view).history (plan_of d.view).history c.twin.device mid d.twin.device))
+      → (let b = c.view.base in 0 < r.done → (mid : D) × SpendsAtMost shown (writes_before_commit c.twin.phase c.twin.order (region_len c.twin.order) + 1) (syncs_before_commit c.twin.phase + 1) c.twin.device mid × (IsTrue shown.tells_images → (s : S) (n : ℕ) → Contents b.order b.image s n → IsCertainSince Contents step b s n shown (plan_of c.view).history (plan_of d.view).history c.twin.device mid d.twin.device))
       → (r.outcome ≡ outcome.Published → r.done ≡ 0 → d.twin ≡ c.twin) → (r.outcome ≡ outcome.Nothing → d.twin ≡ c.twin) → (0 < r.done → (d.twin.phase ≡ phase.Clean) ⊎ (d.twin.phase ≡ phase.Redo))
       → (r.outcome ≡ outcome.Failed → (d.twin.phase ≡ phase.Undo) ⊎ ((d.twin.phase ≡ c.twin.phase) × NeedsRepair c.twin.phase))
       → (let b = c.view.base in IsTrue shown.tells_images → (s : S) (n : ℕ) → Contents b.order b.image s n → (i : List ℕ) → shown.leaves d.twin.device i → ImageAt Contents step b s n d.twin.phase (plan_of d.view) i)
@@ -435,7 +443,9 @@ module _ {S : Type 0} (Contents : ℕ → List ℕ → S → ℕ → Type 0) (st
         (subst (λ (n : ℕ). SpendsAtMost shown (batch_writes c.twin.phase n (region_len n)) (batch_syncs c.twin.phase) c.twin.device d.twin.device) h.order_is most)
         (λ e. subst (λ (n : ℕ). FailsEarly shown n p.main c.twin d.twin) h.order_is (failed_by e))
         (λ e. subst (λ (n : ℕ). FailsAtCommit shown c.twin.phase n p.main c.twin.device d.twin.device) h.order_is (doubt_by e))
-        (λ told. runs told s k op) untouched (λ some. ((certain some).0, λ told. (certain some).1 told s k op)) (h.went s k op);
+        (λ told. runs told s k op) untouched (λ some. let (mid, spent_by, by) = certain some in (mid,
+        subst (λ (n : ℕ). SpendsAtMost shown (writes_before_commit c.twin.phase n (region_len n) + 1) (syncs_before_commit c.twin.phase + 1) c.twin.device mid) h.order_is spent_by,
+        λ told. by told s k op)) (h.went s k op);
   }
     where
       before : ℕ

@@ -60,6 +60,7 @@ module _ {D S : Type 0} (shown : ShownDevice D) (Contents : ℕ → List ℕ →
         images = λ told. becomes_by shown (PassImage shown Contents step x len r) (PassImage shown Contents step On len r)
             (λ i made. ⊎_elim (λ holds. inl (held_stays len of.reached.0 i holds)) (λ by. inr (made_stays r.fate r of.reached.1 i by)) made) was of.mid (of.images told);
         since = λ told. becomes_by shown (HoldsAfter Contents step x r.len []) (HoldsAfter Contents step On r.len []) (held_stays r.len of.reached.1) of.mid now (of.since told);
+        soon = of.soon;
         certain = λ told grew i left. held_stays r.len of.reached.1 i (of.certain told grew i left);
       }
 

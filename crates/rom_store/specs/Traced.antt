@@ -1,5 +1,5 @@
 -- The passes of a session, one after another, as its device went through them.
-use Rattle.std.specs.Prelude.{◌≡◌, ◌⊎◌, ℕ, ◌<◌, ◌≤◌, List, [], ◌∷◌, length, Option, IsTrue}
+use Rattle.std.specs.Prelude.{◌≡◌, ◌⊎◌, ℕ, ◌+◌, ◌<◌, ◌≤◌, List, [], ◌∷◌, length, Option, IsTrue}
 use Rattle.rom_model.specs.Blocks.{region_len}
 use Rattle.rom_model.specs.Faults.{Rose}
 use Rattle.rom_model.specs.Story.{Story, doubted_batch}
@@ -53,6 +53,8 @@ module _ {D S : Type 0} (shown : ShownDevice D) (Contents : ℕ → List ℕ →
     pub since : IsTrue shown.tells_images → Runs shown (Becomes (HoldsAfter Contents step story r.len [])) mid now
     -- what it published is certain from then on: a stop leaves it
     pub certain : IsTrue shown.tells_images → len < r.len → (i : List ℕ) → shown.leaves mid i → HoldsAfter Contents step story r.len [] i
+    -- and until then no more is called than up to the sync of the commit: of a batch's four syncs three
+    pub soon : len < r.len → SpendsAtMost shown (writes_before_commit phase story.order (region_len story.order) + 1) (syncs_before_commit phase + 1) was mid
 
   -- The passes of these records, one after another, from the one device to the other: between two of them none is called.
   abbrev pub ArePassesOn : ℕ → List PassRecord → D → D → Type 0

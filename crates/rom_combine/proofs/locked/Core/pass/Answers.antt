@@ -465,7 +465,7 @@ returns-clause-certain g c some_done = let v : View = c.self.inside.seat.token.m
     let old : (plan_of x).history ≡ (plan_of v).history = ap (λ (r : Plan). r.history) plan_x ∙ st.history in
     let new : (plan_of z).history ≡ (plan_of x).history ++ pb.more = ap (λ (r : Plan). r.history) kept ∙ pb.history in
     let order : m.order ≡ x.base.order = c.publish-outcome.ensures.order ∙ (inv.order_is ∙ ap (λ (r : Base). r.order) (sym base_x)) in
-    (m.device, λ told.
+    (m.device, subst (λ (r : Locked g.row.D.Denot). SpendsAtMost g.D.Device.shown (writes_before_commit r.twin.phase r.twin.order (region_len r.twin.order) + 1) (syncs_before_commit r.twin.phase + 1) r.twin.device m.device) c.self.view_is c.publish-outcome.ensures.whole, λ told.
     subst (λ (r : Base × Locked g.row.D.Denot). (s : g.O.Object.State) (n : ℕ) → g.O.Object.Contents r.0.order r.0.image s n → IsCertainSince g.O.Object.Contents (on_words g.O.Object.machine) r.0 s n g.D.Device.shown (plan_of r.1.view).history (plan_of z).history r.1.twin.device m.device d)
     (λ j. ((base_x ∙ ap (λ r. r.view.base) c.self.view_is) j, c.self.view_is j))
     (λ s n op.
