@@ -4,6 +4,7 @@ pub mod Beginning
 pub mod Mending
 pub mod Tracing
 pub mod Lasting
+pub mod Moments
 pub mod Passed
 pub mod Telling
 pub mod Stories

@@ -12,6 +12,7 @@ pub mod Updating
 pub mod Start
 pub mod Traced
 pub mod Lasting
+pub mod Moments
 pub mod Held
 pub mod Openings
 pub mod Sessions
