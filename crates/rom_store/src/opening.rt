@@ -144,6 +144,7 @@ impl<D: Device, O: Object> Opening<D, O> {
 
 /// Opens the heap on a device for 1 to 16 callers. The refusals are those of `open_device`; want of memory
 /// may come after it too, and then the heap has been recovered.
+#[inline(never)]
 pub fn open_store<D: Device + Send, O: Object>(
     alloc: Global,
     device: D,

@@ -38,6 +38,7 @@ pub enum Unplayed<D> {
 /// heap is opened. The refusals are those of `open_store`.
 ///
 /// The results are lawful: each caller's replies are those of one history, at their places and fronts.
+#[inline(never)]
 pub fn play<D: Device + Send, O: Object + Send + Sync, R: Threads + Wait + Sync, G: Gate + Sync>(
     rt: &R,
     alloc: Global,

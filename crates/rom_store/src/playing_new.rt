@@ -96,6 +96,7 @@ where
 
 /// Makes a heap of this order on a device, where none stands, and runs the scripts on it as [`play`]
 /// does. All memory is taken before the device is called.
+#[inline(never)]
 pub fn play_new<
     D: Device + Send,
     O: Object + Send + Sync,

@@ -98,6 +98,7 @@ where
 
 /// The scripts on an opened heap, which is closed then. It picks the label that tells what the store
 /// was started on.
+#[inline(never)]
 pub(crate) fn play_on<
     D: Device + Send,
     O: Object + Send + Sync,
