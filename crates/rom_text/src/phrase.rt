@@ -38,14 +38,18 @@ pub fn read_number(digits: &[u8]) -> Option<u64>
     ensures found { IfSome result (λ n. digits.now ≡ decimal n) }
     ensures none { IfNone result ((n : ℕ) → n < 2 ^ 64 → digits.now ≢ decimal n) }
 {
-    // `parse` takes a plus and leading zeros too.
-    if !is_plain(digits) {
+    if digits.is_empty() || !is_plain(digits) {
         return None;
     }
-    let Ok(text) = str::from_utf8(digits) else {
-        return None;
-    };
-    text.parse().ok()
+    let mut number: u64 = 0;
+    for digit in digits {
+        let value = digit.wrapping_sub(b'0');
+        if value > 9 {
+            return None;
+        }
+        number = number.checked_mul(10)?.checked_add(u64::from(value))?;
+    }
+    Some(number)
 }
 
 /// The number from `least` to `most` that a word spells, without sign and without leading zero.
@@ -66,7 +70,11 @@ fn first_word(line: &[u8]) -> (&[u8], &[u8])
     ensures words { line_words line.now ≡ result.0.now ∷ words_behind result.1.now }
     ensures less { length result.1.now ≤ length line.now }
 {
-    line.split_at(len_before(b' ', line))
+    let mut len = 0;
+    while len < line.len() && line[len] != b' ' {
+        len += 1;
+    }
+    line.split_at(len)
 }
 
 /// The words of a line, or `None` where one behind the first is no number or there are more than
