@@ -19,7 +19,7 @@ const NAP: u64 = 1;
 const LINGERS: u32 = 20;
 
 /// How often others are let run before a pass that would find few calls.
-const GATHERS: u32 = 30;
+const GATHERS: u32 = 100;
 
 /// Lets other threads run a few times, until the posted call is answered. Where a pass is shorter than
 /// it takes to fall asleep and be woken, this serves before [`nap`].
@@ -85,28 +85,29 @@ fn is_posted<O: Object>(shared: &Shared<O>, caller: u32) -> bool
     shared.table.shared.peek(at) % 2 == 1
 }
 
-/// Lets other threads run a few times, as long as fewer callers than that have a call posted. Who is
-/// about to run a pass calls this, so that those whom the last passes answered can post again before
-/// it. It does not sleep, and with one caller it does nothing.
-pub fn gather<O: Object>(shared: &Shared<O>, wanted: u32) {
-    let callers = shared.layout.callers();
-    if callers > 1 {
-        for _ in 0..GATHERS {
-            if count_posted(shared) >= wanted.min(callers) {
-                break;
-            }
-            yield_now();
+/// Lets other threads run a while, as long as one of the wanted callers has no call posted; they are the
+/// bits of a set, the caller 1 the lowest. Who is about to run a pass calls this, so that those whom the
+/// last passes answered can post again before it. It does not sleep. It gives the set of those that have a
+/// call posted. Where none but those that have posted are wanted, it does not wait.
+pub fn gather<O: Object>(shared: &Shared<O>, wanted: u32) -> u32 {
+    let mut posted = set_of_posted(shared);
+    for _ in 0..GATHERS {
+        if posted & wanted == wanted {
+            break;
         }
+        yield_now();
+        posted = set_of_posted(shared);
     }
+    posted
 }
 
-// How many callers have a call posted.
-fn count_posted<O: Object>(shared: &Shared<O>) -> u32 {
-    let mut many: u32 = 0;
-    for i in 0..shared.layout.callers() {
+// The callers that have a call posted.
+fn set_of_posted<O: Object>(shared: &Shared<O>) -> u32 {
+    let mut set: u32 = 0;
+    for i in 0..shared.layout.callers().min(16) {
         if is_posted(shared, 1 + i) {
-            many = many.saturating_add(1);
+            set |= 1 << i;
         }
     }
-    many
+    set
 }

@@ -14,8 +14,8 @@ use rom_model::Object;
 use std::marker::{Model, PhantomData};
 use std::sync::Wait;
 
-/// After so many passes in turn that found fewer calls than were waited for, none is waited for: others
-/// have ended, or only read.
+/// After so many passes in turn that did not find all whose calls were waited for, none is waited for, for
+/// seven times as many: others have ended, only read, or take their time.
 const VAIN: u32 = 8;
 
 /// The heap and the writer's seat, behind the one lock. Whenever the lock is free, each image that a
@@ -23,9 +23,9 @@ const VAIN: u32 = 8;
 #[derive(Drop)]
 pub(crate) struct Held<D: Device, O: Object, N: Label> {
     core: Core<D, O>,
-    // How many calls each of the last two passes found, the last one first.
+    // Whose calls were posted before each of the last two passes, the last one first.
     found: [u32; 2],
-    // How many passes in turn have found fewer than those two together.
+    // How many passes in turn have not found all of them.
     vain: u32,
     of: PhantomData<N>,
 }
@@ -57,22 +57,23 @@ impl<D: Device, O: Object, N: Label> Held<D, O, N> {
         }
     }
 
-    /// Runs a pass. Where passes are slow, as many callers as the last two found have a short while
-    /// before it to post their calls, unless they did not for some passes.
+    /// Runs a pass. Where passes are slow, the callers whose calls the last two found have a short while
+    /// before it to post their next ones, unless they did not for some passes. Nobody else is waited for:
+    /// not who talks to nobody, nor, for a caller alone, anybody at all.
     pub fn pass<R: Wait, G: Gate>(&mut self, rt: &R, shared: &Shared<O>, gate: &G, pace: Pace)
         requires table { shared.now.table.shared.table_id ≡ N.table }
         requires base { opened_with shared.now ≡ N.base }
     {
         let [last, before] = self.found;
-        let wanted = last.saturating_add(before).min(shared.layout.callers());
-        match pace {
+        let wanted = last | before;
+        let posted = match pace {
             Pace::Slow if self.vain < VAIN => gather(shared, wanted),
-            _ => {}
-        }
+            _ => gather(shared, 0),
+        };
         let passed = self.core.pass(rt, shared, gate);
-        self.found = [passed.found, last];
-        self.vain = if passed.found < wanted {
-            self.vain.saturating_add(1)
+        self.found = [posted, last];
+        self.vain = if passed.found > 0 && posted & wanted != wanted {
+            self.vain.saturating_add(1) % (8 * VAIN)
         } else {
             0
         };
