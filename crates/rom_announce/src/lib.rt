@@ -23,5 +23,5 @@ mod waiting;
 pub use answering::answer;
 pub use posting::post;
 pub use scanning::{arguments, arguments_into, posted};
-pub use taking::{answered, take};
+pub use taking::{answered, take, take_into};
 pub use waiting::{gather, linger, nap, wake_next};

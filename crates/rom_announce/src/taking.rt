@@ -42,10 +42,26 @@ pub fn take<O: Object>(shared: &Shared<O>, seat: &mut Seat) -> (u64, Back)
     ensures still { let v = view seat.old in
         view seat.new ≡ record v { steps = v.steps + length result.1 + 2 } }
 {
+    let mut reply = Back::new();
+    let place = take_into(shared, seat, &mut reply);
+    (place, reply)
+}
+
+/// As [`take`], but the reply's words are put where they stay.
+pub fn take_into<O: Object>(shared: &Shared<O>, seat: &mut Seat, reply: &mut Back) -> u64
+    requires of { IsSeatOf shared.now seat.old }
+    requires answered { IsAnswered seat.old }
+    requires last { (x : Told) × IsLast (view seat.old) x }
+    ensures same { IsSameSeat seat.old seat.new }
+    ensures answer { (x : Told) → IsLast (view seat.old) x →
+        answer_words x.1 ≡ result ∷ packed reply.new }
+    ensures still { let v = view seat.old in
+        view seat.new ≡ record v { steps = v.steps + length reply.new + 2 } }
+{
     let place = load_word(shared, seat, 0);
     let count = load_word(shared, seat, 1);
-    let reply = load_reply(shared, seat, count);
-    (place, reply)
+    load_reply(shared, seat, count, reply);
+    place
 }
 
 // Word j of the answer: the place or code, the number of the reply's words, then they.
@@ -63,20 +79,19 @@ fn load_word<O: Object>(shared: &Shared<O>, seat: &mut Seat, j: u64) -> u64
     shared.table.shared.load::<LoadsAnswer>(&mut seat.token, at)
 }
 
-fn load_reply<O: Object>(shared: &Shared<O>, seat: &mut Seat, count: u64) -> Back
+fn load_reply<O: Object>(shared: &Shared<O>, seat: &mut Seat, count: u64, reply: &mut Back)
     requires of { IsSeatOf shared.now seat.old }
     requires answered { IsAnswered seat.old }
     requires few { count ≤ 20 }
     ensures same { IsSameSeat seat.old seat.new }
-    ensures many { length result ≡ count }
+    ensures many { length reply.new ≡ count }
     ensures reply { (x : Told) → IsLast (view seat.old) x → length (answer_words x.1) ≡ count + 2 →
-        result ≡ drop 2 (answer_words x.1) }
+        reply.new ≡ drop 2 (answer_words x.1) }
     ensures still { let v = view seat.old in view seat.new ≡ record v { steps = v.steps + count } }
 {
-    let mut reply = Back::new();
+    reply.clear();
     for i in 0..count {
         let word = load_word(shared, seat, 2 + i);
         reply.push(word);
     }
-    reply
 }

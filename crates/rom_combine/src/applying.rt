@@ -1,8 +1,9 @@
 //! The found calls, done on shared main.
-ghost use Rattle.std.specs.Prelude.{◌≡◌, ℕ, ◌+◌, ◌-◌, ◌*◌, ◌^◌, ◌<◌, ◌≤◌, List, [], ◌∷◌, map, take, length};
+ghost use Rattle.std.specs.Prelude.{◌≡◌, ℕ, ◌+◌, ◌-◌, ◌*◌, ◌^◌, ◌<◌, ◌≤◌, List, [], ◌∷◌, ◌++◌, map, take, length};
 ghost use Rattle.rom_model.specs.History.{LAST_COUNT};
 ghost use Rattle.rom_model.specs.Machine.{on_words, weight_on_words};
 ghost use Rattle.rom_combine.specs.Applying.{IsApplied, IsDoneOne, count_in};
+ghost use Rattle.rom_combine.specs.declared.answering.CallAnswer.{CallAnswer};
 ghost use Rattle.rom_combine.specs.Costs.{weights};
 ghost use Rattle.rom_combine.specs.Scanning.{IsUnanswered, posted_of};
 ghost use Rattle.rom_lr.specs.Seats.{IsWriterOf, plan, writer_view};
@@ -16,8 +17,8 @@ ghost use Rattle.rom_rule.specs.Views.{Each, plan_of};
 use crate::answering::CallAnswer;
 use crate::per_caller::PerCaller;
 use crate::scanning::Posted;
-use rom_lr::{Shared, WriterSeat, apply_main};
-use rom_model::{Back, LAST_COUNT, Object, SPENT};
+use rom_lr::{Shared, WriterSeat, apply_words_main};
+use rom_model::{LAST_COUNT, Object, SPENT};
 use rom_ranges::RangeLog;
 
 /// Does each found call on shared main in turn, and says what each is to be told; `place` is the
@@ -61,17 +62,55 @@ pub(crate) fn apply_all<O: Object>(
 {
     answers.clear();
     for i in 0..found.len() {
-        answers.push(apply_one(shared, seat, log, place + i as u64, &found[i]));
+        apply_next(shared, seat, log, place + i as u64, &found[i], answers);
     }
 }
 
+// One found call more, whose answer is made where it stays.
+fn apply_next<O: Object>(
+    shared: &Shared<O>,
+    seat: &mut WriterSeat,
+    log: &mut RangeLog,
+    place: u64,
+    one: &Posted,
+    answers: &mut PerCaller<CallAnswer>,
+)
+    requires of { IsWriterOf shared.now seat.old }
+    requires unread { NobodyReads seat.old Main }
+    requires call { IsCall (on_words O.machine) (writer_view seat.old).base one.now.args }
+    requires held { let v = writer_view seat.old in
+        (s : O.State) × (place < LAST_COUNT → O.Contents v.base.order (plan_of v).main s place) }
+    requires logged { let p = plan seat.old in IsLogOf p.back p.main log.old }
+    requires room { log.old.added + O.STORES * O.WEIGHT ≤ log.old.room }
+    requires next { length answers.old.items < 16 }
+    ensures kept { let p = plan seat.old in
+        Writes seat.old seat.new (record p { main = (plan seat.new).main }) }
+    ensures done { let v = writer_view seat.old in
+        (told : CallAnswer) × IsDoneOne O.Contents (on_words O.machine) v.base one.now place
+        (plan_of v).main (plan seat.new).main told
+        × (answers.new.items ≡ answers.old.items ++ told ∷ []) }
+    ensures logged { IsLogOf (plan seat.old).back (plan seat.new).main
+        log.new }
+    ensures few { log.new.added
+        ≤ log.old.added + O.STORES * weight_on_words O.machine one.now.args }
+    ensures most { log.new.added ≤ log.old.added + O.STORES * O.WEIGHT }
+    ensures spent { LAST_COUNT ≤ place → log.new ≡ log.old }
+    ensures room { log.new.room ≡ log.old.room }
+{
+    let told = &mut answers.cells[answers.count];
+    apply_one(shared, seat, log, place, one, told);
+    answers.count += 1;
+}
+
+// One found call. What it is to be told is made where it stays, whatever was told there before.
 fn apply_one<O: Object>(
     shared: &Shared<O>,
     seat: &mut WriterSeat,
     log: &mut RangeLog,
     place: u64,
     one: &Posted,
-) -> CallAnswer
+    told: &mut CallAnswer,
+)
     requires of { IsWriterOf shared.now seat.old }
     requires unread { NobodyReads seat.old Main }
     requires call { IsCall (on_words O.machine) (writer_view seat.old).base one.now.args }
@@ -83,7 +122,7 @@ fn apply_one<O: Object>(
         Writes seat.old seat.new (record p { main = (plan seat.new).main }) }
     ensures done { let v = writer_view seat.old in
         IsDoneOne O.Contents (on_words O.machine) v.base one.now place (plan_of v).main
-        (plan seat.new).main result }
+        (plan seat.new).main told.new }
     ensures logged { IsLogOf (plan seat.old).back (plan seat.new).main
         log.new }
     ensures few { log.new.added
@@ -92,18 +131,12 @@ fn apply_one<O: Object>(
     ensures spent { LAST_COUNT ≤ place → log.new ≡ log.old }
     ensures room { log.new.room ≡ log.old.room }
 {
+    told.caller = one.caller;
     if place < LAST_COUNT {
-        let call = O::words_call(&one.args).unwrap();
-        let reply = apply_main(shared, seat, log, &call);
-        return CallAnswer {
-            caller: one.caller,
-            place,
-            reply: O::reply_words(&reply),
-        };
+        told.place = place;
+        apply_words_main(shared, seat, log, &one.args, &mut told.reply);
+        return;
     }
-    CallAnswer {
-        caller: one.caller,
-        place: SPENT,
-        reply: Back::new(),
-    }
+    told.place = SPENT;
+    told.reply.clear();
 }

@@ -7,3 +7,4 @@ pub mod Plan
 pub mod Fitting
 pub mod Grouping
 pub mod Inspected
+pub mod Worded

@@ -1,5 +1,7 @@
 -- What an update leaves of a region, and how many words it stores at most.
-use Rattle.std.specs.Prelude.{◌≡◌, ℕ, ◌+◌, List, [], ◌∷◌}
+use Rattle.std.specs.Prelude.{◌≡◌, ℕ, ◌+◌, List, [], ◌∷◌, Some}
+use Rattle.rom_model.specs.Machine.{on_words}
+use Rattle.rom_model.specs.Trio.{trio}
 use Rattle.rom_model.specs.Space.{ShownSpace, Stores}
 use Rattle.rom_model.specs.State.{State, one, state_after, replies_to, step}
 use Rattle.rom_model.specs.Region.{Contents}
@@ -63,3 +65,7 @@ pub record DoesAll {M : Type 0} (shown : ShownSpace M) (n : ℕ) (calls : List S
 -- So of an update, which is counted.
 abbrev pub DoesNext : ℕ → Call → Reply → List ℕ → List ℕ → Type 0
 DoesNext n call told old new = (s : State) (k : ℕ) → Contents n old s k → let after = step n s k call in (told ≡ after.1) × Contents n new after.0 (k + 1)
+
+-- So of one by its words, which is told by words.
+abbrev pub DoesWords : ℕ → List ℕ → List ℕ → List ℕ → List ℕ → Type 0
+DoesWords n words told old new = (s : State) (k : ℕ) → Contents n old s k → (after : State) × (on_words trio n s k words ≡ Some (after, told)) × Contents n new after (k + 1)

@@ -1,19 +1,24 @@
 //! One update.
-ghost use Rattle.std.specs.Prelude.{◌≡◌, ◌+◌, ◌*◌, ◌<◌, ◌≤◌, ℕ, IfNone, length, slice_index};
+ghost use Rattle.std.specs.Prelude.{◌≡◌, ◌+◌, ◌*◌, ◌<◌, ◌≤◌, ℕ, IfNone, IsSome, length, slice_index};
 ghost use Rattle.rom_model.specs.Space.{ChangesOnly, Counts, HasRoom, Stores};
 ghost use Rattle.rom_model.specs.State.{State, one};
 ghost use Rattle.rom_model.specs.Singles.{kind_of, reply_kind};
-ghost use Rattle.rom_model.specs.Trio.{weight};
+ghost use Rattle.rom_model.specs.Codes as codes;
+ghost use Rattle.rom_model.specs.Machine.{weight_on_words};
+ghost use Rattle.rom_model.specs.Trio.{trio, weight};
 ghost use Rattle.rom_model.specs.History.{LAST_COUNT};
 ghost use Rattle.rom_model.specs.Blocks.{IsOrder};
 ghost use Rattle.rom_model.specs.Region.{IsWellFormed, Contents};
 ghost use Rattle.rom_model.specs.declared.call.Single.TheVariants as call;
-ghost use Rattle.rom_heap.specs.Updates.{HasStamp, Does, DoesAll, DoesNext, most_stores, most_of};
+ghost use Rattle.rom_heap.specs.Updates.{HasStamp, Does, DoesAll, DoesNext, DoesWords, most_stores, most_of};
 ghost use Rattle.rom_heap.specs.Fits.{IsGroupDone, GroupStores};
 
 use crate::fits::fits;
 use rom_map::{Moved, Put, map_del, map_move, map_put};
-use rom_model::{COUNT, Call, Kind, Replies, Reply, Single, SingleReply, Space};
+use rom_model::{
+    Args, Back, COUNT, Call, Kind, Replies, Reply, Single, SingleReply, Space, first_single,
+    put_reply_words, put_single_reply_words, words_call,
+};
 use rom_queue::{queue_pop, queue_push};
 use rom_set::{Inserted, set_insert, set_remove};
 
@@ -222,4 +227,39 @@ pub(crate) fn apply<M: Space>(space: &mut M, order: u32, call: &Call) -> Reply
             None => Reply::Full,
         },
     }
+}
+
+/// Does the update whose words these are, and tells the words of its reply.
+pub(crate) fn apply_words<M: Space>(space: &mut M, order: u32, words: &Args, told: &mut Back)
+    requires order { IsOrder order }
+    requires call { IsSome (codes.words_call words.now) }
+    requires region { (s : State) × (k : ℕ) × Contents order (M.shown.image space.old) s k
+        × (k < LAST_COUNT) }
+    requires room { HasRoom M.shown (32 * weight_on_words trio words.now) space.old }
+    ensures done { DoesWords order words.now told.new
+        (M.shown.image space.old) (M.shown.image space.new) }
+    ensures most { Stores M.shown (32 * weight_on_words trio words.now) space.old space.new }
+{
+    match first_single(words.as_slice()) {
+        Some(single) => put_single_reply_words(apply_one(space, order, &single), told),
+        None => apply_whole(space, order, words, told),
+    }
+}
+
+/// Does the update whose words these are, of one structure or of several.
+#[cold]
+#[inline(never)]
+fn apply_whole<M: Space>(space: &mut M, order: u32, words: &Args, told: &mut Back)
+    requires order { IsOrder order }
+    requires call { IsSome (codes.words_call words.now) }
+    requires region { (s : State) × (k : ℕ) × Contents order (M.shown.image space.old) s k
+        × (k < LAST_COUNT) }
+    requires room { HasRoom M.shown (32 * weight_on_words trio words.now) space.old }
+    ensures done { DoesWords order words.now told.new
+        (M.shown.image space.old) (M.shown.image space.new) }
+    ensures most { Stores M.shown (32 * weight_on_words trio words.now) space.old space.new }
+{
+    let call = words_call(words).unwrap();
+    let reply = apply(space, order, &call);
+    put_reply_words(&reply, told);
 }

@@ -8,12 +8,12 @@ ghost use Rattle.rom_heap.specs.Laws as laws;
 ghost use Rattle.rom_model.proofs.Tags.{call_only, reply_back, reply_only};
 
 use crate::answer::answer;
-use crate::apply::apply;
+use crate::apply::{apply, apply_words};
 use crate::fresh::format_region;
 use rom_inspect::{inspect, inspect_old};
 use rom_model::{
     Answer, Args, Back, Call, Kind, Look, MAX_MEMBERS, Object, Query, Renew, Reply, Space, Unfit,
-    VecSpace, call_words, reply_words, words_call, words_reply,
+    VecSpace, call_words, put_call_words, reply_words, words_call, words_reply,
 };
 use rom_renew::renew_region;
 use std::alloc::{AllocError, Global};
@@ -64,6 +64,10 @@ impl Object for Trio {
         call_words(call)
     }
 
+    fn put_call_words(call: &Call, words: &mut Args) {
+        put_call_words(call, words);
+    }
+
     fn words_call(words: &Args) -> Option<Call> {
         words_call(words)
     }
@@ -82,6 +86,10 @@ impl Object for Trio {
 
     fn apply<M: Space>(space: &mut M, order: u32, call: &Call) -> Reply {
         apply(space, order, call)
+    }
+
+    fn apply_words<M: Space>(space: &mut M, order: u32, words: &Args, told: &mut Back) {
+        apply_words(space, order, words, told);
     }
 
     #[inline(always)]

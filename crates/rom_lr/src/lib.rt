@@ -36,5 +36,5 @@ pub use note::Note;
 pub use seats::{Seat, WriterSeat};
 pub use shared::Shared;
 pub use side::Side;
-pub use space::apply_main;
+pub use space::{apply_main, apply_words_main};
 pub use steps::Steps;

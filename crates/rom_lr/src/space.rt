@@ -1,6 +1,7 @@
 //! Shared main as a space, to which an update can be applied.
-ghost use Rattle.std.specs.Prelude.{◌≡◌, ℕ, ◌+◌, ◌*◌, ◌<◌, ◌≤◌};
+ghost use Rattle.std.specs.Prelude.{◌≡◌, ℕ, ◌+◌, ◌*◌, ◌<◌, ◌≤◌, Some, IsSome};
 ghost use Rattle.rom_model.specs.History.{LAST_COUNT};
+ghost use Rattle.rom_model.specs.Machine.{on_words, weight_on_words};
 ghost use Rattle.rom_lr.specs.Seats.{IsWriterOf, plan, writer_view};
 ghost use Rattle.rom_lr.specs.Writing.{NobodyReads, Writes, but_main};
 ghost use Rattle.rom_lr.specs.declared.side.Side.TheVariants.{Main};
@@ -10,7 +11,7 @@ ghost use Rattle.rom_rule.specs.declared.views.View.{View};
 
 use crate::seats::WriterSeat;
 use crate::shared::Shared;
-use rom_model::{Look, Object, Space};
+use rom_model::{Args, Back, Look, Object, Space};
 use rom_ranges::RangeLog;
 
 /// Shared main while nobody reads it, as a space. Its words are those of main in the writer's plan,
@@ -99,4 +100,43 @@ pub fn apply_main<O: Object>(
         log: _,
     } = space;
     reply
+}
+
+/// Does the update whose words these are on shared main, as [`apply_main`] does, and makes `told` the
+/// words of its reply.
+pub fn apply_words_main<O: Object>(
+    shared: &Shared<O>,
+    seat: &mut WriterSeat,
+    log: &mut RangeLog,
+    words: &Args,
+    told: &mut Back,
+)
+    requires of { IsWriterOf shared.now seat.old }
+    requires unread { NobodyReads seat.old Main }
+    requires call { IsSome (O.machine.words_call words.now) }
+    requires region { let v = writer_view seat.old in
+        (s : O.State) × (k : ℕ) × O.Contents v.base.order (plan_of v).main s k × (k < LAST_COUNT) }
+    requires logged { let p = plan seat.old in IsLogOf p.back p.main log.old }
+    requires room { log.old.added + O.STORES * O.WEIGHT ≤ log.old.room }
+    ensures done { let v = writer_view seat.old in
+        (s : O.State) (k : ℕ) → O.Contents v.base.order (plan_of v).main s k →
+        (after : O.State)
+        × (on_words O.machine v.base.order s k words.now ≡ Some (after, told.new))
+        × O.Contents v.base.order (plan seat.new).main after (k + 1) }
+    ensures still { let p = plan seat.old in
+        Writes seat.old seat.new (record p { main = (plan seat.new).main }) }
+    ensures logged { IsLogOf (plan seat.old).back (plan seat.new).main log.new }
+    ensures added { log.new.added
+        ≤ log.old.added + O.STORES * weight_on_words O.machine words.now }
+    ensures weight { weight_on_words O.machine words.now ≤ O.WEIGHT }
+    ensures room { log.new.room ≡ log.old.room }
+{
+    let order = shared.layout.order();
+    let mut space = MainSpace { shared, seat, log };
+    O::apply_words(&mut space, order, words, told);
+    let MainSpace {
+        shared: _,
+        seat: _,
+        log: _,
+    } = space;
 }

@@ -111,17 +111,7 @@ coded_reply (reply.Short v) size = refl
 coded_reply reply.Over size = refl
 coded_reply (reply.All replies) size = replies_back replies size
 
--- the group and the replies of that kind
-pub several_call : (c : Call) (calls : List Single) → kind_of c ≡ kind.Several calls → call.Group calls ≡ c
-several_call (call.Group own) calls is = ap call.Group (let same : kind.Several own ≡ kind.Several calls = is in let one : calls ≡ own = cc in one)
-several_call (call.Enq v) calls is = absurd (let never : kind.Single (Enq v) ≡ kind.Several calls = is in cc)
-several_call call.Deq calls is = absurd (let never : kind.Single Deq ≡ kind.Several calls = is in cc)
-several_call (call.Add k) calls is = absurd (let never : kind.Single (Add k) ≡ kind.Several calls = is in cc)
-several_call (call.Rem k) calls is = absurd (let never : kind.Single (Rem k) ≡ kind.Several calls = is in cc)
-several_call (call.Put k v) calls is = absurd (let never : kind.Single (Put k v) ≡ kind.Several calls = is in cc)
-several_call (call.Del k) calls is = absurd (let never : kind.Single (Del k) ≡ kind.Several calls = is in cc)
-several_call (call.Move a b d) calls is = absurd (let never : kind.Single (Move a b d) ≡ kind.Several calls = is in cc)
-
+-- the replies of that kind
 of_all : (r : Reply) → (replies : List SingleReply) → reply_kind r ≡ kind.Several replies → reply.All replies ≡ r
 of_all (reply.All own) replies is = ap reply.All (let same : kind.Several own ≡ kind.Several replies = is in let one : replies ≡ own = cc in one)
 of_all other replies is = absurd (let never : kind.Single _ ≡ kind.Several replies = is in cc)
@@ -219,6 +209,16 @@ plain_words (Put k v) = refl
 plain_words (Del k) = refl
 plain_words (Move a b d) = refl
 
+-- an update that is done alone
+pub plain_kind : (c : Single) → kind_of (call_of c) ≡ kind.Single c
+plain_kind (Enq v) = refl
+plain_kind Deq = refl
+plain_kind (Add k) = refl
+plain_kind (Rem k) = refl
+plain_kind (Put k v) = refl
+plain_kind (Del k) = refl
+plain_kind (Move a b d) = refl
+
 plain_size : (c : Single) → HasSize (kind_of (call_of c))
 plain_size (Enq v) = tt
 plain_size Deq = tt
@@ -228,7 +228,7 @@ plain_size (Put k v) = tt
 plain_size (Del k) = tt
 plain_size (Move a b d) = tt
 
-plain_reply_words : (r : SingleReply) → reply_words (reply_of r) ≡ single_reply_words r
+pub plain_reply_words : (r : SingleReply) → reply_words (reply_of r) ≡ single_reply_words r
 plain_reply_words Queued = refl
 plain_reply_words Full = refl
 plain_reply_words (Head v) = refl
@@ -279,6 +279,24 @@ reply_only (tag ∷ rest) r is =
         let done = all_only single_reply_words read_single_reply single_reply_only m rest (replies, []) read in
         let members : all_words single_reply_words replies ≡ rest = sym (append-nil (all_words single_reply_words replies)) ∙ done.1 in
         ap reply_words (sym same) ∙ (λ i. sym tagged i ∷ done.0 i ∷ members i))) (λ e. none_only r e)
+
+-- no update of one structure begins the words of a group
+none_in_group : (rest : List ℕ) → read_single (8 ∷ rest) ≡ None
+none_in_group [] = refl
+none_in_group (a ∷ []) = refl
+none_in_group (a ∷ b ∷ []) = refl
+none_in_group (a ∷ b ∷ d ∷ rest) = refl
+
+-- the first update of one structure in words
+abbrev first_of : Option (Single × List ℕ) → Option Single
+first_of read = option_map (λ r. r.0) read
+
+-- a call whose words begin with an update of one structure is that update
+pub single_is : (words : List ℕ) (x : Single) (c : Call) → first_of (read_single words) ≡ Some x → words_call words ≡ Some c → c ≡ call_of x
+single_is [] x c first is = none_only x first
+single_is (tag ∷ rest) x c first is =
+    by_test (tag == 8) (read_group rest) (whole call_of (read_single (tag ∷ rest))) c is (λ test here. none_only x (sym (ap first_of (ap (λ t. read_single (t ∷ rest)) (eqb-true tag 8 test) ∙ none_in_group rest)) ∙ first))
+    (λ here. by_whole call_of (read_single (tag ∷ rest)) c here (λ y read same. sym same ∙ ap call_of (one_some y x (sym (ap first_of read) ∙ first))))
 
 as_many : (n : ℕ) (s : State) (count : ℕ) (calls : List Single) → length (replies_to n s count calls) ≡ length calls
 as_many n s count [] = refl

@@ -1,8 +1,8 @@
 //! What a heap keeps: an object in the words of a region.
-ghost use Rattle.std.specs.Prelude.{◌≡◌, ℕ, ◌+◌, ◌*◌, ◌<◌, ◌≤◌, List, length, Option, Some, Err, IfSome, IfOk, OnOk, IfErr, slice_index, false};
+ghost use Rattle.std.specs.Prelude.{◌≡◌, ℕ, ◌+◌, ◌*◌, ◌<◌, ◌≤◌, List, length, Option, Some, Err, IsSome, IfSome, IfOk, OnOk, IfErr, slice_index, false};
 ghost use Rattle.rom_model.specs.Space.{KeepsSpace, Looks, Stores, HasRoom};
 ghost use Rattle.rom_model.specs.VecSpace.{words_of};
-ghost use Rattle.rom_model.specs.Machine.{Machine};
+ghost use Rattle.rom_model.specs.Machine.{Machine, on_words, weight_on_words};
 ghost use Rattle.rom_model.specs.History.{LAST_COUNT};
 ghost use Rattle.rom_model.specs.Blocks.{IsOrder, region_len};
 ghost use Rattle.rom_model.specs.Earlier.{Earlier};
@@ -79,6 +79,14 @@ pub trait Object {
         ensures words { result ≡ machine.call_words call.now }
         ensures back { machine.words_call result ≡ Some call.now };
 
+    /// Makes the words those of a call, whatever they were.
+    fn put_call_words(call: &Self::Call, words: &mut Args)
+        ensures words { words.new ≡ machine.call_words call.now }
+        ensures back { machine.words_call words.new ≡ Some call.now }
+    {
+        *words = Self::call_words(call);
+    }
+
     /// The call that the words are those of. It is `None` exactly where there is none.
     fn words_call(words: &Args) -> Option<Self::Call>
         ensures call { result ≡ machine.words_call words.now }
@@ -112,6 +120,26 @@ pub trait Object {
             → let after = machine.step order s k call.now in
             (result ≡ after.1) × Contents order (M.shown.image space.new) after.0 (k + 1) }
         ensures stores { Stores M.shown (STORES * machine.weight call.now) space.old space.new };
+
+    /// Does the update whose words these are, and counts it, as `apply` does. Makes `told` the words of
+    /// its reply, whatever they were.
+    fn apply_words<M: Space>(space: &mut M, order: u32, words: &Args, told: &mut Back)
+        requires order { IsOrder order }
+        requires call { IsSome (machine.words_call words.now) }
+        requires region { (s : State) × (k : ℕ)
+            × Contents order (M.shown.image space.old) s k × (k < LAST_COUNT) }
+        requires room { HasRoom M.shown (STORES * WEIGHT) space.old }
+        ensures done { (s : State) (k : ℕ) → Contents order (M.shown.image space.old) s k
+            → (after : State) × (on_words machine order s k words.now ≡ Some (after, told.new))
+            × Contents order (M.shown.image space.new) after (k + 1) }
+        ensures stores { Stores M.shown (STORES * weight_on_words machine words.now)
+            space.old space.new }
+        ensures weight { weight_on_words machine words.now ≤ WEIGHT }
+    {
+        let call = Self::words_call(words).unwrap();
+        let reply = Self::apply(space, order, &call);
+        *told = Self::reply_words(&reply);
+    }
 
     /// Answers a query.
     fn answer<M: Look>(space: &mut M, order: u32, query: &Self::Query) -> Self::Answer

@@ -34,7 +34,11 @@ fn take_in_all<O: Object>(shared: &Shared<O>, writer: &mut WriterSeat, passes: V
     } }
 {
     for pass in passes {
-        let Pass { seat } = pass;
+        let Pass {
+            seat,
+            args: _,
+            reply: _,
+        } = pass;
         shared.take_in(writer, seat);
     }
 }

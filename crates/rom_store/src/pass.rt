@@ -1,7 +1,11 @@
 //! A caller's right to call.
 ghost use Rattle.std.specs.Prelude.{◌≡◌, ◌<◌};
+ghost use Rattle.rom_lr.specs.Seats.{view};
+ghost use Rattle.rom_rule.specs.Kinds.{IsIdle};
+ghost use Rattle.rom_store.specs.Callers.{caller_at};
 
 use rom_lr::Seat;
+use rom_model::{Args, Back};
 use std::marker::Model;
 
 /// One caller's right to call. A store makes it as it is started, one for each caller, and a thread may
@@ -10,6 +14,9 @@ use std::marker::Model;
 #[derive(Drop)]
 pub struct Pass {
     pub(crate) seat: Seat,
+    // Room for the words of a call and of its reply. What stands there tells nothing.
+    pub(crate) args: Args,
+    pub(crate) reply: Back,
 }
 
 impl Model for Pass {
@@ -24,6 +31,18 @@ impl Model for Pass {
 }
 
 impl Pass {
+    /// The right of a seat's caller.
+    pub(crate) fn of(seat: Seat) -> Self
+        requires { IsIdle (view seat) }
+        ensures { result ≡ caller_at seat }
+    {
+        Pass {
+            seat,
+            args: Args::new(),
+            reply: Back::new(),
+        }
+    }
+
     /// The caller's number; callers are numbered from 1.
     pub fn number(&self) -> u32
         ensures number { result ≡ self.now.view.number }

@@ -149,7 +149,11 @@ impl<D: Device, O: Object, N: Label> Store<D, O, N> {
         } }
         ensures counted { steps.new ≡ steps.old + 3 }
     {
-        let Pass { mut seat } = pass;
+        let Pass {
+            mut seat,
+            args: _,
+            reply: _,
+        } = pass;
         self.shared.enter(&mut seat);
         steps.add(ENTER_STEPS);
         Reading { seat }
@@ -198,7 +202,7 @@ impl<D: Device, O: Object, N: Label> Store<D, O, N> {
         let Reading { mut seat } = reading;
         self.shared.leave(&mut seat);
         steps.add(1);
-        Pass { seat }
+        Pass::of(seat)
     }
 
     // The answer to a query and its front, from the image that the seat reads.

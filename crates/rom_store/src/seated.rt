@@ -37,7 +37,7 @@ fn passes_of(alloc: Global, seats: Vec<Seat>) -> Result<Vec<Pass>, AllocError>
 {
     let mut passes = Vec::with_capacity(alloc, seats.len())?;
     for seat in seats {
-        passes.push_reserved(Pass { seat });
+        passes.push_reserved(Pass::of(seat));
     }
     Ok(passes)
 }

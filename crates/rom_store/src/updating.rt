@@ -18,7 +18,7 @@ use crate::label::Label;
 use crate::pace::Pace;
 use crate::pass::Pass;
 use crate::store::Store;
-use rom_announce::{answered, linger, nap, post, take, wake_next};
+use rom_announce::{answered, linger, nap, post, take_into, wake_next};
 use rom_combine::Gate;
 use rom_device::Device;
 use rom_lr::Seat;
@@ -96,10 +96,11 @@ impl<D: Device, O: Object, N: Label> Store<D, O, N> {
         if pass.seat.posted >= LAST_COUNT {
             return Updated::Spent;
         }
-        post(&self.shared, &mut pass.seat, &O::call_words(call));
+        O::put_call_words(call, &mut pass.args);
+        post(&self.shared, &mut pass.seat, &pass.args);
         self.await_answer(rt, &mut pass.seat, gate);
-        let (place, reply) = take(&self.shared, &mut pass.seat);
-        told_by::<O>(place, &reply)
+        let place = take_into(&self.shared, &mut pass.seat, &mut pass.reply);
+        told_by::<O>(place, &pass.reply)
     }
 
     // Until the posted call is answered: looks at the turn some times, and then takes the lock.

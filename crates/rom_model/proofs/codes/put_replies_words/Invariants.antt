@@ -1,6 +1,6 @@
 use Rattle.std.proofs.Common.{◌≡◌, ◌+◌, ◌*◌, ◌≤◌, ◌∷◌, ◌++◌, length, drop}
 use Rattle.rom_model.specs.Codes as codes
-use Rattle.rom_model.proofs.codes.replies_words.Given as goal
+use Rattle.rom_model.proofs.codes.put_replies_words.Given as goal
 
 -- the words so far and those of the replies that are left are those of all
 abbrev pub invariant-loop-reply : goal.invariant-loop-reply

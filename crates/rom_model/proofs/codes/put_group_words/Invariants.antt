@@ -1,6 +1,6 @@
 use Rattle.std.proofs.Common.{◌≡◌, ◌+◌, ◌*◌, ◌≤◌, ◌∷◌, ◌++◌, length, drop}
 use Rattle.rom_model.specs.Codes as codes
-use Rattle.rom_model.proofs.codes.group_words.Given as goal
+use Rattle.rom_model.proofs.codes.put_group_words.Given as goal
 
 -- the words so far and those of the members that are left are those of the group
 abbrev pub invariant-loop-single : goal.invariant-loop-single
