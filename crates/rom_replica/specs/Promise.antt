@@ -9,9 +9,10 @@ use Rattle.rom_combine.specs.Costs.{IsUnfailed}
 use Rattle.rom_text.specs.Lines.{AreScripts}
 use Rattle.rom_text.specs.Runs.{AreAskedOnce}
 use Rattle.rom_text.specs.Streams.{ShownSink, ShownSource, StopsWriting, WriteFailed}
-use Rattle.rom_store.specs.Sessions.{SessionSeen}
+use Rattle.rom_store.specs.Sessions.{EachStory, SessionSeen}
 use Rattle.rom_script.specs.Lines.{Reads}
 use Rattle.rom_run.specs.Complete.{IsAtHand, IsRefusedByName, NoneFailed}
+use Rattle.rom_run.specs.Keeping.{IsLasting}
 use Rattle.rom_run.specs.Promise.{Promise}
 use Rattle.rom_run.specs.Use.{Makes, Plays, Read}
 use Rattle.rom_run.specs.Working.{HasNone, HasSession, IsDeviceKept}
@@ -53,6 +54,8 @@ module _ {D X K : Type 0} (shown : ShownDevice D) (source : ShownSource X) (sink
     pub refused : IsTrue shown.tells_words → IsRefusedByName Contents Rejects earlier Standing (shown.words was) → IsUnfailed shown was now → (status ≡ 3) ⊎ (status ≡ 6)
     -- where the heap was opened, the stream was followed, and what a stop of the device leaves is told by the history
     pub story : IfSome session (HasSession trio Contents shown Standing was now (λ story. OfOne inputs.items left.items (λ x y. IsToldOfStream source sink x y old new status story)))
+    -- and each pass that added to it was certain at its commit: no stop since then has left less of it
+    pub lasting : IfSome session (λ s. EachStory trio Contents s (IsLasting trio Contents shown Standing was now))
     -- else what a stop may leave, and why it was not opened; and the stream was not read
     pub none : IsNone session → HasNone trio Contents shown sink Rejects earlier Standing was now old new status
     pub unread : IsNone session → left.items ≡ inputs.items

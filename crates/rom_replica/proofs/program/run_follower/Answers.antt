@@ -1,8 +1,13 @@
-use Rattle.std.proofs.Common.{inl}
+use Rattle.std.proofs.Common.{inl, Some}
+use Rattle.rom_model.specs.Region.{Contents}
+use Rattle.rom_model.specs.Trio.{trio}
+use Rattle.rom_run.proofs.Lasting.{lasting}
+use Rattle.rom_run.specs.Use.{Plays, Read}
+use Rattle.rom_run.specs.declared.heap.Heap.TheVariants.{Standing}
 use Rattle.rom_replica.proofs.Completing.{completes, named, refuses}
 use Rattle.rom_replica.proofs.program.run_follower.Goals as goal
 
--- three of the promises follow from the others
+-- four of the promises follow from the others
 pub returns : goal.returns
 returns g c =
     let is = c.follow.ensures in
@@ -11,6 +16,8 @@ returns g c =
     let source = g.S.Source.shown in
     let sink = g.O.Sink.shown in
     let was = c.args.device in
+    let w = g.world in
+    let only_now = (g.met.D.Device w.𝓛 w.𝓜 w.𝓡 ((λ s x. x), (λ x. x), (λ x. x), λ x. x)).only_now in
     record {
       promise = record {
         statuses = is.statuses;
@@ -20,6 +27,7 @@ returns g c =
         refused_so = λ tells three. named shown source sink was ended.device c.args.inputs.items ended.scripts.items c.args.out.now c.follow.new.out ended.status ended.session is.story is.none tells (is.not_taken (inl three)) three;
         refused = λ tells. refuses shown source sink was ended.device c.args.inputs.items ended.scripts.items c.args.out.now c.follow.new.out ended.status ended.session is.story is.none tells is.statuses is.taken;
         story = is.story;
+        lasting = lasting trio Contents shown was ended.device only_now _ (Some (Plays Standing Read)) ended.session is.story;
         none = is.none;
         unread = is.unread;
         kept = is.kept;
