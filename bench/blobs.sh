@@ -4,9 +4,9 @@
 # told, without reading scripts and printing. By callgrind: what a longer script makes more than a shorter
 # one, over how many lines it has more. Usage, from any folder: bench/blobs.sh [LINES]
 lines=${1:-1000}
-command -v valgrind >/dev/null || { echo "valgrind is not here: skipped"; exit 0; }
+command -v valgrind >/dev/null || { echo "valgrind is not here, so nothing was looked at"; exit 1; }
 built=crates/romulus_blob/out/romulus_blob
-build="rt run -- try /dev/null, in crates/romulus_blob"
+build="./romulus_blob try /dev/null"
 . "$(dirname "$0")/begin.sh"
 
 # So many bytes in digits, each of them another one than the last.

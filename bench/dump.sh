@@ -7,7 +7,7 @@
 cd "$(dirname "$0")/.." || exit 1
 program=$PWD/crates/romulus_dump/out/romulus_dump
 kept=$PWD/crates/romulus_dump/data/heap
-[ -x "$program" ] || { echo "build it first: cd crates/romulus_dump && rt run"; exit 1; }
+[ -x "$program" ] || { echo "build it first: ./romulus_dump check heap"; exit 1; }
 folder=$(mktemp -d) && cd "$folder" || exit 1
 trap 'rm -rf "$folder"' EXIT
 wrong=0
@@ -61,8 +61,8 @@ if strace -o calls true 2>/dev/null; then
     looks check heap
     looks script heap
 else
-    echo "no strace here: that files are opened to read alone was not looked at"
-    [ "$(id -u)" != 0 ] || echo "and root may write a file that is protected"
+    echo "strace is not here, or may not trace: that files are opened to read alone was not looked at"
+    wrong=1
 fi
 [ "$wrong" = 0 ] && echo "all as it is to be"
 exit "$wrong"

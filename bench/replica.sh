@@ -15,7 +15,7 @@ built=crates/romulus/out/romulus
 build="./romulus try examples/queue.txt"
 . "$(dirname "$0")/begin.sh"
 replica=$(cd "$(dirname "$0")/.." && pwd)/crates/romulus_replica/out/romulus_replica
-[ -x "$replica" ] || { echo "build the program first: cd crates/romulus_replica && rt run -- follow /dev/null /dev/null" >&2; exit 1; }
+[ -x "$replica" ] || { echo "build the program first: ./romulus_replica follow heap stream" >&2; exit 1; }
 first=$folder/first
 second=$folder/second
 "$replica" format "$first" 8 >"$folder/text" || { cat "$folder/text" >&2; exit 1; }
