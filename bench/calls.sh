@@ -4,7 +4,7 @@
 # what so many calls make more than none, over how many they are, less what a round of no call makes.
 # Usage, from any folder: bench/calls.sh [CALLS], at most 500
 calls=${1:-500}
-command -v valgrind >/dev/null || { echo "valgrind is not here: skipped"; exit 0; }
+command -v valgrind >/dev/null || { echo "valgrind is not here, so nothing was looked at"; exit 1; }
 built=crates/rom_bench/out/rom_bench
 build="rt run, in crates/rom_bench"
 . "$(dirname "$0")/begin.sh"

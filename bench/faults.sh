@@ -10,7 +10,7 @@
 #     `doubt`, that one and the doubtful one. (Of a file that is cut it may refuse the heap by name too.)
 # It needs strace, and the `stat` and `timeout` of GNU's coreutils.
 # Usage, from any folder, once the program is built: bench/faults.sh
-command -v strace >/dev/null || { echo "strace is not here: skipped"; exit 0; }
+command -v strace >/dev/null || { echo "strace is not here, so nothing was looked at"; exit 1; }
 built=crates/romulus/out/romulus
 build="./romulus try examples/queue.txt"
 . "$(dirname "$0")/begin.sh"

@@ -37,12 +37,12 @@ if [ -x /usr/bin/time ]; then
     while [ $# -lt 16 ]; do set -- "$@" "$folder/updates"; done
     /usr/bin/time -f '16 such scripts: memory at most: %M KiB' "$program" try "$@" >"$text"
 else
-    echo "processor time and memory: /usr/bin/time is not here"
+    echo "/usr/bin/time is not here, so no processor time and no memory was measured" && exit 1
 fi
 
 if command -v strace >/dev/null; then
     strace -f -c -S calls -o "$folder/calls" "$program" try "$script" >"$text"
     cat "$folder/calls"
 else
-    echo "system calls: strace is not here"
+    echo "strace is not here, so no system calls were counted" && exit 1
 fi

@@ -6,7 +6,7 @@
 # they are; those of the functions with more than a fiftieth of it stand below it.
 # Usage, from any folder: bench/passes.sh [ROUNDS]
 rounds=${1:-1000}
-command -v valgrind >/dev/null || { echo "valgrind is not here: skipped"; exit 0; }
+command -v valgrind >/dev/null || { echo "valgrind is not here, so nothing was looked at"; exit 1; }
 built=crates/rom_bench/out/rom_bench
 build="rt run, in crates/rom_bench"
 . "$(dirname "$0")/begin.sh"

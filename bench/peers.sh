@@ -15,7 +15,7 @@ built=crates/romulus/out/romulus
 build="./romulus try examples/queue.txt"
 here=$(cd "$(dirname "$0")" && pwd)
 . "$here/begin.sh"
-command -v gcc >/dev/null || { echo "gcc is not here: skipped"; exit 0; }
+command -v gcc >/dev/null || { echo "gcc is not here, so nothing was looked at"; exit 1; }
 server=
 trap '[ -z "$server" ] || kill "$server" 2>/dev/null; rm -rf "$folder"' EXIT
 trap 'exit 130' INT TERM
@@ -149,7 +149,7 @@ awk '
 
 # How often a peer waits for the device, an update: its syncs, and its writes to files that sync each.
 turn=$((turn + 1))
-command -v strace >/dev/null || { echo "syncs: strace is not here"; exit 0; }
+command -v strace >/dev/null || { echo "strace is not here, so no syncs were counted"; exit 1; }
 
 waits() {
     awk '/openat\(.*O_DSYNC/ { synced[$NF] = 1 }

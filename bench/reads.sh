@@ -23,7 +23,7 @@ for threads in 1 4; do
         printf "threads %d: seats %s ns a read, bare %s ns, %.2f times; middle of %d rounds, least %s and %s\n", $1, $3, $5, $3 / $5, rounds, $2, $4 }'
 done
 
-command -v valgrind >/dev/null || { echo "instructions: valgrind is not here"; exit 0; }
+command -v valgrind >/dev/null || { echo "valgrind is not here, so no instructions were counted"; exit 1; }
 
 # The instructions of a run with so many reads. Each is to find one word twice.
 instructions() {

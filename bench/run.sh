@@ -7,7 +7,7 @@
 order=${1:-4}
 lines=${2:-1000}
 for tool in valgrind strace; do
-    command -v "$tool" >/dev/null || { echo "$tool is not here: skipped"; exit 0; }
+    command -v "$tool" >/dev/null || { echo "$tool is not here, so nothing was looked at"; exit 1; }
 done
 built=crates/romulus/out/romulus
 build="./romulus try examples/queue.txt"

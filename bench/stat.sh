@@ -6,7 +6,7 @@
 # one call ("whole"). It fails where a text, a status or a file differs.
 # Usage, from any folder, once the program is built: bench/stat.sh
 for tool in valgrind strace rustc; do
-    command -v "$tool" >/dev/null || { echo "$tool is not here: skipped"; exit 0; }
+    command -v "$tool" >/dev/null || { echo "$tool is not here, so nothing was looked at"; exit 1; }
 done
 built=crates/romulus/out/romulus
 build="./romulus try examples/queue.txt"

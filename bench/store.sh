@@ -34,7 +34,7 @@ for callers in 1 2 4 16; do
     passes "on a file" "$callers" "$folder/heap"
 done
 
-command -v valgrind >/dev/null || { echo "instructions: valgrind is not here"; exit 0; }
+command -v valgrind >/dev/null || { echo "valgrind is not here, so no instructions were counted"; exit 1; }
 
 # The instructions of a run; the last word is how much it is to do.
 instructions() {

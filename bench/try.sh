@@ -6,7 +6,7 @@
 # With a folder's name it leaves callgrind's files and the scripts there.
 # Usage, from any folder, once the program is built: bench/try.sh [FOLDER]
 for tool in valgrind rustc; do
-    command -v "$tool" >/dev/null || { echo "$tool is not here: skipped"; exit 0; }
+    command -v "$tool" >/dev/null || { echo "$tool is not here, so nothing was looked at"; exit 1; }
 done
 built=crates/romulus/out/romulus
 build="./romulus try examples/queue.txt"
