@@ -83,7 +83,7 @@ impl Shape {
     fn new_region(self) -> Vec<u64> {
         let mut region = vec![0; self.region()];
         region[0] = 1;
-        region[1] = 1;
+        region[1] = 2;
         region[8] = self.blocks() as u64;
         region[TREE..self.blocks()].copy_from_slice(&self.tree(&self.table_marks()));
         region
@@ -110,10 +110,13 @@ impl Shape {
                 }
                 2 => members.push((scattered, node)),
                 _ => {
-                    let first = self.blocks() + self.bucket(scattered);
-                    let words = [scattered, !scattered, region[first]];
-                    region[node..node + 3].copy_from_slice(&words);
-                    region[first] = node as u64;
+                    let mut link = self.blocks() + self.bucket(scattered);
+                    while region[link] != 0 && region[region[link] as usize] < scattered {
+                        link = region[link] as usize + 2;
+                    }
+                    let words = [scattered, !scattered, region[link], number as u64 + 1];
+                    region[node..node + 4].copy_from_slice(&words);
+                    region[link] = node as u64;
                     region[9] += 1;
                 }
             }
@@ -218,7 +221,7 @@ impl Inspection<'_> {
 
     fn root(&self) -> Done<()> {
         hold(self.region[0] == 1, 0, "root")?;
-        hold(self.region[1] == 1, 1, "root")?;
+        hold(self.region[1] == 2, 1, "root")?;
         hold(self.region[2] <= 1 << 62, 2, "root")?;
         hold(self.region[8] == self.shape.blocks() as u64, 8, "root")?;
         (10..=16).try_for_each(|offset| self.hold_zero(offset, "root"))
@@ -254,21 +257,20 @@ impl Inspection<'_> {
 
     /// The sum of the values.
     fn map(&mut self) -> Done<u128> {
-        let (mut keys, mut count, mut total) = (Vec::new(), 0, 0);
+        let (mut count, mut total) = (0, 0);
         for bucket in 0..self.shape.units() / 4 {
-            keys.clear();
-            let mut link = self.shape.blocks() + bucket;
+            let (mut link, mut before) = (self.shape.blocks() + bucket, None);
             while self.region[link] != 0 {
                 let node = self.follow(link)?;
-                self.hold_zero(node + 3, "pad")?;
+                hold(self.region[node + 3] <= self.region[2], node + 3, "stamp")?;
                 let key = self.region[node];
                 hold(self.shape.bucket(key) == bucket, node, "bucket")?;
-                hold(!keys.contains(&key), node, "repeat")?;
-                keys.push(key);
+                hold(Some(key) > before, node, "order")?;
+                before = Some(key);
                 total += u128::from(self.region[node + 1]);
+                count += 1;
                 link = node + 2;
             }
-            count += keys.len() as u64;
         }
         hold(self.region[9] == count, 9, "count")?;
         Ok(total)
