@@ -5,7 +5,8 @@
 //! and [`answer`] the writer's. None waits, takes memory or can be refused, and each makes a number of
 //! steps that its contract tells, each of one word. A caller whose call is not answered yet may
 //! [`linger`] or [`nap`]: the answer wakes it, and so does [`wake_next`]. Before a pass calls may
-//! [`gather`]. These four make no step and tell nothing, and `nap` alone waits.
+//! [`gather`]. These four make no step, no clause says what they tell, and `nap` alone
+//! waits.
 //!
 //! Each contract says what its seat's view becomes as a whole, so nothing else of the view changes.
 //! `specs/Scanning.antt` and `specs/Answering.antt` have what the writer's calls ask for and leave.

@@ -18,7 +18,7 @@ const NAP: u64 = 1;
 /// How often a caller lets others run before it sleeps, where passes are short.
 const LINGERS: u32 = 20;
 
-/// How often others are let run before a pass that would find few calls.
+/// How often, at most, others are let run before a pass that would not find all that are wanted.
 const GATHERS: u32 = 100;
 
 /// Lets other threads run a few times, until the posted call is answered. Where a pass is shorter than

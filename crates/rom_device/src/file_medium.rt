@@ -8,8 +8,8 @@ use std::os::unix::fs::FileExt;
 
 /// A file, or none where it could not be opened, and how many calls of it failed.
 ///
-/// No contract can say what a file holds, so it tells nothing of that, and of the clauses above those that
-/// speak of words and images say nothing of it. That they would hold if it told both is what is
+/// No contract can say what a file holds, so it tells nothing of that, and of the clauses of `Medium`
+/// those that speak of words and images say nothing of it. That they would hold if it told both is what is
 /// trusted of a file:
 ///
 /// - A read that is done gives the words as they stand in the file, and leaves them.

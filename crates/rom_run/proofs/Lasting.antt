@@ -16,4 +16,4 @@ pub lasting : {S C Q R A D : Type 0} (machine : Machine S C Q R A) (Contents : â
 lasting machine Contents shown was now only_now P None session told = tt
 lasting machine Contents shown was now only_now P (Some does) None told = tt
 lasting machine Contents shown was now only_now P (Some does) (Some s) told = Î» story of.
-    has_lasted shown Contents (on_words machine) story only_now (HasBegun shown (heap_of does) story.order was) now (told.each story of).faults.went
+    has_lasted shown Contents (on_words machine) story only_now (HasBegun shown (heap_of does) story.order was) now

@@ -6,6 +6,7 @@ use Rattle.rom_model.specs.declared.record.Fate.TheVariants as fate
 use Rattle.rom_model.specs.declared.record.PassRecord.{PassRecord}
 use Rattle.rom_device.specs.Device.{ShownDevice, After, Becomes, Runs}
 use Rattle.rom_combine.proofs.Sessions.{len_more}
+use Rattle.rom_combine.proofs.Since.{now_since}
 use Rattle.rom_combine.specs.Session.{HoldsAfter}
 use Rattle.rom_store.specs.Traced.{ArePassesOn, IsPassOn, MayMake, PassImage, WentThrough}
 use Rattle.rom_store.specs.Lasting.{AreLasting, HasLasted, HoldsAtLeast}
@@ -20,7 +21,7 @@ module _ {D S : Type 0} (shown : ShownDevice D) (Contents : ℕ → List ℕ →
     after_run i x = ⊎_elim (λ same. subst (Has low) (sym same) (here x.from x.was)) (λ is. made i is) x.by
 
     now_run : (i : List ℕ) → shown.leaves b i → Has low i
-    now_run i left = after_run i (runs.now i left)
+    now_run i left = ⊎_elim (here i) (made i) (now_since shown P a b runs i left)
 
     since_run : (t : ℕ) → ((i : List ℕ) → shown.left_since a t i → Has low i) → (i : List ℕ) → shown.left_since b t i → Has low i
     since_run t past i left = ⊎_elim (λ before. past i before) (λ x. after_run i x) (runs.nothing_else t i left)
@@ -65,30 +66,27 @@ module _ {D S : Type 0} (shown : ShownDevice D) (Contents : ℕ → List ℕ →
       let at_mid = now_run (PassImage shown Contents step story len r) was of.mid low (of.images told) first here in
       let past_mid = since_run (PassImage shown Contents step story len r) was of.mid low (of.images told) first here t past in
       all_kept told low t r.len (before ++ r ∷ []) rs next now (with_it len before r rs stands) (ends len before r rs stands) on (omega (arith, under, of.risen))
-          (now_run (HoldsAfter Contents step story r.len []) of.mid next low (of.since told) second at_mid)
-          (since_run (HoldsAfter Contents step story r.len []) of.mid next low (of.since told) second at_mid t past_mid) i left
+      (now_run (HoldsAfter Contents step story r.len []) of.mid next low (of.since told) second at_mid)
+      (since_run (HoldsAfter Contents step story r.len []) of.mid next low (of.since told) second at_mid t past_mid) i left
 
   module _ (told : IsTrue shown.tells_images) (only_now : (d : D) (i : List ℕ) → shown.left_since d (shown.clock d) i → shown.leaves d i) where
     lasting : (len : ℕ) (before rs : List PassRecord) (was now : D) → story.records ≡ before ++ rs → len ≡ len_after 0 before → (on : ArePassesOn shown Contents step story len rs was now) → AreLasting shown Contents step story now len rs was now on
     lasting len before [] was now stands at same = tt
     lasting len before (r ∷ rs) was now stands at (next, of, on) = (
       λ grew.
-      let second = published len before r rs stands was next of at r.len (omega arith) in
-      let at_mid : (i : List ℕ) → shown.leaves of.mid i → Has r.len i = λ i left. second i (of.certain told grew i left) in
-      let from = (of.since told).later in
-      record {
-        passed = omega (arith, from, later told r.len rs next now on);
-        since = all_kept told r.len (shown.clock of.mid) r.len (before ++ r ∷ []) rs next now (with_it len before r rs stands) (ends len before r rs stands) on (omega arith)
-            (now_run (HoldsAfter Contents step story r.len []) of.mid next r.len (of.since told) second at_mid)
-            (since_run (HoldsAfter Contents step story r.len []) of.mid next r.len (of.since told) second at_mid (shown.clock of.mid) (λ i left. at_mid i (only_now of.mid i left)));
-      },
+          let second = published len before r rs stands was next of at r.len (omega arith) in
+          let at_mid : (i : List ℕ) → shown.leaves of.mid i → Has r.len i = λ i left. second i (of.certain told grew i left) in
+          let from = (of.since told).later in
+          record {
+            passed = omega (arith, from, later told r.len rs next now on);
+            since = all_kept told r.len (shown.clock of.mid) r.len (before ++ r ∷ []) rs next now (with_it len before r rs stands) (ends len before r rs stands) on (omega arith)
+                (now_run (HoldsAfter Contents step story r.len []) of.mid next r.len (of.since told) second at_mid)
+                (since_run (HoldsAfter Contents step story r.len []) of.mid next r.len (of.since told) second at_mid (shown.clock of.mid) (λ i left. at_mid i (only_now of.mid i left)));
+          },
       lasting r.len (before ++ r ∷ []) rs next now (with_it len before r rs stands) (ends len before r rs stands) on,
     )
 
-  -- Where the device went through the passes of the story's records, what each of them published lasts.
+  -- What each pass of the story published lasts, by whichever way the device went through them.
   pub has_lasted : ((d : D) (i : List ℕ) → IsTrue shown.tells_images → shown.left_since d (shown.clock d) i → shown.leaves d i) → (First : D → Type 0) (now : D)
-      → WentThrough shown Contents step story First now → HasLasted shown Contents step story First now
-  has_lasted only_now First now went = record {
-    went = went;
-    lasts = λ told. lasting told (λ d i left. only_now d i told left) 0 [] story.records went.first now refl refl went.passes;
-  }
+      → HasLasted shown Contents step story First now
+  has_lasted only_now First now went told = lasting told (λ d i left. only_now d i told left) 0 [] story.records went.first now refl refl went.passes

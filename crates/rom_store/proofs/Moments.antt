@@ -6,7 +6,7 @@ use Rattle.rom_model.specs.declared.record.PassRecord.{PassRecord}
 use Rattle.rom_device.specs.Device.{ShownDevice}
 use Rattle.rom_store.specs.Lasting.{AreLasting, HasLasted, HoldsAtLeast}
 use Rattle.rom_store.specs.Moments.{AreCommittedBy, AreDated, IsCertainBy, LastsSince}
-use Rattle.rom_store.specs.Traced.{ArePassesOn}
+use Rattle.rom_store.specs.Traced.{ArePassesOn, WentThrough}
 
 module _ {D S : Type 0} (shown : ShownDevice D) (Contents : ℕ → List ℕ → S → ℕ → Type 0) (step : ℕ → S → ℕ → List ℕ → Option (S × List ℕ)) (story : Story S) where
   -- what holds more holds less
@@ -21,23 +21,23 @@ module _ {D S : Type 0} (shown : ShownDevice D) (Contents : ℕ → List ℕ →
     find last moment low len (r ∷ first) rest was now on dated lasts by above reaches = elim (cases_lt r.len low) [
       | inl short ↦ find last moment low r.len first rest on.0 now on.2 dated.1 lasts.1 by.1 short reaches
       | inr enough ↦
-        (let grew : len < r.len = omega (arith, above, enough) in
-        let is : committed r ≡ shown.clock on.1.mid = dated.0 grew in
-        record {
-          at = shown.clock on.1.mid;
-          by = subst (λ (n : ℕ). n ≤ moment) is (by.0 grew);
-          since = λ i left. holds_less low r.len enough i ((lasts.0 grew).since i left);
-        })
+          (let grew : len < r.len = omega (arith, above, enough) in
+          let is : committed r ≡ shown.clock on.1.mid = dated.0 grew in
+          record {
+            at = shown.clock on.1.mid;
+            by = subst (λ (n : ℕ). n ≤ moment) is (by.0 grew);
+            since = λ i left. holds_less low r.len enough i ((lasts.0 grew).since i left);
+          })
     ]
 
     -- Where the device went through the passes of the story, and their records have its moments, what was certain by a moment is held by each image that a stop has left since one that is not behind it.
-    pub lasts_since : (First : D → Type 0) (now : D) (h : HasLasted shown Contents step story First now) → IsTrue shown.tells_images → AreDated committed shown Contents step story 0 story.records h.went.first now h.went.passes
+    pub lasts_since : (First : D → Type 0) (now : D) → HasLasted shown Contents step story First now → (went : WentThrough shown Contents step story First now) → IsTrue shown.tells_images → AreDated committed shown Contents step story 0 story.records went.first now went.passes
         → (moment len : ℕ) → 0 < len → IsCertainBy committed story moment len → LastsSince committed shown Contents step story moment len now
-    lasts_since First now h told dated moment len some c =
-        let (on, dated_on, lasts_on) = moved in find now moment len 0 c.first c.rest h.went.first now on dated_on lasts_on c.committed_by some c.reaches
+    lasts_since First now h went told dated moment len some c =
+        let (on, dated_on, lasts_on) = moved in find now moment len 0 c.first c.rest went.first now on dated_on lasts_on c.committed_by some c.reaches
       where
         Known : List PassRecord → Type 0
-        Known rs = (on : ArePassesOn shown Contents step story 0 rs h.went.first now) × AreDated committed shown Contents step story 0 rs h.went.first now on × AreLasting shown Contents step story now 0 rs h.went.first now on
+        Known rs = (on : ArePassesOn shown Contents step story 0 rs went.first now) × AreDated committed shown Contents step story 0 rs went.first now on × AreLasting shown Contents step story now 0 rs went.first now on
 
         moved : Known (c.first ++ c.rest)
-        moved = subst Known c.stands (h.went.passes, dated, h.lasts told)
+        moved = subst Known c.stands (went.passes, dated, h went told)

@@ -443,9 +443,11 @@ module _ {S : Type 0} (Contents : ℕ → List ℕ → S → ℕ → Type 0) (st
         (subst (λ (n : ℕ). SpendsAtMost shown (batch_writes c.twin.phase n (region_len n)) (batch_syncs c.twin.phase) c.twin.device d.twin.device) h.order_is most)
         (λ e. subst (λ (n : ℕ). FailsEarly shown n p.main c.twin d.twin) h.order_is (failed_by e))
         (λ e. subst (λ (n : ℕ). FailsAtCommit shown c.twin.phase n p.main c.twin.device d.twin.device) h.order_is (doubt_by e))
-        (λ told. runs told s k op) untouched (λ some. let (mid, spent_by, by) = certain some in (mid,
-        subst (λ (n : ℕ). SpendsAtMost shown (writes_before_commit c.twin.phase n (region_len n) + 1) (syncs_before_commit c.twin.phase + 1) c.twin.device mid) h.order_is spent_by,
-        λ told. by told s k op)) (h.went s k op);
+        (λ told. runs told s k op) untouched (λ some. let (mid, spent_by, by) = certain some in (
+          mid,
+          subst (λ (n : ℕ). SpendsAtMost shown (writes_before_commit c.twin.phase n (region_len n) + 1) (syncs_before_commit c.twin.phase + 1) c.twin.device mid) h.order_is spent_by,
+          λ told. by told s k op,
+        )) (h.went s k op);
   }
     where
       before : ℕ

@@ -21,7 +21,6 @@ module _ {D S : Type 0} (shown : ShownDevice D) (Contents : ℕ → List ℕ →
   AreLasting last len [] was now same = Unit {0}
   AreLasting last len (r ∷ rs) was now on = (len < r.len → Lasts r.len on.1.mid last) × AreLasting last r.len rs on.0 now on.2
 
-  -- and with all passes of the story, as the device went through them
-  pub record HasLasted (First : D → Type 0) (now : D) : Type 0 where
-    pub went : WentThrough shown Contents step story First now
-    pub lasts : IsTrue shown.tells_images → AreLasting now 0 story.records went.first now went.passes
+  -- and with all passes of the story, by whichever way the device went through them
+  abbrev pub HasLasted : (First : D → Type 0) (now : D) → Type 0
+  HasLasted First now = (went : WentThrough shown Contents step story First now) → IsTrue shown.tells_images → AreLasting now 0 story.records went.first now went.passes

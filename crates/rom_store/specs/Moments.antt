@@ -1,11 +1,8 @@
--- The moment of a reply: what was told is certain since a moment that its caller has learnt. `committed` is the moment that a record has of its commit.
+-- The moments of commits, of which no clause speaks yet: what was certain by one of them lasts since then. `committed` is the moment that a record has of its commit.
 use Rattle.std.specs.Prelude.{◌≡◌, ℕ, ◌<◌, ◌≤◌, List, [], ◌∷◌, ◌++◌, Option}
-use Rattle.rom_model.specs.Passes.{history_of}
 use Rattle.rom_model.specs.Story.{Story, len_after}
-use Rattle.rom_model.specs.declared.entry.Entry.{Entry}
 use Rattle.rom_model.specs.declared.record.PassRecord.{PassRecord}
 use Rattle.rom_device.specs.Device.{ShownDevice}
-use Rattle.rom_rule.specs.declared.views.Base.{Base}
 use Rattle.rom_store.specs.Lasting.{HoldsAtLeast}
 use Rattle.rom_store.specs.Traced.{ArePassesOn}
 
@@ -14,15 +11,6 @@ module _ (committed : PassRecord → ℕ) where
   abbrev pub AreCommittedBy : ℕ → ℕ → List PassRecord → Type 0
   AreCommittedBy moment len [] = Unit {0}
   AreCommittedBy moment len (r ∷ rs) = (len < r.len → committed r ≤ moment) × AreCommittedBy moment r.len rs
-
-  -- What a caller knows of time: what it has seen is the history of some first passes, all of which were committed by the moment that it has learnt.
-  pub record KnowsMoment {S : Type 0} (Contents : ℕ → List ℕ → S → ℕ → Type 0) (step : ℕ → S → ℕ → List ℕ → Option (S × List ℕ)) (b : Base) (seen : List Entry) (moment : ℕ) : Type 0 where
-    pub start : S
-    pub count : ℕ
-    pub opening : Contents b.order b.image start count
-    pub records : List PassRecord
-    pub seen_is : seen ≡ history_of step b.order start count records
-    pub committed_by : AreCommittedBy moment 0 records
 
   -- The history was certain up to this length by then: the first passes of the story reach it, and were committed.
   pub record IsCertainBy {S : Type 0} (story : Story S) (moment len : ℕ) : Type 0 where

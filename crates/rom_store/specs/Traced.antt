@@ -47,13 +47,13 @@ module _ {D S : Type 0} (shown : ShownDevice D) (Contents : ℕ → List ℕ →
     pub reached : (len ≤ length story.history) × (r.len ≤ length story.history)
     -- none takes any of the history back
     pub risen : len ≤ r.len
-    -- the device at its commit, or at its end where it added nothing: each image that the pass makes until then is of the one history or the other, and each that it makes from there on of that with what it published
+    -- the device at its commit, which may be its end where it added nothing: each image that the pass makes until then is of `PassImage`, and each that it makes from there on holds the history up to its end
     pub mid : D
     pub images : IsTrue shown.tells_images → Runs shown (Becomes (PassImage len r)) was mid
     pub since : IsTrue shown.tells_images → Runs shown (Becomes (HoldsAfter Contents step story r.len [])) mid now
     -- what it published is certain from then on: a stop leaves it
     pub certain : IsTrue shown.tells_images → len < r.len → (i : List ℕ) → shown.leaves mid i → HoldsAfter Contents step story r.len [] i
-    -- and until then no more is called than up to the sync of the commit: of a batch's four syncs three
+    -- and until then no more is called than a batch of the whole region, with its repair, calls up to the sync of its commit: three of its four syncs
     pub soon : len < r.len → SpendsAtMost shown (writes_before_commit phase story.order (region_len story.order) + 1) (syncs_before_commit phase + 1) was mid
 
   -- The passes of these records, one after another, from the one device to the other: between two of them none is called.

@@ -4,9 +4,9 @@ ghost use Rattle.rom_model.specs.Machine.{on_words};
 ghost use Rattle.rom_lr.specs.Seats.{opened_with};
 ghost use Rattle.rom_store.specs.Held.{IsHeld};
 
+use crate::awaited::Awaited;
 use crate::label::Label;
 use crate::pace::Pace;
-use rom_announce::gather;
 use rom_combine::{Core, Gate};
 use rom_device::Device;
 use rom_lr::Shared;
@@ -14,19 +14,12 @@ use rom_model::Object;
 use std::marker::{Model, PhantomData};
 use std::sync::Wait;
 
-/// After so many passes in turn that did not find all whose calls were waited for, none is waited for, for
-/// seven times as many: others have ended, only read, or take their time.
-const VAIN: u32 = 8;
-
 /// The heap and the writer's seat, behind the one lock. Whenever the lock is free, each image that a
 /// stop at some moment since the start might have left could be left by then, or is one of the session.
 #[derive(Drop)]
 pub(crate) struct Held<D: Device, O: Object, N: Label> {
     core: Core<D, O>,
-    // Whose calls were posted before each of the last two passes, the last one first.
-    found: [u32; 2],
-    // How many passes in turn have not found all of them.
-    vain: u32,
+    awaited: Awaited,
     of: PhantomData<N>,
 }
 
@@ -51,32 +44,18 @@ impl<D: Device, O: Object, N: Label> Held<D, O, N> {
     {
         Held {
             core,
-            found: [0, 0],
-            vain: 0,
+            awaited: Awaited::new(),
             of: PhantomData,
         }
     }
 
-    /// Runs a pass. Where passes are slow, the callers whose calls the last two found have a short while
-    /// before it to post their next ones, unless they did not for some passes. Nobody else is waited for:
-    /// not who talks to nobody, nor, for a caller alone, anybody at all.
+    /// Runs a pass, before which calls gather.
     pub fn pass<R: Wait, G: Gate>(&mut self, rt: &R, shared: &Shared<O>, gate: &G, pace: Pace)
         requires table { shared.now.table.shared.table_id ≡ N.table }
         requires base { opened_with shared.now ≡ N.base }
     {
-        let [last, before] = self.found;
-        let wanted = last | before;
-        let posted = match pace {
-            Pace::Slow if self.vain < VAIN => gather(shared, wanted),
-            _ => gather(shared, 0),
-        };
-        let passed = self.core.pass(rt, shared, gate);
-        self.found = [posted, last];
-        self.vain = if passed.found > 0 && posted & wanted != wanted {
-            self.vain.saturating_add(1) % (8 * VAIN)
-        } else {
-            0
-        };
+        self.awaited.gather(shared, pace);
+        self.core.pass(rt, shared, gate);
     }
 
     pub fn into_core(self) -> Core<D, O>
@@ -86,8 +65,7 @@ impl<D: Device, O: Object, N: Label> Held<D, O, N> {
     {
         let Held {
             core,
-            found: _,
-            vain: _,
+            awaited: _,
             of: _,
         } = self;
         core

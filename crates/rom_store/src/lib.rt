@@ -8,6 +8,7 @@
 //! contract says that the results are those of one history, and what a stop at any moment leaves of it.
 #![tactic(auto)]
 
+mod awaited;
 mod begun;
 mod closed;
 mod closing;

@@ -464,19 +464,22 @@ returns-clause-certain g c some_done = let v : View = c.self.inside.seat.token.m
     let a = c.self.inside.twin.device in let m = c.publish-outcome.new.twin in let d = c.settle.new.twin.device in
     let old : (plan_of x).history ≡ (plan_of v).history = ap (λ (r : Plan). r.history) plan_x ∙ st.history in
     let new : (plan_of z).history ≡ (plan_of x).history ++ pb.more = ap (λ (r : Plan). r.history) kept ∙ pb.history in
-    let order : m.order ≡ x.base.order = c.publish-outcome.ensures.order ∙ (inv.order_is ∙ ap (λ (r : Base). r.order) (sym base_x)) in
-    (m.device, subst (λ (r : Locked g.row.D.Denot). SpendsAtMost g.D.Device.shown (writes_before_commit r.twin.phase r.twin.order (region_len r.twin.order) + 1) (syncs_before_commit r.twin.phase + 1) r.twin.device m.device) c.self.view_is c.publish-outcome.ensures.whole, λ told.
-    subst (λ (r : Base × Locked g.row.D.Denot). (s : g.O.Object.State) (n : ℕ) → g.O.Object.Contents r.0.order r.0.image s n → IsCertainSince g.O.Object.Contents (on_words g.O.Object.machine) r.0 s n g.D.Device.shown (plan_of r.1.view).history (plan_of z).history r.1.twin.device m.device d)
-    (λ j. ((base_x ∙ ap (λ r. r.view.base) c.self.view_is) j, c.self.view_is j))
-    (λ s n op.
-    let bq : pb.more ≡ batch_now g.O.Object.Contents (on_words g.O.Object.machine) x.base s n (plan_of x) = (pb.batch s n op).1 ∙ ap (λ (k : ℕ). batch (on_words g.O.Object.machine) x.base.order (after (on_words g.O.Object.machine) x.base.order s n (plan_of x).history) k (map found_of (plan_of x).requests)) (pb.batch s n op).0 in
-    let heldm : rule.Held g.O.Object.Contents (on_words g.O.Object.machine) x.base s n (plan_of u).main ((plan_of x).history ++ pb.more) = subst (λ (r : List ℕ × List Entry). rule.Held g.O.Object.Contents (on_words g.O.Object.machine) x.base s n r.0 r.1) (λ j. (sym main j, pb.history j))
-    (same_held g.O.Object.Contents (on_words g.O.Object.machine) x.base s n ph.0 ph.1 (plan_of y).history (plan_of y).main (g.met.O.Object.one_contents x.base.order x.base.image s ph.0 n ph.1 op ph.2) ph.3) in
-    let counts : (i : List ℕ) → g.D.Device.shown.leaves m.device i → IsCurrentRegion m.order i (plan_of u).main = λ i left. subst (λ (r : List ℕ). IsCurrentRegion m.order i r) (c.publish-outcome.ensures.main is_pub told ∙ sym main)
-    (committed_region g.D.Device.shown m (c.publish-outcome.ensures.phase is_pub) (g.met.D.Device.reads_image m.device told) (c.publish-outcome.ensures.images told) i left) in
-    subst (λ (r : List Entry × List Entry). IsCertainSince g.O.Object.Contents (on_words g.O.Object.machine) x.base s n g.D.Device.shown r.0 r.1 a m.device d) (λ j. (old j, sym new j))
-    (list_certain g.O.Object.Contents (on_words g.O.Object.machine) x.base s n g.D.Device.shown (fate_of c.publish-outcome.result) (plan_of x).history pb.more m.order (plan_of u).main a m.device d order heldm
-    (subst (λ (l : List Entry). Runs g.D.Device.shown (Becomes (PassMakes g.O.Object.Contents (on_words g.O.Object.machine) x.base s n (fate_of c.publish-outcome.result) (plan_of x).history l)) a m.device) (sym bq) (c.publish-outcome.ensures.since told s n op)) counts (c.settle.ensures.since told))))
+    let order : m.order ≡ x.base.order = c.publish-outcome.ensures.order ∙ (inv.order_is ∙ ap (λ (r : Base). r.order) (sym base_x)) in (
+      m.device,
+      subst (λ (r : Locked g.row.D.Denot). SpendsAtMost g.D.Device.shown (writes_before_commit r.twin.phase r.twin.order (region_len r.twin.order) + 1) (syncs_before_commit r.twin.phase + 1) r.twin.device m.device) c.self.view_is c.publish-outcome.ensures.whole,
+      λ told.
+          subst (λ (r : Base × Locked g.row.D.Denot). (s : g.O.Object.State) (n : ℕ) → g.O.Object.Contents r.0.order r.0.image s n → IsCertainSince g.O.Object.Contents (on_words g.O.Object.machine) r.0 s n g.D.Device.shown (plan_of r.1.view).history (plan_of z).history r.1.twin.device m.device d)
+          (λ j. ((base_x ∙ ap (λ r. r.view.base) c.self.view_is) j, c.self.view_is j))
+          (λ s n op.
+          let bq : pb.more ≡ batch_now g.O.Object.Contents (on_words g.O.Object.machine) x.base s n (plan_of x) = (pb.batch s n op).1 ∙ ap (λ (k : ℕ). batch (on_words g.O.Object.machine) x.base.order (after (on_words g.O.Object.machine) x.base.order s n (plan_of x).history) k (map found_of (plan_of x).requests)) (pb.batch s n op).0 in
+          let heldm : rule.Held g.O.Object.Contents (on_words g.O.Object.machine) x.base s n (plan_of u).main ((plan_of x).history ++ pb.more) = subst (λ (r : List ℕ × List Entry). rule.Held g.O.Object.Contents (on_words g.O.Object.machine) x.base s n r.0 r.1) (λ j. (sym main j, pb.history j))
+          (same_held g.O.Object.Contents (on_words g.O.Object.machine) x.base s n ph.0 ph.1 (plan_of y).history (plan_of y).main (g.met.O.Object.one_contents x.base.order x.base.image s ph.0 n ph.1 op ph.2) ph.3) in
+          let counts : (i : List ℕ) → g.D.Device.shown.leaves m.device i → IsCurrentRegion m.order i (plan_of u).main = λ i left. subst (λ (r : List ℕ). IsCurrentRegion m.order i r) (c.publish-outcome.ensures.main is_pub told ∙ sym main)
+          (committed_region g.D.Device.shown m (c.publish-outcome.ensures.phase is_pub) (g.met.D.Device.reads_image m.device told) (c.publish-outcome.ensures.images told) i left) in
+          subst (λ (r : List Entry × List Entry). IsCertainSince g.O.Object.Contents (on_words g.O.Object.machine) x.base s n g.D.Device.shown r.0 r.1 a m.device d) (λ j. (old j, sym new j))
+          (list_certain g.O.Object.Contents (on_words g.O.Object.machine) x.base s n g.D.Device.shown (fate_of c.publish-outcome.result) (plan_of x).history pb.more m.order (plan_of u).main a m.device d order heldm
+          (subst (λ (l : List Entry). Runs g.D.Device.shown (Becomes (PassMakes g.O.Object.Contents (on_words g.O.Object.machine) x.base s n (fate_of c.publish-outcome.result) (plan_of x).history l)) a m.device) (sym bq) (c.publish-outcome.ensures.since told s n op)) counts (c.settle.ensures.since told))),
+    )
 
 pub returns-clause-now : goal.returns-clause-now
 returns-clause-now g c told s n op i left = let v : View = c.self.inside.seat.token.me.0 in let w : View = c.scan.new.seat.token.me.0 in let x : View = c.load_main-place.new.seat.token.me.0 in let z : View = c.settle.new.seat.token.me.0 in let t = c.settle.new.twin in

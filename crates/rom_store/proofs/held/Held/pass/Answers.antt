@@ -9,13 +9,13 @@ use Rattle.rom_store.proofs.held.Held.pass.Goals as goal
 pub invariant_of-self : goal.invariant_of-self
 invariant_of-self g c =
     let old = c.self.inside.core in
-    let new = c.pass-passed.new.self in
+    let new = c.pass.new.self in
     let h = c.self.invariant in
-    let e = c.pass-passed.ensures in
+    let e = c.pass.ensures in
     let shown = g.D.Device.shown in
     let step = on_words g.O.Object.machine in
     let start = g.N.Label.start in
     let here = subst (λ (z : TableId × Base). IsHeld shown g.O.Object.Contents step z.0 z.1 start g.N.Label.since old) (λ j. (sym h.table_is j, sym h.base_is j)) h in
     subst (λ (z : TableId × Base). IsHeld shown g.O.Object.Contents step z.0 z.1 start g.N.Label.since new) (λ j. (h.table_is j, h.base_is j))
-    (held_on g.O.Object.Contents step shown start g.N.Label.since old new c.args.shared.now.layout.callers c.pass-passed.result
-     here e.same e.kept e.passed.0 e.passed.1 e.certain e.spent e.untouched e.repaired e.failed e.now e.device e.began e.undone e.whole (λ f. (e.failed_cause f, e.failed_whole f)) e.doubt_cause)
+    (held_on g.O.Object.Contents step shown start g.N.Label.since old new c.args.shared.now.layout.callers c.pass.result
+    here e.same e.kept e.passed.0 e.passed.1 e.certain e.spent e.untouched e.repaired e.failed e.now e.device e.began e.undone e.whole (λ f. (e.failed_cause f, e.failed_whole f)) e.doubt_cause)
