@@ -6,6 +6,7 @@ pub mod Rows
 pub mod One
 pub mod Many
 pub mod Taken
+pub mod Building
 pub mod Shapes
 pub mod Matching
 pub mod Values
