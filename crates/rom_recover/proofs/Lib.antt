@@ -4,3 +4,4 @@ pub mod Keeping
 mod Restoring
 mod Pieces
 mod Copying
+pub mod Calling

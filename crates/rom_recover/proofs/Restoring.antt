@@ -2,8 +2,8 @@
 use Rattle.std.proofs.Common.{◌≡◌, inl, inr, ⊎_elim, ℕ, ◌≤◌, IsTrue, List, Result, Ok, Err, OnOk, get_or, set, sym, subst, ◌∙◌}
 use Rattle.std.proofs.lemmas.List.{set-get_or}
 use Rattle.rom_model.specs.Blocks.{region_len}
-use Rattle.rom_device.specs.Device.{ShownDevice, After, Does, IsSynced, Leaves, Stays, Writes}
-use Rattle.rom_device.proofs.Going.{leaves_none, leaves_on, leaves_still, leaves_then}
+use Rattle.rom_device.specs.Device.{ShownDevice, After, Does, IsSynced, Leaves, OnlyReads, Stays, Writes}
+use Rattle.rom_device.proofs.Going.{does_on, leaves_none, leaves_on, leaves_still, leaves_then}
 use Rattle.rom_header.proofs.Since.{leaves_from}
 use Rattle.rom_header.specs.Headers.{state_word}
 use Rattle.rom_header.specs.Regions.{IsHeap}
@@ -67,6 +67,10 @@ module _ {D : Type 0} (shown : ShownDevice D) (at v : ℕ) (a b : D) where
     where
       after : IsTrue shown.tells_images → (i : List ℕ) → After (Writes at v) (shown.leaves a) i → After Stays (shown.leaves a) i
       after told i here = record { from = here.from; was = here.was; by = again here.from i (subst (λ (l : List ℕ). get_or l at 0 ≡ v) (sym (certain told here.from here.was)) (reads (both told))) here.by }
+
+-- calls that write nothing, and reads behind them
+pub still : {D : Type 0} (shown : ShownDevice D) (a b c : D) → Does shown Stays a b → OnlyReads shown b c → Does shown Stays a c
+still shown a b c quiet only = does_on shown Stays (λ x y z first second. second ∙ first) a b c quiet (record { size = only.size; words = only.words; images = only.images })
 
 -- what follows calls that write nothing
 module _ {D : Type 0} (shown : ShownDevice D) (n : ℕ) (a b : D) where
