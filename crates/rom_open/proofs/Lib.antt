@@ -2,4 +2,5 @@
 pub mod Holding
 pub mod Inspected
 pub mod Recovering
+pub mod Room
 pub mod Within

@@ -1,6 +1,7 @@
-use Rattle.std.proofs.Common.{rules}
+use Rattle.std.proofs.Common.{inl, inr, rules}
 use Rattle.rom_open.specs.Refusals.{named_order}
 use Rattle.rom_open.proofs.Recovering.{images_from}
+use Rattle.rom_open.proofs.Room.{room_for_header}
 use Rattle.rom_open.proofs.ready.make_ready.Goals as goal
 
 pub returns-in_default-clause-images : goal.returns-in_default-clause-images
@@ -23,3 +24,21 @@ returns-in_default-clause-calls g c told = record { reads = search rules; writes
 
 pub returns-clause-calls : goal.returns-clause-calls
 returns-clause-calls g c told = record { reads = search rules; writes = search rules; syncs = search rules }
+
+pub returns-in_err-recover_into-clause-too_small : goal.returns-in_err-recover_into-clause-too_small
+returns-in_err-recover_into-clause-too_small g c few = absurd (room_for_header _ _ c.in_ok-geometry.ensures.fits few)
+
+pub returns-in_default-clause-too_small : goal.returns-in_default-clause-too_small
+returns-in_default-clause-too_small g c few = absurd (room_for_header _ _ c.in_ok-geometry.ensures.fits few)
+
+pub returns-in_err-recover_into-2-clause-too_small : goal.returns-in_err-recover_into-2-clause-too_small
+returns-in_err-recover_into-2-clause-too_small g c few = absurd (room_for_header _ _ c.in_ok-geometry.ensures.fits few)
+
+pub returns-clause-too_small : goal.returns-clause-too_small
+returns-clause-too_small g c few = absurd (room_for_header _ _ c.in_ok-geometry.ensures.fits few)
+
+pub recover_into-requires-clause-room : goal.recover_into-requires-clause-room
+recover_into-requires-clause-room g c = inl (search rules)
+
+pub recover_into-requires-2-clause-room : goal.recover_into-requires-2-clause-room
+recover_into-requires-2-clause-room g c = inr (search rules)
