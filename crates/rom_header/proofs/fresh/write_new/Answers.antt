@@ -1,7 +1,15 @@
-use Rattle.std.proofs.Common.{subst}
-use Rattle.rom_header.specs.Fresh.{NoneOrNew}
+use Rattle.std.proofs.Common.{◌≡◌, ℕ, Result, Ok, Err, IfErr, subst, sym}
+use Rattle.std.specs.Result.{IsErrAnd}
+use Rattle.rom_header.specs.Fresh.{HasTooFewFor, NoneOrNew}
 use Rattle.rom_header.proofs.Since.{leaves_from}
+use Rattle.rom_header.specs.declared.fresh.FormatRefused.{FormatRefused}
+use Rattle.rom_header.specs.declared.fresh.FormatRefused.TheVariants.{Device}
 use Rattle.rom_header.proofs.fresh.write_new.Goals as goal
+
+-- a device that failed is not told to have too few words
+failed_sizes : (r : Result (Unit {0}) FormatRefused) (order size : ℕ) → IsErrAnd r (λ e. e ≡ Device) → IfErr r (HasTooFewFor order size)
+failed_sizes (Ok done) order size is = tt
+failed_sizes (Err refused) order size is = subst (HasTooFewFor order size) (sym is) tt
 
 pub returns-in_err-build-clause-images : goal.returns-in_err-build-clause-images
 returns-in_err-build-clause-images g c told =
@@ -12,3 +20,15 @@ pub returns-clause-images : goal.returns-clause-images
 returns-clause-images g c told =
     leaves_from g.D.Device.shown _ _ _ _ _ (λ t i le left. g.met.D.Device.counts_now c.args.device.now t i told le left) (c.is_heap.ensures.does.images told)
     (λ i. subst (λ n. NoneOrNew n c.args.image.now i) c.of_order-geometry.ensures) (c.build.ensures.images told)
+
+pub returns-in_err-is_heap-clause-sizes : goal.returns-in_err-is_heap-clause-sizes
+returns-in_err-is_heap-clause-sizes g c = failed_sizes c.from_residual.result _ _ c.from_residual.ensures.1
+
+pub returns-then-branch-clause-sizes : goal.returns-then-branch-clause-sizes
+returns-then-branch-clause-sizes g c = tt
+
+pub returns-in_err-build-clause-sizes : goal.returns-in_err-build-clause-sizes
+returns-in_err-build-clause-sizes g c = failed_sizes c.from_residual-in_err-build.result _ _ c.from_residual-in_err-build.ensures.1
+
+pub returns-clause-sizes : goal.returns-clause-sizes
+returns-clause-sizes g c = tt
