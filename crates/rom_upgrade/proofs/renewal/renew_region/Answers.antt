@@ -5,6 +5,7 @@ use Rattle.rom_recover.specs.Recovered.{IsDone}
 use Rattle.rom_open.specs.Calls.{is_recovered}
 use Rattle.rom_open.specs.Refusals.{named_order}
 use Rattle.rom_open.specs.declared.reasons.Why.{Why}
+use Rattle.rom_open.proofs.Room.{room_for_header}
 use Rattle.rom_upgrade.specs.declared.renewal.Renewal.{Renewal}
 use Rattle.rom_upgrade.proofs.Unready.{unready_early}
 use Rattle.rom_upgrade.proofs.renewal.renew_region.Goals as goal
@@ -21,3 +22,15 @@ returns-clause-sized g c =
     let fit = c.in_ok-inspect_earlier.ensures.fit in
     let contents : g.O.Object.earlier.Contents c.order.result (words_of c.of-region.result) fit.0 fit.1 = search rules in
     (g.met.O.Object.contents_within _ _ _ _ (c.in_ok-renew.ensures.renewed fit.0 fit.1 contents)).0 ∙ ap (λ (n : ℕ). region_len n) c.order.ensures.order
+
+pub returns-in_default-clause-too_small : goal.returns-in_default-clause-too_small
+returns-in_default-clause-too_small g c few = absurd (room_for_header _ _ c.in_ok-geometry.ensures.fits few)
+
+pub returns-in_err-inspect_earlier-clause-too_small : goal.returns-in_err-inspect_earlier-clause-too_small
+returns-in_err-inspect_earlier-clause-too_small g c few = absurd (room_for_header _ _ c.in_ok-geometry.ensures.fits few)
+
+pub returns-in_err-renew-clause-too_small : goal.returns-in_err-renew-clause-too_small
+returns-in_err-renew-clause-too_small g c few = absurd (room_for_header _ _ c.in_ok-geometry.ensures.fits few)
+
+pub returns-clause-too_small : goal.returns-clause-too_small
+returns-clause-too_small g c few = absurd (room_for_header _ _ c.in_ok-geometry.ensures.fits few)
