@@ -97,18 +97,6 @@ fn a_full_region_and_two_blocks_given_back(rt: HostRuntime) -> Result<(), Fail> 
 }
 
 #[test]
-fn a_block_that_is_given_back_is_merged(rt: HostRuntime) -> Result<(), Fail> {
-    let mut space = free_region(rt.alloc(), 4)?;
-    for want in 0..5 {
-        let at = take(&mut space, 4, want).expect(&rt, "all blocks are free");
-        assert_eq!(rt; at, 48);
-        give(&mut space, 4, at, want);
-        assert_eq!(rt; Blocks::largest_free(&mut space, 4), Some(4));
-    }
-    Ok(())
-}
-
-#[test]
 fn an_inspection_names_the_first_word_that_differs(rt: HostRuntime) {
     // Words that are changed, and the first that differs. Offset 16 belongs to no node.
     let rows: [(&[(usize, u64)], Option<u64>); 6] = [
@@ -131,18 +119,4 @@ fn an_inspection_names_the_first_word_that_differs(rt: HostRuntime) {
         let words = region(false, changes);
         assert_eq!(rt; Blocks::inspect(rt.alloc(), &words, 4, &table), want);
     }
-}
-
-#[test]
-fn the_greatest_region(rt: HostRuntime) -> Result<(), Fail> {
-    let mut space = free_region(rt.alloc(), 16)?;
-    // The bucket table, and the first units past it.
-    assert_eq!(rt; take(&mut space, 16, 12), Some(131_088));
-    let unit = take(&mut space, 16, 0).expect(&rt, "a unit is free");
-    assert_eq!(rt; unit, 147_472);
-    give(&mut space, 16, unit, 0);
-    assert_eq!(rt; take(&mut space, 16, 0), Some(147_472));
-    assert_eq!(rt; take(&mut space, 16, 1), Some(147_480));
-    assert_eq!(rt; Blocks::largest_free(&mut space, 16), Some(15));
-    Ok(())
 }

@@ -1,9 +1,9 @@
 //! Devices in memory: words that are kept, calls that fail, and what a stop leaves.
 
-use crate::devices::{Failing, Step, takes, with_room};
+use crate::devices::{Failing, Step, device, takes};
 use rom_device::CallKind::{Read, Sync, Write};
 use rom_device::{Device, Fuse, Memory, Ram};
-use std::process::Abort;
+use std::alloc::Global;
 use std::test::Fail;
 
 /// Words with room for so many calls, of which some fail, under a fuse that passes so many on. Then
@@ -167,24 +167,33 @@ const ROWS: [Row; 10] = [
 ];
 
 /// The device of a row once its calls are made.
-fn used<R: Abort + AllocGlobal>(rt: &R, row: &Row) -> Result<Fuse<Memory>, Fail> {
-    let memory = with_room(rt.alloc(), row.start, row.room, row.failing)?;
+fn used(alloc: Global, row: &Row) -> Result<Fuse<Memory>, Fail> {
+    let memory = device(alloc, row.start, row.room, row.failing)?;
     let mut fuse = Fuse::new(memory, row.fuse);
-    takes(rt, &mut fuse, row.steps)?;
+    takes(alloc, &mut fuse, row.steps)?;
     Ok(fuse)
 }
+
+/// Calls of three words in memory that never fail.
+const READ_BACK: [Step; 5] = [
+    Step::Write(1, u64::MAX, true),
+    Step::Sync(true),
+    Step::Read(0, Some(0)),
+    Step::Read(1, Some(u64::MAX)),
+    Step::Faults(0),
+];
 
 #[test]
 fn calls_are_done_or_fail(rt: HostRuntime) -> Result<(), Fail> {
     for (at, row) in ROWS.iter().enumerate() {
-        let fuse = used(&rt, row)?;
+        let fuse = used(rt.alloc(), row)?;
         let faults = fuse.fault_count();
         let memory = fuse.inner();
         let counts = (faults, memory.fault_count(), memory.calls_made());
         assert_eq!(rt; counts, row.counts, "at row {at}");
         assert_eq!(rt; memory.words(), row.words, "at row {at}");
     }
-    Ok(())
+    takes(rt.alloc(), &mut Ram::zeroed(rt.alloc(), 3)?, &READ_BACK)
 }
 
 #[test]
@@ -199,27 +208,8 @@ fn a_crash_leaves_what_is_chosen(rt: HostRuntime) -> Result<(), Fail> {
         (&WRITTEN, &[], &[11, 20, 30]),
     ];
     for (row, choice, left) in rows {
-        let memory = used(&rt, row)?.inner();
+        let memory = used(rt.alloc(), row)?.inner();
         assert_eq!(rt; memory.crash(choice).as_slice(), left, "at {choice:?}");
     }
-    Ok(())
-}
-
-#[test]
-fn words_in_memory_are_read_back(rt: HostRuntime) -> Result<(), Fail> {
-    let mut ram = Ram::zeroed(rt.alloc(), 3)?;
-    assert_eq!(rt; ram.len(), 3);
-    let steps = [
-        Step::Write(1, u64::MAX, true),
-        Step::Sync(true),
-        Step::Read(0, Some(0)),
-        Step::Read(1, Some(u64::MAX)),
-        Step::Read(2, Some(0)),
-        Step::Faults(0),
-    ];
-    takes(&rt, &mut ram, &steps)?;
-    // What does not fit is want of memory.
-    assert!(rt; Ram::zeroed(rt.alloc(), u64::MAX).is_err());
-    assert!(rt; with_room(rt.alloc(), &[], u64::MAX, &[]).is_err());
     Ok(())
 }

@@ -4,9 +4,7 @@ use crate::devices::{Step, takes};
 use crate::files::{device_over, zeroed};
 use rom_device::{Device, FileDevice};
 use std::fs;
-use std::fs::{File, OpenOptions};
-use std::path::PathBuf;
-use std::process::Abort;
+use std::fs::OpenOptions;
 use std::test::Fail;
 
 /// A file of so many bytes that are 0, opened for reading alone or for writing too, and told to be so
@@ -156,37 +154,21 @@ const ROWS: [(&str, Row); 5] = [
     ("read_only", READ_ONLY),
 ];
 
-/// The device of a row over its file.
-fn device_of(rt: &HostRuntime, row: &Row, path: &PathBuf) -> Result<FileDevice, Fail> {
-    if row.written {
-        device_over(rt, path, row.told)
-    } else {
-        Ok(FileDevice::new(File::open(rt, path.as_path())?, row.told))
-    }
-}
-
-/// Makes the calls of a row, and lets the device go.
-fn uses<R: Abort + AllocGlobal>(rt: &R, row: &Row, mut device: FileDevice) -> Result<(), Fail> {
-    assert_eq!(rt; device.len(), row.told / 8);
-    takes(rt, &mut device, row.steps)
-}
-
-/// Looks at the bytes in the end.
-fn has_bytes<R: Abort>(rt: &R, row: &Row, bytes: &[u8]) {
-    assert_eq!(rt; bytes.len(), row.len);
-    for (at, part) in row.left {
-        let there = bytes.get(*at..at.saturating_add(8));
-        assert_eq!(rt; there, Some(part.as_slice()), "at {at}");
-    }
-}
-
 #[test]
 fn files_keep_their_words(rt: HostRuntime) -> Result<(), Fail> {
     for (name, row) in ROWS {
         let path = zeroed(&rt, name, row.bytes)?;
-        uses(&rt, &row, device_of(&rt, &row, &path)?)?;
+        {
+            let mut device = device_over(&rt, &path, row.written, row.told)?;
+            assert_eq!(rt; device.len(), row.told / 8);
+            takes(rt.alloc(), &mut device, row.steps)?;
+        }
         let bytes = fs::read(&rt, path.as_path())?;
-        has_bytes(&rt, &row, bytes.as_slice());
+        assert_eq!(rt; bytes.len(), row.len);
+        for (at, part) in row.left {
+            let there = bytes.get(*at..at.saturating_add(8));
+            assert_eq!(rt; there, Some(part.as_slice()), "at {at}");
+        }
         fs::remove_file(&rt, path.as_path())?;
     }
     Ok(())
@@ -194,8 +176,6 @@ fn files_keep_their_words(rt: HostRuntime) -> Result<(), Fail> {
 
 #[test]
 fn a_missing_file_and_one_whose_sync_fails(rt: HostRuntime) -> Result<(), Fail> {
-    let mut missing = FileDevice::missing();
-    assert_eq!(rt; missing.len(), 8);
     let steps = [
         Step::Read(0, None),
         Step::Write(0, 1, false),
@@ -211,7 +191,7 @@ fn a_missing_file_and_one_whose_sync_fails(rt: HostRuntime) -> Result<(), Fail> 
         Step::WriteMany(0, &[5, 6], false),
         Step::Faults(7),
     ];
-    takes(&rt, &mut missing, &steps)?;
+    takes(rt.alloc(), &mut FileDevice::missing(), &steps)?;
 
     let file = OpenOptions::new()
         .read(true)
@@ -225,5 +205,5 @@ fn a_missing_file_and_one_whose_sync_fails(rt: HostRuntime) -> Result<(), Fail> 
         Step::Sync(false),
         Step::Faults(2),
     ];
-    takes(&rt, &mut device, &steps)
+    takes(rt.alloc(), &mut device, &steps)
 }

@@ -1,7 +1,8 @@
 //! Files of a test process alone.
 
 use rom_device::FileDevice;
-use std::fs::{File, OpenOptions};
+use std::alloc::{AllocError, Global};
+use std::fs::OpenOptions;
 use std::path::PathBuf;
 use std::test::Fail;
 use std::{env, fs, process};
@@ -15,29 +16,31 @@ pub(crate) fn path(rt: &HostRuntime, name: &str) -> Result<PathBuf, Fail> {
 /// A file of so many bytes that are 0.
 pub(crate) fn zeroed(rt: &HostRuntime, name: &str, bytes: usize) -> Result<PathBuf, Fail> {
     let path = path(rt, name)?;
-    fs::write(
-        rt,
-        path.as_path(),
-        vec![in rt.alloc(); 0u8; bytes]?.as_slice(),
-    )?;
+    let zeros = vec![in rt.alloc(); 0u8; bytes]?;
+    fs::write(rt, path.as_path(), zeros.as_slice())?;
     Ok(path)
 }
 
-/// The file, opened for reading and writing.
-pub(crate) fn opened(rt: &HostRuntime, path: &PathBuf) -> Result<File, Fail> {
-    Ok(
-        OpenOptions::new()
-            .read(true)
-            .write(true)
-            .open(rt, path.as_path())?,
-    )
-}
-
-/// A device over the file, which is told to have so many bytes.
+/// A device over the file, which is opened for reading, and for writing too where that is wanted, and is
+/// told to have so many bytes.
 pub(crate) fn device_over(
     rt: &HostRuntime,
     path: &PathBuf,
+    written: bool,
     bytes: u64,
 ) -> Result<FileDevice, Fail> {
-    Ok(FileDevice::new(opened(rt, path)?, bytes))
+    let file = OpenOptions::new()
+        .read(true)
+        .write(written)
+        .open(rt, path.as_path())?;
+    Ok(FileDevice::new(file, bytes))
+}
+
+/// The bytes of these words, the lowest first.
+pub(crate) fn bytes_of(alloc: Global, words: &[u64]) -> Result<Vec<u8>, AllocError> {
+    let mut bytes = Vec::new(alloc);
+    for word in words {
+        bytes.extend_from_slice(&word.to_le_bytes())?;
+    }
+    Ok(bytes)
 }

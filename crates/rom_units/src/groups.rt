@@ -1,7 +1,6 @@
 //! Groups of updates: their words, and what they do on a heap of order 4.
 
 use crate::heap::apply_all;
-use crate::model::are;
 use rom_heap::Trio;
 use rom_model::{
     Args, Back, Call, Group, Replies, Reply, Single, SingleReply, call_words, new_region,
@@ -9,8 +8,12 @@ use rom_model::{
 };
 use std::test::Fail;
 
-/// Words with the tag of a group that stand for nothing.
-const NO_GROUP: [&[u64]; 7] = [
+/// Words that stand for no call.
+const NO_CALL: [&[u64]; 10] = [
+    // No words, a tag of no row, a number too many.
+    &[],
+    &[12, 40],
+    &[2, 0],
     // No number of members, one member, nine.
     &[8],
     &[8, 1, 2],
@@ -23,9 +26,10 @@ const NO_GROUP: [&[u64]; 7] = [
     &[8, 2, 2, 8, 2, 2, 2],
 ];
 
-/// Words with the tag of a group's replies that stand for nothing: no number of replies, too few
-/// words, nine replies, a group's replies in a group's.
-const NO_REPLIES: [&[u64]; 4] = [
+/// Words that stand for no reply: none; of a group, no number of replies, too few words, nine replies, a
+/// group's replies in a group's.
+const NO_REPLY: [&[u64]; 5] = [
+    &[],
     &[14],
     &[14, 2, 10, 9],
     &[14, 9, 1, 1, 1, 1, 1, 1, 1, 1, 1],
@@ -33,42 +37,36 @@ const NO_REPLIES: [&[u64]; 4] = [
 ];
 
 #[test]
-fn groups_have_the_words_of_the_tables(rt: HostRuntime) {
+fn groups_and_their_replies_have_the_words_of_the_tables(rt: HostRuntime) {
     let calls = [Single::Move(1, 2, 3); 9];
     for (many, fits) in [(0, false), (1, false), (2, true), (8, true), (9, false)] {
-        assert_eq!(rt;
-            Group::of(&calls[..many.min(9)]).is_some(),
-            fits,
-            "at {many}"
-        );
+        let group = Group::of(&calls[..many.min(9)]);
+        assert_eq!(rt; group.is_some(), fits, "at {many}");
     }
     let members = [Single::Deq, Single::Put(5, 6), Single::Rem(7)];
     let group = Group::of(&members).expect(&rt, "three members");
-    let seen = (group.len(), group.at(1), group.at(3));
-    assert_eq!(rt; seen, (3, Some(Single::Put(5, 6)), None));
     let words = call_words(&Call::Group(group));
-    assert!(rt; are(&words, &[8, 3, 2, 5, 5, 6, 4, 7]));
+    assert!(rt; words.as_slice() == [8, 3, 2, 5, 5, 6, 4, 7].as_slice());
     assert_eq!(rt; words_call(&words), Some(Call::Group(group)));
     // Eight members of four words each.
     let widest = Group::of(&calls[..8]).expect(&rt, "eight members");
     assert_eq!(rt; call_words(&Call::Group(widest)).len(), 34);
-    for words in NO_GROUP {
-        assert!(rt; words.len() <= 40);
-        assert_eq!(rt; words_call(&Args::of(words)), None, "at {words:?}");
-    }
-}
 
-#[test]
-fn replies_to_groups_have_the_words_of_the_tables(rt: HostRuntime) {
     let mut replies = Replies::new();
     replies.push(SingleReply::Was(9));
     replies.push(SingleReply::Moved);
-    let seen = (replies.len(), replies.at(0), replies.at(2));
-    assert_eq!(rt; seen, (2, Some(SingleReply::Was(9)), None));
     let words = reply_words(&Reply::All(replies));
-    assert!(rt; are(&words, &[14, 2, 10, 9, 11]));
+    assert!(rt; words.as_slice() == [14, 2, 10, 9, 11].as_slice());
     assert_eq!(rt; words_reply(&words), Some(Reply::All(replies)));
-    for words in NO_REPLIES {
+}
+
+#[test]
+fn other_words_are_no_call_and_no_reply(rt: HostRuntime) {
+    for words in NO_CALL {
+        assert!(rt; words.len() <= 40);
+        assert_eq!(rt; words_call(&Args::of(words)), None, "at {words:?}");
+    }
+    for words in NO_REPLY {
         assert!(rt; words.len() <= 20);
         assert_eq!(rt; words_reply(&Back::of(words)), None, "at {words:?}");
     }

@@ -10,8 +10,8 @@ use crate::regions::{BROKEN, BROKEN_OLD, FRESH, OLD, OLD_PAIRS, QUEUED, region};
 use rom_counted::Counted;
 use rom_heap::Trio;
 use rom_model::{
-    Answer, Args, Back, Call, Group, Object, Query, Renew, Reply, Rule, Single, SingleReply, Unfit,
-    VecSpace, new_region,
+    Answer, Call, Group, Object, Query, Renew, Reply, Rule, Single, SingleReply, Unfit, VecSpace,
+    new_region,
 };
 use std::alloc::Global;
 use std::marker::Brand;
@@ -247,86 +247,81 @@ fn updates_word_for_word(rt: HostRuntime) -> Result<(), Fail> {
             assert!(rt; space.words() == words.as_slice(), "at {last:?}");
         }
     }
-    Ok(())
-}
-
-#[test]
-fn a_new_region_over_other_words(rt: HostRuntime) -> Result<(), Fail> {
+    // A new region over other words: those of free blocks, which begin behind the bucket table, stay.
     let mut space = VecSpace::of(vec![in rt.alloc(); 7u64; 112]?);
     Trio::format(&mut space, 4);
-    // The words of free blocks, which begin behind the bucket table, stay.
     let mut words = [7; 112];
     words[..52].copy_from_slice(&FRESH[..52]);
     assert!(rt; space.words() == words.as_slice());
     Ok(())
 }
 
-#[test]
-fn words_of_calls_and_replies(rt: HostRuntime) {
-    let words = Trio::call_words(&Call::Move(1, 2, 3));
-    assert!(rt; words.as_slice() == [7, 1, 2, 3].as_slice());
-    assert_eq!(rt; Trio::words_call(&words), Some(Call::Move(1, 2, 3)));
-    let words = Trio::reply_words(&Reply::Short(40));
-    assert!(rt; words.as_slice() == [12, 40].as_slice());
-    assert_eq!(rt; Trio::words_reply(&words), Some(Reply::Short(40)));
-    // A tag of the other table, a number too many, a tag of no row, no words.
-    assert_eq!(rt; Trio::words_call(&Args::of(&[12, 40])), None);
-    assert_eq!(rt; Trio::words_call(&Args::of(&[2, 0])), None);
-    assert_eq!(rt; Trio::words_reply(&Back::of(&[14])), None);
-    assert_eq!(rt; Trio::words_reply(&Back::new()), None);
+/// The version that a region is inspected by, whether 9 is in its queue, words that are changed, and what
+/// the inspection tells.
+const INSPECTED: [(u64, bool, &[(usize, u64)], Result<(), Unfit>); 10] = [
+    (2, false, &[], Ok(())),
+    (2, true, &[], Ok(())),
+    (
+        2,
+        false,
+        &[
+            (2, 1),
+            (9, 1),
+            (24, 0),
+            (33, 0),
+            (48, 52),
+            (52, 5),
+            (53, 7),
+            (55, 1),
+        ],
+        Ok(()),
+    ),
+    // Words of free blocks may be anything.
+    (2, true, &[(56, 7), (111, 9)], Ok(())),
+    // Only the first words tell that a region is old, whatever else it is.
+    (2, false, &[OLD], Err(Unfit::Old)),
+    (2, false, &[OLD, (3, 53)], Err(Unfit::Old)),
+    (2, false, &OLD_PAIRS, Err(Unfit::Old)),
+    (1, false, &[OLD], Ok(())),
+    (1, false, &OLD_PAIRS, Ok(())),
+    (
+        1,
+        false,
+        &[],
+        Err(Unfit::Malformed {
+            offset: 1,
+            rule: Rule::Root,
+        }),
+    ),
+];
+
+/// What the inspection of a region of order 4 by that version tells.
+fn inspected(alloc: Global, version: u64, words: &[u64; 112]) -> Result<(), Unfit> {
+    if version == 1 {
+        Trio::inspect_old(alloc, words, 4)
+    } else {
+        Trio::inspect(alloc, words, 4)
+    }
 }
 
 #[test]
-fn regions_of_order_4_are_inspected(rt: HostRuntime) {
-    // Whether 9 is in the queue, and words that are changed. Those of free blocks may be anything.
-    let regions: [(bool, &[(usize, u64)]); 4] = [
-        (false, &[]),
-        (true, &[]),
-        (
-            false,
-            &[
-                (2, 1),
-                (9, 1),
-                (24, 0),
-                (33, 0),
-                (48, 52),
-                (52, 5),
-                (53, 7),
-                (55, 1),
-            ],
-        ),
-        (true, &[(56, 7), (111, 9)]),
-    ];
-    for (queued, changes) in regions {
+fn regions_of_both_versions_are_inspected(rt: HostRuntime) {
+    for (version, queued, changes, want) in INSPECTED {
         let words = region(queued, changes);
-        assert_eq!(rt; Trio::inspect(rt.alloc(), &words, 4), Ok(()));
+        assert_eq!(rt;
+            inspected(rt.alloc(), version, &words),
+            want,
+            "at {changes:?}"
+        );
     }
     for (queued, changes, offset, rule) in BROKEN {
-        let words = region(queued, changes);
-        let want = Err(Unfit::Malformed { offset, rule });
-        assert_eq!(rt; Trio::inspect(rt.alloc(), &words, 4), want);
-    }
-    // Only the first words tell that a region is old, whatever else it is.
-    for changes in [[OLD].as_slice(), &[OLD, (3, 53)], &OLD_PAIRS] {
-        let words = region(false, changes);
-        assert_eq!(rt; Trio::inspect(rt.alloc(), &words, 4), Err(Unfit::Old));
-    }
-}
-
-#[test]
-fn regions_of_version_1_are_inspected(rt: HostRuntime) {
-    for changes in [[OLD].as_slice(), &OLD_PAIRS] {
-        let words = region(false, changes);
-        assert_eq!(rt; Trio::inspect_old(rt.alloc(), &words, 4), Ok(()));
+        let told = inspected(rt.alloc(), 2, &region(queued, changes));
+        assert_eq!(rt; told, Err(Unfit::Malformed { offset, rule }));
     }
     for (changes, offset, rule) in BROKEN_OLD {
-        let words = region(false, changes);
-        let want = Err(Unfit::Malformed { offset, rule });
-        assert_eq!(rt; Trio::inspect_old(rt.alloc(), &words, 4), want);
+        let told = inspected(rt.alloc(), 1, &region(false, changes));
+        assert_eq!(rt; told, Err(Unfit::Malformed { offset, rule }));
     }
-    let rule = Rule::Root;
-    let want = Err(Unfit::Malformed { offset: 1, rule });
-    assert_eq!(rt; Trio::inspect_old(rt.alloc(), &FRESH, 4), want);
 }
 
 /// How many elements a heap of order 16 has room for.

@@ -10,8 +10,6 @@
 #[cfg(test)]
 mod block;
 #[cfg(test)]
-mod counted;
-#[cfg(test)]
 mod device;
 #[cfg(test)]
 mod devices;

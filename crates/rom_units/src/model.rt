@@ -1,11 +1,7 @@
-//! The words of calls and replies, words in memory, buckets and sizes.
-ghost use Rattle.std.specs.Prelude.{◌≡◌, ◌<◌, length, false};
+//! The words of calls and replies, buckets and sizes.
 
-use rom_model::{
-    Args, Back, Call, Reply, Space, VecSpace, Words, blocks_at, bucket, call_words, power_of_two,
-    region_len, reply_words, store_changed,
-};
-use std::test::Fail;
+use rom_heap::Trio;
+use rom_model::{Call, Object, Reply, blocks_at, bucket, power_of_two, region_len};
 
 const CALLS: [(Call, &[u64]); 8] = [
     (Call::Enq(0), &[1, 0]),
@@ -34,74 +30,18 @@ const REPLIES: [(Reply, &[u64]); 13] = [
     (Reply::Over, &[13]),
 ];
 
-/// The words are these, and past them there is none.
-pub(crate) fn are<const N: usize>(words: &Words<N>, wanted: &[u64]) -> bool {
-    let mut same = words.len() == wanted.len() as u64 && words.at(words.len()).is_none();
-    for (i, word) in wanted.iter().enumerate() {
-        same = same && words.at(i as u64) == Some(*word);
-    }
-    same
-}
-
 #[test]
 fn calls_and_replies_have_the_words_of_the_tables(rt: HostRuntime) {
-    for (call, words) in CALLS {
-        assert!(rt; are(&call_words(&call), words), "at {call:?}");
+    for (call, wanted) in CALLS {
+        let words = Trio::call_words(&call);
+        assert!(rt; words.as_slice() == wanted, "at {call:?}");
+        assert_eq!(rt; Trio::words_call(&words), Some(call));
     }
-    for (reply, words) in REPLIES {
-        assert!(rt; are(&reply_words(&reply), words), "at {reply:?}");
+    for (reply, wanted) in REPLIES {
+        let words = Trio::reply_words(&reply);
+        assert!(rt; words.as_slice() == wanted, "at {reply:?}");
+        assert_eq!(rt; Trio::words_reply(&words), Some(reply));
     }
-}
-
-/// Fills empty words with 1, 2, 3 and so on; how many had room.
-fn filled<const N: usize>(words: &mut Words<N>) -> u64 {
-    for word in 1..=100 {
-        if !words.push(word) {
-            return words.len();
-        }
-    }
-    words.len()
-}
-
-#[test]
-fn words_of_calls_and_replies_have_room_for_40_and_20(rt: HostRuntime) {
-    let mut args = Args::new();
-    assert_eq!(rt; args.at(0), None);
-    assert_eq!(rt; filled(&mut args), 40);
-    assert!(rt; !args.push(7));
-    let seen = (args.at(0), args.at(39), args.at(40));
-    assert_eq!(rt; seen, (Some(1), Some(40), None));
-    assert_eq!(rt; args.at(u64::MAX), None);
-
-    let mut back = Back::new();
-    assert_eq!(rt; filled(&mut back), 20);
-    assert!(rt; !back.push(7));
-    let seen = (back.at(0), back.at(19), back.at(20));
-    assert_eq!(rt; seen, (Some(1), Some(20), None));
-}
-
-/// Stores three words: one that differs, one that stays, and one that differs.
-fn store_three<M: Space>(space: &mut M)
-    requires length { 2 < length (M.shown.image space.old) }
-    requires free { M.shown.has_limit ≡ false }
-{
-    store_changed(space, 0, u64::MAX);
-    store_changed(space, 1, 0);
-    store_changed(space, 2, 5);
-}
-
-#[test]
-fn words_in_memory_are_loaded_and_stored(rt: HostRuntime) -> Result<(), Fail> {
-    let mut space = VecSpace::zeroed(rt.alloc(), 3)?;
-    store_three(&mut space);
-    assert_eq!(rt; space.words(), [u64::MAX, 0, 5].as_slice());
-
-    let mut space = VecSpace::of([7, 8, 9, 10].to_vec(rt.alloc())?);
-    store_three(&mut space);
-    assert_eq!(rt; space.words(), [u64::MAX, 0, 5, 10].as_slice());
-
-    assert!(rt; VecSpace::zeroed(rt.alloc(), u64::MAX).is_err());
-    Ok(())
 }
 
 #[test]

@@ -1,8 +1,8 @@
 //! Recovery of heaps of order 4, by their words.
 
-use crate::devices::{Failing, choice, device};
-use crate::files::{device_over, path};
-use crate::regions::{FRESH, QUEUED, change, heap, region};
+use crate::devices::{AMPLE, Failing, choice, device};
+use crate::files::{bytes_of, device_over, path};
+use crate::regions::{change, heap, region};
 use rom_device::CallKind::{Read, Sync, Write};
 use rom_device::{Device, Fuse};
 use rom_header::{State, read_header};
@@ -62,17 +62,6 @@ fn among_others(
     Ok(words)
 }
 
-/// Those of a heap in which 9 is queued, with the state and the torn regions of a row, and those that
-/// are to be left.
-fn words_of(alloc: Global, row: &Row) -> Result<(Vec<u64>, Vec<u64>), AllocError> {
-    let queued = region(true, &[]);
-    let main = if row.torn.0 { TORN } else { queued };
-    let back = if row.torn.1 { TORN } else { queued };
-    let words = among_others(alloc, row.state, &main, &back)?;
-    let left = among_others(alloc, 0, &queued, &queued)?;
-    Ok((words, left))
-}
-
 /// Recovers the heap on the device, if its header is accepted.
 fn recovered<D: Device>(device: &mut D) -> Option<Result<Recovered, RecoverRefused>> {
     match read_header(device) {
@@ -81,16 +70,17 @@ fn recovered<D: Device>(device: &mut D) -> Option<Result<Recovered, RecoverRefus
     }
 }
 
-/// What is left where recovery of these words is stopped after so many calls. Each word that may be one
-/// of several is that of the choice.
-fn stopped<R: Abort + AllocGlobal>(
+/// Stops recovery of these words after so many calls, and recovers what is left. Each word that may be
+/// one of several is that of the choice.
+fn recovers_once_stopped<R: Abort + AllocGlobal>(
     rt: &R,
     row: &Row,
     words: &[u64],
+    left: &[u64],
     calls: u64,
-    choice: &[u64],
-) -> Result<Vec<u64>, Fail> {
-    let mut fuse = Fuse::new(device(rt.alloc(), words, &[])?, calls);
+    kind: u64,
+) -> Result<(), Fail> {
+    let mut fuse = Fuse::new(device(rt.alloc(), words, AMPLE, &[])?, calls);
     let want = if calls < HEADER_CALLS {
         None
     } else if calls < row.calls {
@@ -99,55 +89,59 @@ fn stopped<R: Abort + AllocGlobal>(
         Some(Ok(Recovered { found: row.found }))
     };
     assert_eq!(rt; recovered(&mut fuse), want, "after {calls} calls");
-    Ok(fuse.inner().crash(choice))
-}
-
-/// Stops recovery of these words after each number of calls, and recovers what is left.
-fn recovers_once_stopped<R: Abort + AllocGlobal>(
-    rt: &R,
-    row: &Row,
-    words: &[u64],
-    left: &[u64],
-    kind: u64,
-) -> Result<(), Fail> {
-    for calls in 0..236 {
-        let stop = stopped(rt, row, words, calls, &choice(kind))?;
-        let mut memory = device(rt.alloc(), stop.as_slice(), &[])?;
-        let again = recovered(&mut memory);
-        assert!(rt; matches!(again, Some(Ok(_))), "after {calls} calls, {kind}");
-        assert_eq!(rt; memory.words(), left, "after {calls} calls, {kind}");
-    }
+    let stop = fuse.inner().crash(&choice(kind));
+    let mut memory = device(rt.alloc(), stop.as_slice(), AMPLE, &[])?;
+    let again = recovered(&mut memory).is_some_and(|again| again.is_ok());
+    assert!(rt;
+        again && memory.words() == left,
+        "after {calls} calls, {kind}"
+    );
     Ok(())
 }
 
 #[test]
 fn both_regions_become_the_one_that_counts(rt: HostRuntime) -> Result<(), Fail> {
+    let alloc = rt.alloc();
+    let path = path(&rt, "recover")?;
+    let queued = region(true, &[]);
+    let left = among_others(alloc, 0, &queued, &queued)?;
     for row in &ROWS {
-        let (words, left) = words_of(rt.alloc(), row)?;
-        let mut memory = device(rt.alloc(), words.as_slice(), &[])?;
-        let found = row.found;
-        assert_eq!(rt; recovered(&mut memory), Some(Ok(Recovered { found })));
-        assert_eq!(rt; memory.words(), left.as_slice(), "in state {found:?}");
-        assert_eq!(rt; memory.calls_made(), row.calls, "in state {found:?}");
+        let main = if row.torn.0 { TORN } else { queued };
+        let back = if row.torn.1 { TORN } else { queued };
+        let words = among_others(alloc, row.state, &main, &back)?;
         for kind in 0..4 {
-            recovers_once_stopped(&rt, row, words.as_slice(), left.as_slice(), kind)?;
+            for calls in 0..236 {
+                recovers_once_stopped(&rt, row, words.as_slice(), left.as_slice(), calls, kind)?;
+            }
         }
+        // The same in a file, which is not stopped.
+        fs::write(
+            &rt,
+            path.as_path(),
+            bytes_of(alloc, words.as_slice())?.as_slice(),
+        )?;
+        let found = row.found;
+        {
+            let mut device = device_over(&rt, &path, true, 1880)?;
+            assert_eq!(rt; recovered(&mut device), Some(Ok(Recovered { found })));
+        }
+        let bytes = fs::read(&rt, path.as_path())?;
+        assert!(rt; bytes.as_slice() == bytes_of(alloc, left.as_slice())?.as_slice());
     }
+    fs::remove_file(&rt, path.as_path())?;
     Ok(())
 }
 
-/// Words of main and of back that are others than in a new region, of a heap in state IDLE, and a call
-/// that fails. Then why it is not recovered, and the faults. Nothing is written.
-const REFUSED: [(
-    &[(usize, u64)],
-    &[(usize, u64)],
-    Failing,
-    RecoverRefused,
-    u64,
-); 7] = [
+/// Words of a region that are others than in a new one, or nothing where it is torn.
+type Changed = Option<&'static [(usize, u64)]>;
+
+/// Regions under a state, and a call that fails. Then why the heap is not recovered, the faults, and how
+/// many words of main are those of back by then. No other word is another.
+const REFUSED: [(u64, Changed, Changed, Failing, RecoverRefused, u64, usize); 12] = [
     (
-        &[(2, 5), (111, 6)],
-        &[(2, 4)],
+        0,
+        Some(&[(2, 5), (111, 6)]),
+        Some(&[(2, 4)]),
         (Write, 0, 235, 1, true),
         RecoverRefused::Twins {
             offset: 2,
@@ -155,47 +149,59 @@ const REFUSED: [(
             back: 4,
         },
         0,
+        0,
     ),
     // The words at offsets 65 to 67 of main, and of back, cannot be read. Once one of main's cannot, none
     // of back's is. A word of back behind the difference is read, and fails, before it is told.
     (
-        &[(66, 5)],
-        &[],
+        0,
+        Some(&[(66, 5)]),
+        Some(&[]),
         (Read, 73, 74, 1, false),
         RecoverRefused::Device,
         1,
+        0,
     ),
     (
-        &[(66, 5)],
-        &[],
+        0,
+        Some(&[(66, 5)]),
+        Some(&[]),
         (Read, 74, 75, 1, false),
         RecoverRefused::Device,
         1,
+        0,
     ),
     (
-        &[(66, 5)],
-        &[],
+        0,
+        Some(&[(66, 5)]),
+        Some(&[]),
         (Read, 75, 76, 1, false),
         RecoverRefused::Device,
         1,
+        0,
     ),
     (
-        &[(66, 5)],
-        &[],
+        0,
+        Some(&[(66, 5)]),
+        Some(&[]),
         (Read, 185, 186, 1, false),
         RecoverRefused::Device,
         1,
+        0,
     ),
     (
-        &[(66, 5)],
-        &[],
+        0,
+        Some(&[(66, 5)]),
+        Some(&[]),
         (Read, 186, 187, 1, false),
         RecoverRefused::Device,
         1,
+        0,
     ),
     (
-        &[(66, 5)],
-        &[],
+        0,
+        Some(&[(66, 5)]),
+        Some(&[]),
         (Read, 187, 188, 1, false),
         RecoverRefused::Twins {
             offset: 66,
@@ -203,76 +209,81 @@ const REFUSED: [(
             back: 0,
         },
         1,
+        0,
+    ),
+    // No region is touched before the state is written again and certain: the first write of the state,
+    // and the sync behind it.
+    (
+        1,
+        None,
+        Some(&[]),
+        (Write, 3, 4, 1, true),
+        RecoverRefused::Device,
+        1,
+        0,
+    ),
+    (
+        1,
+        None,
+        Some(&[]),
+        (Sync, 0, 1, 2, false),
+        RecoverRefused::Device,
+        1,
+        0,
+    ),
+    (
+        2,
+        Some(&[]),
+        None,
+        (Write, 3, 4, 1, true),
+        RecoverRefused::Device,
+        1,
+        0,
+    ),
+    (
+        2,
+        Some(&[]),
+        None,
+        (Sync, 0, 1, 2, false),
+        RecoverRefused::Device,
+        1,
+        0,
+    ),
+    // Nothing of a piece of 64 words is written once a word of it cannot be read: here back's at offset
+    // 65, of the second piece.
+    (
+        1,
+        None,
+        Some(&[]),
+        (Read, 185, 186, 1, false),
+        RecoverRefused::Device,
+        1,
+        64,
     ),
 ];
 
+/// The words of a region.
+fn words_of(changed: Changed) -> [u64; 112] {
+    match changed {
+        Some(changes) => region(false, changes),
+        None => TORN,
+    }
+}
+
 #[test]
 fn what_comes_first_is_answered(rt: HostRuntime) -> Result<(), Fail> {
-    for (main, back, failing, why, faults) in REFUSED {
-        let words = among_others(rt.alloc(), 0, &region(false, main), &region(false, back))?;
-        let mut memory = device(rt.alloc(), words.as_slice(), &[failing])?;
+    for (state, main, back, failing, why, faults, copied) in REFUSED {
+        let mut main = words_of(main);
+        let back = words_of(back);
+        let words = among_others(rt.alloc(), state, &main, &back)?;
+        let mut memory = device(rt.alloc(), words.as_slice(), AMPLE, &[failing])?;
         assert_eq!(rt; recovered(&mut memory), Some(Err(why)), "at {failing:?}");
         assert_eq!(rt; memory.fault_count(), faults, "at {failing:?}");
-        assert_eq!(rt; memory.words(), words.as_slice(), "at {failing:?}");
-    }
-    Ok(())
-}
-
-#[test]
-fn nothing_is_written_once_a_word_cannot_be_read(rt: HostRuntime) -> Result<(), Fail> {
-    let words = among_others(rt.alloc(), 1, &TORN, &FRESH)?;
-    // Back's word at offset 65, of the second piece.
-    let mut memory = device(rt.alloc(), words.as_slice(), &[(Read, 185, 186, 1, false)])?;
-    assert_eq!(rt; recovered(&mut memory), Some(Err(RecoverRefused::Device)));
-    let left = memory.words();
-    assert_eq!(rt; left.get(8..72), FRESH.get(..64));
-    assert_eq!(rt; left.get(72..120), TORN.get(64..));
-    assert_eq!(rt; left.get(3), Some(&1));
-    Ok(())
-}
-
-#[test]
-fn no_region_is_touched_before_the_state_is_written_again(rt: HostRuntime) -> Result<(), Fail> {
-    for row in &ROWS {
-        if row.found == State::Idle {
-            continue;
+        for (word, other) in main.iter_mut().zip(back.iter()).take(copied) {
+            *word = *other;
         }
-        let (words, _) = words_of(rt.alloc(), row)?;
-        // The first write of the state, and the sync behind it.
-        for failing in [(Write, 3, 4, 1, true), (Sync, 0, 1, 2, false)] {
-            let mut memory = device(rt.alloc(), words.as_slice(), &[failing])?;
-            assert_eq!(rt; recovered(&mut memory), Some(Err(RecoverRefused::Device)));
-            assert_eq!(rt; memory.words(), words.as_slice(), "at {failing:?}");
-        }
+        let left = among_others(rt.alloc(), state, &main, &back)?;
+        assert_eq!(rt; memory.words(), left.as_slice(), "at {failing:?}");
     }
-    Ok(())
-}
-
-/// The bytes of these words, the lowest first.
-fn bytes_of(alloc: Global, words: &[u64]) -> Result<Vec<u8>, AllocError> {
-    let mut bytes = Vec::new(alloc);
-    for word in words {
-        bytes.extend_from_slice(&word.to_le_bytes())?;
-    }
-    Ok(bytes)
-}
-
-#[test]
-fn a_heap_in_a_file_is_recovered(rt: HostRuntime) -> Result<(), Fail> {
-    let path = path(&rt, "recover")?;
-    for row in &ROWS {
-        let (words, left) = words_of(rt.alloc(), row)?;
-        let bytes = bytes_of(rt.alloc(), words.as_slice())?;
-        fs::write(&rt, path.as_path(), bytes.as_slice())?;
-        let found = row.found;
-        {
-            let mut device = device_over(&rt, &path, 1880)?;
-            assert_eq!(rt; recovered(&mut device), Some(Ok(Recovered { found })));
-        }
-        let bytes = fs::read(&rt, path.as_path())?;
-        let want = bytes_of(rt.alloc(), left.as_slice())?;
-        assert_eq!(rt; bytes.as_slice(), want.as_slice(), "in state {found:?}");
-    }
-    fs::remove_file(&rt, path.as_path())?;
     Ok(())
 }

@@ -13,7 +13,6 @@ use rom_model::{
     region_len,
 };
 use std::alloc::{AllocError, Global};
-use std::process::Abort;
 use std::test::Fail;
 
 /// What a region of version 1 becomes, or nothing where it is none.
@@ -121,33 +120,27 @@ fn aged(alloc: Global, new: &mut [u64], order: u32, keys: &[u64]) -> Result<Vec<
     Ok(old)
 }
 
-/// Asserts that a heap with so many keys, made one of version 1, is renewed as the same.
-fn renews<R: Abort + AllocGlobal>(
-    rt: &R,
-    order: u32,
-    many: usize,
-    in_one_bucket: bool,
-) -> Result<(), Fail>
-    requires { IsOrder order }
-{
-    let alloc = rt.alloc();
-    let keys = keys_of(alloc, order, many, in_one_bucket)?;
-    assert_eq!(rt; keys.len(), many);
-    let mut new = grown(alloc, order, &keys)?.words().to_vec(alloc)?;
-    let old = aged(alloc, new.as_mut_slice(), order, &keys)?;
-    assert_eq!(rt; old.len() as u64, region_len(order));
-    assert_eq!(rt; Trio::inspect(alloc, &old, order), Err(Unfit::Old));
-    let found = renewed(alloc, old, order)?;
-    assert!(rt;
-        found.is_some_and(|found| found.as_slice() == new.as_slice()),
-        "at {order}"
-    );
-    Ok(())
-}
-
 #[test]
 fn long_chains_and_a_full_heap_are_renewed(rt: HostRuntime) -> Result<(), Fail> {
-    renews(&rt, 4, 15, true)?;
-    renews(&rt, 9, 480, true)?;
-    renews(&rt, 16, 61_440, false)
+    let alloc = rt.alloc();
+    // An order, how many keys there are, and whether they are of one bucket.
+    for (order, many, in_one_bucket) in [(4, 15, true), (9, 480, true), (16, 61_440, false)] {
+        assert!(rt; 4 <= order && order <= 16);
+        let keys = keys_of(alloc, order, many, in_one_bucket)?;
+        assert_eq!(rt; keys.len(), many, "at {order}");
+        let mut new = grown(alloc, order, &keys)?.words().to_vec(alloc)?;
+        let old = aged(alloc, new.as_mut_slice(), order, &keys)?;
+        assert_eq!(rt; old.len() as u64, region_len(order), "at {order}");
+        assert_eq!(rt;
+            Trio::inspect(alloc, &old, order),
+            Err(Unfit::Old),
+            "at {order}"
+        );
+        let found = renewed(alloc, old, order)?;
+        assert!(rt;
+            found.is_some_and(|found| found.as_slice() == new.as_slice()),
+            "at {order}"
+        );
+    }
+    Ok(())
 }

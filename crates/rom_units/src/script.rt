@@ -1,10 +1,7 @@
 //! Lines that are read and lines that are not, where lines end, and scripts in pieces.
 
 use rom_model::{Call, Group, Query, Single};
-use rom_script::{
-    Bytes, Line, Name, Names, ReadRefused, line_end, read_bytes, read_line, read_script,
-};
-use std::alloc::Global;
+use rom_script::{Bytes, Line, ReadRefused, line_end, read_bytes, read_line, read_script};
 use std::test::Fail;
 
 const ENQ_7: Line = Line::Update(Call::Enq(7));
@@ -83,13 +80,6 @@ const LINES: [(&[u8], Line); 58] = [
     ),
 ];
 
-#[test]
-fn lines_are_read_or_unread(rt: HostRuntime) {
-    for (line, wanted) in LINES {
-        assert_eq!(rt; read_line(line), wanted, "at {line:?}");
-    }
-}
-
 /// Lines of groups and their members.
 const GROUPS: [(&[u8], &[Single]); 3] = [
     (
@@ -116,14 +106,17 @@ const GROUPS: [(&[u8], &[Single]); 3] = [
 ];
 
 #[test]
-fn two_to_eight_updates_are_read_as_a_group(rt: HostRuntime) {
-    for (line, members) in GROUPS {
-        let wanted = Group::of(members).map_or(
-            Line::Unread,
-            |group| Line::Update(Call::Group(group)),
-        );
+fn lines_are_read_or_unread(rt: HostRuntime) {
+    for (line, wanted) in LINES {
         assert_eq!(rt; read_line(line), wanted, "at {line:?}");
-        assert!(rt; wanted != Line::Unread, "at {line:?}");
+    }
+    for (line, members) in GROUPS {
+        let group = Group::of(members).expect(&rt, "two to eight members");
+        assert_eq!(rt;
+            read_line(line),
+            Line::Update(Call::Group(group)),
+            "at {line:?}"
+        );
     }
 }
 
@@ -160,106 +153,68 @@ fn lines_end_at_lf_without_one_cr(rt: HostRuntime) {
 
 const SCRIPT: &[u8] = b"enq 7\r\n\ndeq\nPUT 1 1\npeek\r\r\ndeq \npeek";
 
-/// A source of the script in pieces. The read with this number, counted from 1, fails.
-fn script_in(alloc: Global, piece: u64, trip: u64) -> Result<Bytes, Fail> {
-    let piece = piece.max(1);
-    Ok(Bytes::new(SCRIPT.to_vec(alloc)?, piece, [trip].to_vec(alloc)?))
-}
+/// The script's lines.
+const READ: [Line; 7] = [
+    ENQ_7,
+    Line::Unread,
+    DEQ,
+    Line::Unread,
+    Line::Unread,
+    Line::Unread,
+    PEEK,
+];
 
 #[test]
 fn scripts_are_read_in_pieces(rt: HostRuntime) -> Result<(), Fail> {
     let alloc = rt.alloc();
-    let wanted = [
-        ENQ_7,
-        Line::Unread,
-        DEQ,
-        Line::Unread,
-        Line::Unread,
-        Line::Unread,
-        PEEK,
-    ];
     for piece in [1, 3, 4096] {
-        let script = read_script(alloc, &mut script_in(alloc, piece, 0)?)?;
-        assert_eq!(rt; script.lines(), wanted.as_slice(), "in pieces of {piece}");
-        let seen = (script.len(), script.at(0), script.at(6), script.at(7));
-        assert_eq!(rt; seen, (7, Some(ENQ_7), Some(PEEK), None));
+        let mut source = Bytes::new(SCRIPT.to_vec(alloc)?, piece, Vec::new(alloc));
+        let script = read_script(alloc, &mut source)?;
+        assert_eq!(rt; script.lines(), READ.as_slice(), "in pieces of {piece}");
+        assert_eq!(rt; (script.len(), script.at(6)), (7, Some(PEEK)));
     }
-    Ok(())
-}
-
-#[test]
-fn a_read_that_fails_ends_a_script(rt: HostRuntime) -> Result<(), Fail> {
-    let alloc = rt.alloc();
-    // Pieces of three bytes: twelve reads give the script, and one more tells its end.
+    // Of pieces of three bytes one read fails, counted from 1: twelve give the script, and one more tells
+    // its end.
     for trip in 1..=13 {
-        let mut source = script_in(alloc, 3, trip)?;
+        let mut source = Bytes::new(SCRIPT.to_vec(alloc)?, 3, [trip].to_vec(alloc)?);
         let failed = read_script(alloc, &mut source);
         assert!(rt; matches!(failed, Err(ReadRefused::Failed)), "at {trip}");
         // What came before the failure is gone, and the rest is still there.
         let rest = read_bytes(alloc, &mut source)?;
         let gone = 36.min(3 * (trip - 1)) as usize;
         assert_eq!(rt; Some(rest.as_slice()), SCRIPT.get(gone..), "at {trip}");
-        assert!(rt; read_bytes(alloc, &mut source)?.is_empty());
     }
-    let all = read_bytes(alloc, &mut script_in(alloc, 3, 14)?)?;
-    assert!(rt; all.as_slice() == SCRIPT);
     Ok(())
 }
 
-#[test]
-fn scripts_have_at_most_1048576_bytes(rt: HostRuntime) -> Result<(), Fail> {
-    let alloc = rt.alloc();
-    // Blocks of 4,096 bytes: 256 reads give the script, and one more tells its end.
-    let trips = [258].to_vec(alloc)?;
-    let mut longest = Bytes::new(vec![in alloc; b'7'; 1_048_576]?, u64::MAX, trips);
-    let script = read_script(alloc, &mut longest)?;
-    assert_eq!(rt; script.lines(), [Line::Unread].as_slice());
-
-    let trips = Vec::new(alloc);
-    let mut longer = Bytes::new(vec![in alloc; b'7'; 1_048_580]?, u64::MAX, trips);
-    assert!(rt; matches!(read_script(alloc, &mut longer), Err(ReadRefused::TooLong)));
-    assert_eq!(rt; read_bytes(alloc, &mut longer)?.len(), 3);
-
-    let trips = Vec::new(alloc);
-    let mut longer = Bytes::new(vec![in alloc; b'7'; 1_048_577]?, 1000, trips);
-    assert!(rt; matches!(read_script(alloc, &mut longer), Err(ReadRefused::TooLong)));
-    Ok(())
-}
-
-#[test]
-fn scripts_have_at_most_131072_lines(rt: HostRuntime) -> Result<(), Fail> {
-    let alloc = rt.alloc();
-    let trips = Vec::new(alloc);
-    let mut longest = Bytes::new(vec![in alloc; b'\n'; 131_072]?, u64::MAX, trips);
-    let script = read_script(alloc, &mut longest)?;
-    assert_eq!(rt; script.len(), 131_072);
-    assert!(rt; script.lines().iter().all(|line| *line == Line::Unread));
-    let seen = (script.at(131_071), script.at(131_072));
-    assert_eq!(rt; seen, (Some(Line::Unread), None));
-
+/// A byte, how many of it a script has and those behind them, and how many a read gives at most. Then the
+/// script's lines, none of which is a command; or that it is too long, and how many bytes are not read then.
+const LONG: [(u8, usize, &[u8], u64, Result<u64, usize>); 6] = [
+    (b'7', 1_048_576, b"", u64::MAX, Ok(1)),
+    (b'7', 1_048_580, b"", u64::MAX, Err(3)),
+    (b'7', 1_048_577, b"", 1000, Err(0)),
+    (b'\n', 131_072, b"", u64::MAX, Ok(131_072)),
     // A last line without LF is one too many as well, and all bytes are read before that is told.
-    for last in [b'\n', b'7'] {
-        let mut bytes = vec![in alloc; b'\n'; 131_072]?;
-        bytes.push(last)?;
-        let mut longer = Bytes::new(bytes, 1000, Vec::new(alloc));
-        assert!(rt; matches!(read_script(alloc, &mut longer), Err(ReadRefused::TooLong)));
-        assert!(rt; read_bytes(alloc, &mut longer)?.is_empty());
-    }
-    Ok(())
-}
+    (b'\n', 131_072, b"\n", 1000, Err(0)),
+    (b'\n', 131_072, b"7", 1000, Err(0)),
+];
 
 #[test]
-fn names_keep_their_words(rt: HostRuntime) -> Result<(), Fail> {
+fn scripts_have_at_most_1048576_bytes_and_131072_lines(rt: HostRuntime) -> Result<(), Fail> {
     let alloc = rt.alloc();
-    assert_eq!(rt; Name::of(alloc, "a file.txt")?.as_str(), "a file.txt");
-    let mut names = Names::new(alloc);
-    assert_eq!(rt; (names.len(), names.at(0)), (0, None));
-    names.push(alloc, "try")?;
-    names.push(alloc, "")?;
-    names.push(alloc, "ä")?;
-    assert_eq!(rt; names.len(), 3);
-    let seen = (names.at(0), names.at(1), names.at(2));
-    assert_eq!(rt; seen, (Some("try"), Some(""), Some("ä")));
-    assert_eq!(rt; (names.at(3), names.at(u64::MAX)), (None, None));
+    for (byte, many, behind, piece, want) in LONG {
+        assert!(rt; piece > 0);
+        let mut bytes = vec![in alloc; byte; many]?;
+        bytes.extend_from_slice(behind)?;
+        // Blocks of 4,096 bytes: 256 reads give the longest script, and one more tells its end.
+        let trips = [if want.is_ok() { 258 } else { 0 }].to_vec(alloc)?;
+        let mut source = Bytes::new(bytes, piece, trips);
+        let told = match read_script(alloc, &mut source) {
+            Ok(script) => Ok(script.len()),
+            Err(ReadRefused::TooLong) => Err(read_bytes(alloc, &mut source)?.len()),
+            Err(_) => return Err("no script".into()),
+        };
+        assert_eq!(rt; told, want, "of {many} bytes");
+    }
     Ok(())
 }
