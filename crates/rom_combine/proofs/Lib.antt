@@ -1,5 +1,6 @@
 -- Lemmas on passes: what they find, apply, answer and record, and what a stop during one leaves.
 pub mod Outcomes
+pub mod Ends
 pub mod Since
 pub mod Outside
 pub mod Counting
@@ -19,4 +20,5 @@ pub mod Bridge
 pub mod Refusing
 pub mod Rested
 pub mod Keeping
+pub mod Begins
 pub mod Failing

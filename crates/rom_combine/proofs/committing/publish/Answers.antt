@@ -9,6 +9,7 @@ use Rattle.rom_combine.specs.Costs.{WritesHeap, weights, weights_added, weights_
 use Rattle.rom_combine.proofs.Weights.{added_weights, first_found, posted_args, stores_found}
 use Rattle.rom_ranges.specs.Changes.{IsLogOf}
 use Rattle.rom_ranges.specs.Log.{Logged}
+use Rattle.rom_ranges.specs.declared.range.Range.{Range}
 use Rattle.rom_ranges.specs.Ranges.{AreWithin, held_count}
 use Rattle.rom_combine.specs.Images.{BeforeCommit, Counting, Committable, MayPublish}
 use Rattle.rom_combine.specs.Histories.{PassMakes}
@@ -17,7 +18,7 @@ use Rattle.rom_rule.specs.Readers.{Held}
 use Rattle.rom_model.specs.declared.record.Fate.{Fate}
 use Rattle.rom_combine.proofs.Before.{before_on}
 use Rattle.rom_combine.proofs.Outside.{writes_then}
-use Rattle.rom_combine.proofs.Spending.{held_in_region, most_then}
+use Rattle.rom_combine.proofs.Spending.{held_in_region, most_within, tried_most, undone_most}
 use Rattle.rom_model.specs.Blocks.{region_len}
 use Rattle.rom_model.specs.History.{after, batch}
 use Rattle.rom_model.specs.declared.entry.Entry.{Entry}
@@ -41,6 +42,8 @@ use Rattle.rom_combine.proofs.Limits.{batch_fits}
 use Rattle.rom_combine.proofs.Publishes.{can_publish, is_left}
 use Rattle.rom_combine.proofs.Bridge.{batch_now, all_held, same_held, list_before, list_committed}
 use Rattle.rom_combine.proofs.Refusing.{is_refused, may_know}
+use Rattle.rom_combine.proofs.Ends.{doubt_not_nothing, failed_not_doubt, failed_not_nothing, published_not_doubt, published_not_failed, published_not_nothing}
+use Rattle.rom_combine.proofs.Writing.{seat_by, seat_then}
 use Rattle.rom_combine.proofs.committing.publish.Given.{Over}
 use Rattle.rom_combine.proofs.committing.publish.Goals as goal
 
@@ -101,6 +104,32 @@ since_committed g u {v₁} {v₂} {v₃} {found} {items} it f t t₁ t₂ place 
     = subst (λ (q : ℕ × List ℕ). Runs g.D.Device.shown (Becomes (Committable t₂.phase q.0 q.1 m₂)) t₁.device t₂.device) (λ i. (order₁ i, (committed₁ ∙ committed_is) i)) second in
     list_committed g.O.Object.Contents (on_words g.O.Object.machine) b s n g.D.Device.shown f t₂.phase p.history (batch_now g.O.Object.Contents (on_words g.O.Object.machine) b s n p) t.order p.main m₂ t.device t₁.device t₂.device order_is may here done one two
 
+-- how the plan stands at the three ends behind the commit, and the device's phase at two of them
+took_ok : (g : Over) (c : goal.After-switch g) → Taken g c.args.seat.now.token.me.0 c.begin_on.new.seat.token.me.0 c.apply_all.new.seat.token.me.0 c.commit_on.new.seat.token.me.0 c.args.found.now c.apply_all.new.answers.items
+took_ok g c = taken g c.args.seat.now.token.me.0 c.begin_on.new.seat.token.me.0 c.apply_all.new.seat.token.me.0 c.commit_on.new.seat.token.me.0 c.args.found.now c.apply_all.new.answers.items c.begin_on.ensures.same.2 c.apply_all.ensures.kept.2 c.commit_on.ensures.same.2 c.requires.found c.apply_all.ensures.applied
+
+took_doubt : (g : Over) (c : goal.After-refuse-then-eq g) → Taken g c.args.seat.now.token.me.0 c.begin_on.new.seat.token.me.0 c.apply_all.new.seat.token.me.0 c.commit_on.new.seat.token.me.0 c.args.found.now c.apply_all.new.answers.items
+took_doubt g c = taken g c.args.seat.now.token.me.0 c.begin_on.new.seat.token.me.0 c.apply_all.new.seat.token.me.0 c.commit_on.new.seat.token.me.0 c.args.found.now c.apply_all.new.answers.items c.begin_on.ensures.same.2 c.apply_all.ensures.kept.2 c.commit_on.ensures.same.2 c.requires.found c.apply_all.ensures.applied
+
+took_failed : (g : Over) (c : goal.After-refuse-2 g) → Taken g c.args.seat.now.token.me.0 c.begin_on.new.seat.token.me.0 c.apply_all.new.seat.token.me.0 c.commit_on.new.seat.token.me.0 c.args.found.now c.apply_all.new.answers.items
+took_failed g c = taken g c.args.seat.now.token.me.0 c.begin_on.new.seat.token.me.0 c.apply_all.new.seat.token.me.0 c.commit_on.new.seat.token.me.0 c.args.found.now c.apply_all.new.answers.items c.begin_on.ensures.same.2 c.apply_all.ensures.kept.2 c.commit_on.ensures.same.2 c.requires.found c.apply_all.ensures.applied
+
+in_doubt : (g : Over) (c : goal.After-refuse-then-eq g) → c.commit_on.new.twin.phase ≡ phase.Doubt
+in_doubt g c = search rules
+
+is_undone : (g : Over) (c : goal.After-refuse-2 g) → c.commit_on.new.twin.phase ≡ phase.Undo
+is_undone g c = search rules
+
+-- where the commit failed main is put back
+put_back_plan : (g : Over) {u v₁ v₂ v₃ : View} {found : List Posted} {items : List CallAnswer} → Taken g u v₁ v₂ v₃ found items → (v : View) → v ≡ record v₃ { plan = Some (record (plan_of v₃) { main = (plan_of v₃).back }); steps = v.steps } → (plan_of u).main ≡ (plan_of u).back → plan_of v ≡ plan_of u
+put_back_plan g {u} {v₁} {v₂} {v₃} {found} {items} it v back same = ap plan_of back ∙ ((λ j. record (it.three j) { main = (it.three j).back }) ∙ ap (λ (l : List ℕ). record (plan_of u) { main = l }) (sym same))
+
+back_doubt : (g : Over) (c : goal.After-refuse-then-eq g) → plan_of c.put_back.new.seat.token.me.0 ≡ plan_of c.args.seat.now.token.me.0
+back_doubt g c = put_back_plan g (took_doubt g c) c.put_back.new.seat.token.me.0 c.put_back.ensures.2 c.requires.ready.same
+
+back_failed : (g : Over) (c : goal.After-refuse-2 g) → plan_of c.put_back.new.seat.token.me.0 ≡ plan_of c.args.seat.now.token.me.0
+back_failed g c = put_back_plan g (took_failed g c) c.put_back.new.seat.token.me.0 c.put_back.ensures.2 c.requires.ready.same
+
 pub returns-then-is_err-clause-left : goal.returns-then-is_err-clause-left
 returns-then-is_err-clause-left g c = let u : View = c.args.seat.now.token.me.0 in let b : Base = u.base in let p : Plan = plan_of u in let h = c.requires.ready.held in
     let v₁ : View = c.begin_on.new.seat.token.me.0 in let one : plan_of v₁ ≡ p = ap plan_of c.begin_on.ensures.same.2 in let base₁ : v₁.base ≡ b = ap (λ (z : View). z.base) c.begin_on.ensures.same.2 in
@@ -134,7 +163,7 @@ switch-requires-clause-can g c = let u : View = c.args.seat.now.token.me.0 in le
 pub returns-then-is_ok-clause-left : goal.returns-then-is_ok-clause-left
 returns-then-is_ok-clause-left g c = let u : View = c.args.seat.now.token.me.0 in let b : Base = u.base in let p : Plan = plan_of u in let h = c.requires.ready.held in
     let m₂ : List ℕ = (plan_of c.apply_all.new.seat.token.me.0).main in
-    let it = taken g u c.begin_on.new.seat.token.me.0 c.apply_all.new.seat.token.me.0 c.commit_on.new.seat.token.me.0 c.args.found.now c.apply_all.new.answers.items c.begin_on.ensures.same.2 c.apply_all.ensures.kept.2 c.commit_on.ensures.same.2 c.requires.found c.apply_all.ensures.applied in
+    let it = took_ok g c in
     let now : ℕ = g.D.Device.shown.faults c.commit_on.new.twin.device in let now_is : c.fault_count-now.result ≡ now = c.fault_count-now.ensures in let sw = c.switch.ensures.switched in let v₄ : View = c.switch.new.seat.token.me.0 in
     let same = g.met.O.Object.one_contents b.order b.image h.0 it.start h.1 it.count h.2 it.opened in let counts = same.1 in let place = h.4 in let below = c.requires.ready.below in
     let four : plan_of v₄ ≡ switched 0 (making fate.Published c.args.before now sw.0 sw.1 (record p { main = m₂ })) = ap plan_of sw.4.2 ∙ (λ j. switched 0 (making fate.Published c.args.before (now_is j) sw.0 sw.1 (it.three j))) in
@@ -147,7 +176,7 @@ pub returns-then-is_ok-clause-few : goal.returns-then-is_ok-clause-few
 returns-then-is_ok-clause-few g c is = let u : View = c.args.seat.now.token.me.0 in let b : Base = u.base in let p : Plan = plan_of u in let h = c.requires.ready.held in
     let step : ℕ → g.O.Object.State → ℕ → List ℕ → Option (g.O.Object.State × List ℕ) = on_words g.O.Object.machine in let weight : List ℕ → ℕ = weight_on_words g.O.Object.machine in
     let m₂ : List ℕ = (plan_of c.apply_all.new.seat.token.me.0).main in let calls : List (List ℕ) = map (λ (one : Posted). one.args) c.args.found.now in
-    let it = taken g u c.begin_on.new.seat.token.me.0 c.apply_all.new.seat.token.me.0 c.commit_on.new.seat.token.me.0 c.args.found.now c.apply_all.new.answers.items c.begin_on.ensures.same.2 c.apply_all.ensures.kept.2 c.commit_on.ensures.same.2 c.requires.found c.apply_all.ensures.applied in
+    let it = took_ok g c in
     let sw = c.switch.ensures.switched in let v₄ : View = c.switch.new.seat.token.me.0 in
     let four : (plan_of v₄).history ≡ p.history ++ sw.1 = ap (λ (z : View). (plan_of z).history) sw.4.2 ∙ ap (λ (z : Plan). z.history ++ sw.1) it.three in
     let one = g.met.O.Object.one_contents b.order b.image h.0 it.start h.1 it.count h.2 it.opened in let counts = one.1 in let place = h.4 in
@@ -167,17 +196,16 @@ returns-then-is_ok-clause-few g c is = let u : View = c.args.seat.now.token.me.0
 pub returns-then-is_ok-clause-since : goal.returns-then-is_ok-clause-since
 returns-then-is_ok-clause-since g c told s n op =
     let u : View = c.args.seat.now.token.me.0 in
-    since_committed g u (taken g u c.begin_on.new.seat.token.me.0 c.apply_all.new.seat.token.me.0 c.commit_on.new.seat.token.me.0 c.args.found.now c.apply_all.new.answers.items c.begin_on.ensures.same.2 c.apply_all.ensures.kept.2 c.commit_on.ensures.same.2 c.requires.found c.apply_all.ensures.applied)
+    since_committed g u (took_ok g c)
     fate.Published c.args.twin.now c.begin_on.new.twin c.commit_on.new.twin c.args.place c.requires.ready.held c.requires.ready.order_is (c.requires.ready.committed_is told)
     c.begin_on.ensures.kept.order (c.begin_on.ensures.kept.committed_is told) (λ _. tt) (c.begin_on.ensures.since told) (c.commit_on.ensures.since told) s n op
 
 pub returns-then-eq-clause-left : goal.returns-then-eq-clause-left
 returns-then-eq-clause-left g c = let u : View = c.args.seat.now.token.me.0 in let b : Base = u.base in let p : Plan = plan_of u in let h = c.requires.ready.held in
     let m₂ : List ℕ = (plan_of c.apply_all.new.seat.token.me.0).main in
-    let it = taken g u c.begin_on.new.seat.token.me.0 c.apply_all.new.seat.token.me.0 c.commit_on.new.seat.token.me.0 c.args.found.now c.apply_all.new.answers.items c.begin_on.ensures.same.2 c.apply_all.ensures.kept.2 c.commit_on.ensures.same.2 c.requires.found c.apply_all.ensures.applied in
-    let now : ℕ = g.D.Device.shown.faults c.commit_on.new.twin.device in let doubt : c.commit_on.new.twin.phase ≡ phase.Doubt = search rules in let cause = c.commit_on.ensures.doubt doubt in
-    let rose : HasFault fate.Doubt c.args.before now = omega (arith, c.requires.ready.before_is, c.begin_on.ensures.device.later, cause.later, cause.failed.once) in let v₅ : View = c.put_back.new.seat.token.me.0 in
-    let five : plan_of v₅ ≡ p = ap plan_of c.put_back.ensures.2 ∙ ((λ j. record (it.three j) { main = (it.three j).back }) ∙ ap (λ (l : List ℕ). record p { main = l }) (sym c.requires.ready.same)) in
+    let it = took_doubt g c in
+    let now : ℕ = g.D.Device.shown.faults c.commit_on.new.twin.device in let doubt : c.commit_on.new.twin.phase ≡ phase.Doubt = in_doubt g c in let cause = c.commit_on.ensures.doubt doubt in
+    let rose : HasFault fate.Doubt c.args.before now = omega (arith, c.requires.ready.before_is, c.begin_on.ensures.device.later, cause.later, cause.failed.once) in let five = back_doubt g c in
     subst (λ (z : Plan). HasGiven g.O.Object.Contents (on_words g.O.Object.machine) b fate.Doubt c.args.before now z 0 c.refuse-then-eq.new.answers.items) (sym five)
     (is_refused g.O.Object.Contents (on_words g.O.Object.machine) b (2 ^ 62 + 2) fate.Doubt p c.args.before now c.args.found.now c.refuse-then-eq.new.answers.items refl refl
     (may_know g.O.Object.Contents (on_words g.O.Object.machine) b fate.Doubt p c.args.before now h.0 h.1 (λ (e : fate.Doubt ≡ fate.Published). cc) c.requires.ready.unmade c.requires.ready.fresh c.requires.ready.counts (omega (arith, c.requires.ready.before_is, c.begin_on.ensures.device.later, c.commit_on.ensures.device.later)) rose h.2)
@@ -186,17 +214,16 @@ returns-then-eq-clause-left g c = let u : View = c.args.seat.now.token.me.0 in l
 pub returns-then-eq-clause-since : goal.returns-then-eq-clause-since
 returns-then-eq-clause-since g c told s n op =
     let u : View = c.args.seat.now.token.me.0 in
-    since_committed g u (taken g u c.begin_on.new.seat.token.me.0 c.apply_all.new.seat.token.me.0 c.commit_on.new.seat.token.me.0 c.args.found.now c.apply_all.new.answers.items c.begin_on.ensures.same.2 c.apply_all.ensures.kept.2 c.commit_on.ensures.same.2 c.requires.found c.apply_all.ensures.applied)
+    since_committed g u (took_doubt g c)
     fate.Doubt c.args.twin.now c.begin_on.new.twin c.commit_on.new.twin c.args.place c.requires.ready.held c.requires.ready.order_is (c.requires.ready.committed_is told)
     c.begin_on.ensures.kept.order (c.begin_on.ensures.kept.committed_is told) (λ _. tt) (c.begin_on.ensures.since told) (c.commit_on.ensures.since told) s n op
 
 pub returns-clause-left : goal.returns-clause-left
 returns-clause-left g c = let u : View = c.args.seat.now.token.me.0 in let b : Base = u.base in let p : Plan = plan_of u in let h = c.requires.ready.held in
     let m₂ : List ℕ = (plan_of c.apply_all.new.seat.token.me.0).main in
-    let it = taken g u c.begin_on.new.seat.token.me.0 c.apply_all.new.seat.token.me.0 c.commit_on.new.seat.token.me.0 c.args.found.now c.apply_all.new.answers.items c.begin_on.ensures.same.2 c.apply_all.ensures.kept.2 c.commit_on.ensures.same.2 c.requires.found c.apply_all.ensures.applied in
-    let now : ℕ = g.D.Device.shown.faults c.commit_on.new.twin.device in let undo : c.commit_on.new.twin.phase ≡ phase.Undo = search rules in let cause = (c.commit_on.ensures.undo undo).1 in
-    let rose : HasFault fate.Failed c.args.before now = omega (arith, c.requires.ready.before_is, c.begin_on.ensures.device.later, cause.rose) in let v₅ : View = c.put_back.new.seat.token.me.0 in
-    let five : plan_of v₅ ≡ p = ap plan_of c.put_back.ensures.2 ∙ ((λ j. record (it.three j) { main = (it.three j).back }) ∙ ap (λ (l : List ℕ). record p { main = l }) (sym c.requires.ready.same)) in
+    let it = took_failed g c in
+    let now : ℕ = g.D.Device.shown.faults c.commit_on.new.twin.device in let undo : c.commit_on.new.twin.phase ≡ phase.Undo = is_undone g c in let cause = (c.commit_on.ensures.undo undo).1 in
+    let rose : HasFault fate.Failed c.args.before now = omega (arith, c.requires.ready.before_is, c.begin_on.ensures.device.later, cause.rose) in let five = back_failed g c in
     subst (λ (z : Plan). HasGiven g.O.Object.Contents (on_words g.O.Object.machine) b fate.Failed c.args.before now z 0 c.refuse-2.new.answers.items) (sym five)
     (is_refused g.O.Object.Contents (on_words g.O.Object.machine) b (2 ^ 62 + 1) fate.Failed p c.args.before now c.args.found.now c.refuse-2.new.answers.items refl refl
     (may_know g.O.Object.Contents (on_words g.O.Object.machine) b fate.Failed p c.args.before now h.0 h.1 (λ (e : fate.Failed ≡ fate.Published). cc) c.requires.ready.unmade c.requires.ready.fresh c.requires.ready.counts (omega (arith, c.requires.ready.before_is, c.begin_on.ensures.device.later, c.commit_on.ensures.device.later)) rose h.2)
@@ -205,15 +232,15 @@ returns-clause-left g c = let u : View = c.args.seat.now.token.me.0 in let b : B
 pub returns-clause-since : goal.returns-clause-since
 returns-clause-since g c told s n op =
     let u : View = c.args.seat.now.token.me.0 in
-    let undo : c.commit_on.new.twin.phase ≡ phase.Undo = search rules in
-    since_committed g u (taken g u c.begin_on.new.seat.token.me.0 c.apply_all.new.seat.token.me.0 c.commit_on.new.seat.token.me.0 c.args.found.now c.apply_all.new.answers.items c.begin_on.ensures.same.2 c.apply_all.ensures.kept.2 c.commit_on.ensures.same.2 c.requires.found c.apply_all.ensures.applied)
+    let undo : c.commit_on.new.twin.phase ≡ phase.Undo = is_undone g c in
+    since_committed g u (took_failed g c)
     fate.Failed c.args.twin.now c.begin_on.new.twin c.commit_on.new.twin c.args.place c.requires.ready.held c.requires.ready.order_is (c.requires.ready.committed_is told)
     c.begin_on.ensures.kept.order (c.begin_on.ensures.kept.committed_is told) (λ other. absurd (other undo)) (c.begin_on.ensures.since told) (c.commit_on.ensures.since told) s n op
 
 pub returns-then-eq-clause-doubted : goal.returns-then-eq-clause-doubted
 returns-then-eq-clause-doubted g c told is_doubt s n op i left = let u : View = c.args.seat.now.token.me.0 in let b : Base = u.base in let p : Plan = plan_of u in let h = c.requires.ready.held in
     let m₂ : List ℕ = (plan_of c.apply_all.new.seat.token.me.0).main in
-    let it = taken g u c.begin_on.new.seat.token.me.0 c.apply_all.new.seat.token.me.0 c.commit_on.new.seat.token.me.0 c.args.found.now c.apply_all.new.answers.items c.begin_on.ensures.same.2 c.apply_all.ensures.kept.2 c.commit_on.ensures.same.2 c.requires.found c.apply_all.ensures.applied in
+    let it = took_doubt g c in
     let o : ℕ = c.args.twin.now.order in let x = c.args.twin.now.device in let y = c.begin_on.new.twin.device in let same = g.met.O.Object.one_contents b.order b.image s h.0 n h.1 op h.2 in
     let here = same_held g.O.Object.Contents (on_words g.O.Object.machine) b s n h.0 h.1 p.history p.main same h.3 in
     let first : Runs g.D.Device.shown (Becomes (Counting o p.main)) x y = subst (λ (z : List ℕ). Runs g.D.Device.shown (Becomes (Counting o z)) x y) (c.requires.ready.committed_is told) (c.begin_on.ensures.since told) in
@@ -235,26 +262,12 @@ returns-then-is_ok-clause-calls g c = let u : View = c.args.seat.now.token.me.0 
     let four : plan_of v₄ ≡ switched 0 (making fate.Published c.args.before now sw.0 sw.1 (record p { main = m₂ })) = ap plan_of sw.4.2 ∙ (λ j. switched 0 (making fate.Published c.args.before (now_is j) sw.0 sw.1 (three j))) in
     (ap (λ (z : Plan). z.scanned) four, ap (λ (z : Plan). map found_of z.requests) four)
 
-pub returns-then-eq-clause-calls : goal.returns-then-eq-clause-calls
-returns-then-eq-clause-calls g c = let u : View = c.args.seat.now.token.me.0 in let p : Plan = plan_of u in let v₁ : View = c.begin_on.new.seat.token.me.0 in let one : plan_of v₁ ≡ p = ap plan_of c.begin_on.ensures.same.2 in
-    let v₂ : View = c.apply_all.new.seat.token.me.0 in let m₂ : List ℕ = (plan_of v₂).main in let kept = c.apply_all.ensures.kept in let v₃ : View = c.commit_on.new.seat.token.me.0 in
-    let two : plan_of v₂ ≡ record p { main = m₂ } = ap plan_of kept.2 ∙ ap (λ (z : Plan). record z { main = m₂ }) one in let three : plan_of v₃ ≡ record p { main = m₂ } = ap plan_of c.commit_on.ensures.same.2 ∙ two in
-    let v₅ : View = c.put_back.new.seat.token.me.0 in let five : plan_of v₅ ≡ p = ap plan_of c.put_back.ensures.2 ∙ ((λ j. record (three j) { main = (three j).back }) ∙ ap (λ (l : List ℕ). record p { main = l }) (sym c.requires.ready.same)) in
-    (ap (λ (z : Plan). z.scanned) five, ap (λ (z : Plan). map found_of z.requests) five)
-
-pub returns-clause-calls : goal.returns-clause-calls
-returns-clause-calls g c = let u : View = c.args.seat.now.token.me.0 in let p : Plan = plan_of u in let v₁ : View = c.begin_on.new.seat.token.me.0 in let one : plan_of v₁ ≡ p = ap plan_of c.begin_on.ensures.same.2 in
-    let v₂ : View = c.apply_all.new.seat.token.me.0 in let m₂ : List ℕ = (plan_of v₂).main in let kept = c.apply_all.ensures.kept in let v₃ : View = c.commit_on.new.seat.token.me.0 in
-    let two : plan_of v₂ ≡ record p { main = m₂ } = ap plan_of kept.2 ∙ ap (λ (z : Plan). record z { main = m₂ }) one in let three : plan_of v₃ ≡ record p { main = m₂ } = ap plan_of c.commit_on.ensures.same.2 ∙ two in
-    let v₅ : View = c.put_back.new.seat.token.me.0 in let five : plan_of v₅ ≡ p = ap plan_of c.put_back.ensures.2 ∙ ((λ j. record (three j) { main = (three j).back }) ∙ ap (λ (l : List ℕ). record p { main = l }) (sym c.requires.ready.same)) in
-    (ap (λ (z : Plan). z.scanned) five, ap (λ (z : Plan). map found_of z.requests) five)
-
 -- a pass that failed before the commit
 pub returns-clause-failed_cause : goal.returns-clause-failed_cause
 returns-clause-failed_cause g c failed_is =
     let shown = g.D.Device.shown in let t = c.args.twin.now in let n : ℕ = t.order in let w : List ℕ = (plan_of c.args.seat.now.token.me.0).main in
     let b = c.begin_on.new.twin.device in let d = c.commit_on.new.twin.device in
-    let undo : c.commit_on.new.twin.phase ≡ phase.Undo = search rules in let cause = (c.commit_on.ensures.undo undo).1 in
+    let undo : c.commit_on.new.twin.phase ≡ phase.Undo = is_undone g c in let cause = (c.commit_on.ensures.undo undo).1 in
     record {
       rose = omega (arith, cause.rose, c.begin_on.ensures.device.later);
       last = cause.last;
@@ -268,7 +281,7 @@ pub returns-then-eq-clause-doubt_cause : goal.returns-then-eq-clause-doubt_cause
 returns-then-eq-clause-doubt_cause g c doubt_is =
     let shown = g.D.Device.shown in let t = c.args.twin.now in let n : ℕ = t.order in let w : List ℕ = (plan_of c.args.seat.now.token.me.0).main in
     let b = c.begin_on.new.twin.device in
-    let doubt : c.commit_on.new.twin.phase ≡ phase.Doubt = search rules in let cause = c.commit_on.ensures.doubt doubt in
+    let doubt : c.commit_on.new.twin.phase ≡ phase.Doubt = in_doubt g c in let cause = c.commit_on.ensures.doubt doubt in
     record {
       at = cause.at;
       later = omega (arith, cause.later, c.begin_on.ensures.device.later);
@@ -307,54 +320,324 @@ held_whole g u v w order log base same s k contents logged few =
 pub returns-then-is_ok-clause-within : goal.returns-then-is_ok-clause-within
 returns-then-is_ok-clause-within g c is = held_whole g c.args.seat.now.token.me.0 c.begin_on.new.seat.token.me.0 c.apply_all.new.seat.token.me.0 c.args.twin.now.order c.apply_all.new.log (ap (λ (z : View). z.base) c.begin_on.ensures.same.2) c.requires.ready.order_is _ _ c.apply_all.ensures.applied.3.held c.apply_all.ensures.logged c.list.ensures.few
 
-pub returns-then-is_ok-clause-whole : goal.returns-then-is_ok-clause-whole
-returns-then-is_ok-clause-whole g c =
-    let held : held_count c.apply_all.new.log.ranges ≤ region_len c.args.twin.now.order = held_whole g c.args.seat.now.token.me.0 c.begin_on.new.seat.token.me.0 c.apply_all.new.seat.token.me.0 c.args.twin.now.order c.apply_all.new.log (ap (λ (z : View). z.base) c.begin_on.ensures.same.2) c.requires.ready.order_is _ _ c.apply_all.ensures.applied.3.held c.apply_all.ensures.logged c.list.ensures.few in
-    most_then g.D.Device.shown _ _ (held_count c.list.result.now + 1) 2 _ _ c.args.twin.now.device c.begin_on.new.twin.device c.commit_on.new.twin.device c.begin_on.ensures.most
-    (record { most_writes = c.commit_on.ensures.makes.most_writes; most_syncs = c.commit_on.ensures.makes.most_syncs })
-    (omega (arith, held, ap held_count c.list.ensures.ranges)) (omega arith)
-
-pub returns-then-eq-clause-whole : goal.returns-then-eq-clause-whole
-returns-then-eq-clause-whole g c =
-    let held : held_count c.apply_all.new.log.ranges ≤ region_len c.args.twin.now.order = held_whole g c.args.seat.now.token.me.0 c.begin_on.new.seat.token.me.0 c.apply_all.new.seat.token.me.0 c.args.twin.now.order c.apply_all.new.log (ap (λ (z : View). z.base) c.begin_on.ensures.same.2) c.requires.ready.order_is _ _ c.apply_all.ensures.applied.3.held c.apply_all.ensures.logged c.list.ensures.few in
-    most_then g.D.Device.shown _ _ (held_count c.list.result.now + 1) 2 _ _ c.args.twin.now.device c.begin_on.new.twin.device c.commit_on.new.twin.device c.begin_on.ensures.most
-    (record { most_writes = c.commit_on.ensures.makes.most_writes; most_syncs = c.commit_on.ensures.makes.most_syncs })
-    (omega (arith, held, ap held_count c.list.ensures.ranges)) (omega arith)
-
-pub returns-clause-whole : goal.returns-clause-whole
-returns-clause-whole g c =
-    let held : held_count c.apply_all.new.log.ranges ≤ region_len c.args.twin.now.order = held_whole g c.args.seat.now.token.me.0 c.begin_on.new.seat.token.me.0 c.apply_all.new.seat.token.me.0 c.args.twin.now.order c.apply_all.new.log (ap (λ (z : View). z.base) c.begin_on.ensures.same.2) c.requires.ready.order_is _ _ c.apply_all.ensures.applied.3.held c.apply_all.ensures.logged c.list.ensures.few in
-    most_then g.D.Device.shown _ _ (held_count c.list.result.now + 1) 2 _ _ c.args.twin.now.device c.begin_on.new.twin.device c.commit_on.new.twin.device c.begin_on.ensures.most
-    (record { most_writes = c.commit_on.ensures.makes.most_writes; most_syncs = c.commit_on.ensures.makes.most_syncs })
-    (omega (arith, held, ap held_count c.list.ensures.ranges)) (omega arith)
-
-pub returns-clause-failed_whole : goal.returns-clause-failed_whole
-returns-clause-failed_whole g c is =
-    let held : held_count c.apply_all.new.log.ranges ≤ region_len c.args.twin.now.order = held_whole g c.args.seat.now.token.me.0 c.begin_on.new.seat.token.me.0 c.apply_all.new.seat.token.me.0 c.args.twin.now.order c.apply_all.new.log (ap (λ (z : View). z.base) c.begin_on.ensures.same.2) c.requires.ready.order_is _ _ c.apply_all.ensures.applied.3.held c.apply_all.ensures.logged c.list.ensures.few in
-    let undo : c.commit_on.new.twin.phase ≡ phase.Undo = search rules in
-    most_then g.D.Device.shown _ _ (held_count c.list.result.now) 1 _ _ c.args.twin.now.device c.begin_on.new.twin.device c.commit_on.new.twin.device c.begin_on.ensures.most
-    (c.commit_on.ensures.undo undo).0 (omega (arith, held, ap held_count c.list.ensures.ranges)) (omega arith)
-
--- no call that was found stores more than its weight lets it
-few_of : (g : Over) (p : Plan) (found : List Posted) (log : Logged) → found ≡ map posted_of p.requests → log.added ≤ g.O.Object.STORES * weights (weight_on_words g.O.Object.machine) (map (λ (one : Posted). one.args) found) → log.added ≤ g.O.Object.STORES * weights_found (weight_on_words g.O.Object.machine) p
-few_of g p found log is most = stores_found (weight_on_words g.O.Object.machine) g.O.Object.STORES log.added p found is most
+-- the log holds no more offsets than the calls that were found may store words
+held_most : (g : Over) (p : Plan) (found : List Posted) (log : Logged) → found ≡ map posted_of p.requests → log.added ≤ g.O.Object.STORES * weights (weight_on_words g.O.Object.machine) (map (λ (one : Posted). one.args) found) → held_count log.ranges ≤ log.added → held_count log.ranges ≤ g.O.Object.STORES * weights_found (weight_on_words g.O.Object.machine) p
+held_most g p found log is most few = let added = stores_found (weight_on_words g.O.Object.machine) g.O.Object.STORES log.added p found is most in omega (arith, added, few)
 
 pub returns-then-is_ok-clause-held_most : goal.returns-then-is_ok-clause-held_most
-returns-then-is_ok-clause-held_most g c is =
-    let few = few_of g (plan_of c.args.seat.now.token.me.0) c.args.found.now c.apply_all.new.log c.requires.found c.apply_all.ensures.most in search (rules, few)
+returns-then-is_ok-clause-held_most g c is = held_most g (plan_of c.args.seat.now.token.me.0) c.args.found.now c.apply_all.new.log c.requires.found c.apply_all.ensures.most c.apply_all.ensures.logged.few
+
+pub returns-then-is_ok-clause-whole : goal.returns-then-is_ok-clause-whole
+returns-then-is_ok-clause-whole g c =
+    let held : held_count c.list.result.now ≤ region_len c.args.twin.now.order = subst (λ (rs : List Range). held_count rs ≤ (region_len c.args.twin.now.order)) (sym c.list.ensures.ranges) (held_whole g c.args.seat.now.token.me.0 c.begin_on.new.seat.token.me.0 c.apply_all.new.seat.token.me.0 c.args.twin.now.order c.apply_all.new.log (ap (λ (z : View). z.base) c.begin_on.ensures.same.2) c.requires.ready.order_is _ _ c.apply_all.ensures.applied.3.held c.apply_all.ensures.logged c.list.ensures.few) in
+    tried_most g.D.Device.shown c.args.twin.now.phase c.args.twin.now.order (region_len c.args.twin.now.order) (held_count c.list.result.now) c.args.twin.now.device c.begin_on.new.twin.device c.commit_on.new.twin.device c.commit_on.result c.begin_on.ensures.most c.commit_on.ensures.makes held
 
 pub returns-then-is_ok-clause-most : goal.returns-then-is_ok-clause-most
 returns-then-is_ok-clause-most g c =
-    let few = few_of g (plan_of c.args.seat.now.token.me.0) c.args.found.now c.apply_all.new.log c.requires.found c.apply_all.ensures.most in search (rules, few)
+    let held : held_count c.list.result.now ≤ g.O.Object.STORES * weights_found (weight_on_words g.O.Object.machine) (plan_of c.args.seat.now.token.me.0) = subst (λ (rs : List Range). held_count rs ≤ (g.O.Object.STORES * weights_found (weight_on_words g.O.Object.machine) (plan_of c.args.seat.now.token.me.0))) (sym c.list.ensures.ranges) (held_most g (plan_of c.args.seat.now.token.me.0) c.args.found.now c.apply_all.new.log c.requires.found c.apply_all.ensures.most c.apply_all.ensures.logged.few) in
+    tried_most g.D.Device.shown c.args.twin.now.phase c.args.twin.now.order (g.O.Object.STORES * weights_found (weight_on_words g.O.Object.machine) (plan_of c.args.seat.now.token.me.0)) (held_count c.list.result.now) c.args.twin.now.device c.begin_on.new.twin.device c.commit_on.new.twin.device c.commit_on.result c.begin_on.ensures.most c.commit_on.ensures.makes held
+
+pub returns-then-eq-clause-whole : goal.returns-then-eq-clause-whole
+returns-then-eq-clause-whole g c =
+    let held : held_count c.list.result.now ≤ region_len c.args.twin.now.order = subst (λ (rs : List Range). held_count rs ≤ (region_len c.args.twin.now.order)) (sym c.list.ensures.ranges) (held_whole g c.args.seat.now.token.me.0 c.begin_on.new.seat.token.me.0 c.apply_all.new.seat.token.me.0 c.args.twin.now.order c.apply_all.new.log (ap (λ (z : View). z.base) c.begin_on.ensures.same.2) c.requires.ready.order_is _ _ c.apply_all.ensures.applied.3.held c.apply_all.ensures.logged c.list.ensures.few) in
+    tried_most g.D.Device.shown c.args.twin.now.phase c.args.twin.now.order (region_len c.args.twin.now.order) (held_count c.list.result.now) c.args.twin.now.device c.begin_on.new.twin.device c.commit_on.new.twin.device c.commit_on.result c.begin_on.ensures.most c.commit_on.ensures.makes held
 
 pub returns-then-eq-clause-most : goal.returns-then-eq-clause-most
 returns-then-eq-clause-most g c =
-    let few = few_of g (plan_of c.args.seat.now.token.me.0) c.args.found.now c.apply_all.new.log c.requires.found c.apply_all.ensures.most in search (rules, few)
+    let held : held_count c.list.result.now ≤ g.O.Object.STORES * weights_found (weight_on_words g.O.Object.machine) (plan_of c.args.seat.now.token.me.0) = subst (λ (rs : List Range). held_count rs ≤ (g.O.Object.STORES * weights_found (weight_on_words g.O.Object.machine) (plan_of c.args.seat.now.token.me.0))) (sym c.list.ensures.ranges) (held_most g (plan_of c.args.seat.now.token.me.0) c.args.found.now c.apply_all.new.log c.requires.found c.apply_all.ensures.most c.apply_all.ensures.logged.few) in
+    tried_most g.D.Device.shown c.args.twin.now.phase c.args.twin.now.order (g.O.Object.STORES * weights_found (weight_on_words g.O.Object.machine) (plan_of c.args.seat.now.token.me.0)) (held_count c.list.result.now) c.args.twin.now.device c.begin_on.new.twin.device c.commit_on.new.twin.device c.commit_on.result c.begin_on.ensures.most c.commit_on.ensures.makes held
+
+pub returns-clause-whole : goal.returns-clause-whole
+returns-clause-whole g c =
+    let held : held_count c.list.result.now ≤ region_len c.args.twin.now.order = subst (λ (rs : List Range). held_count rs ≤ (region_len c.args.twin.now.order)) (sym c.list.ensures.ranges) (held_whole g c.args.seat.now.token.me.0 c.begin_on.new.seat.token.me.0 c.apply_all.new.seat.token.me.0 c.args.twin.now.order c.apply_all.new.log (ap (λ (z : View). z.base) c.begin_on.ensures.same.2) c.requires.ready.order_is _ _ c.apply_all.ensures.applied.3.held c.apply_all.ensures.logged c.list.ensures.few) in
+    tried_most g.D.Device.shown c.args.twin.now.phase c.args.twin.now.order (region_len c.args.twin.now.order) (held_count c.list.result.now) c.args.twin.now.device c.begin_on.new.twin.device c.commit_on.new.twin.device c.commit_on.result c.begin_on.ensures.most c.commit_on.ensures.makes held
+
+pub returns-clause-failed_whole : goal.returns-clause-failed_whole
+returns-clause-failed_whole g c is =
+    let held : held_count c.list.result.now ≤ region_len c.args.twin.now.order = subst (λ (rs : List Range). held_count rs ≤ (region_len c.args.twin.now.order)) (sym c.list.ensures.ranges) (held_whole g c.args.seat.now.token.me.0 c.begin_on.new.seat.token.me.0 c.apply_all.new.seat.token.me.0 c.args.twin.now.order c.apply_all.new.log (ap (λ (z : View). z.base) c.begin_on.ensures.same.2) c.requires.ready.order_is _ _ c.apply_all.ensures.applied.3.held c.apply_all.ensures.logged c.list.ensures.few) in
+    undone_most g.D.Device.shown c.args.twin.now.phase c.args.twin.now.order (region_len c.args.twin.now.order) (held_count c.list.result.now) c.args.twin.now.device c.begin_on.new.twin.device c.commit_on.new.twin.device c.begin_on.ensures.most (c.commit_on.ensures.undo (is_undone g c)).0 held
 
 pub returns-clause-most : goal.returns-clause-most
 returns-clause-most g c =
-    let few = few_of g (plan_of c.args.seat.now.token.me.0) c.args.found.now c.apply_all.new.log c.requires.found c.apply_all.ensures.most in search (rules, few)
+    let held : held_count c.list.result.now ≤ g.O.Object.STORES * weights_found (weight_on_words g.O.Object.machine) (plan_of c.args.seat.now.token.me.0) = subst (λ (rs : List Range). held_count rs ≤ (g.O.Object.STORES * weights_found (weight_on_words g.O.Object.machine) (plan_of c.args.seat.now.token.me.0))) (sym c.list.ensures.ranges) (held_most g (plan_of c.args.seat.now.token.me.0) c.args.found.now c.apply_all.new.log c.requires.found c.apply_all.ensures.most c.apply_all.ensures.logged.few) in
+    tried_most g.D.Device.shown c.args.twin.now.phase c.args.twin.now.order (g.O.Object.STORES * weights_found (weight_on_words g.O.Object.machine) (plan_of c.args.seat.now.token.me.0)) (held_count c.list.result.now) c.args.twin.now.device c.begin_on.new.twin.device c.commit_on.new.twin.device c.commit_on.result c.begin_on.ensures.most c.commit_on.ensures.makes held
 
 pub returns-clause-failed_most : goal.returns-clause-failed_most
 returns-clause-failed_most g c is =
-    let few = few_of g (plan_of c.args.seat.now.token.me.0) c.args.found.now c.apply_all.new.log c.requires.found c.apply_all.ensures.most in search (rules, few)
+    let held : held_count c.list.result.now ≤ g.O.Object.STORES * weights_found (weight_on_words g.O.Object.machine) (plan_of c.args.seat.now.token.me.0) = subst (λ (rs : List Range). held_count rs ≤ (g.O.Object.STORES * weights_found (weight_on_words g.O.Object.machine) (plan_of c.args.seat.now.token.me.0))) (sym c.list.ensures.ranges) (held_most g (plan_of c.args.seat.now.token.me.0) c.args.found.now c.apply_all.new.log c.requires.found c.apply_all.ensures.most c.apply_all.ensures.logged.few) in
+    undone_most g.D.Device.shown c.args.twin.now.phase c.args.twin.now.order (g.O.Object.STORES * weights_found (weight_on_words g.O.Object.machine) (plan_of c.args.seat.now.token.me.0)) (held_count c.list.result.now) c.args.twin.now.device c.begin_on.new.twin.device c.commit_on.new.twin.device c.begin_on.ensures.most (c.commit_on.ensures.undo (is_undone g c)).0 held
+
+pub returns-then-is_err-clause-most : goal.returns-then-is_err-clause-most
+returns-then-is_err-clause-most g c = most_within g.D.Device.shown _ _ _ _ c.args.twin.now.device c.begin_on.new.twin.device c.begin_on.ensures.most (omega arith) (omega arith)
+
+pub returns-then-is_err-clause-whole : goal.returns-then-is_err-clause-whole
+returns-then-is_err-clause-whole g c = most_within g.D.Device.shown _ _ _ _ c.args.twin.now.device c.begin_on.new.twin.device c.begin_on.ensures.most (omega arith) (omega arith)
+
+pub returns-then-is_err-clause-failed_most : goal.returns-then-is_err-clause-failed_most
+returns-then-is_err-clause-failed_most g c is = most_within g.D.Device.shown _ _ _ _ c.args.twin.now.device c.begin_on.new.twin.device c.begin_on.ensures.most (omega arith) (omega arith)
+
+pub returns-then-is_err-clause-failed_whole : goal.returns-then-is_err-clause-failed_whole
+returns-then-is_err-clause-failed_whole g c is = most_within g.D.Device.shown _ _ _ _ c.args.twin.now.device c.begin_on.new.twin.device c.begin_on.ensures.most (omega arith) (omega arith)
+
+-- what each end keeps, and what it leaves
+pub returns-then-is_err-clause-same : goal.returns-then-is_err-clause-same
+returns-then-is_err-clause-same g c = seat_by c.args.seat.now c.begin_on.new.seat (plan_of c.args.seat.now.token.me.0) c.begin_on.ensures.same
+
+pub returns-then-is_err-clause-order : goal.returns-then-is_err-clause-order
+returns-then-is_err-clause-order g c = c.begin_on.ensures.kept.order
+
+pub returns-then-is_err-clause-cleared : goal.returns-then-is_err-clause-cleared
+returns-then-is_err-clause-cleared g c other = c.requires.ready.clear
+
+pub returns-then-is_err-clause-stays : goal.returns-then-is_err-clause-stays
+returns-then-is_err-clause-stays g c other = ap plan_of c.begin_on.ensures.same.2
+
+pub returns-then-is_err-clause-committed : goal.returns-then-is_err-clause-committed
+returns-then-is_err-clause-committed g c other told = c.begin_on.ensures.kept.committed_is told
+
+pub returns-then-is_err-clause-images : goal.returns-then-is_err-clause-images
+returns-then-is_err-clause-images g c told = c.begin_on.ensures.kept.images told
+
+pub returns-then-is_err-clause-device : goal.returns-then-is_err-clause-device
+returns-then-is_err-clause-device g c = c.begin_on.ensures.device
+
+pub returns-then-is_ok-clause-same : goal.returns-then-is_ok-clause-same
+returns-then-is_ok-clause-same g c =
+    let s = c.args.seat.now in let s₁ = c.begin_on.new.seat in let s₂ = c.apply_all.new.seat in let s₃ = c.commit_on.new.seat in
+    let three = seat_then s s₁ s₃ (seat_by s s₁ _ c.begin_on.ensures.same) (seat_then s₁ s₂ s₃ (seat_by s₁ s₂ _ c.apply_all.ensures.kept) (seat_by s₂ s₃ _ c.commit_on.ensures.same)) in
+    seat_then s s₃ c.switch.new.seat three (seat_by s₃ c.switch.new.seat _ c.switch.ensures.switched.4)
+
+pub returns-then-is_ok-clause-order : goal.returns-then-is_ok-clause-order
+returns-then-is_ok-clause-order g c = c.commit_on.ensures.kept.order ∙ c.begin_on.ensures.kept.order
+
+pub returns-then-is_ok-clause-images : goal.returns-then-is_ok-clause-images
+returns-then-is_ok-clause-images g c told = c.commit_on.ensures.kept.images told
+
+pub returns-then-eq-clause-same : goal.returns-then-eq-clause-same
+returns-then-eq-clause-same g c =
+    let s = c.args.seat.now in let s₁ = c.begin_on.new.seat in let s₂ = c.apply_all.new.seat in let s₃ = c.commit_on.new.seat in
+    let three = seat_then s s₁ s₃ (seat_by s s₁ _ c.begin_on.ensures.same) (seat_then s₁ s₂ s₃ (seat_by s₁ s₂ _ c.apply_all.ensures.kept) (seat_by s₂ s₃ _ c.commit_on.ensures.same)) in
+    seat_then s s₃ c.put_back.new.seat three (seat_by s₃ c.put_back.new.seat _ c.put_back.ensures)
+
+pub returns-then-eq-clause-order : goal.returns-then-eq-clause-order
+returns-then-eq-clause-order g c = c.commit_on.ensures.kept.order ∙ c.begin_on.ensures.kept.order
+
+pub returns-then-eq-clause-images : goal.returns-then-eq-clause-images
+returns-then-eq-clause-images g c told = c.commit_on.ensures.kept.images told
+
+pub returns-clause-same : goal.returns-clause-same
+returns-clause-same g c =
+    let s = c.args.seat.now in let s₁ = c.begin_on.new.seat in let s₂ = c.apply_all.new.seat in let s₃ = c.commit_on.new.seat in
+    let three = seat_then s s₁ s₃ (seat_by s s₁ _ c.begin_on.ensures.same) (seat_then s₁ s₂ s₃ (seat_by s₁ s₂ _ c.apply_all.ensures.kept) (seat_by s₂ s₃ _ c.commit_on.ensures.same)) in
+    seat_then s s₃ c.put_back.new.seat three (seat_by s₃ c.put_back.new.seat _ c.put_back.ensures)
+
+pub returns-clause-order : goal.returns-clause-order
+returns-clause-order g c = c.commit_on.ensures.kept.order ∙ c.begin_on.ensures.kept.order
+
+pub returns-clause-images : goal.returns-clause-images
+returns-clause-images g c told = c.commit_on.ensures.kept.images told
+
+pub returns-then-is_ok-clause-room : goal.returns-then-is_ok-clause-room
+returns-then-is_ok-clause-room g c = c.apply_all.ensures.room
+
+pub returns-then-eq-clause-calls : goal.returns-then-eq-clause-calls
+returns-then-eq-clause-calls g c = let five = back_doubt g c in (ap (λ (z : Plan). z.scanned) five, ap (λ (z : Plan). map found_of z.requests) five)
+
+pub returns-then-eq-clause-room : goal.returns-then-eq-clause-room
+returns-then-eq-clause-room g c = ap (λ (l : Logged). l.room) c.clear.ensures ∙ c.apply_all.ensures.room
+
+pub returns-then-eq-clause-cleared : goal.returns-then-eq-clause-cleared
+returns-then-eq-clause-cleared g c other = (ap (λ (l : Logged). l.ranges) c.clear.ensures, ap (λ (l : Logged). l.added) c.clear.ensures)
+
+pub returns-then-eq-clause-stays : goal.returns-then-eq-clause-stays
+returns-then-eq-clause-stays g c other = back_doubt g c
+
+pub returns-then-eq-clause-committed : goal.returns-then-eq-clause-committed
+returns-then-eq-clause-committed g c other told = c.commit_on.ensures.kept.committed_is told ∙ c.begin_on.ensures.kept.committed_is told
+
+pub returns-clause-calls : goal.returns-clause-calls
+returns-clause-calls g c = let five = back_failed g c in (ap (λ (z : Plan). z.scanned) five, ap (λ (z : Plan). map found_of z.requests) five)
+
+pub returns-clause-room : goal.returns-clause-room
+returns-clause-room g c = ap (λ (l : Logged). l.room) c.clear.ensures ∙ c.apply_all.ensures.room
+
+pub returns-clause-cleared : goal.returns-clause-cleared
+returns-clause-cleared g c other = (ap (λ (l : Logged). l.ranges) c.clear.ensures, ap (λ (l : Logged). l.added) c.clear.ensures)
+
+pub returns-clause-stays : goal.returns-clause-stays
+returns-clause-stays g c other = back_failed g c
+
+pub returns-clause-committed : goal.returns-clause-committed
+returns-clause-committed g c other told = c.commit_on.ensures.kept.committed_is told ∙ c.begin_on.ensures.kept.committed_is told
+
+pub returns-then-eq-clause-doubt : goal.returns-then-eq-clause-doubt
+returns-then-eq-clause-doubt g c is = in_doubt g c
+
+pub returns-clause-failed : goal.returns-clause-failed
+returns-clause-failed g c is = inl (is_undone g c)
+
+-- what a pass does not say that failed as it began
+pub returns-then-is_err-clause-some : goal.returns-then-is_err-clause-some
+returns-then-is_err-clause-some g c = failed_not_nothing
+
+pub returns-then-is_err-clause-phase : goal.returns-then-is_err-clause-phase
+returns-then-is_err-clause-phase g c e = absurd (published_not_failed (sym e))
+
+pub returns-then-is_err-clause-main : goal.returns-then-is_err-clause-main
+returns-then-is_err-clause-main g c e = absurd (published_not_failed (sym e))
+
+pub returns-then-is_err-clause-published : goal.returns-then-is_err-clause-published
+returns-then-is_err-clause-published g c e = absurd (published_not_failed (sym e))
+
+pub returns-then-is_err-clause-held : goal.returns-then-is_err-clause-held
+returns-then-is_err-clause-held g c e = absurd (published_not_failed (sym e))
+
+pub returns-then-is_err-clause-back : goal.returns-then-is_err-clause-back
+returns-then-is_err-clause-back g c e = absurd (published_not_failed (sym e))
+
+pub returns-then-is_err-clause-logged : goal.returns-then-is_err-clause-logged
+returns-then-is_err-clause-logged g c e = absurd (published_not_failed (sym e))
+
+pub returns-then-is_err-clause-few : goal.returns-then-is_err-clause-few
+returns-then-is_err-clause-few g c e = absurd (published_not_failed (sym e))
+
+pub returns-then-is_err-clause-held_most : goal.returns-then-is_err-clause-held_most
+returns-then-is_err-clause-held_most g c e = absurd (published_not_failed (sym e))
+
+pub returns-then-is_err-clause-within : goal.returns-then-is_err-clause-within
+returns-then-is_err-clause-within g c e = absurd (published_not_failed (sym e))
+
+pub returns-then-is_err-clause-spends : goal.returns-then-is_err-clause-spends
+returns-then-is_err-clause-spends g c e = absurd (published_not_failed (sym e))
+
+pub returns-then-is_err-clause-doubt : goal.returns-then-is_err-clause-doubt
+returns-then-is_err-clause-doubt g c e = absurd (failed_not_doubt e)
+
+pub returns-then-is_err-clause-doubt_cause : goal.returns-then-is_err-clause-doubt_cause
+returns-then-is_err-clause-doubt_cause g c e = absurd (failed_not_doubt e)
+
+pub returns-then-is_err-clause-doubted : goal.returns-then-is_err-clause-doubted
+returns-then-is_err-clause-doubted g c told e = absurd (failed_not_doubt e)
+
+-- what one does not say that published
+pub returns-then-is_ok-clause-some : goal.returns-then-is_ok-clause-some
+returns-then-is_ok-clause-some g c = published_not_nothing
+
+pub returns-then-is_ok-clause-cleared : goal.returns-then-is_ok-clause-cleared
+returns-then-is_ok-clause-cleared g c other = absurd (other refl)
+
+pub returns-then-is_ok-clause-stays : goal.returns-then-is_ok-clause-stays
+returns-then-is_ok-clause-stays g c other = absurd (other refl)
+
+pub returns-then-is_ok-clause-committed : goal.returns-then-is_ok-clause-committed
+returns-then-is_ok-clause-committed g c other = absurd (other refl)
+
+pub returns-then-is_ok-clause-failed : goal.returns-then-is_ok-clause-failed
+returns-then-is_ok-clause-failed g c e = absurd (published_not_failed e)
+
+pub returns-then-is_ok-clause-failed_cause : goal.returns-then-is_ok-clause-failed_cause
+returns-then-is_ok-clause-failed_cause g c e = absurd (published_not_failed e)
+
+pub returns-then-is_ok-clause-failed_most : goal.returns-then-is_ok-clause-failed_most
+returns-then-is_ok-clause-failed_most g c e = absurd (published_not_failed e)
+
+pub returns-then-is_ok-clause-failed_whole : goal.returns-then-is_ok-clause-failed_whole
+returns-then-is_ok-clause-failed_whole g c e = absurd (published_not_failed e)
+
+pub returns-then-is_ok-clause-doubt : goal.returns-then-is_ok-clause-doubt
+returns-then-is_ok-clause-doubt g c e = absurd (published_not_doubt e)
+
+pub returns-then-is_ok-clause-doubt_cause : goal.returns-then-is_ok-clause-doubt_cause
+returns-then-is_ok-clause-doubt_cause g c e = absurd (published_not_doubt e)
+
+pub returns-then-is_ok-clause-doubted : goal.returns-then-is_ok-clause-doubted
+returns-then-is_ok-clause-doubted g c told e = absurd (published_not_doubt e)
+
+-- what one does not say that is in doubt
+pub returns-then-eq-clause-some : goal.returns-then-eq-clause-some
+returns-then-eq-clause-some g c = doubt_not_nothing
+
+pub returns-then-eq-clause-phase : goal.returns-then-eq-clause-phase
+returns-then-eq-clause-phase g c e = absurd (published_not_doubt (sym e))
+
+pub returns-then-eq-clause-main : goal.returns-then-eq-clause-main
+returns-then-eq-clause-main g c e = absurd (published_not_doubt (sym e))
+
+pub returns-then-eq-clause-published : goal.returns-then-eq-clause-published
+returns-then-eq-clause-published g c e = absurd (published_not_doubt (sym e))
+
+pub returns-then-eq-clause-held : goal.returns-then-eq-clause-held
+returns-then-eq-clause-held g c e = absurd (published_not_doubt (sym e))
+
+pub returns-then-eq-clause-back : goal.returns-then-eq-clause-back
+returns-then-eq-clause-back g c e = absurd (published_not_doubt (sym e))
+
+pub returns-then-eq-clause-logged : goal.returns-then-eq-clause-logged
+returns-then-eq-clause-logged g c e = absurd (published_not_doubt (sym e))
+
+pub returns-then-eq-clause-few : goal.returns-then-eq-clause-few
+returns-then-eq-clause-few g c e = absurd (published_not_doubt (sym e))
+
+pub returns-then-eq-clause-held_most : goal.returns-then-eq-clause-held_most
+returns-then-eq-clause-held_most g c e = absurd (published_not_doubt (sym e))
+
+pub returns-then-eq-clause-within : goal.returns-then-eq-clause-within
+returns-then-eq-clause-within g c e = absurd (published_not_doubt (sym e))
+
+pub returns-then-eq-clause-spends : goal.returns-then-eq-clause-spends
+returns-then-eq-clause-spends g c e = absurd (published_not_doubt (sym e))
+
+pub returns-then-eq-clause-failed : goal.returns-then-eq-clause-failed
+returns-then-eq-clause-failed g c e = absurd (failed_not_doubt (sym e))
+
+pub returns-then-eq-clause-failed_cause : goal.returns-then-eq-clause-failed_cause
+returns-then-eq-clause-failed_cause g c e = absurd (failed_not_doubt (sym e))
+
+pub returns-then-eq-clause-failed_most : goal.returns-then-eq-clause-failed_most
+returns-then-eq-clause-failed_most g c e = absurd (failed_not_doubt (sym e))
+
+pub returns-then-eq-clause-failed_whole : goal.returns-then-eq-clause-failed_whole
+returns-then-eq-clause-failed_whole g c e = absurd (failed_not_doubt (sym e))
+
+-- what one does not say that failed before the commit
+pub returns-clause-some : goal.returns-clause-some
+returns-clause-some g c = failed_not_nothing
+
+pub returns-clause-phase : goal.returns-clause-phase
+returns-clause-phase g c e = absurd (published_not_failed (sym e))
+
+pub returns-clause-main : goal.returns-clause-main
+returns-clause-main g c e = absurd (published_not_failed (sym e))
+
+pub returns-clause-published : goal.returns-clause-published
+returns-clause-published g c e = absurd (published_not_failed (sym e))
+
+pub returns-clause-held : goal.returns-clause-held
+returns-clause-held g c e = absurd (published_not_failed (sym e))
+
+pub returns-clause-back : goal.returns-clause-back
+returns-clause-back g c e = absurd (published_not_failed (sym e))
+
+pub returns-clause-logged : goal.returns-clause-logged
+returns-clause-logged g c e = absurd (published_not_failed (sym e))
+
+pub returns-clause-few : goal.returns-clause-few
+returns-clause-few g c e = absurd (published_not_failed (sym e))
+
+pub returns-clause-held_most : goal.returns-clause-held_most
+returns-clause-held_most g c e = absurd (published_not_failed (sym e))
+
+pub returns-clause-within : goal.returns-clause-within
+returns-clause-within g c e = absurd (published_not_failed (sym e))
+
+pub returns-clause-spends : goal.returns-clause-spends
+returns-clause-spends g c e = absurd (published_not_failed (sym e))
+
+pub returns-clause-doubt : goal.returns-clause-doubt
+returns-clause-doubt g c e = absurd (failed_not_doubt e)
+
+pub returns-clause-doubt_cause : goal.returns-clause-doubt_cause
+returns-clause-doubt_cause g c e = absurd (failed_not_doubt e)
+
+pub returns-clause-doubted : goal.returns-clause-doubted
+returns-clause-doubted g c told e = absurd (failed_not_doubt e)

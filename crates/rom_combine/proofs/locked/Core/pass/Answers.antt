@@ -5,7 +5,8 @@ use lib.ListN.{get_elem?}
 use Rattle.rom_combine.proofs.Weights.{same_found}
 use Rattle.rom_combine.proofs.Since.{becomes_none}
 use Rattle.rom_combine.proofs.Counting.{after_region, committed_region}
-use Rattle.rom_twin.specs.Seen.{committed}
+use Rattle.rom_twin.specs.Seen.{NeedsRepair, committed}
+use Rattle.rom_twin.specs.declared.phase.Phase.TheVariants as phase
 use Rattle.rom_header.specs.Regions.{IsCurrentRegion}
 use Rattle.rom_device.specs.Device.{Runs}
 use Rattle.rom_device.specs.Device.{Becomes}
@@ -15,8 +16,8 @@ use Rattle.rom_ranges.specs.Changes.{IsLogOf}
 use Rattle.rom_ranges.specs.Ranges.{held_count}
 use Rattle.rom_combine.specs.Images.{MayPublish}
 use Rattle.rom_combine.specs.Told.{fate_of}
-use Rattle.rom_combine.proofs.Outside.{writes_then}
-use Rattle.rom_combine.proofs.Spending.{most_then}
+use Rattle.rom_combine.proofs.Outside.{writes_none, writes_then}
+use Rattle.rom_combine.proofs.Spending.{batch_most, most_then, none_most}
 use Rattle.rom_combine.specs.declared.passed.Outcome.TheVariants as outcome
 use Rattle.rom_combine.specs.declared.passed.Passed.{Passed}
 use Rattle.atomic_table.proofs.Lists.{at_map}
@@ -54,20 +55,46 @@ use Rattle.rom_combine.proofs.Keeping.{ready_by, scan_stays, rest_same, now_of, 
 use Rattle.rom_combine.proofs.Failing.{begins_in, clean_needs_none, failing_refused, first_left, made_by, pass_refused, passed_refused, none_refused, core_refused, core_spent, batch_done, passed_published, clear_by}
 use Rattle.rom_combine.proofs.Refusing.{is_refused, may_spend}
 use Rattle.rom_combine.proofs.Writing.{keeps_by, keeps_then}
+use Rattle.rom_combine.proofs.Begins.{answered_plan, ready_to_publish}
+use Rattle.rom_combine.proofs.Ends.{doubt_not_nothing, ended, failed_not_nothing, none_done, none_of, published_not_doubt, published_not_failed, published_not_nothing, some_of}
 use Rattle.rom_combine.proofs.locked.Core.pass.Given.{Over}
 use Rattle.rom_combine.proofs.locked.Core.pass.Goals as goal
+
+-- where the pass went on behind the publishing
+unpublished : (g : Over) (c : goal.After-of-then-ne g) → c.publish-outcome.result ≢ outcome.Published
+unpublished g c = search rules
+
+loads_published : (g : Over) (c : goal.After-load_main g) → c.publish-outcome.result ≡ outcome.Published
+loads_published g c = search rules
+
+settles_published : (g : Over) (c : goal.After-settle-arg-2-1 g) → c.publish-outcome.result ≡ outcome.Published
+settles_published g c = search rules
+
+is_published : (g : Over) (c : goal.After-of-2 g) → c.publish-outcome.result ≡ outcome.Published
+is_published g c = search rules
+
+-- the answers leave the published plan but for its requests
+settles_given : (g : Over) (c : goal.After-settle-arg-2-1 g) → (is_made (plan_of c.publish-outcome.new.seat.token.me.0).mine ≡ true) × (but_requests (plan_of c.answer_all-2.new.seat.token.me.0) ≡ but_requests (plan_of c.publish-outcome.new.seat.token.me.0))
+settles_given g c = let x : View = c.load_main-place.new.seat.token.me.0 in
+    answered_plan g.O.Object.Contents (on_words g.O.Object.machine) x.base (plan_of c.scan.new.seat.token.me.0) (plan_of x) (plan_of c.publish-outcome.new.seat.token.me.0) (plan_of c.load_main.new.seat.token.me.0) (plan_of c.answer_all-2.new.seat.token.me.0) c.fault_count-before.result (g.D.Device.shown.faults c.publish-outcome.new.twin.device)
+    c.scan.new.found.items c.scan.ensures.scanned.items_are (some_of (length c.scan.new.found.items) c.if-is_empty.ensures) (ap plan_of c.load_main-place.ensures.still.2) (c.publish-outcome.ensures.published (settles_published g c)) (ap plan_of c.load_main.ensures.still.2) c.answer_all-2.ensures.kept
+
+is_given : (g : Over) (c : goal.After-of-2 g) → (is_made (plan_of c.publish-outcome.new.seat.token.me.0).mine ≡ true) × (but_requests (plan_of c.answer_all-2.new.seat.token.me.0) ≡ but_requests (plan_of c.publish-outcome.new.seat.token.me.0))
+is_given g c = let x : View = c.load_main-place.new.seat.token.me.0 in
+    answered_plan g.O.Object.Contents (on_words g.O.Object.machine) x.base (plan_of c.scan.new.seat.token.me.0) (plan_of x) (plan_of c.publish-outcome.new.seat.token.me.0) (plan_of c.load_main.new.seat.token.me.0) (plan_of c.answer_all-2.new.seat.token.me.0) c.fault_count-before.result (g.D.Device.shown.faults c.publish-outcome.new.twin.device)
+    c.scan.new.found.items c.scan.ensures.scanned.items_are (some_of (length c.scan.new.found.items) c.if-is_empty.ensures) (ap plan_of c.load_main-place.ensures.still.2) (c.publish-outcome.ensures.published (is_published g c)) (ap plan_of c.load_main.ensures.still.2) c.answer_all-2.ensures.kept
 
 pub invariant_of-self : goal.invariant_of-self
 invariant_of-self g c = let v : View = c.self.inside.seat.token.me.0 in let w : View = c.scan.new.seat.token.me.0 in let inv = c.self.invariant.0 in let sc = c.scan.ensures.scanned in
     let base : w.base ≡ v.base = ap (λ (z : View). z.base) c.scan.ensures.same.2 in
-    let zero : length c.scan.new.found.items ≡ 0 = search rules in
+    let zero : length c.scan.new.found.items ≡ 0 = none_of (length c.scan.new.found.items) c.if-is_empty.ensures in
     let now = rest_same g.O.Object.Contents (on_words g.O.Object.machine) g.D.Device.shown c.self.inside.twin v w inv base (scan_stays (plan_of v) (plan_of w) sc.rest) (none_answered g.O.Object.Contents (on_words g.O.Object.machine) v.base (plan_of v) (plan_of w) _ c.scan.new.found.items sc zero) in
     (now, ready_by (g.O.Object.STORES * g.O.Object.WEIGHT) v.base w.base c.self.inside.log c.self.inside.log c.self.invariant.1 base c.self.invariant.1.clear refl)
 
 pub returns-then-is_empty-clause-passed : goal.returns-then-is_empty-clause-passed
 returns-then-is_empty-clause-passed g c = let v : View = c.self.inside.seat.token.me.0 in let w : View = c.scan.new.seat.token.me.0 in let inv = c.self.invariant.0 in let sc = c.scan.ensures.scanned in
     let base : w.base ≡ v.base = ap (λ (z : View). z.base) c.scan.ensures.same.2 in
-    let zero : length c.scan.new.found.items ≡ 0 = search rules in
+    let zero : length c.scan.new.found.items ≡ 0 = none_of (length c.scan.new.found.items) c.if-is_empty.ensures in
     let x = pass_nothing g.O.Object.Contents (on_words g.O.Object.machine) v.base (plan_of v) (plan_of w) c.args.shared.now.layout.callers (g.D.Device.shown.faults c.self.inside.twin.device) (g.D.Device.shown.faults c.self.inside.twin.device) c.scan.new.found.items inv.start inv.count (λ s₁ s₂ j k. g.met.O.Object.one_contents v.base.order v.base.image s₁ s₂ j k) inv.opening sc zero
     (none_answered g.O.Object.Contents (on_words g.O.Object.machine) v.base (plan_of v) (plan_of w) _ c.scan.new.found.items sc zero) in
     rw c.of.ensures.is (subst (λ z. (y : IsPass g.O.Object.Contents (on_words g.O.Object.machine) z.view.base (plan_of z.view) (plan_of w) c.args.shared.now.layout.callers (g.D.Device.shown.faults z.twin.device) (g.D.Device.shown.faults c.self.inside.twin.device) (record { found = 0; done = 0; outcome = Rattle.rom_combine.specs.declared.passed.Outcome.TheVariants.Nothing }))
@@ -78,7 +105,7 @@ returns-then-is_empty-clause-passed g c = let v : View = c.self.inside.seat.toke
 pub returns-then-is_empty-clause-now : goal.returns-then-is_empty-clause-now
 returns-then-is_empty-clause-now g c told s n op i left = let v : View = c.self.inside.seat.token.me.0 in let w : View = c.scan.new.seat.token.me.0 in let inv = c.self.invariant.0 in let sc = c.scan.ensures.scanned in
     let base : w.base ≡ v.base = ap (λ (z : View). z.base) c.scan.ensures.same.2 in
-    let zero : length c.scan.new.found.items ≡ 0 = search rules in
+    let zero : length c.scan.new.found.items ≡ 0 = none_of (length c.scan.new.found.items) c.if-is_empty.ensures in
     let now = rest_same g.O.Object.Contents (on_words g.O.Object.machine) g.D.Device.shown c.self.inside.twin v w inv base (scan_stays (plan_of v) (plan_of w) sc.rest) (none_answered g.O.Object.Contents (on_words g.O.Object.machine) v.base (plan_of v) (plan_of w) _ c.scan.new.found.items sc zero) in
     let same : w.base ≡ c.args.self.now.view.base = base ∙ ap (λ z. z.view.base) c.self.view_is in
     subst (λ (z : Base). ImageAt g.O.Object.Contents (on_words g.O.Object.machine) z s n c.self.inside.twin.phase (plan_of w) i) same
@@ -105,31 +132,26 @@ answer_all-requires-clause-left g c = let v : View = c.self.inside.seat.token.me
 
 pub publish-outcome-requires-clause-ready : goal.publish-outcome-requires-clause-ready
 publish-outcome-requires-clause-ready g c = let v : View = c.self.inside.seat.token.me.0 in let w : View = c.scan.new.seat.token.me.0 in let inv = c.self.invariant.0 in let sc = c.scan.ensures.scanned in
-    let base : w.base ≡ v.base = ap (λ (z : View). z.base) c.scan.ensures.same.2 in
-    let x : View = c.load_main-place.new.seat.token.me.0 in let plan_x : plan_of x ≡ plan_of w = ap plan_of c.load_main-place.ensures.still.2 in let base_x : x.base ≡ v.base = ap (λ (z : View). z.base) c.load_main-place.ensures.still.2 ∙ base in
-    record {
-      unread = search rules;
-      order_is = search rules;
-      order_fits = search rules;
-      same = search rules;
-      rests = search rules;
-      committed_is = search rules;
-      held = search rules;
-      below = search rules;
-      clear = search rules;
-      rising = search rules;
-      fresh = subst (λ (z : Base × Plan). Each (λ _ f. IsUnanswered (IsCall (on_words g.O.Object.machine) z.0) f) z.1.requests) (λ j. (sym base_x j, sym plan_x j)) (λ j f e. (sc.fresh j f e).1);
-      unmade = search rules;
-      before_is = search rules;
-      counts = search rules;
-    }
+    let x : View = c.load_main-place.new.seat.token.me.0 in let plan_x : plan_of x ≡ plan_of w = ap plan_of c.load_main-place.ensures.still.2 in
+    let base_x : x.base ≡ v.base = ap (λ (z : View). z.base) c.load_main-place.ensures.still.2 ∙ ap (λ (z : View). z.base) c.scan.ensures.same.2 in
+    let of : v.base ≡ base_of c.args.shared.now.table.shared.key = ap (λ z. z.view.base) c.self.view_is ∙ c.requires.of.1 in
+    let callers : c.args.shared.now.layout.callers ≡ v.base.callers = ap (λ l. l.callers) c.args.shared.now.laid ∙ sym (ap (λ (z : Base). z.callers) of) in
+    let scanned : IsScan (IsCall (on_words g.O.Object.machine) x.base) (plan_of v) (plan_of x) c.args.shared.now.layout.callers c.scan.new.found.items
+    = subst (λ (r : Base × Plan). IsScan (IsCall (on_words g.O.Object.machine) r.0) (plan_of v) r.1 c.args.shared.now.layout.callers c.scan.new.found.items) (λ j. (sym base_x j, sym plan_x j)) sc in
+    let st = scan_stays (plan_of v) (plan_of x) scanned.rest in
+    let held : rule.Held g.O.Object.Contents (on_words g.O.Object.machine) v.base inv.start inv.count (plan_of x).main (plan_of x).history = subst (λ (z : List ℕ × List Entry). rule.Held g.O.Object.Contents (on_words g.O.Object.machine) v.base inv.start inv.count z.0 z.1) (λ j. (sym st.main j, sym st.history j)) inv.held in
+    let within = g.met.O.Object.contents_within v.base.order (plan_of x).main _ _ held in
+    let place_is : c.load_main-place.result ≡ inv.count + length (plan_of x).history = c.load_main-place.ensures.word ∙ (ap (λ (z : Plan). slice_index z.main 2) (sym plan_x) ∙ within.1) in
+    let below : c.load_main-place.result < LAST_COUNT = omega (arith, place_is, within.2, c.if-place-eq-LAST_COUNT.false) in
+    ready_to_publish g.O.Object.Contents (on_words g.O.Object.machine) g.D.Device.shown c.self.inside.twin v c.load_main-place.new.seat c.self.inside.log c.args.shared.now.layout.callers c.fault_count-before.result c.load_main-place.result c.scan.new.found.items
+    inv base_x callers scanned c.self.invariant.1.clear c.fault_count-before.ensures place_is below
 
 pub invariant_of-self-then-place-eq-LAST_COUNT : goal.invariant_of-self-then-place-eq-LAST_COUNT
 invariant_of-self-then-place-eq-LAST_COUNT g c = let v : View = c.self.inside.seat.token.me.0 in let w : View = c.scan.new.seat.token.me.0 in let inv = c.self.invariant.0 in let sc = c.scan.ensures.scanned in
     let x : View = c.load_main-place.new.seat.token.me.0 in let q : Plan = plan_of x in let plan_x : q ≡ plan_of w = ap plan_of c.load_main-place.ensures.still.2 in
     let base_x : x.base ≡ v.base = ap (λ (z : View). z.base) c.load_main-place.ensures.still.2 ∙ ap (λ (z : View). z.base) c.scan.ensures.same.2 in
     let scan : but_requests q ≡ but_requests (beginning (plan_of v)) = ap but_requests plan_x ∙ sc.rest in
-    let before : ℕ = c.fault_count-before.result in let items : List Posted = c.scan.new.found.items in let some_found : 0 < length items = search rules in
+    let before : ℕ = c.fault_count-before.result in let items : List Posted = c.scan.new.found.items in let some_found : 0 < length items = some_of (length items) c.if-is_empty.ensures in
     let found : 0 < length q.requests = omega (arith, some_found, ap length sc.items_are, length_map posted_of (plan_of w).requests, ap (λ (z : Plan). length z.requests) plan_x) in
     let op : g.O.Object.Contents x.base.order x.base.image inv.start inv.count = subst (λ (z : Base). g.O.Object.Contents z.order z.image inv.start inv.count) (sym base_x) inv.opening in
     let u : View = c.answer_all.new.seat.token.me.0 in let base_u : u.base ≡ v.base = ap (λ (z : View). z.base) c.answer_all.ensures.same.2 ∙ base_x in
@@ -148,7 +170,7 @@ returns-then-place-eq-LAST_COUNT-clause-passed g c = let v : View = c.self.insid
     let x : View = c.load_main-place.new.seat.token.me.0 in let q : Plan = plan_of x in let plan_x : q ≡ plan_of w = ap plan_of c.load_main-place.ensures.still.2 in
     let base_x : x.base ≡ v.base = ap (λ (z : View). z.base) c.load_main-place.ensures.still.2 ∙ ap (λ (z : View). z.base) c.scan.ensures.same.2 in
     let scan : but_requests q ≡ but_requests (beginning (plan_of v)) = ap but_requests plan_x ∙ sc.rest in
-    let before : ℕ = c.fault_count-before.result in let items : List Posted = c.scan.new.found.items in let some_found : 0 < length items = search rules in
+    let before : ℕ = c.fault_count-before.result in let items : List Posted = c.scan.new.found.items in let some_found : 0 < length items = some_of (length items) c.if-is_empty.ensures in
     let found : 0 < length q.requests = omega (arith, some_found, ap length sc.items_are, length_map posted_of (plan_of w).requests, ap (λ (z : Plan). length z.requests) plan_x) in
     let op : g.O.Object.Contents x.base.order x.base.image inv.start inv.count = subst (λ (z : Base). g.O.Object.Contents z.order z.image inv.start inv.count) (sym base_x) inv.opening in
     let u : View = c.answer_all.new.seat.token.me.0 in let base_u : u.base ≡ v.base = ap (λ (z : View). z.base) c.answer_all.ensures.same.2 ∙ base_x in
@@ -181,11 +203,11 @@ invariant_of-self-then-ne g c = let v : View = c.self.inside.seat.token.me.0 in 
     let x : View = c.load_main-place.new.seat.token.me.0 in let q : Plan = plan_of x in let plan_x : q ≡ plan_of w = ap plan_of c.load_main-place.ensures.still.2 in
     let base_x : x.base ≡ v.base = ap (λ (z : View). z.base) c.load_main-place.ensures.still.2 ∙ ap (λ (z : View). z.base) c.scan.ensures.same.2 in
     let scan : but_requests q ≡ but_requests (beginning (plan_of v)) = ap but_requests plan_x ∙ sc.rest in
-    let before : ℕ = c.fault_count-before.result in let items : List Posted = c.scan.new.found.items in let some_found : 0 < length items = search rules in
+    let before : ℕ = c.fault_count-before.result in let items : List Posted = c.scan.new.found.items in let some_found : 0 < length items = some_of (length items) c.if-is_empty.ensures in
     let found : 0 < length q.requests = omega (arith, some_found, ap length sc.items_are, length_map posted_of (plan_of w).requests, ap (λ (z : Plan). length z.requests) plan_x) in
     let op : g.O.Object.Contents x.base.order x.base.image inv.start inv.count = subst (λ (z : Base). g.O.Object.Contents z.order z.image inv.start inv.count) (sym base_x) inv.opening in
     let y : View = c.publish-outcome.new.seat.token.me.0 in let o = c.publish-outcome.result in let t = c.publish-outcome.new.twin in
-    let not_published : o ≢ outcome.Published = search rules in let not_nothing = c.publish-outcome.ensures.some in let stays : plan_of y ≡ q = c.publish-outcome.ensures.stays not_published in
+    let not_published : o ≢ outcome.Published = unpublished g c in let not_nothing = c.publish-outcome.ensures.some in let stays : plan_of y ≡ q = c.publish-outcome.ensures.stays not_published in
     let base_y : y.base ≡ x.base = ap (λ (z : View). z.base) c.publish-outcome.ensures.same.2 in
     let u : View = c.answer_all-then-ne.new.seat.token.me.0 in let base_u : u.base ≡ v.base = ap (λ (z : View). z.base) c.answer_all-then-ne.ensures.same.2 ∙ (base_y ∙ base_x) in
     let now : ℕ = c.fault_count-now.result in let given : List CallAnswer = c.as_slice-then-ne.result.now in
@@ -207,11 +229,11 @@ returns-then-ne-clause-passed g c = let v : View = c.self.inside.seat.token.me.0
     let x : View = c.load_main-place.new.seat.token.me.0 in let q : Plan = plan_of x in let plan_x : q ≡ plan_of w = ap plan_of c.load_main-place.ensures.still.2 in
     let base_x : x.base ≡ v.base = ap (λ (z : View). z.base) c.load_main-place.ensures.still.2 ∙ ap (λ (z : View). z.base) c.scan.ensures.same.2 in
     let scan : but_requests q ≡ but_requests (beginning (plan_of v)) = ap but_requests plan_x ∙ sc.rest in
-    let before : ℕ = c.fault_count-before.result in let items : List Posted = c.scan.new.found.items in let some_found : 0 < length items = search rules in
+    let before : ℕ = c.fault_count-before.result in let items : List Posted = c.scan.new.found.items in let some_found : 0 < length items = some_of (length items) c.if-is_empty.ensures in
     let found : 0 < length q.requests = omega (arith, some_found, ap length sc.items_are, length_map posted_of (plan_of w).requests, ap (λ (z : Plan). length z.requests) plan_x) in
     let op : g.O.Object.Contents x.base.order x.base.image inv.start inv.count = subst (λ (z : Base). g.O.Object.Contents z.order z.image inv.start inv.count) (sym base_x) inv.opening in
     let y : View = c.publish-outcome.new.seat.token.me.0 in let o = c.publish-outcome.result in let t = c.publish-outcome.new.twin in
-    let not_published : o ≢ outcome.Published = search rules in let not_nothing = c.publish-outcome.ensures.some in let stays : plan_of y ≡ q = c.publish-outcome.ensures.stays not_published in
+    let not_published : o ≢ outcome.Published = unpublished g c in let not_nothing = c.publish-outcome.ensures.some in let stays : plan_of y ≡ q = c.publish-outcome.ensures.stays not_published in
     let base_y : y.base ≡ x.base = ap (λ (z : View). z.base) c.publish-outcome.ensures.same.2 in
     let u : View = c.answer_all-then-ne.new.seat.token.me.0 in let base_u : u.base ≡ v.base = ap (λ (z : View). z.base) c.answer_all-then-ne.ensures.same.2 ∙ (base_y ∙ base_x) in
     let now : ℕ = c.fault_count-now.result in let given : List CallAnswer = c.as_slice-then-ne.result.now in
@@ -240,7 +262,7 @@ overflow_sub-done g c = let v : View = c.self.inside.seat.token.me.0 in let w : 
     let base : w.base ≡ v.base = ap (λ (z : View). z.base) c.scan.ensures.same.2 in
     let x : View = c.load_main-place.new.seat.token.me.0 in let q : Plan = plan_of w in let st = scan_stays (plan_of v) q sc.rest in
     let plan_x : plan_of x ≡ q = ap plan_of c.load_main-place.ensures.still.2 in let base_x : x.base ≡ v.base = ap (λ (z : View). z.base) c.load_main-place.ensures.still.2 ∙ base in
-    let y : View = c.publish-outcome.new.seat.token.me.0 in let is_pub : c.publish-outcome.result ≡ outcome.Published = search rules in let pb = c.publish-outcome.ensures.published is_pub in let ph = c.publish-outcome.ensures.held is_pub in
+    let y : View = c.publish-outcome.new.seat.token.me.0 in let is_pub : c.publish-outcome.result ≡ outcome.Published = loads_published g c in let pb = c.publish-outcome.ensures.published is_pub in let ph = c.publish-outcome.ensures.held is_pub in
     let held : rule.Held g.O.Object.Contents (on_words g.O.Object.machine) v.base inv.start inv.count q.main q.history = subst (λ (z : List ℕ × List Entry). rule.Held g.O.Object.Contents (on_words g.O.Object.machine) v.base inv.start inv.count z.0 z.1) (λ j. (sym st.main j, sym st.history j)) inv.held in
     let word : slice_index q.main 2 ≡ inv.count + length q.history = (g.met.O.Object.contents_within v.base.order q.main _ _ held).1 in
     let word₂ : slice_index (plan_of y).main 2 ≡ ph.1 + length (plan_of y).history = (g.met.O.Object.contents_within x.base.order (plan_of y).main _ _ ph.3).1 in
@@ -253,7 +275,7 @@ overflow_cast-done g c = let v : View = c.self.inside.seat.token.me.0 in let w :
     let base : w.base ≡ v.base = ap (λ (z : View). z.base) c.scan.ensures.same.2 in
     let x : View = c.load_main-place.new.seat.token.me.0 in let q : Plan = plan_of w in let st = scan_stays (plan_of v) q sc.rest in
     let plan_x : plan_of x ≡ q = ap plan_of c.load_main-place.ensures.still.2 in let base_x : x.base ≡ v.base = ap (λ (z : View). z.base) c.load_main-place.ensures.still.2 ∙ base in
-    let y : View = c.publish-outcome.new.seat.token.me.0 in let is_pub : c.publish-outcome.result ≡ outcome.Published = search rules in let pb = c.publish-outcome.ensures.published is_pub in let ph = c.publish-outcome.ensures.held is_pub in
+    let y : View = c.publish-outcome.new.seat.token.me.0 in let is_pub : c.publish-outcome.result ≡ outcome.Published = loads_published g c in let pb = c.publish-outcome.ensures.published is_pub in let ph = c.publish-outcome.ensures.held is_pub in
     let held : rule.Held g.O.Object.Contents (on_words g.O.Object.machine) v.base inv.start inv.count q.main q.history = subst (λ (z : List ℕ × List Entry). rule.Held g.O.Object.Contents (on_words g.O.Object.machine) v.base inv.start inv.count z.0 z.1) (λ j. (sym st.main j, sym st.history j)) inv.held in
     let word : slice_index q.main 2 ≡ inv.count + length q.history = (g.met.O.Object.contents_within v.base.order q.main _ _ held).1 in
     let word₂ : slice_index (plan_of y).main 2 ≡ ph.1 + length (plan_of y).history = (g.met.O.Object.contents_within x.base.order (plan_of y).main _ _ ph.3).1 in
@@ -279,89 +301,29 @@ answer_all-requires-2-clause-left g c = let v : View = c.self.inside.seat.token.
     )
 
 pub settle-requires-clause-main : goal.settle-requires-clause-main
-settle-requires-clause-main g c = let v : View = c.self.inside.seat.token.me.0 in let w : View = c.scan.new.seat.token.me.0 in let inv = c.self.invariant.0 in let sc = c.scan.ensures.scanned in
-    let base : w.base ≡ v.base = ap (λ (z : View). z.base) c.scan.ensures.same.2 in
-    let x : View = c.load_main-place.new.seat.token.me.0 in let q : Plan = plan_of w in let st = scan_stays (plan_of v) q sc.rest in
-    let plan_x : plan_of x ≡ q = ap plan_of c.load_main-place.ensures.still.2 in let base_x : x.base ≡ v.base = ap (λ (z : View). z.base) c.load_main-place.ensures.still.2 ∙ base in
-    let y : View = c.publish-outcome.new.seat.token.me.0 in let is_pub : c.publish-outcome.result ≡ outcome.Published = search rules in let pb = c.publish-outcome.ensures.published is_pub in let ph = c.publish-outcome.ensures.held is_pub in
-    let lm : View = c.load_main.new.seat.token.me.0 in let plan_lm : plan_of lm ≡ plan_of y = ap plan_of c.load_main.ensures.still.2 in
-    let base_lm : lm.base ≡ x.base = ap (λ (r : View). r.base) c.load_main.ensures.still.2 ∙ ap (λ (r : View). r.base) c.publish-outcome.ensures.same.2 in
-    let some_found : 0 < length c.scan.new.found.items = search rules in
-    let first = at_some (plan_of x).requests 0 (let e : 0 < length (plan_of x).requests = omega (arith, some_found, ap length sc.items_are, length_map posted_of q.requests, ap (λ (r : Plan). length r.requests) plan_x) in e) in
-    let made : is_made (plan_of y).mine ≡ true = ap is_made pb.mine ∙ made_some (map found_of (plan_of x).requests) _ 0 (found_of first.0) (at_map found_of (plan_of x).requests 0 first.0 first.1) in
-    let u : View = c.answer_all-2.new.seat.token.me.0 in let base_u : u.base ≡ x.base = ap (λ (r : View). r.base) c.answer_all-2.ensures.same.2 ∙ base_lm in
-    let given : but_requests (plan_of u) ≡ but_requests (plan_of y) = c.answer_all-2.ensures.kept (ap (λ (r : Plan). is_made r.mine) plan_lm ∙ made) ∙ ap but_requests plan_lm in
-    let main : (plan_of u).main ≡ (plan_of y).main = ap (λ (r : Plan). r.main) given in let back : (plan_of u).back ≡ (plan_of y).back = ap (λ (r : Plan). r.back) given in let history : (plan_of u).history ≡ (plan_of y).history = ap (λ (r : Plan). r.history) given in
-    λ told. c.publish-outcome.ensures.main is_pub told ∙ sym main
+settle-requires-clause-main g c told = c.publish-outcome.ensures.main (settles_published g c) told ∙ sym (ap (λ (r : Plan). r.main) (settles_given g c).1)
 
 pub settle-requires-clause-back : goal.settle-requires-clause-back
-settle-requires-clause-back g c = let v : View = c.self.inside.seat.token.me.0 in let w : View = c.scan.new.seat.token.me.0 in let inv = c.self.invariant.0 in let sc = c.scan.ensures.scanned in
-    let base : w.base ≡ v.base = ap (λ (z : View). z.base) c.scan.ensures.same.2 in
-    let x : View = c.load_main-place.new.seat.token.me.0 in let q : Plan = plan_of w in let st = scan_stays (plan_of v) q sc.rest in
-    let plan_x : plan_of x ≡ q = ap plan_of c.load_main-place.ensures.still.2 in let base_x : x.base ≡ v.base = ap (λ (z : View). z.base) c.load_main-place.ensures.still.2 ∙ base in
-    let y : View = c.publish-outcome.new.seat.token.me.0 in let is_pub : c.publish-outcome.result ≡ outcome.Published = search rules in let pb = c.publish-outcome.ensures.published is_pub in let ph = c.publish-outcome.ensures.held is_pub in
-    let lm : View = c.load_main.new.seat.token.me.0 in let plan_lm : plan_of lm ≡ plan_of y = ap plan_of c.load_main.ensures.still.2 in
-    let base_lm : lm.base ≡ x.base = ap (λ (r : View). r.base) c.load_main.ensures.still.2 ∙ ap (λ (r : View). r.base) c.publish-outcome.ensures.same.2 in
-    let some_found : 0 < length c.scan.new.found.items = search rules in
-    let first = at_some (plan_of x).requests 0 (let e : 0 < length (plan_of x).requests = omega (arith, some_found, ap length sc.items_are, length_map posted_of q.requests, ap (λ (r : Plan). length r.requests) plan_x) in e) in
-    let made : is_made (plan_of y).mine ≡ true = ap is_made pb.mine ∙ made_some (map found_of (plan_of x).requests) _ 0 (found_of first.0) (at_map found_of (plan_of x).requests 0 first.0 first.1) in
-    let u : View = c.answer_all-2.new.seat.token.me.0 in let base_u : u.base ≡ x.base = ap (λ (r : View). r.base) c.answer_all-2.ensures.same.2 ∙ base_lm in
-    let given : but_requests (plan_of u) ≡ but_requests (plan_of y) = c.answer_all-2.ensures.kept (ap (λ (r : Plan). is_made r.mine) plan_lm ∙ made) ∙ ap but_requests plan_lm in
-    let main : (plan_of u).main ≡ (plan_of y).main = ap (λ (r : Plan). r.main) given in let back : (plan_of u).back ≡ (plan_of y).back = ap (λ (r : Plan). r.back) given in let history : (plan_of u).history ≡ (plan_of y).history = ap (λ (r : Plan). r.history) given in
-    λ told. c.publish-outcome.ensures.back is_pub told ∙ sym back
+settle-requires-clause-back g c told = c.publish-outcome.ensures.back (settles_published g c) told ∙ sym (ap (λ (r : Plan). r.back) (settles_given g c).1)
 
 pub settle-requires-clause-logged : goal.settle-requires-clause-logged
-settle-requires-clause-logged g c = let v : View = c.self.inside.seat.token.me.0 in let w : View = c.scan.new.seat.token.me.0 in let inv = c.self.invariant.0 in let sc = c.scan.ensures.scanned in
-    let base : w.base ≡ v.base = ap (λ (z : View). z.base) c.scan.ensures.same.2 in
-    let x : View = c.load_main-place.new.seat.token.me.0 in let q : Plan = plan_of w in let st = scan_stays (plan_of v) q sc.rest in
-    let plan_x : plan_of x ≡ q = ap plan_of c.load_main-place.ensures.still.2 in let base_x : x.base ≡ v.base = ap (λ (z : View). z.base) c.load_main-place.ensures.still.2 ∙ base in
-    let y : View = c.publish-outcome.new.seat.token.me.0 in let is_pub : c.publish-outcome.result ≡ outcome.Published = search rules in let pb = c.publish-outcome.ensures.published is_pub in let ph = c.publish-outcome.ensures.held is_pub in
-    let lm : View = c.load_main.new.seat.token.me.0 in let plan_lm : plan_of lm ≡ plan_of y = ap plan_of c.load_main.ensures.still.2 in
-    let base_lm : lm.base ≡ x.base = ap (λ (r : View). r.base) c.load_main.ensures.still.2 ∙ ap (λ (r : View). r.base) c.publish-outcome.ensures.same.2 in
-    let some_found : 0 < length c.scan.new.found.items = search rules in
-    let first = at_some (plan_of x).requests 0 (let e : 0 < length (plan_of x).requests = omega (arith, some_found, ap length sc.items_are, length_map posted_of q.requests, ap (λ (r : Plan). length r.requests) plan_x) in e) in
-    let made : is_made (plan_of y).mine ≡ true = ap is_made pb.mine ∙ made_some (map found_of (plan_of x).requests) _ 0 (found_of first.0) (at_map found_of (plan_of x).requests 0 first.0 first.1) in
-    let u : View = c.answer_all-2.new.seat.token.me.0 in let base_u : u.base ≡ x.base = ap (λ (r : View). r.base) c.answer_all-2.ensures.same.2 ∙ base_lm in
-    let given : but_requests (plan_of u) ≡ but_requests (plan_of y) = c.answer_all-2.ensures.kept (ap (λ (r : Plan). is_made r.mine) plan_lm ∙ made) ∙ ap but_requests plan_lm in
-    let main : (plan_of u).main ≡ (plan_of y).main = ap (λ (r : Plan). r.main) given in let back : (plan_of u).back ≡ (plan_of y).back = ap (λ (r : Plan). r.back) given in let history : (plan_of u).history ≡ (plan_of y).history = ap (λ (r : Plan). r.history) given in
-    subst (λ (r : List ℕ × List ℕ). IsLogOf r.0 r.1 c.publish-outcome.new.log) (λ j. (sym back j, sym main j)) (c.publish-outcome.ensures.logged is_pub)
+settle-requires-clause-logged g c = let given = (settles_given g c).1 in
+    subst (λ (r : List ℕ × List ℕ). IsLogOf r.0 r.1 c.publish-outcome.new.log) (λ j. (sym (ap (λ (r : Plan). r.back) given) j, sym (ap (λ (r : Plan). r.main) given) j)) (c.publish-outcome.ensures.logged (settles_published g c))
 
 pub settle-requires-clause-raises : goal.settle-requires-clause-raises
-settle-requires-clause-raises g c = let v : View = c.self.inside.seat.token.me.0 in let w : View = c.scan.new.seat.token.me.0 in let inv = c.self.invariant.0 in let sc = c.scan.ensures.scanned in
-    let base : w.base ≡ v.base = ap (λ (z : View). z.base) c.scan.ensures.same.2 in
-    let x : View = c.load_main-place.new.seat.token.me.0 in let q : Plan = plan_of w in let st = scan_stays (plan_of v) q sc.rest in
-    let plan_x : plan_of x ≡ q = ap plan_of c.load_main-place.ensures.still.2 in let base_x : x.base ≡ v.base = ap (λ (z : View). z.base) c.load_main-place.ensures.still.2 ∙ base in
-    let y : View = c.publish-outcome.new.seat.token.me.0 in let is_pub : c.publish-outcome.result ≡ outcome.Published = search rules in let pb = c.publish-outcome.ensures.published is_pub in let ph = c.publish-outcome.ensures.held is_pub in
-    let lm : View = c.load_main.new.seat.token.me.0 in let plan_lm : plan_of lm ≡ plan_of y = ap plan_of c.load_main.ensures.still.2 in
-    let base_lm : lm.base ≡ x.base = ap (λ (r : View). r.base) c.load_main.ensures.still.2 ∙ ap (λ (r : View). r.base) c.publish-outcome.ensures.same.2 in
-    let some_found : 0 < length c.scan.new.found.items = search rules in
-    let first = at_some (plan_of x).requests 0 (let e : 0 < length (plan_of x).requests = omega (arith, some_found, ap length sc.items_are, length_map posted_of q.requests, ap (λ (r : Plan). length r.requests) plan_x) in e) in
-    let made : is_made (plan_of y).mine ≡ true = ap is_made pb.mine ∙ made_some (map found_of (plan_of x).requests) _ 0 (found_of first.0) (at_map found_of (plan_of x).requests 0 first.0 first.1) in
-    let u : View = c.answer_all-2.new.seat.token.me.0 in let base_u : u.base ≡ x.base = ap (λ (r : View). r.base) c.answer_all-2.ensures.same.2 ∙ base_lm in
-    let given : but_requests (plan_of u) ≡ but_requests (plan_of y) = c.answer_all-2.ensures.kept (ap (λ (r : Plan). is_made r.mine) plan_lm ∙ made) ∙ ap but_requests plan_lm in
-    let main : (plan_of u).main ≡ (plan_of y).main = ap (λ (r : Plan). r.main) given in let back : (plan_of u).back ≡ (plan_of y).back = ap (λ (r : Plan). r.back) given in let history : (plan_of u).history ≡ (plan_of y).history = ap (λ (r : Plan). r.history) given in
-    let after : ℕ = g.D.Device.shown.faults c.publish-outcome.new.twin.device in let founds = map found_of (plan_of x).requests in
-    subst (λ (r : List PassRecord). MayRaise c.fault_count-before.result after r) (sym (ap (λ (r : Plan). r.mine) given ∙ pb.mine))
-    (may_raise founds (record { found = founds; fate = fate.Published; faults_before = c.fault_count-before.result; faults_after = after; len = length (plan_of x).history + length pb.more }))
+settle-requires-clause-raises g c = let x : Plan = plan_of c.load_main-place.new.seat.token.me.0 in let pb = c.publish-outcome.ensures.published (settles_published g c) in
+    let after : ℕ = g.D.Device.shown.faults c.publish-outcome.new.twin.device in let founds = map found_of x.requests in
+    subst (λ (r : List PassRecord). MayRaise c.fault_count-before.result after r) (sym (ap (λ (r : Plan). r.mine) (settles_given g c).1 ∙ pb.mine))
+    (may_raise founds (record { found = founds; fate = fate.Published; faults_before = c.fault_count-before.result; faults_after = after; len = length x.history + length pb.more }))
 
 pub settle-requires-clause-held : goal.settle-requires-clause-held
-settle-requires-clause-held g c = let v : View = c.self.inside.seat.token.me.0 in let w : View = c.scan.new.seat.token.me.0 in let inv = c.self.invariant.0 in let sc = c.scan.ensures.scanned in
-    let base : w.base ≡ v.base = ap (λ (z : View). z.base) c.scan.ensures.same.2 in
-    let x : View = c.load_main-place.new.seat.token.me.0 in let q : Plan = plan_of w in let st = scan_stays (plan_of v) q sc.rest in
-    let plan_x : plan_of x ≡ q = ap plan_of c.load_main-place.ensures.still.2 in let base_x : x.base ≡ v.base = ap (λ (z : View). z.base) c.load_main-place.ensures.still.2 ∙ base in
-    let y : View = c.publish-outcome.new.seat.token.me.0 in let is_pub : c.publish-outcome.result ≡ outcome.Published = search rules in let pb = c.publish-outcome.ensures.published is_pub in let ph = c.publish-outcome.ensures.held is_pub in
-    let lm : View = c.load_main.new.seat.token.me.0 in let plan_lm : plan_of lm ≡ plan_of y = ap plan_of c.load_main.ensures.still.2 in
-    let base_lm : lm.base ≡ x.base = ap (λ (r : View). r.base) c.load_main.ensures.still.2 ∙ ap (λ (r : View). r.base) c.publish-outcome.ensures.same.2 in
-    let some_found : 0 < length c.scan.new.found.items = search rules in
-    let first = at_some (plan_of x).requests 0 (let e : 0 < length (plan_of x).requests = omega (arith, some_found, ap length sc.items_are, length_map posted_of q.requests, ap (λ (r : Plan). length r.requests) plan_x) in e) in
-    let made : is_made (plan_of y).mine ≡ true = ap is_made pb.mine ∙ made_some (map found_of (plan_of x).requests) _ 0 (found_of first.0) (at_map found_of (plan_of x).requests 0 first.0 first.1) in
-    let u : View = c.answer_all-2.new.seat.token.me.0 in let base_u : u.base ≡ x.base = ap (λ (r : View). r.base) c.answer_all-2.ensures.same.2 ∙ base_lm in
-    let given : but_requests (plan_of u) ≡ but_requests (plan_of y) = c.answer_all-2.ensures.kept (ap (λ (r : Plan). is_made r.mine) plan_lm ∙ made) ∙ ap but_requests plan_lm in
-    let main : (plan_of u).main ≡ (plan_of y).main = ap (λ (r : Plan). r.main) given in let back : (plan_of u).back ≡ (plan_of y).back = ap (λ (r : Plan). r.back) given in let history : (plan_of u).history ≡ (plan_of y).history = ap (λ (r : Plan). r.history) given in (
+settle-requires-clause-held g c = let ph = c.publish-outcome.ensures.held (settles_published g c) in let given = (settles_given g c).1 in
+    let x : View = c.load_main-place.new.seat.token.me.0 in let u : View = c.answer_all-2.new.seat.token.me.0 in
+    let base_u : u.base ≡ x.base = ap (λ (r : View). r.base) c.answer_all-2.ensures.same.2 ∙ (ap (λ (r : View). r.base) c.load_main.ensures.still.2 ∙ ap (λ (r : View). r.base) c.publish-outcome.ensures.same.2) in (
       ph.0,
       ph.1,
       subst (λ (r : Base). g.O.Object.Contents r.order r.image ph.0 ph.1) (sym base_u) ph.2,
-      subst (λ (r : Base × List ℕ × List Entry). rule.Held g.O.Object.Contents (on_words g.O.Object.machine) r.0 ph.0 ph.1 r.1 r.2) (λ j. (sym base_u j, sym main j, sym history j)) ph.3,
+      subst (λ (r : Base × List ℕ × List Entry). rule.Held g.O.Object.Contents (on_words g.O.Object.machine) r.0 ph.0 ph.1 r.1 r.2) (λ j. (sym base_u j, sym (ap (λ (r : Plan). r.main) given) j, sym (ap (λ (r : Plan). r.history) given) j)) ph.3,
     )
 
 pub invariant_of-self-2 : goal.invariant_of-self-2
@@ -369,14 +331,12 @@ invariant_of-self-2 g c = let v : View = c.self.inside.seat.token.me.0 in let w 
     let base : w.base ≡ v.base = ap (λ (z : View). z.base) c.scan.ensures.same.2 in
     let x : View = c.load_main-place.new.seat.token.me.0 in let q : Plan = plan_of w in let st = scan_stays (plan_of v) q sc.rest in
     let plan_x : plan_of x ≡ q = ap plan_of c.load_main-place.ensures.still.2 in let base_x : x.base ≡ v.base = ap (λ (z : View). z.base) c.load_main-place.ensures.still.2 ∙ base in
-    let y : View = c.publish-outcome.new.seat.token.me.0 in let is_pub : c.publish-outcome.result ≡ outcome.Published = search rules in let pb = c.publish-outcome.ensures.published is_pub in let ph = c.publish-outcome.ensures.held is_pub in
+    let y : View = c.publish-outcome.new.seat.token.me.0 in let is_pub : c.publish-outcome.result ≡ outcome.Published = is_published g c in let pb = c.publish-outcome.ensures.published is_pub in let ph = c.publish-outcome.ensures.held is_pub in
     let lm : View = c.load_main.new.seat.token.me.0 in let plan_lm : plan_of lm ≡ plan_of y = ap plan_of c.load_main.ensures.still.2 in
     let base_lm : lm.base ≡ x.base = ap (λ (r : View). r.base) c.load_main.ensures.still.2 ∙ ap (λ (r : View). r.base) c.publish-outcome.ensures.same.2 in
-    let some_found : 0 < length c.scan.new.found.items = search rules in
-    let first = at_some (plan_of x).requests 0 (let e : 0 < length (plan_of x).requests = omega (arith, some_found, ap length sc.items_are, length_map posted_of q.requests, ap (λ (r : Plan). length r.requests) plan_x) in e) in
-    let made : is_made (plan_of y).mine ≡ true = ap is_made pb.mine ∙ made_some (map found_of (plan_of x).requests) _ 0 (found_of first.0) (at_map found_of (plan_of x).requests 0 first.0 first.1) in
+    let both = is_given g c in let made : is_made (plan_of y).mine ≡ true = both.0 in
     let u : View = c.answer_all-2.new.seat.token.me.0 in let base_u : u.base ≡ x.base = ap (λ (r : View). r.base) c.answer_all-2.ensures.same.2 ∙ base_lm in
-    let given : but_requests (plan_of u) ≡ but_requests (plan_of y) = c.answer_all-2.ensures.kept (ap (λ (r : Plan). is_made r.mine) plan_lm ∙ made) ∙ ap but_requests plan_lm in
+    let given : but_requests (plan_of u) ≡ but_requests (plan_of y) = both.1 in
     let main : (plan_of u).main ≡ (plan_of y).main = ap (λ (r : Plan). r.main) given in let back : (plan_of u).back ≡ (plan_of y).back = ap (λ (r : Plan). r.back) given in let history : (plan_of u).history ≡ (plan_of y).history = ap (λ (r : Plan). r.history) given in
     let t = c.settle.new.twin in let end : ℕ = g.D.Device.shown.faults t.device in let z : View = c.settle.new.seat.token.me.0 in
     let settled : plan_of z ≡ rested end c.settle.ensures.rested.version c.settle.ensures.rested.clear (plan_of u) = ap plan_of c.settle.ensures.rested.writes.2 in let base_z : z.base ≡ x.base = ap (λ (r : View). r.base) c.settle.ensures.rested.writes.2 ∙ base_u in
@@ -411,14 +371,13 @@ returns-clause-passed g c = let v : View = c.self.inside.seat.token.me.0 in let 
     let base : w.base ≡ v.base = ap (λ (z : View). z.base) c.scan.ensures.same.2 in
     let x : View = c.load_main-place.new.seat.token.me.0 in let q : Plan = plan_of w in let st = scan_stays (plan_of v) q sc.rest in
     let plan_x : plan_of x ≡ q = ap plan_of c.load_main-place.ensures.still.2 in let base_x : x.base ≡ v.base = ap (λ (z : View). z.base) c.load_main-place.ensures.still.2 ∙ base in
-    let y : View = c.publish-outcome.new.seat.token.me.0 in let is_pub : c.publish-outcome.result ≡ outcome.Published = search rules in let pb = c.publish-outcome.ensures.published is_pub in let ph = c.publish-outcome.ensures.held is_pub in
+    let y : View = c.publish-outcome.new.seat.token.me.0 in let is_pub : c.publish-outcome.result ≡ outcome.Published = is_published g c in let pb = c.publish-outcome.ensures.published is_pub in let ph = c.publish-outcome.ensures.held is_pub in
     let lm : View = c.load_main.new.seat.token.me.0 in let plan_lm : plan_of lm ≡ plan_of y = ap plan_of c.load_main.ensures.still.2 in
     let base_lm : lm.base ≡ x.base = ap (λ (r : View). r.base) c.load_main.ensures.still.2 ∙ ap (λ (r : View). r.base) c.publish-outcome.ensures.same.2 in
-    let some_found : 0 < length c.scan.new.found.items = search rules in
-    let first = at_some (plan_of x).requests 0 (let e : 0 < length (plan_of x).requests = omega (arith, some_found, ap length sc.items_are, length_map posted_of q.requests, ap (λ (r : Plan). length r.requests) plan_x) in e) in
-    let made : is_made (plan_of y).mine ≡ true = ap is_made pb.mine ∙ made_some (map found_of (plan_of x).requests) _ 0 (found_of first.0) (at_map found_of (plan_of x).requests 0 first.0 first.1) in
+    let some_found : 0 < length c.scan.new.found.items = some_of (length c.scan.new.found.items) c.if-is_empty.ensures in
+    let both = is_given g c in let made : is_made (plan_of y).mine ≡ true = both.0 in
     let u : View = c.answer_all-2.new.seat.token.me.0 in let base_u : u.base ≡ x.base = ap (λ (r : View). r.base) c.answer_all-2.ensures.same.2 ∙ base_lm in
-    let given : but_requests (plan_of u) ≡ but_requests (plan_of y) = c.answer_all-2.ensures.kept (ap (λ (r : Plan). is_made r.mine) plan_lm ∙ made) ∙ ap but_requests plan_lm in
+    let given : but_requests (plan_of u) ≡ but_requests (plan_of y) = both.1 in
     let main : (plan_of u).main ≡ (plan_of y).main = ap (λ (r : Plan). r.main) given in let back : (plan_of u).back ≡ (plan_of y).back = ap (λ (r : Plan). r.back) given in let history : (plan_of u).history ≡ (plan_of y).history = ap (λ (r : Plan). r.history) given in
     let t = c.settle.new.twin in let end : ℕ = g.D.Device.shown.faults t.device in let z : View = c.settle.new.seat.token.me.0 in
     let settled : plan_of z ≡ rested end c.settle.ensures.rested.version c.settle.ensures.rested.clear (plan_of u) = ap plan_of c.settle.ensures.rested.writes.2 in let base_z : z.base ≡ x.base = ap (λ (r : View). r.base) c.settle.ensures.rested.writes.2 ∙ base_u in
@@ -449,14 +408,12 @@ returns-clause-certain g c some_done = let v : View = c.self.inside.seat.token.m
     let base : w.base ≡ v.base = ap (λ (z : View). z.base) c.scan.ensures.same.2 in
     let x : View = c.load_main-place.new.seat.token.me.0 in let q : Plan = plan_of w in let st = scan_stays (plan_of v) q sc.rest in
     let plan_x : plan_of x ≡ q = ap plan_of c.load_main-place.ensures.still.2 in let base_x : x.base ≡ v.base = ap (λ (z : View). z.base) c.load_main-place.ensures.still.2 ∙ base in
-    let y : View = c.publish-outcome.new.seat.token.me.0 in let is_pub : c.publish-outcome.result ≡ outcome.Published = search rules in let pb = c.publish-outcome.ensures.published is_pub in let ph = c.publish-outcome.ensures.held is_pub in
+    let y : View = c.publish-outcome.new.seat.token.me.0 in let is_pub : c.publish-outcome.result ≡ outcome.Published = is_published g c in let pb = c.publish-outcome.ensures.published is_pub in let ph = c.publish-outcome.ensures.held is_pub in
     let lm : View = c.load_main.new.seat.token.me.0 in let plan_lm : plan_of lm ≡ plan_of y = ap plan_of c.load_main.ensures.still.2 in
     let base_lm : lm.base ≡ x.base = ap (λ (r : View). r.base) c.load_main.ensures.still.2 ∙ ap (λ (r : View). r.base) c.publish-outcome.ensures.same.2 in
-    let some_found : 0 < length c.scan.new.found.items = search rules in
-    let first = at_some (plan_of x).requests 0 (let e : 0 < length (plan_of x).requests = omega (arith, some_found, ap length sc.items_are, length_map posted_of q.requests, ap (λ (r : Plan). length r.requests) plan_x) in e) in
-    let made : is_made (plan_of y).mine ≡ true = ap is_made pb.mine ∙ made_some (map found_of (plan_of x).requests) _ 0 (found_of first.0) (at_map found_of (plan_of x).requests 0 first.0 first.1) in
+    let both = is_given g c in let made : is_made (plan_of y).mine ≡ true = both.0 in
     let u : View = c.answer_all-2.new.seat.token.me.0 in let base_u : u.base ≡ x.base = ap (λ (r : View). r.base) c.answer_all-2.ensures.same.2 ∙ base_lm in
-    let given : but_requests (plan_of u) ≡ but_requests (plan_of y) = c.answer_all-2.ensures.kept (ap (λ (r : Plan). is_made r.mine) plan_lm ∙ made) ∙ ap but_requests plan_lm in
+    let given : but_requests (plan_of u) ≡ but_requests (plan_of y) = both.1 in
     let main : (plan_of u).main ≡ (plan_of y).main = ap (λ (r : Plan). r.main) given in let history : (plan_of u).history ≡ (plan_of y).history = ap (λ (r : Plan). r.history) given in
     let end : ℕ = g.D.Device.shown.faults c.settle.new.twin.device in let z : View = c.settle.new.seat.token.me.0 in
     let settled : plan_of z ≡ rested end c.settle.ensures.rested.version c.settle.ensures.rested.clear (plan_of u) = ap plan_of c.settle.ensures.rested.writes.2 in let base_z : z.base ≡ x.base = ap (λ (r : View). r.base) c.settle.ensures.rested.writes.2 ∙ base_u in
@@ -499,7 +456,7 @@ pub returns-clause-most : goal.returns-clause-most
 returns-clause-most g c =
     let shown = g.D.Device.shown in let a = c.self.inside.twin in let m = c.publish-outcome.new.twin.device in let d = c.settle.new.twin.device in
     let stores : ℕ = g.O.Object.STORES in let weight : List ℕ → ℕ = weight_on_words g.O.Object.machine in let words : ℕ = stores * weights_found weight (plan_of c.settle.new.seat.token.me.0) in
-    let is_pub : c.publish-outcome.result ≡ outcome.Published = search rules in
+    let is_pub : c.publish-outcome.result ≡ outcome.Published = is_published g c in
     let held : held_count c.publish-outcome.new.log.ranges ≤ words = subst (λ (n : ℕ). held_count c.publish-outcome.new.log.ranges ≤ stores * n) (left_published g c) (c.publish-outcome.ensures.held_most is_pub) in
     let first : SpendsAtMost shown (writes_before_commit a.phase a.order words + 1) (syncs_before_commit a.phase + 1) a.device m = subst (λ (n : ℕ). SpendsAtMost shown (writes_before_commit a.phase a.order (stores * n) + 1) (syncs_before_commit a.phase + 1) a.device m) (left_published g c) c.publish-outcome.ensures.most in
     subst (λ (r : Locked g.row.D.Denot). SpendsAtMost shown (batch_writes r.twin.phase r.twin.order words) (batch_syncs r.twin.phase) r.twin.device d) c.self.view_is
@@ -511,37 +468,22 @@ left_refused g c = let weight : List ℕ → ℕ = weight_on_words g.O.Object.ma
     let x : Plan = plan_of c.load_main-place.new.seat.token.me.0 in let y : Plan = plan_of c.publish-outcome.new.seat.token.me.0 in let u : Plan = plan_of c.answer_all-then-ne.new.seat.token.me.0 in
     sym (same_found weight y u c.answer_all-then-ne.ensures.calls ∙ same_found weight x y c.publish-outcome.ensures.calls)
 
-pub returns-then-ne-clause-most : goal.returns-then-ne-clause-most
-returns-then-ne-clause-most g c =
-    let shown = g.D.Device.shown in let a = c.self.inside.twin in let m = c.publish-outcome.new.twin.device in let stores : ℕ = g.O.Object.STORES in let words : ℕ = stores * weights_found (weight_on_words g.O.Object.machine) (plan_of c.answer_all-then-ne.new.seat.token.me.0) in
-    let first : SpendsAtMost shown (writes_before_commit a.phase a.order words + 1) (syncs_before_commit a.phase + 1) a.device m = subst (λ (n : ℕ). SpendsAtMost shown (writes_before_commit a.phase a.order (stores * n) + 1) (syncs_before_commit a.phase + 1) a.device m) (left_refused g c) c.publish-outcome.ensures.most in
-    search (rules, first)
-
-pub returns-then-ne-clause-failed_most : goal.returns-then-ne-clause-failed_most
-returns-then-ne-clause-failed_most g c is =
-    let shown = g.D.Device.shown in let a = c.self.inside.twin in let m = c.publish-outcome.new.twin.device in let stores : ℕ = g.O.Object.STORES in let words : ℕ = stores * weights_found (weight_on_words g.O.Object.machine) (plan_of c.answer_all-then-ne.new.seat.token.me.0) in
-    let failed : c.publish-outcome.result ≡ outcome.Failed = search rules in
-    let first : SpendsAtMost shown (writes_before_commit a.phase a.order words) (syncs_before_commit a.phase) a.device m = subst (λ (n : ℕ). SpendsAtMost shown (writes_before_commit a.phase a.order (stores * n)) (syncs_before_commit a.phase) a.device m) (left_refused g c) (c.publish-outcome.ensures.failed_most failed) in
-    search (rules, first)
-
 -- after a pass that published, the history has grown by what was published
 grown : (g : Over) (c : goal.After-of-2 g) → weights_added (weight_on_words g.O.Object.machine) (plan_of c.load_main-place.new.seat.token.me.0).history (plan_of c.publish-outcome.new.seat.token.me.0).history
     ≡ weights_added (weight_on_words g.O.Object.machine) (plan_of c.args.self.now.view).history (plan_of c.settle.new.seat.token.me.0).history
 grown g c = let v : View = c.self.inside.seat.token.me.0 in let w : View = c.scan.new.seat.token.me.0 in let sc = c.scan.ensures.scanned in
     let x : View = c.load_main-place.new.seat.token.me.0 in let plan_x : plan_of x ≡ plan_of w = ap plan_of c.load_main-place.ensures.still.2 in
-    let y : View = c.publish-outcome.new.seat.token.me.0 in let is_pub : c.publish-outcome.result ≡ outcome.Published = search rules in let pb = c.publish-outcome.ensures.published is_pub in
+    let y : View = c.publish-outcome.new.seat.token.me.0 in let is_pub : c.publish-outcome.result ≡ outcome.Published = is_published g c in let pb = c.publish-outcome.ensures.published is_pub in
     let lm : View = c.load_main.new.seat.token.me.0 in let plan_lm : plan_of lm ≡ plan_of y = ap plan_of c.load_main.ensures.still.2 in
-    let some_found : 0 < length c.scan.new.found.items = search rules in
-    let first = at_some (plan_of x).requests 0 (let e : 0 < length (plan_of x).requests = omega (arith, some_found, ap length sc.items_are, length_map posted_of (plan_of w).requests, ap (λ (r : Plan). length r.requests) plan_x) in e) in
-    let made : is_made (plan_of y).mine ≡ true = ap is_made pb.mine ∙ made_some (map found_of (plan_of x).requests) _ 0 (found_of first.0) (at_map found_of (plan_of x).requests 0 first.0 first.1) in
-    let u : View = c.answer_all-2.new.seat.token.me.0 in let given : but_requests (plan_of u) ≡ but_requests (plan_of y) = c.answer_all-2.ensures.kept (ap (λ (r : Plan). is_made r.mine) plan_lm ∙ made) ∙ ap but_requests plan_lm in
+    let both = is_given g c in let made : is_made (plan_of y).mine ≡ true = both.0 in
+    let u : View = c.answer_all-2.new.seat.token.me.0 in let given : but_requests (plan_of u) ≡ but_requests (plan_of y) = both.1 in
     let z : View = c.settle.new.seat.token.me.0 in let new : (plan_of z).history ≡ (plan_of y).history = ap (λ (r : View). (plan_of r).history) c.settle.ensures.rested.writes.2 ∙ ap (λ (r : Plan). r.history) given in
     let old : (plan_of x).history ≡ (plan_of c.args.self.now.view).history = ap (λ (r : Plan). r.history) plan_x ∙ (ap (λ (r : Plan). r.history) sc.rest ∙ ap (λ r. (plan_of r.view).history) c.self.view_is) in
     λ j. weights_added (weight_on_words g.O.Object.machine) (old j) (sym new j)
 
 pub returns-clause-spends : goal.returns-clause-spends
 returns-clause-spends g c done unfailed =
-    let is_pub : c.publish-outcome.result ≡ outcome.Published = search rules in let z : View = c.settle.new.seat.token.me.0 in
+    let is_pub : c.publish-outcome.result ≡ outcome.Published = is_published g c in let z : View = c.settle.new.seat.token.me.0 in
     let few : held_count c.publish-outcome.new.log.ranges ≤ g.O.Object.STORES * weights_added (weight_on_words g.O.Object.machine) (plan_of c.args.self.now.view).history (plan_of z).history
     = subst (λ (n : ℕ). held_count c.publish-outcome.new.log.ranges ≤ g.O.Object.STORES * n) (grown g c) (c.publish-outcome.ensures.few is_pub) in
     search (rules, few)
@@ -549,7 +491,7 @@ returns-clause-spends g c done unfailed =
 pub returns-clause-whole : goal.returns-clause-whole
 returns-clause-whole g c =
     let shown = g.D.Device.shown in let a = c.self.inside.twin in let m = c.publish-outcome.new.twin.device in let d = c.settle.new.twin.device in let words : ℕ = region_len a.order in
-    let is_pub : c.publish-outcome.result ≡ outcome.Published = search rules in let held : held_count c.publish-outcome.new.log.ranges ≤ words = c.publish-outcome.ensures.within is_pub in
+    let is_pub : c.publish-outcome.result ≡ outcome.Published = is_published g c in let held : held_count c.publish-outcome.new.log.ranges ≤ words = c.publish-outcome.ensures.within is_pub in
     subst (λ (r : Locked g.row.D.Denot). SpendsAtMost shown (batch_writes r.twin.phase r.twin.order (region_len r.twin.order)) (batch_syncs r.twin.phase) r.twin.device d) c.self.view_is
     (most_then shown (writes_before_commit a.phase a.order words + 1) (syncs_before_commit a.phase + 1) (held_count c.publish-outcome.new.log.ranges + 1) 1 (batch_writes a.phase a.order words) (batch_syncs a.phase) a.device m d
     c.publish-outcome.ensures.whole c.settle.ensures.most (omega (arith, held)) (omega arith))
@@ -559,14 +501,14 @@ some_done : (g : Over) (c : goal.After-of-2 g) → 0 < c.load_main.result - c.lo
 some_done g c = let v : View = c.self.inside.seat.token.me.0 in let w : View = c.scan.new.seat.token.me.0 in let inv = c.self.invariant.0 in let sc = c.scan.ensures.scanned in
     let x : View = c.load_main-place.new.seat.token.me.0 in let q : Plan = plan_of x in let plan_x : q ≡ plan_of w = ap plan_of c.load_main-place.ensures.still.2 in let y : View = c.publish-outcome.new.seat.token.me.0 in
     let base_x : x.base ≡ v.base = ap (λ (z : View). z.base) c.load_main-place.ensures.still.2 ∙ ap (λ (z : View). z.base) c.scan.ensures.same.2 in
-    let is_pub : c.publish-outcome.result ≡ outcome.Published = search rules in let pb = c.publish-outcome.ensures.published is_pub in let ph = c.publish-outcome.ensures.held is_pub in
+    let is_pub : c.publish-outcome.result ≡ outcome.Published = is_published g c in let pb = c.publish-outcome.ensures.published is_pub in let ph = c.publish-outcome.ensures.held is_pub in
     let op : g.O.Object.Contents x.base.order x.base.image inv.start inv.count = subst (λ (z : Base). g.O.Object.Contents z.order z.image inv.start inv.count) (sym base_x) inv.opening in
     let held : rule.Held g.O.Object.Contents (on_words g.O.Object.machine) x.base inv.start inv.count q.main q.history = subst (λ (z : Base × List ℕ × List Entry). rule.Held g.O.Object.Contents (on_words g.O.Object.machine) z.0 inv.start inv.count z.1 z.2) (λ j. (sym base_x j, sym (ap (λ (z : Plan). z.main) (ap but_requests plan_x ∙ sc.rest)) j, sym (ap (λ (z : Plan). z.history) (ap but_requests plan_x ∙ sc.rest)) j)) inv.held in
     let word : slice_index q.main 2 ≡ inv.count + length q.history = (g.met.O.Object.contents_within x.base.order q.main _ _ held).1 in
     let word₂ : slice_index (plan_of y).main 2 ≡ ph.1 + length (plan_of y).history = (g.met.O.Object.contents_within x.base.order (plan_of y).main _ _ ph.3).1 in
     let same = g.met.O.Object.one_contents x.base.order x.base.image ph.0 inv.start ph.1 inv.count ph.2 op in let counts = same.1 in
     let history : length (plan_of y).history ≡ length q.history + length pb.more = ap length pb.history ∙ length-append q.history pb.more in
-    let some_found : 0 < length c.scan.new.found.items = search rules in
+    let some_found : 0 < length c.scan.new.found.items = some_of (length c.scan.new.found.items) c.if-is_empty.ensures in
     let found : 0 < length q.requests = omega (arith, some_found, ap length sc.items_are, length_map posted_of (plan_of w).requests, ap (λ (z : Plan). length z.requests) plan_x) in
     let fresh : Each (λ _ f. IsUnanswered (IsCall (on_words g.O.Object.machine) x.base) f) q.requests = subst (λ (z : Base × Plan). Each (λ _ f. IsUnanswered (IsCall (on_words g.O.Object.machine) z.0) f) z.1.requests) (λ j. (sym base_x j, sym plan_x j)) (λ j f e. (sc.fresh j f e).1) in
     let within = (g.met.O.Object.contents_within x.base.order q.main _ _ held).2 in
@@ -601,13 +543,6 @@ returns-clause-began g c = let shown = g.D.Device.shown in let v : View = c.self
 pub returns-clause-unwaited : goal.returns-clause-unwaited
 returns-clause-unwaited g c none = let done : c.of-2.result.done ≡ c.load_main.result - c.load_main-place.result = ap (λ (r : Passed). r.done) c.of-2.ensures.is in absurd (omega (arith, none, done, some_done g c))
 
-pub returns-clause-device : goal.returns-clause-device
-returns-clause-device g c =
-    let shown = g.D.Device.shown in let old = c.args.self.now.twin in let mid = c.publish-outcome.new.twin in
-    let first : WritesHeap shown old.order old.device mid.device = search rules in
-    let order_is : mid.order ≡ old.order = search rules in
-    writes_then shown old.order old.device mid.device c.settle.new.twin.device first (subst (λ (n : ℕ). WritesHeap shown n mid.device c.settle.new.twin.device) order_is c.settle.ensures.device)
-
 pub returns-then-is_empty-clause-kept : goal.returns-then-is_empty-clause-kept
 returns-then-is_empty-clause-kept g c = let v : View = c.self.inside.seat.token.me.0 in let w : View = c.scan.new.seat.token.me.0 in
     subst (λ r. w ≡ record r.view { plan = Some (plan_of w); steps = w.steps }) c.self.view_is (c.scan.ensures.same.2)
@@ -631,17 +566,218 @@ returns-then-is_empty-clause-unwaited g c none = let v : View = c.self.inside.se
 pub returns-then-place-eq-LAST_COUNT-clause-unwaited : goal.returns-then-place-eq-LAST_COUNT-clause-unwaited
 returns-then-place-eq-LAST_COUNT-clause-unwaited g c none = let v : View = c.self.inside.seat.token.me.0 in let w : View = c.scan.new.seat.token.me.0 in let x : View = c.load_main-place.new.seat.token.me.0 in let u : View = c.answer_all.new.seat.token.me.0 in
     let scan : but_requests (plan_of x) ≡ but_requests (beginning (plan_of v)) = ap (λ (z : View). but_requests (plan_of z)) c.load_main-place.ensures.still.2 ∙ c.scan.ensures.scanned.rest in
-    let items : List Posted = c.scan.new.found.items in let some_found : 0 < length items = search rules in let before : ℕ = c.fault_count-before.result in
+    let items : List Posted = c.scan.new.found.items in let some_found : 0 < length items = some_of (length items) c.if-is_empty.ensures in let before : ℕ = c.fault_count-before.result in
     let given : List CallAnswer = c.as_slice-answers.result.now in let given_is : given ≡ map (refused (2 ^ 62)) items = c.as_slice-answers.ensures.value ∙ (c.refuse.ensures ∙ ap (map (refused (2 ^ 62))) c.as_slice.ensures.value) in
     let some_given : 0 < length given = omega (arith, some_found, ap length given_is, length_map (refused (2 ^ 62)) items) in
     clear_by g.O.Object.Contents (on_words g.O.Object.machine) x.base (plan_of x) (plan_of u) before before given some_given (ap (λ (z : Plan). z.mine) scan) c.answer_all.ensures.recorded ∙ (ap (λ (z : Plan). z.clear) scan ∙ ap (λ r. (plan_of r.view).clear) c.self.view_is)
 
 pub returns-then-ne-clause-unwaited : goal.returns-then-ne-clause-unwaited
 returns-then-ne-clause-unwaited g c none = let v : View = c.self.inside.seat.token.me.0 in let w : View = c.scan.new.seat.token.me.0 in let x : View = c.load_main-place.new.seat.token.me.0 in let y : View = c.publish-outcome.new.seat.token.me.0 in let u : View = c.answer_all-then-ne.new.seat.token.me.0 in
-    let not_published : c.publish-outcome.result ≢ outcome.Published = search rules in let stays : plan_of y ≡ plan_of x = c.publish-outcome.ensures.stays not_published in let sc = c.scan.ensures.scanned in
+    let not_published : c.publish-outcome.result ≢ outcome.Published = unpublished g c in let stays : plan_of y ≡ plan_of x = c.publish-outcome.ensures.stays not_published in let sc = c.scan.ensures.scanned in
     let plan_x : plan_of x ≡ plan_of w = ap plan_of c.load_main-place.ensures.still.2 in let scan : but_requests (plan_of y) ≡ but_requests (beginning (plan_of v)) = ap but_requests (stays ∙ plan_x) ∙ sc.rest in
-    let some_found : 0 < length c.scan.new.found.items = search rules in let before : ℕ = c.fault_count-before.result in let now : ℕ = c.fault_count-now.result in let left = c.publish-outcome.ensures.left in
+    let some_found : 0 < length c.scan.new.found.items = some_of (length c.scan.new.found.items) c.if-is_empty.ensures in let before : ℕ = c.fault_count-before.result in let now : ℕ = c.fault_count-now.result in let left = c.publish-outcome.ensures.left in
     let found : 0 < length (plan_of y).requests = omega (arith, some_found, ap length sc.items_are, length_map posted_of (plan_of w).requests, ap (λ (z : Plan). length z.requests) (stays ∙ plan_x)) in
     let given : List CallAnswer = c.as_slice-then-ne.result.now in let items : List CallAnswer = c.publish-outcome.new.answers.items in
     let some_given : 0 < length given = omega (arith, found, ap length left.same, length_map caller_in (plan_of y).requests, length_map caller_of items, ap length c.as_slice-then-ne.ensures.value) in
     clear_by g.O.Object.Contents (on_words g.O.Object.machine) y.base (plan_of y) (plan_of u) before now given some_given (ap (λ (z : Plan). z.mine) scan) c.answer_all-then-ne.ensures.recorded ∙ (ap (λ (z : Plan). z.clear) scan ∙ ap (λ r. (plan_of r.view).clear) c.self.view_is)
+
+-- what each end keeps, and what it says of the device
+pub returns-then-is_empty-clause-needed : goal.returns-then-is_empty-clause-needed
+returns-then-is_empty-clause-needed g c = subst (λ (r : Locked g.row.D.Denot). NeedsRepair r.twin.phase → IsTrue (g.D.Device.shown.failing r.twin.device)) c.self.view_is c.self.invariant.0.failed
+
+pub returns-then-is_empty-clause-same : goal.returns-then-is_empty-clause-same
+returns-then-is_empty-clause-same g c = let s = c.scan.new.seat in let t = c.self.inside.twin in
+    subst (λ (r : Locked g.row.D.Denot). (s.token.table_id ≡ r.table_id) × (s.token.id ≡ r.id) × (s.token.me.0.base ≡ r.view.base) × (t.order ≡ r.twin.order)) c.self.view_is
+    (c.scan.ensures.same.0, c.scan.ensures.same.1, ap (λ (z : View). z.base) c.scan.ensures.same.2, refl)
+
+pub returns-then-place-eq-LAST_COUNT-clause-needed : goal.returns-then-place-eq-LAST_COUNT-clause-needed
+returns-then-place-eq-LAST_COUNT-clause-needed g c = subst (λ (r : Locked g.row.D.Denot). NeedsRepair r.twin.phase → IsTrue (g.D.Device.shown.failing r.twin.device)) c.self.view_is c.self.invariant.0.failed
+
+pub returns-then-place-eq-LAST_COUNT-clause-same : goal.returns-then-place-eq-LAST_COUNT-clause-same
+returns-then-place-eq-LAST_COUNT-clause-same g c = let s = c.answer_all.new.seat in let t = c.self.inside.twin in
+    subst (λ (r : Locked g.row.D.Denot). (s.token.table_id ≡ r.table_id) × (s.token.id ≡ r.id) × (s.token.me.0.base ≡ r.view.base) × (t.order ≡ r.twin.order)) c.self.view_is
+    (c.answer_all.ensures.same.0 ∙ (c.load_main-place.ensures.still.0 ∙ c.scan.ensures.same.0), c.answer_all.ensures.same.1 ∙ (c.load_main-place.ensures.still.1 ∙ c.scan.ensures.same.1), ap (λ (z : View). z.base) c.answer_all.ensures.same.2 ∙ (ap (λ (z : View). z.base) c.load_main-place.ensures.still.2 ∙ ap (λ (z : View). z.base) c.scan.ensures.same.2), refl)
+
+pub returns-then-ne-clause-needed : goal.returns-then-ne-clause-needed
+returns-then-ne-clause-needed g c = subst (λ (r : Locked g.row.D.Denot). NeedsRepair r.twin.phase → IsTrue (g.D.Device.shown.failing r.twin.device)) c.self.view_is c.self.invariant.0.failed
+
+pub returns-then-ne-clause-same : goal.returns-then-ne-clause-same
+returns-then-ne-clause-same g c = let s = c.answer_all-then-ne.new.seat in let t = c.publish-outcome.new.twin in
+    subst (λ (r : Locked g.row.D.Denot). (s.token.table_id ≡ r.table_id) × (s.token.id ≡ r.id) × (s.token.me.0.base ≡ r.view.base) × (t.order ≡ r.twin.order)) c.self.view_is
+    (c.answer_all-then-ne.ensures.same.0 ∙ (c.publish-outcome.ensures.same.0 ∙ (c.load_main-place.ensures.still.0 ∙ c.scan.ensures.same.0)), c.answer_all-then-ne.ensures.same.1 ∙ (c.publish-outcome.ensures.same.1 ∙ (c.load_main-place.ensures.still.1 ∙ c.scan.ensures.same.1)), ap (λ (z : View). z.base) c.answer_all-then-ne.ensures.same.2 ∙ (ap (λ (z : View). z.base) c.publish-outcome.ensures.same.2 ∙ (ap (λ (z : View). z.base) c.load_main-place.ensures.still.2 ∙ ap (λ (z : View). z.base) c.scan.ensures.same.2)), c.publish-outcome.ensures.order)
+
+pub returns-clause-needed : goal.returns-clause-needed
+returns-clause-needed g c = subst (λ (r : Locked g.row.D.Denot). NeedsRepair r.twin.phase → IsTrue (g.D.Device.shown.failing r.twin.device)) c.self.view_is c.self.invariant.0.failed
+
+pub returns-clause-same : goal.returns-clause-same
+returns-clause-same g c = let s = c.settle.new.seat in let t = c.settle.new.twin in
+    subst (λ (r : Locked g.row.D.Denot). (s.token.table_id ≡ r.table_id) × (s.token.id ≡ r.id) × (s.token.me.0.base ≡ r.view.base) × (t.order ≡ r.twin.order)) c.self.view_is
+    (c.settle.ensures.rested.writes.0 ∙ (c.answer_all-2.ensures.same.0 ∙ (c.load_main.ensures.still.0 ∙ (c.publish-outcome.ensures.same.0 ∙ (c.load_main-place.ensures.still.0 ∙ c.scan.ensures.same.0)))), c.settle.ensures.rested.writes.1 ∙ (c.answer_all-2.ensures.same.1 ∙ (c.load_main.ensures.still.1 ∙ (c.publish-outcome.ensures.same.1 ∙ (c.load_main-place.ensures.still.1 ∙ c.scan.ensures.same.1)))), ap (λ (z : View). z.base) c.settle.ensures.rested.writes.2 ∙ (ap (λ (z : View). z.base) c.answer_all-2.ensures.same.2 ∙ (ap (λ (z : View). z.base) c.load_main.ensures.still.2 ∙ (ap (λ (z : View). z.base) c.publish-outcome.ensures.same.2 ∙ (ap (λ (z : View). z.base) c.load_main-place.ensures.still.2 ∙ ap (λ (z : View). z.base) c.scan.ensures.same.2)))), c.settle.ensures.kept.order ∙ c.publish-outcome.ensures.order)
+
+pub returns-then-is_empty-clause-device : goal.returns-then-is_empty-clause-device
+returns-then-is_empty-clause-device g c = let shown = g.D.Device.shown in let a = c.self.inside.twin in subst (λ (r : Locked g.row.D.Denot). WritesHeap shown r.twin.order r.twin.device a.device) c.self.view_is (writes_none shown a.order a.device)
+
+pub returns-then-is_empty-clause-most : goal.returns-then-is_empty-clause-most
+returns-then-is_empty-clause-most g c = let shown = g.D.Device.shown in let a = c.self.inside.twin in
+    subst (λ (r : Locked g.row.D.Denot). SpendsAtMost shown (batch_writes r.twin.phase r.twin.order (g.O.Object.STORES * weights_found (weight_on_words g.O.Object.machine) (plan_of c.scan.new.seat.token.me.0))) (batch_syncs r.twin.phase) r.twin.device a.device) c.self.view_is (none_most shown _ _ a.device)
+
+pub returns-then-is_empty-clause-whole : goal.returns-then-is_empty-clause-whole
+returns-then-is_empty-clause-whole g c = let shown = g.D.Device.shown in let a = c.self.inside.twin in
+    subst (λ (r : Locked g.row.D.Denot). SpendsAtMost shown (batch_writes r.twin.phase r.twin.order (region_len r.twin.order)) (batch_syncs r.twin.phase) r.twin.device a.device) c.self.view_is (none_most shown _ _ a.device)
+
+pub returns-then-place-eq-LAST_COUNT-clause-device : goal.returns-then-place-eq-LAST_COUNT-clause-device
+returns-then-place-eq-LAST_COUNT-clause-device g c = let shown = g.D.Device.shown in let a = c.self.inside.twin in subst (λ (r : Locked g.row.D.Denot). WritesHeap shown r.twin.order r.twin.device a.device) c.self.view_is (writes_none shown a.order a.device)
+
+pub returns-then-place-eq-LAST_COUNT-clause-most : goal.returns-then-place-eq-LAST_COUNT-clause-most
+returns-then-place-eq-LAST_COUNT-clause-most g c = let shown = g.D.Device.shown in let a = c.self.inside.twin in
+    subst (λ (r : Locked g.row.D.Denot). SpendsAtMost shown (batch_writes r.twin.phase r.twin.order (g.O.Object.STORES * weights_found (weight_on_words g.O.Object.machine) (plan_of c.answer_all.new.seat.token.me.0))) (batch_syncs r.twin.phase) r.twin.device a.device) c.self.view_is (none_most shown _ _ a.device)
+
+pub returns-then-place-eq-LAST_COUNT-clause-whole : goal.returns-then-place-eq-LAST_COUNT-clause-whole
+returns-then-place-eq-LAST_COUNT-clause-whole g c = let shown = g.D.Device.shown in let a = c.self.inside.twin in
+    subst (λ (r : Locked g.row.D.Denot). SpendsAtMost shown (batch_writes r.twin.phase r.twin.order (region_len r.twin.order)) (batch_syncs r.twin.phase) r.twin.device a.device) c.self.view_is (none_most shown _ _ a.device)
+
+pub returns-then-ne-clause-device : goal.returns-then-ne-clause-device
+returns-then-ne-clause-device g c = let shown = g.D.Device.shown in let m = c.publish-outcome.new.twin in subst (λ (r : Locked g.row.D.Denot). WritesHeap shown r.twin.order r.twin.device m.device) c.self.view_is c.publish-outcome.ensures.device
+
+pub returns-clause-device : goal.returns-clause-device
+returns-clause-device g c = let shown = g.D.Device.shown in let a = c.self.inside.twin in let m = c.publish-outcome.new.twin in let d = c.settle.new.twin in
+    subst (λ (r : Locked g.row.D.Denot). WritesHeap shown r.twin.order r.twin.device d.device) c.self.view_is
+    (writes_then shown a.order a.device m.device d.device c.publish-outcome.ensures.device (subst (λ (n : ℕ). WritesHeap shown n m.device d.device) c.publish-outcome.ensures.order c.settle.ensures.device))
+
+pub returns-then-ne-clause-failed : goal.returns-then-ne-clause-failed
+returns-then-ne-clause-failed g c is = let m = c.publish-outcome.new.twin in
+    subst (λ (r : Locked g.row.D.Denot). (m.phase ≡ phase.Undo) ⊎ ((m.phase ≡ r.twin.phase) × NeedsRepair r.twin.phase)) c.self.view_is (c.publish-outcome.ensures.failed (ended _ _ _ _ _ c.of-then-ne.ensures.is is))
+
+pub returns-then-ne-clause-doubt : goal.returns-then-ne-clause-doubt
+returns-then-ne-clause-doubt g c is = c.publish-outcome.ensures.doubt (ended _ _ _ _ _ c.of-then-ne.ensures.is is)
+
+pub returns-then-ne-clause-most : goal.returns-then-ne-clause-most
+returns-then-ne-clause-most g c = let shown = g.D.Device.shown in let a = c.self.inside.twin in let m = c.publish-outcome.new.twin.device in let stores : ℕ = g.O.Object.STORES in let words : ℕ = stores * weights_found (weight_on_words g.O.Object.machine) (plan_of c.answer_all-then-ne.new.seat.token.me.0) in
+    let first : SpendsAtMost shown (writes_before_commit a.phase a.order words + 1) (syncs_before_commit a.phase + 1) a.device m = subst (λ (n : ℕ). SpendsAtMost shown (writes_before_commit a.phase a.order (stores * n) + 1) (syncs_before_commit a.phase + 1) a.device m) (left_refused g c) c.publish-outcome.ensures.most in
+    subst (λ (r : Locked g.row.D.Denot). SpendsAtMost shown (batch_writes r.twin.phase r.twin.order words) (batch_syncs r.twin.phase) r.twin.device m) c.self.view_is (batch_most shown a.phase a.order words a.device m first)
+
+pub returns-then-ne-clause-whole : goal.returns-then-ne-clause-whole
+returns-then-ne-clause-whole g c = let shown = g.D.Device.shown in let a = c.self.inside.twin in let m = c.publish-outcome.new.twin.device in
+    subst (λ (r : Locked g.row.D.Denot). SpendsAtMost shown (batch_writes r.twin.phase r.twin.order (region_len r.twin.order)) (batch_syncs r.twin.phase) r.twin.device m) c.self.view_is (batch_most shown a.phase a.order (region_len a.order) a.device m c.publish-outcome.ensures.whole)
+
+pub returns-then-ne-clause-failed_most : goal.returns-then-ne-clause-failed_most
+returns-then-ne-clause-failed_most g c is = let shown = g.D.Device.shown in let a = c.self.inside.twin in let m = c.publish-outcome.new.twin.device in let stores : ℕ = g.O.Object.STORES in let words : ℕ = stores * weights_found (weight_on_words g.O.Object.machine) (plan_of c.answer_all-then-ne.new.seat.token.me.0) in
+    let failed : c.publish-outcome.result ≡ outcome.Failed = ended _ _ _ _ _ c.of-then-ne.ensures.is is in
+    let first : SpendsAtMost shown (writes_before_commit a.phase a.order words) (syncs_before_commit a.phase) a.device m = subst (λ (n : ℕ). SpendsAtMost shown (writes_before_commit a.phase a.order (stores * n)) (syncs_before_commit a.phase) a.device m) (left_refused g c) (c.publish-outcome.ensures.failed_most failed) in
+    subst (λ (r : Locked g.row.D.Denot). SpendsAtMost shown (writes_before_commit r.twin.phase r.twin.order words) (syncs_before_commit r.twin.phase) r.twin.device m) c.self.view_is first
+
+pub returns-then-ne-clause-failed_whole : goal.returns-then-ne-clause-failed_whole
+returns-then-ne-clause-failed_whole g c is = let shown = g.D.Device.shown in let m = c.publish-outcome.new.twin.device in
+    subst (λ (r : Locked g.row.D.Denot). SpendsAtMost shown (writes_before_commit r.twin.phase r.twin.order (region_len r.twin.order)) (syncs_before_commit r.twin.phase) r.twin.device m) c.self.view_is (c.publish-outcome.ensures.failed_whole (ended _ _ _ _ _ c.of-then-ne.ensures.is is))
+
+pub returns-clause-repaired : goal.returns-clause-repaired
+returns-clause-repaired g c any_done = c.settle.ensures.phase
+
+-- what a pass does not say that found no call
+pub returns-then-is_empty-clause-certain : goal.returns-then-is_empty-clause-certain
+returns-then-is_empty-clause-certain g c any_done = absurd (none_done _ _ _ c.of.ensures.is any_done)
+
+pub returns-then-is_empty-clause-repaired : goal.returns-then-is_empty-clause-repaired
+returns-then-is_empty-clause-repaired g c any_done = absurd (none_done _ _ _ c.of.ensures.is any_done)
+
+pub returns-then-is_empty-clause-undone : goal.returns-then-is_empty-clause-undone
+returns-then-is_empty-clause-undone g c any_done = absurd (none_done _ _ _ c.of.ensures.is any_done)
+
+pub returns-then-is_empty-clause-spends : goal.returns-then-is_empty-clause-spends
+returns-then-is_empty-clause-spends g c any_done = absurd (none_done _ _ _ c.of.ensures.is any_done)
+
+pub returns-then-is_empty-clause-spent : goal.returns-then-is_empty-clause-spent
+returns-then-is_empty-clause-spent g c e = absurd (published_not_nothing (sym (ended _ _ _ _ _ c.of.ensures.is e)))
+
+pub returns-then-is_empty-clause-failed : goal.returns-then-is_empty-clause-failed
+returns-then-is_empty-clause-failed g c e = absurd (failed_not_nothing (sym (ended _ _ _ _ _ c.of.ensures.is e)))
+
+pub returns-then-is_empty-clause-failed_cause : goal.returns-then-is_empty-clause-failed_cause
+returns-then-is_empty-clause-failed_cause g c e = absurd (failed_not_nothing (sym (ended _ _ _ _ _ c.of.ensures.is e)))
+
+pub returns-then-is_empty-clause-failed_most : goal.returns-then-is_empty-clause-failed_most
+returns-then-is_empty-clause-failed_most g c e = absurd (failed_not_nothing (sym (ended _ _ _ _ _ c.of.ensures.is e)))
+
+pub returns-then-is_empty-clause-failed_whole : goal.returns-then-is_empty-clause-failed_whole
+returns-then-is_empty-clause-failed_whole g c e = absurd (failed_not_nothing (sym (ended _ _ _ _ _ c.of.ensures.is e)))
+
+pub returns-then-is_empty-clause-doubt : goal.returns-then-is_empty-clause-doubt
+returns-then-is_empty-clause-doubt g c e = absurd (doubt_not_nothing (sym (ended _ _ _ _ _ c.of.ensures.is e)))
+
+pub returns-then-is_empty-clause-doubt_cause : goal.returns-then-is_empty-clause-doubt_cause
+returns-then-is_empty-clause-doubt_cause g c e = absurd (doubt_not_nothing (sym (ended _ _ _ _ _ c.of.ensures.is e)))
+
+-- what one does not say that found the count at its limit
+pub returns-then-place-eq-LAST_COUNT-clause-certain : goal.returns-then-place-eq-LAST_COUNT-clause-certain
+returns-then-place-eq-LAST_COUNT-clause-certain g c any_done = absurd (none_done _ _ _ c.of-then-place-eq-LAST_COUNT.ensures.is any_done)
+
+pub returns-then-place-eq-LAST_COUNT-clause-repaired : goal.returns-then-place-eq-LAST_COUNT-clause-repaired
+returns-then-place-eq-LAST_COUNT-clause-repaired g c any_done = absurd (none_done _ _ _ c.of-then-place-eq-LAST_COUNT.ensures.is any_done)
+
+pub returns-then-place-eq-LAST_COUNT-clause-undone : goal.returns-then-place-eq-LAST_COUNT-clause-undone
+returns-then-place-eq-LAST_COUNT-clause-undone g c any_done = absurd (none_done _ _ _ c.of-then-place-eq-LAST_COUNT.ensures.is any_done)
+
+pub returns-then-place-eq-LAST_COUNT-clause-spends : goal.returns-then-place-eq-LAST_COUNT-clause-spends
+returns-then-place-eq-LAST_COUNT-clause-spends g c any_done = absurd (none_done _ _ _ c.of-then-place-eq-LAST_COUNT.ensures.is any_done)
+
+pub returns-then-place-eq-LAST_COUNT-clause-untouched : goal.returns-then-place-eq-LAST_COUNT-clause-untouched
+returns-then-place-eq-LAST_COUNT-clause-untouched g c e = absurd (published_not_nothing (ended _ _ _ _ _ c.of-then-place-eq-LAST_COUNT.ensures.is e))
+
+pub returns-then-place-eq-LAST_COUNT-clause-failed : goal.returns-then-place-eq-LAST_COUNT-clause-failed
+returns-then-place-eq-LAST_COUNT-clause-failed g c e = absurd (published_not_failed (ended _ _ _ _ _ c.of-then-place-eq-LAST_COUNT.ensures.is e))
+
+pub returns-then-place-eq-LAST_COUNT-clause-failed_cause : goal.returns-then-place-eq-LAST_COUNT-clause-failed_cause
+returns-then-place-eq-LAST_COUNT-clause-failed_cause g c e = absurd (published_not_failed (ended _ _ _ _ _ c.of-then-place-eq-LAST_COUNT.ensures.is e))
+
+pub returns-then-place-eq-LAST_COUNT-clause-failed_most : goal.returns-then-place-eq-LAST_COUNT-clause-failed_most
+returns-then-place-eq-LAST_COUNT-clause-failed_most g c e = absurd (published_not_failed (ended _ _ _ _ _ c.of-then-place-eq-LAST_COUNT.ensures.is e))
+
+pub returns-then-place-eq-LAST_COUNT-clause-failed_whole : goal.returns-then-place-eq-LAST_COUNT-clause-failed_whole
+returns-then-place-eq-LAST_COUNT-clause-failed_whole g c e = absurd (published_not_failed (ended _ _ _ _ _ c.of-then-place-eq-LAST_COUNT.ensures.is e))
+
+pub returns-then-place-eq-LAST_COUNT-clause-doubt : goal.returns-then-place-eq-LAST_COUNT-clause-doubt
+returns-then-place-eq-LAST_COUNT-clause-doubt g c e = absurd (published_not_doubt (ended _ _ _ _ _ c.of-then-place-eq-LAST_COUNT.ensures.is e))
+
+pub returns-then-place-eq-LAST_COUNT-clause-doubt_cause : goal.returns-then-place-eq-LAST_COUNT-clause-doubt_cause
+returns-then-place-eq-LAST_COUNT-clause-doubt_cause g c e = absurd (published_not_doubt (ended _ _ _ _ _ c.of-then-place-eq-LAST_COUNT.ensures.is e))
+
+-- what one does not say that published nothing
+pub returns-then-ne-clause-certain : goal.returns-then-ne-clause-certain
+returns-then-ne-clause-certain g c any_done = absurd (none_done _ _ _ c.of-then-ne.ensures.is any_done)
+
+pub returns-then-ne-clause-repaired : goal.returns-then-ne-clause-repaired
+returns-then-ne-clause-repaired g c any_done = absurd (none_done _ _ _ c.of-then-ne.ensures.is any_done)
+
+pub returns-then-ne-clause-undone : goal.returns-then-ne-clause-undone
+returns-then-ne-clause-undone g c any_done = absurd (none_done _ _ _ c.of-then-ne.ensures.is any_done)
+
+pub returns-then-ne-clause-spends : goal.returns-then-ne-clause-spends
+returns-then-ne-clause-spends g c any_done = absurd (none_done _ _ _ c.of-then-ne.ensures.is any_done)
+
+pub returns-then-ne-clause-spent : goal.returns-then-ne-clause-spent
+returns-then-ne-clause-spent g c e = absurd (unpublished g c (ended _ _ _ _ _ c.of-then-ne.ensures.is e))
+
+pub returns-then-ne-clause-untouched : goal.returns-then-ne-clause-untouched
+returns-then-ne-clause-untouched g c e = absurd (c.publish-outcome.ensures.some (ended _ _ _ _ _ c.of-then-ne.ensures.is e))
+
+-- what one does not say that published
+pub returns-clause-untouched : goal.returns-clause-untouched
+returns-clause-untouched g c e = absurd (c.publish-outcome.ensures.some (ended _ _ _ _ _ c.of-2.ensures.is e))
+
+pub returns-clause-failed : goal.returns-clause-failed
+returns-clause-failed g c e = absurd (published_not_failed (sym (is_published g c) ∙ ended _ _ _ _ _ c.of-2.ensures.is e))
+
+pub returns-clause-failed_cause : goal.returns-clause-failed_cause
+returns-clause-failed_cause g c e = absurd (published_not_failed (sym (is_published g c) ∙ ended _ _ _ _ _ c.of-2.ensures.is e))
+
+pub returns-clause-failed_most : goal.returns-clause-failed_most
+returns-clause-failed_most g c e = absurd (published_not_failed (sym (is_published g c) ∙ ended _ _ _ _ _ c.of-2.ensures.is e))
+
+pub returns-clause-failed_whole : goal.returns-clause-failed_whole
+returns-clause-failed_whole g c e = absurd (published_not_failed (sym (is_published g c) ∙ ended _ _ _ _ _ c.of-2.ensures.is e))
+
+pub returns-clause-doubt : goal.returns-clause-doubt
+returns-clause-doubt g c e = absurd (published_not_doubt (sym (is_published g c) ∙ ended _ _ _ _ _ c.of-2.ensures.is e))
+
+pub returns-clause-doubt_cause : goal.returns-clause-doubt_cause
+returns-clause-doubt_cause g c e = absurd (published_not_doubt (sym (is_published g c) ∙ ended _ _ _ _ _ c.of-2.ensures.is e))
