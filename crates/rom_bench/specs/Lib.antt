@@ -1,5 +1,3 @@
 -- What the functions of this crate tell each other.
 pub mod Holds
-pub mod Ready
-pub mod Posting
 pub mod Stores

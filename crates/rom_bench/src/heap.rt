@@ -2,20 +2,15 @@
 ghost use Rattle.std.specs.Prelude.{◌≡◌};
 
 use rom_device::{Device, FileDevice};
-use rom_header::{Geometry, STATE, State, read_header, write_new};
+use rom_header::{Geometry, State, read_header, write_new};
 use rom_recover::recover;
 use std::alloc::Global;
-use std::fs::{File, OpenFile, OpenOptions};
+use std::fs::{OpenFile, OpenOptions};
 use std::io;
 
-/// The file, opened for reading and writing.
-pub fn file_at(rt: &HostRuntime, path: &str) -> io::Result<File> {
-    OpenOptions::new().read(true).write(true).open(rt, path)
-}
-
-/// The device of the file.
+/// The device of the file, opened for reading and writing.
 pub fn device_at(rt: &HostRuntime, path: &str) -> io::Result<FileDevice> {
-    let file = file_at(rt, path)?;
+    let file = OpenOptions::new().read(true).write(true).open(rt, path)?;
     let bytes = file.metadata()?.len();
     Ok(FileDevice::new(file, bytes))
 }
@@ -24,11 +19,6 @@ pub fn device_at(rt: &HostRuntime, path: &str) -> io::Result<FileDevice> {
 pub fn make<D: Device>(alloc: Global, device: &mut D, geometry: Geometry) -> io::Result<bool> {
     let image = vec![in alloc; 7u64; geometry.region() as usize]?;
     Ok(write_new(device, geometry.order(), image.as_slice()).is_ok())
-}
-
-/// Writes a state into the header, and makes it certain.
-pub fn mark<D: Device>(device: &mut D, state: State) -> bool {
-    device.len() > STATE && device.write(STATE, state.word()).is_ok() && device.sync().is_ok()
 }
 
 /// Reads the header and recovers. It tells the state that was found, if all went well.

@@ -6,8 +6,6 @@ ghost use Rattle.rom_store.specs.Callers.{IsCallerOf, IsNewCaller, IsNumbered};
 ghost use Rattle.rom_store.specs.Indexed.{Indexed};
 ghost use Rattle.rom_bench.specs.Stores.{IsLabelled};
 
-use crate::memory::{ORDER, ram};
-use crate::words::{KEY, VALUE};
 use rom_combine::NoGate;
 use rom_device::{Device, Ram};
 use rom_heap::Trio;
@@ -19,13 +17,38 @@ use std::marker::Brand;
 use std::sync::Wait;
 use std::sync::ledger::{Blank, Ledger};
 
-/// What the caller does.
+/// The heap's order, and how many words a device needs for it.
+const ORDER: u32 = 4;
+
+const WORDS: u64 = 232;
+
+/// The map's one key.
+const KEY: u64 = 7;
+
+/// Its value, and the queue's one number.
+const VALUE: u64 = 9;
+
+/// What the caller does again and again.
 #[derive(Clone, Copy)]
 pub enum Work {
-    /// So many reads.
-    Reads(Query, u64),
-    /// So many updates, each of which gives a key that is there another value.
-    Updates(u64),
+    /// Reads the value of the key.
+    Get,
+    /// Reads the queue's first number.
+    Peek,
+    /// Gives the key another value.
+    Update,
+}
+
+impl Work {
+    /// The work of that name.
+    pub fn of(name: &str) -> Option<Work> {
+        match name {
+            "get" => Some(Work::Get),
+            "peek" => Some(Work::Peek),
+            "update" => Some(Work::Update),
+            _ => None,
+        }
+    }
 }
 
 /// Reads so often, and tells how many answers had the value that is there.
@@ -72,24 +95,25 @@ fn update_all<D: Device, N: Label, R: Wait>(
     done
 }
 
-/// Puts the value into the queue and under the key, and works.
+/// Puts the value into the queue and under the key, and works so often.
 fn fill_and_work<D: Device, N: Label, R: Wait>(
     rt: &R,
     store: &Store<D, Trio, N>,
     pass: &mut Pass,
     work: Work,
+    times: u64,
 ) -> u64
     requires of { IsNumbered Contents N.table N.base 0 pass.old }
     ensures of { IsNumbered Contents N.table N.base 0 pass.new }
 {
     store.update(rt, pass, &Call::Enq(VALUE), &NoGate);
     store.update(rt, pass, &Call::Put(KEY, VALUE), &NoGate);
-    match work {
-        Work::Reads(query, reads) => {
-            read_all::<D, N, Brand>(Blank::new(1), store, pass, &query, reads)
-        }
-        Work::Updates(updates) => update_all(rt, store, pass, updates),
-    }
+    let query = match work {
+        Work::Get => Query::Get(KEY),
+        Work::Peek => Query::Peek,
+        Work::Update => return update_all(rt, store, pass, times),
+    };
+    read_all::<D, N, Brand>(Blank::new(1), store, pass, &query, times)
 }
 
 /// The one pass of a store. Room for it stays.
@@ -122,7 +146,8 @@ fn close<D: Device + Drop, N: Label, R: Wait>(
 fn work_on<D: Device + Drop, N: Label, R: Wait>(
     rt: &R,
     opening: Opening<D, Trio>,
-    wanted: Work,
+    work: Work,
+    times: u64,
 ) -> u64
     requires labelled { IsLabelled D.shown N.table N.base N.start N.since opening }
     requires many { length opening.passes ≡ 1 }
@@ -132,18 +157,23 @@ fn work_on<D: Device + Drop, N: Label, R: Wait>(
 {
     let (store, mut passes) = opening.start::<N>();
     let mut pass = alone::<N>(&mut passes);
-    let done = fill_and_work(rt, &store, &mut pass, wanted);
+    let done = fill_and_work(rt, &store, &mut pass, work, times);
     close(rt, store, passes, pass);
     done
 }
 
-fn work_in<D: Device + Drop, R: Wait>(rt: &R, opening: Opening<D, Trio>, work: Work) -> u64
+fn work_in<D: Device + Drop, R: Wait>(
+    rt: &R,
+    opening: Opening<D, Trio>,
+    work: Work,
+    times: u64,
+) -> u64
     requires many { length opening.passes ≡ 1 }
     requires callers { (base_of opening.key).callers ≡ 1 }
     requires new { Indexed
         (IsNewCaller Contents opening.table_id (base_of opening.key)) opening.passes }
 {
-    work_on::<D, Brand, R>(rt, opening, work)
+    work_on::<D, Brand, R>(rt, opening, work, times)
 }
 
 /// A new heap in memory, opened for one caller.
@@ -153,17 +183,22 @@ fn opened(alloc: Global) -> Result<Option<Opening<Ram, Trio>>, AllocError>
     ensures new { IfOk result (λ r. IfSome r (λ o.
         Indexed (IsNewCaller Contents o.table_id (base_of o.key)) o.passes)) }
 {
-    let mut device = ram(alloc)?;
+    let mut device = Ram::zeroed(alloc, WORDS)?;
     if format_device::<Ram, Trio>(alloc, &mut device, ORDER).is_err() {
         return Ok(None);
     }
     Ok(open_store::<Ram, Trio>(alloc, device, 1).ok())
 }
 
-/// Works on a new heap, and tells how much was done, or `None` where no heap was made.
-pub fn make<R: Wait>(rt: &R, alloc: Global, work: Work) -> Result<Option<u64>, AllocError> {
+/// Works so often on a new heap, and tells how much was done, or `None` where no heap was made.
+pub fn make<R: Wait>(
+    rt: &R,
+    alloc: Global,
+    work: Work,
+    times: u64,
+) -> Result<Option<u64>, AllocError> {
     match opened(alloc)? {
-        Some(opening) => Ok(Some(work_in(rt, opening, work))),
+        Some(opening) => Ok(Some(work_in(rt, opening, work, times))),
         None => Ok(None),
     }
 }

@@ -1,7 +1,0 @@
-use Rattle.std.specs.Prelude.{All}
-use Rattle.rom_bench.specs.Posting.{IsPosterOf}
-use Rattle.rom_combine.specs.AtRest.{IsCoreOf}
-use Rattle.rom_bench.proofs.passes.pass_all.Given as goal
-
-abbrev pub invariant-loop-round : goal.invariant-loop-round
-invariant-loop-round g l = IsCoreOf l.shared l.core × All (IsPosterOf l.shared) l.posters
