@@ -1,6 +1,6 @@
 -- What follows from words that hold a heap: why it may be refused all the same, and what a session on it begins with.
 use Rattle.std.proofs.Common.{◌≡◌, ◌⊎◌, inl, inr, ℕ, ◌+◌, ◌≤◌, List, refl, sym, ap, subst, ◌∙◌, arith}
-use Rattle.std.specs.Prelude.{slice_index, IsTrue, IfErr, IsErrAnd, Result, Ok, Err}
+use Rattle.std.specs.Prelude.{slice_index, IsTrue, IfErr, IfOk, IsErrAnd, Result, Ok, Err}
 use Rattle.rom_model.specs.Blocks.{region_len}
 use Rattle.rom_model.specs.declared.unfit.Unfit.{Unfit}
 use Rattle.rom_device.specs.Device.{ShownDevice}
@@ -104,6 +104,11 @@ module _ {S : Type 0} (Contents' : ℕ → List ℕ → S → ℕ → Type 0) (o
 pub as_told : {A E : Type 0} {Q : E → Type 0} (P : E → Type 0) (r : Result A E) → IsErrAnd r Q → ((e : E) → Q e → P e) → IfErr r P
 as_told P (Ok a) is then = tt
 as_told P (Err e) is then = then e is
+
+-- where there is an error, nothing is asked of a value
+pub no_value : {A E : Type 0} (Q : E → Type 0) (P : A → Type 0) (r : Result A E) → IsErrAnd r Q → IfOk r P
+no_value Q P (Ok a) is = absurd is
+no_value Q P (Err e) is = tt
 
 -- the session of a store whose base stands for what these words hold
 pub goes_on : (base : Base) (session : SessionSeen) (words : List ℕ) (n : ℕ) (s : State) (k : ℕ) → (session.order ≡ base.order) × (session.image ≡ base.image) → ((t : State) (j : ℕ) → Contents base.order base.image t j → Holds Contents base.order words t j) → Holds Contents n words s k →

@@ -1,8 +1,8 @@
 //! The bank: four tellers, and a manager who opens the accounts. Each of them is a caller of one store.
-ghost use Rattle.std.specs.Prelude.{◌≡◌, ◌≢◌, ◌⊎◌, ◌+◌, ◌*◌, ◌/◌, ◌<◌, ◌≤◌, ℕ, [], List, All, IfErr, IfOk, IsErr, IsTrue, length, slice_get, slice_index, Some};
+ghost use Rattle.std.specs.Prelude.{◌≡◌, ◌≢◌, ◌⊎◌, ◌+◌, ◌*◌, ◌/◌, ◌<◌, ◌≤◌, ℕ, [], List, All, IfErr, IfOk, IsErr, IsTrue, OnOk, length, slice_get, slice_index, Some};
 ghost use Rattle.rom_device.specs.Device.{OnlyReads};
 ghost use Rattle.rom_header.specs.Held.{Holds};
-ghost use Rattle.rom_header.specs.Layout.{MAGIC};
+ghost use Rattle.rom_header.specs.Layout.{MAGIC, words_needed};
 ghost use Rattle.rom_model.specs.Faults.{Rose};
 ghost use Rattle.rom_model.specs.Leaving.{IsClosed};
 ghost use Rattle.rom_model.specs.Region.{Contents};
@@ -22,11 +22,12 @@ ghost use Rattle.bank.specs.Promise.{HasOpened, IsBalanced, IsTallyOf, total_aft
 ghost use Rattle.bank.specs.Tellers.{IsAfter, IsTeller};
 
 use rom_device::Device;
-use rom_header::MAGIC;
+use rom_header::{FormatRefused, MAGIC};
 use rom_heap::Trio;
 use rom_model::{Answer, Call, Query, Reply, Updated};
 use rom_store::{
-    Closed, Label, NoGate, Note, Opening, Pass, Refused, Store, Why, format_device, open_store,
+    Closed, Label, NoGate, NotFormatted, Note, Opening, Pass, Refused, Store, Why, format_device,
+    open_store,
 };
 use std::alloc::Global;
 use std::marker::Brand;
@@ -38,6 +39,9 @@ pub const ORDER: u32 = 5;
 
 /// The accounts are the keys below this of the heap's map.
 const ACCOUNTS: u64 = 16;
+
+/// How many moves a teller tries: four times round the accounts.
+pub const MOVES: u64 = 4 * ACCOUNTS;
 
 /// The heap that callers share.
 type Heap<D, N> = Store<D, Trio, N>;
@@ -155,7 +159,7 @@ fn work<D: Device, N: Label, R: Wait>(rt: &R, store: &Heap<D, N>, teller: &mut T
     ensures number { teller.new.pass.view.number ≡ teller.old.pass.view.number }
     ensures teller { IsAfter N.table N.base 0 0 teller.old 64 4 teller.new }
 {
-    for i in 0..4 * ACCOUNTS {
+    for i in 0..MOVES {
         move_one(rt, store, teller, i);
         if i % ACCOUNTS == ACCOUNTS - 1 {
             look(store, teller, i / ACCOUNTS);
@@ -230,6 +234,25 @@ fn bank<D: Device + Send, N: Label + Send + Sync, R: Threads + Wait + Sync>(
     }
 }
 
+/// Makes a heap, where none stands. Fewer words than it needs, and a first word that is a heap's after all, are
+/// left to who opens the device, and refuses it by name.
+fn make_new<D: Device>(alloc: Global, device: &mut D) -> Result<(), Why>
+    ensures made { IsTrue D.shown.tells_words → words_needed 5 ≤ D.shown.size device.old →
+        slice_index (D.shown.words device.old) 0 ≡ 0 →
+        OnOk result (Holds Contents 5 (D.shown.words device.new) trio.empty 0) }
+    ensures why { IfErr result (λ why. (why ≡ OutOfMemory) ⊎ (why ≡ Device)) }
+    ensures failed { IfErr result (λ why. why ≡ Device →
+        Rose (D.shown.faults device.old) (D.shown.faults device.new)) }
+    ensures later { D.shown.faults device.old ≤ D.shown.faults device.new }
+{
+    match format_device::<D, Trio>(alloc, device, ORDER) {
+        Ok(()) => Ok(()),
+        Err(NotFormatted::OutOfMemory) => Err(Why::OutOfMemory),
+        Err(NotFormatted::Refused(FormatRefused::Device)) => Err(Why::Device),
+        Err(NotFormatted::Refused(_)) => Ok(()),
+    }
+}
+
 /// Makes a heap where the first word is 0, as it is in a file that was just made. Where another word stands
 /// there, the device is only read: it may be the first word of a heap that was damaged, and a new heap would
 /// take the place of that one.
@@ -239,9 +262,15 @@ fn make_where_new<D: Device>(alloc: Global, device: &mut D) -> Result<(), Why>
     ensures other { IsTrue D.shown.tells_words → 0 < D.shown.size device.old →
         slice_index (D.shown.words device.old) 0 ≢ 0 →
         slice_index (D.shown.words device.old) 0 ≢ MAGIC → IsErr result }
-    ensures why { IfErr result (λ why. (why ≡ NotAHeap) ⊎ (why ≡ Device)) }
+    ensures made { IsTrue D.shown.tells_words → words_needed 5 ≤ D.shown.size device.old →
+        slice_index (D.shown.words device.old) 0 ≡ 0 →
+        OnOk result (Holds Contents 5 (D.shown.words device.new) trio.empty 0) }
+    ensures why { IfErr result (λ why. (why ≡ NotAHeap) ⊎ (why ≡ OutOfMemory) ⊎ (why ≡ Device)) }
     ensures not_a_heap { IsTrue D.shown.tells_words → IfErr result (λ why. why ≡ NotAHeap →
-        slice_index (D.shown.words device.old) 0 ≢ MAGIC) }
+        (slice_index (D.shown.words device.old) 0 ≢ 0)
+        × (slice_index (D.shown.words device.old) 0 ≢ MAGIC)) }
+    ensures memory { IsTrue D.shown.tells_words → IfErr result (λ why. why ≡ OutOfMemory →
+        slice_index (D.shown.words device.old) 0 ≡ 0) }
     ensures failed { IfErr result (λ why. why ≡ Device →
         Rose (D.shown.faults device.old) (D.shown.faults device.new)) }
     ensures later { D.shown.faults device.old ≤ D.shown.faults device.new }
@@ -250,16 +279,9 @@ fn make_where_new<D: Device>(alloc: Global, device: &mut D) -> Result<(), Why>
         return Ok(());
     }
     match device.read(0) {
-        Ok(word) => {
-            if word == 0 {
-                let _ = format_device::<D, Trio>(alloc, device, ORDER);
-                return Ok(());
-            }
-            if word != MAGIC {
-                return Err(Why::NotAHeap);
-            }
-            Ok(())
-        }
+        Ok(0) => make_new(alloc, device),
+        Ok(MAGIC) => Ok(()),
+        Ok(_) => Err(Why::NotAHeap),
         Err(_) => Err(Why::Device),
     }
 }
@@ -283,6 +305,13 @@ pub fn run_bank<D: Device + Send, R: Threads + Wait + Sync + AllocGlobal>(
         slice_index (D.shown.words device) 0 ≢ 0 → slice_index (D.shown.words device) 0 ≢ MAGIC →
         IsErr result × IfErr result (λ refused. OnlyReads D.shown device refused.device
         × ((refused.why ≡ NotAHeap) ⊎ (refused.why ≡ Device))) }
+
+    // Where there are words enough and the first is 0, a new heap is made, and it goes on from that.
+    ensures made { IsTrue D.shown.tells_words → words_needed 5 ≤ D.shown.size device →
+        slice_index (D.shown.words device) 0 ≡ 0 →
+        IfErr result (λ refused. (refused.why ≡ Device) ⊎ (refused.why ≡ OutOfMemory))
+        × IfOk result (λ books.
+        EachStory trio Contents books.closed.session (HasOpened 5 trio.empty 0)) }
 
     // What they hold is what it goes on from.
     ensures stood { IsTrue D.shown.tells_words → (n : ℕ) (s : State) (k : ℕ) →

@@ -10,7 +10,7 @@
 
 mod bank;
 
-use bank::{ORDER, run_bank};
+use bank::{MOVES, ORDER, run_bank};
 use rom_header::Geometry;
 use rom_host::{file_of, hold_streams, words_of};
 use std::io;
@@ -31,10 +31,16 @@ fn main(rt: HostRuntime) -> io::Result<ExitCode> {
             return Ok(ExitCode::FAILURE);
         }
     };
+    let mut all_moved = true;
     for tally in books.tallies {
         let [(a, _), (b, _), (c, _), (d, _)] = tally.reads;
         println!(&rt; "moved {}, read {a} {b} {c} {d}", tally.moved)?;
+        all_moved &= tally.moved == MOVES;
     }
     println!(&rt; "put in {}, total {}", books.put_in, books.total)?;
+    if !all_moved {
+        eprintln!(&rt; "a move was not made: an account had too little, or the file failed")?;
+        return Ok(ExitCode::FAILURE);
+    }
     Ok(ExitCode::SUCCESS)
 }
