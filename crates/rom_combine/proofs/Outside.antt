@@ -43,6 +43,8 @@ module _ {D : Type 0} (shown : ShownDevice D) (n : ℕ) where
     size = refl;
     words = λ told. record { as_long = refl; before = λ k h other. refl; behind = λ k h. refl };
     images = λ told. runs_none shown (WithinHeap n) (λ x. record { as_long = refl; before = λ k h other. refl; behind = λ k h. refl }) a;
+    doubts = λ told. runs_none shown (WithinHeap n) (λ x. record { as_long = refl; before = λ k h other. refl; behind = λ k h. refl }) a;
+    fewer = λ at is. is;
   }
 
   pub within_then : (a b c : D) → Does shown (WithinHeap n) a b → Does shown (WithinHeap n) b c → Does shown (WithinHeap n) a c

@@ -1,6 +1,6 @@
 -- How a cached medium goes on, as its medium does and as words are put behind those that wait.
-use Rattle.std.proofs.Common.{◌≡◌, ◌≢◌, inl, inr, ℕ, ◌+◌, ◌<◌, ◌≤◌, Bool, true, IsTrue, List, length, slice_index, Option, Some, None, IfSome, set, refl, sym, ◌∙◌, subst, arith}
-use Rattle.rom_device.specs.Device.{ShownDevice, Stays, Writes, Does, OnlyReads, IsSynced}
+use Rattle.std.proofs.Common.{◌≡◌, ◌≢◌, ◌⊎◌, inl, inr, ℕ, ◌+◌, ◌<◌, ◌≤◌, Bool, true, false, IsTrue, List, length, slice_index, Option, Some, None, IfSome, set, refl, sym, ◌∙◌, subst, arith}
+use Rattle.rom_device.specs.Device.{ShownDevice, AreSettled, Stays, Writes, Does, OnlyReads}
 use Rattle.rom_device.specs.Medium.{HandsOver}
 use Rattle.rom_device.specs.Run.{nth_of, word_of, with_run, Follows}
 use Rattle.rom_device.specs.Windows.{Knows}
@@ -13,7 +13,7 @@ use Rattle.rom_device.specs.Over.{length-laid}
 use Rattle.std.specs.Bool.{OnTrue}
 use Rattle.rom_device.proofs.Told.{on_true}
 use Rattle.rom_device.proofs.Waiting.{nth_by_place, nth_put, run_has}
-use Rattle.rom_device.proofs.Over.{laid_empty, over_reads, over_hands, over_handed, over_syncs, over_synced, over_puts, words_put}
+use Rattle.rom_device.proofs.Over.{laid_empty, over_reads, over_hands, over_handed, over_syncs, over_settled, over_puts, words_put}
 
 pub knows_by : (w : Windows) (x y : List ℕ) → x ≡ y → Knows w x → Knows w y
 knows_by w x y same knows = subst (λ (l : List ℕ). Knows w l) same knows
@@ -64,6 +64,8 @@ longer_words at value a b x longer = words_put plain (λ _. 0) (λ _. 0) (λ run
       leaves = λ _ _. Unit {0};
       clock = λ _. 0;
       left_since = λ _ _ _. Unit {0};
+      tells_doubts = false;
+      doubted = λ _ _. ⊥;
       reads = λ _. 0;
       writes = λ _. 0;
       syncs = λ _. 0;
@@ -100,9 +102,6 @@ module _ {M : Type 0} {bound : _} (shown : ShownDevice M) where
       → Does shown Stays a.medium b.medium → Does (shown_by_cached shown) Stays a b
   cached_syncs a b long same none counts does = over_syncs shown (λ c. c.len) (λ c. c.medium) (λ c. c.pending) a b long same none counts does
 
-  pub cached_synced : (a : Cached M bound) → a.pending.count ≡ 0 → IsSynced shown a.medium → IsSynced (shown_by_cached shown) a
-  cached_synced a none synced = over_synced shown (λ c. c.len) (λ c. c.medium) (λ c. c.pending) a none synced
-
 pub length-with_run : (run : Run) (x : List ℕ) → length (with_run run x) ≡ length x
 length-with_run run x = length-laid run.first (nth_of run) run.count x
 
@@ -120,6 +119,6 @@ found_word run x b None fits is = tt
 found_word run x b (Some word) fits is = run_has run x b word fits (sym is)
 
 -- after a sync of the medium, where none waits
-pub certain : {M : Type 0} (shown : ShownDevice M) (run : Run) (m : M) (done : Bool) → run.count ≡ 0 → OnTrue done (IsSynced shown m)
-    → OnTrue done (IsTrue shown.tells_images → (i : List ℕ) → may_leave shown run m i → i ≡ with_run run (shown.words m))
-certain shown run m done none synced = on_true done (over_synced shown (λ _. 0) (λ _. m) (λ (r : Run). r) run none) synced
+pub settled : {M : Type 0} (shown : ShownDevice M) (run : Run) (m : M) (done : Bool) → run.count ≡ 0 → OnTrue done (AreSettled shown m)
+    → OnTrue done ((i : List ℕ) → may_leave shown run m i → (b : ℕ) → (slice_index i b ≡ slice_index (with_run run (shown.words m)) b) ⊎ (shown.doubted m b × (word_of run b ≡ None)))
+settled shown run m done none medium = on_true done (over_settled shown (λ _. 0) (λ _. m) (λ (r : Run). r) run none) medium

@@ -95,12 +95,47 @@ module _ {D : Type 0} (shown : ShownDevice D) where
     keeps = runs.keeps;
   }
 
+  -- each image becomes one with P, or stays
+  pub leaves_becoming : (step : List ℕ → List ℕ → Type 0) (P : List ℕ → Type 0) (a b : D) → ((t : ℕ) (i : List ℕ) → t ≤ shown.clock a → shown.leaves a i → shown.left_since a t i)
+      → Runs shown step a b → ((x y : List ℕ) → shown.leaves a x → step x y → Becomes P x y) → Leaves shown P a b
+  leaves_becoming step P a b counts runs becomes = record {
+    later = runs.later;
+    nothing_else = λ t i le left. ⊎_elim (λ past. inl past)
+        (λ here. ⊎_elim (λ same. inl (counts t i le (subst (λ (l : List ℕ). shown.leaves a l) (sym same) here.was))) (λ has. inr has) (becomes here.from i here.was here.by))
+        (runs.nothing_else t i left);
+    keeps = runs.keeps;
+  }
+
+  -- calls that write nothing leave no image that was not left
+  pub was_left : (a b : D) → Runs shown Stays a b → (i : List ℕ) → shown.leaves b i → shown.leaves a i
+  was_left a b runs i left = let here = runs.now i left in subst (λ (l : List ℕ). shown.leaves a l) (sym here.by) here.was
+
+  -- a step before calls that write nothing
+  pub runs_then : (step : List ℕ → List ℕ → Type 0) (a b c : D) → Runs shown step a b → Runs shown Stays b c → Runs shown step a c
+  runs_then step a b c first second = record {
+    later = omega (arith, first.later, second.later);
+    now = λ i left. first.now i (was_left b c second i left);
+    nothing_else = λ t i left. ⊎_elim (first.nothing_else t i) (λ here. inr (first.now i (subst (λ (l : List ℕ). shown.leaves b l) (sym here.by) here.was))) (second.nothing_else t i left);
+    keeps = λ t i le left. second.keeps t i (omega (arith, le, first.later)) (first.keeps t i le left);
+  }
+
   -- calls that take one step, one after another; and a weaker step
   pub does_on : (step : List ℕ → List ℕ → Type 0) → ((x y z : List ℕ) → step x y → step y z → step x z) → (a b c : D) → Does shown step a b → Does shown step b c → Does shown step a c
   does_on step joins a b c first second = record {
     size = second.size ∙ first.size;
     words = λ told. joins (shown.words a) (shown.words b) (shown.words c) (first.words told) (second.words told);
     images = λ told. runs_on step joins a b c (first.images told) (second.images told);
+    doubts = λ told. runs_on step joins a b c (first.doubts told) (second.doubts told);
+    fewer = λ at is. first.fewer at (second.fewer at is);
+  }
+
+  pub does_then : (step : List ℕ → List ℕ → Type 0) (a b c : D) → Does shown step a b → Does shown Stays b c → Does shown step a c
+  does_then step a b c first second = record {
+    size = second.size ∙ first.size;
+    words = λ told. subst (λ (l : List ℕ). step (shown.words a) l) (sym (second.words told)) (first.words told);
+    images = λ told. runs_then step a b c (first.images told) (second.images told);
+    doubts = λ told. runs_then step a b c (first.doubts told) (second.doubts told);
+    fewer = λ at is. first.fewer at (second.fewer at is);
   }
 
   pub does_by : (step wider : List ℕ → List ℕ → Type 0) → ((x y : List ℕ) → step x y → wider x y) → (a b : D) → Does shown step a b → Does shown wider a b
@@ -108,4 +143,6 @@ module _ {D : Type 0} (shown : ShownDevice D) where
     size = does.size;
     words = λ told. is (shown.words a) (shown.words b) (does.words told);
     images = λ told. runs_by step wider is a b (does.images told);
+    doubts = λ told. runs_by step wider is a b (does.doubts told);
+    fewer = does.fewer;
   }

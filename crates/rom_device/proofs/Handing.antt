@@ -13,6 +13,7 @@ hands_by shown at f g n old new done same hands =
     record {
       does = subst (λ (vs : List ℕ). Does shown (WritesMany at vs) old new) values hands.does;
       written = λ told. subst (λ (l : List ℕ). OnTrue done (shown.words new ≡ l)) over (hands.written told);
+      renewed = hands.renewed;
       keeps = hands.keeps;
       each = λ told. subst (λ (vs : List ℕ). OnTrue done ((i : List ℕ) → After (WritesMany at vs) (shown.leaves old) i → shown.leaves new i)) values (hands.each told);
     }

@@ -14,6 +14,8 @@ mod Knowing
 mod Caching
 mod OnMedium
 mod Logged
+mod Doubting
+mod Older
 mod Laid
 mod Listing
 mod Passing

@@ -10,6 +10,7 @@ use Rattle.rom_device.specs.declared.call.LoggedCall.TheVariants.{Write}
 use Rattle.rom_device.specs.declared.memory.Memory.{Memory}
 use Rattle.rom_device.proofs.Synced.{newest}
 use Rattle.rom_device.specs.Over.{length-firsts, at-firsts}
+use Rattle.rom_device.specs.Doubt.{untold}
 use Rattle.rom_device.proofs.Going.{runs_none}
 use Rattle.rom_device.proofs.Many.{many_none, many_on}
 use Rattle.rom_device.proofs.Laid.{many_split, many_empty, firsts_none}
@@ -54,7 +55,7 @@ leaves_next at f n first old new result well inside lists so_far i after =
     write_leaves (at + n) (f n) old new result lists well i record { from = split.mid; was = so_far split.mid record { from = after.from; was = after.was; by = split.many }; by = split.last }
 
 pub does_none : (at : ℕ) (values : List ℕ) (a : Memory) → Does shown_by_memory (WritesMany at values) a a
-does_none at values a = record { size = refl; words = λ told. many_none at values (shown_by_memory.words a); images = λ told. runs_none shown_by_memory (WritesMany at values) (many_none at values) a }
+does_none at values a = record { size = refl; words = λ told. many_none at values (shown_by_memory.words a); images = λ told. runs_none shown_by_memory (WritesMany at values) (many_none at values) a; doubts = λ never. untold never; fewer = λ b is. is }
 
 pub leaves_first : (at : ℕ) (f : ℕ → ℕ) (a : Memory) (i : List ℕ) → After (WritesMany at (firsts f 0)) (shown_by_memory.leaves a) i → shown_by_memory.leaves a i
 leaves_first at f a i after = subst (λ (l : List ℕ). shown_by_memory.leaves a l) (sym (many_empty at after.from i (subst (λ (vs : List ℕ). WritesMany at vs after.from i) (firsts_none f) after.by))) after.was

@@ -3,7 +3,7 @@ use Rattle.std.proofs.Common.{◌≡◌, ◌≢◌, inl, inr, ℕ, ◌+◌, ◌<
 use Rattle.std.proofs.lemmas.Bool.{cases_eq, cases_lt}
 use Rattle.std.proofs.lemmas.List.{set_past}
 use Rattle.rom_model.specs.Space.{ChangesOnly}
-use Rattle.rom_device.specs.Device.{ShownDevice, Runs, Does, Writes, WritesMany}
+use Rattle.rom_device.specs.Device.{ShownDevice, AreRenewed, DoubtsNoMore, IsRenewed, Runs, Does, Writes, WritesMany}
 use Rattle.rom_model.proofs.Changes.{changes_joins, changes_set, changes_wider}
 use Rattle.rom_device.proofs.Going.{runs_by, does_on, does_by}
 
@@ -58,6 +58,16 @@ pub many_on : {D : Type 0} (shown : ShownDevice D) (at : ℕ) (values : List ℕ
 many_on shown at values index lt a b c so_far write =
     does_on shown (WritesMany at values) (many_joins at values) a b c so_far
     (does_by shown (Writes (at + index) (slice_index values index)) (WritesMany at values) (many_writes at values index lt) b c write)
+
+-- places that are not in doubt, and one more
+pub renewed_still : {D : Type 0} (shown : ShownDevice D) (at k : ℕ) (b c : D) → DoubtsNoMore shown b c → AreRenewed shown at k b → AreRenewed shown at k c
+renewed_still shown at k b c fewer so_far j lt is = so_far j lt (fewer (at + j) is)
+
+pub renewed_on : {D : Type 0} (shown : ShownDevice D) (at k : ℕ) (b c : D) → DoubtsNoMore shown b c → AreRenewed shown at k b → IsRenewed shown (at + k) c → AreRenewed shown at (k + 1) c
+renewed_on shown at k b c fewer so_far here j lt is = elim (cases_lt j k) [
+  | inl before ↦ so_far j before (fewer (at + j) is)
+  | inr past ↦ let last : j ≡ k = omega (arith, lt, past) in here (subst (λ (n : ℕ). shown.doubted c (at + n)) last is)
+]
 
 -- the words that were written so far, and one more
 only_one_more : (at k v : ℕ) (x y z : List ℕ) → ChangesOnly at k x y → z ≡ set y (at + k) v → ChangesOnly at (k + 1) x z

@@ -1,12 +1,15 @@
 -- How the words of a medium with those that wait in their places go on, and what a stop may leave of
 -- both, as the medium does and as words are put behind those that wait.
-use Rattle.std.proofs.Common.{◌≡◌, inl, inr, ⊎_elim, ℕ, zero, suc, ◌+◌, ◌<◌, ◌≤◌, Bool, true, IsTrue, List, [], length, set, refl, sym, ap, ◌∙◌, subst, arith}
-use Rattle.rom_device.specs.Device.{ShownDevice, After, Stays, Writes, WritesMany, Runs, Does, OnlyReads, IsSynced}
+use Rattle.std.proofs.Common.{◌≡◌, ◌⊎◌, inl, inr, ⊎_elim, ℕ, zero, suc, ◌+◌, ◌-◌, ◌<◌, ◌≤◌, Bool, true, IsTrue, List, [], length, slice_index, None, set, refl, sym, ap, ◌∙◌, subst, arith}
+use Rattle.rom_device.specs.Device.{ShownDevice, After, Stays, Writes, WritesMany, Runs, Does, OnlyReads, AreSettled}
 use Rattle.rom_device.specs.Laid.{firsts, laid}
 use Rattle.rom_device.specs.Medium.{HandsOver}
-use Rattle.rom_device.specs.Run.{nth_of, words_of, with_run}
+use Rattle.rom_device.specs.Run.{nth_of, word_of, words_of, with_run}
 use Rattle.rom_device.specs.Cached.{may_leave, shown_over}
 use Rattle.rom_device.specs.declared.run.Run.{Run}
+use Rattle.rom_device.specs.Doubt.{untold}
+use Rattle.std.proofs.lemmas.Bool.{cases_eq, cases_lt}
+use Rattle.rom_device.proofs.Waiting.{has_place, lacks, lacks_place, waits_not}
 use Rattle.rom_device.proofs.Many.{many_none, many_joins}
 use Rattle.rom_device.proofs.Laid.{laid_none, laid_next, laid_again, laid-same, firsts-same, firsts_none, many_empty, many_longer, many_split}
 
@@ -73,6 +76,8 @@ module _ {M : Type 0} (shown : ShownDevice M) where
                 (λ past. ⊎_elim (λ before. inl (inr before)) (λ here. inr (still (waiting a) (medium a) i (stays_left (waiting a) (medium a) i here))) ((only.images told).nothing_else t i past)) since;
             keeps = λ t i le since. ⊎_elim (λ left. inl (kept told i left)) (λ past. inr ((only.images told).keeps t i le past)) since;
           };
+          doubts = λ never. untold never;
+          fewer = λ at is. (only.fewer at is.0, ap (λ (run : Run). word_of run at) (sym same) ∙ is.1);
           still = λ told i left. kept told i left;
           writes = refl;
           syncs = refl;
@@ -97,6 +102,8 @@ module _ {M : Type 0} (shown : ShownDevice M) where
                 (λ past. ⊎_elim (λ before. inl (inr before)) (λ here. inr (still (waiting a) (medium a) i here)) ((hands.does.images told).nothing_else t i past)) since;
             keeps = λ t i le since. ⊎_elim (λ left. inl (kept told i left)) (λ past. inr ((hands.does.images told).keeps t i le past)) since;
           };
+          doubts = λ never. untold never;
+          fewer = λ at is. (hands.does.fewer at is.0, ap (λ (run : Run). word_of run at) (sym same) ∙ is.1);
           still = λ told i left. kept told i left;
           writes = refl;
           syncs = refl;
@@ -120,6 +127,13 @@ module _ {M : Type 0} (shown : ShownDevice M) where
                 (λ past. ⊎_elim (λ before. inl (inr before)) (λ here. inr (still (waiting a) (medium a) i here)) ((hands.does.images told).nothing_else t i past)) since;
             keeps = λ t i le since. ⊎_elim (λ left. inl (kept told i left)) (λ past. inr ((hands.does.images told).keeps t i le past)) since;
           };
+          doubts = λ never. untold never;
+          fewer = λ at is. (
+            hands.does.fewer at is.0,
+            waits_not (waiting a) at (word_of (waiting a) at) refl (λ w there.
+                let place = has_place (waiting a) at w there in
+                hands.renewed (at - (waiting a).first) place.1 (subst (λ (k : ℕ). shown.doubted (medium b) k) (omega (arith, place.0)) is.0)),
+          );
           still = λ told i left. kept told i left;
           writes = refl;
           syncs = refl;
@@ -142,11 +156,15 @@ module _ {M : Type 0} (shown : ShownDevice M) where
                 (λ past. ⊎_elim (λ before. inl (inr before)) (λ here. inr (still (waiting a) (medium a) i (stays_left (waiting a) (medium a) i here))) ((does.images told).nothing_else t i past)) since;
             keeps = λ t i le since. ⊎_elim (λ left. inr ((does.images told).keeps t i le (counts t i told le (left_empty (waiting a) (medium a) i none left)))) (λ past. inr ((does.images told).keeps t i le past)) since;
           };
+          doubts = λ never. untold never;
+          fewer = λ at is. (does.fewer at is.0, ap (λ (run : Run). word_of run at) (sym same) ∙ is.1);
         }
 
-    pub over_synced : (d : D) → (waiting d).count ≡ 0 → IsSynced shown (medium d) → IsSynced over d
-    over_synced d none synced told i left =
-        synced told i (left_empty (waiting d) (medium d) i none left) ∙ sym (laid_empty (waiting d).first (nth_of (waiting d)) (waiting d).count (shown.words (medium d)) none)
+    pub over_settled : (d : D) → (waiting d).count ≡ 0 → AreSettled shown (medium d) → AreSettled over d
+    over_settled d none settled i left b = ⊎_elim
+        (λ reads. inl (reads ∙ ap (λ (x : List ℕ). slice_index x b) (sym (laid_empty (waiting d).first (nth_of (waiting d)) (waiting d).count (shown.words (medium d)) none))))
+        (λ is. inr (is, lacks (waiting d) b (elim (cases_lt b (waiting d).first) [ inl before ↦ inl before | inr behind ↦ inr (omega (arith, behind, none)) ])))
+        (settled i (left_empty (waiting d) (medium d) i none left) b)
 
     -- a word is put behind those that wait
     pub record Puts (at value : ℕ) (a b : D) : Type 0 where
@@ -232,4 +250,15 @@ module _ {M : Type 0} (shown : ShownDevice M) where
             nothing_else = λ t i since. ⊎_elim (λ left. inr (now_left told i left)) (λ past. inl (inr (subst (λ (m : M). shown.left_since m t i) puts.on_medium past))) since;
             keeps = λ t i le since. ⊎_elim (λ left. inl (still_left i left)) (λ past. inr (subst (λ (m : M). shown.left_since m t i) (sym puts.on_medium) past)) since;
           };
+          doubts = λ never. untold never;
+          fewer = λ b' is. (subst (λ (m : M). shown.doubted m b') puts.on_medium is.0, lacked b' (lacks_place (waiting b) b' is.1));
         }
+          where
+            lacked : (k : ℕ) → (k < (waiting b).first) ⊎ ((waiting b).first + (waiting b).count ≤ k) → word_of (waiting a) k ≡ None
+            lacked k out = elim (cases_eq (waiting a).count 0) [
+              | inl none ↦ lacks (waiting a) k (elim (cases_lt k (waiting a).first) [ inl before ↦ inl before | inr behind ↦ inr (omega (arith, behind, none)) ])
+              | inr some ↦ lacks (waiting a) k (elim out [
+                | inl before ↦ inl (omega (arith, before, puts.first (omega (arith, some))))
+                | inr behind ↦ inr (omega (arith, behind, puts.first (omega (arith, some)), puts.count))
+              ])
+            ]

@@ -81,7 +81,7 @@ module _ {D : Type 0} (shown : ShownDevice D) where
       let inside : k < length (take (k + 1) values) = omega (arith, length-take-le (k + 1) values (omega (arith, lt))) in
       let value : slice_index values k ≡ slice_index (take (k + 1) values) k = sym (get_or-take (k + 1) values k 0 (omega arith)) in
       let next : Does shown (Writes (at + k) (slice_index values k)) (inner_of b) (inner_of c) =
-      record { size = does.size; words = does.words; images = λ told. inner_runs (Writes (at + k) (slice_index values k)) b c (does.images told) } in
+      record { size = does.size; words = does.words; images = λ told. inner_runs (Writes (at + k) (slice_index values k)) b c (does.images told); doubts = λ told. inner_runs (Writes (at + k) (slice_index values k)) b c (does.doubts told); fewer = does.fewer } in
       record {
         does = many_on shown at (take (k + 1) values) k inside (inner_of a) (inner_of b) (inner_of c)
             (does_by shown (WritesMany at (take k values)) (WritesMany at (take (k + 1) values)) (many_wider at values k lt) (inner_of a) (inner_of b) so_far.does)

@@ -57,6 +57,18 @@ lacks_place run b is = elim (cases_lt b run.first) [
   ]
 ]
 
+pub lacks : (run : Run) (b : ℕ) → (b < run.first) ⊎ (run.first + run.count ≤ b) → word_of run b ≡ None
+lacks run b out =
+    let first : ℕ = run.first in
+    let count : ℕ = run.count in
+    let test : (nat_le first b && nat_lt (b - first) count) ≡ false = elim out [ inl before ↦ grind (arith, nat_tests) | inr behind ↦ grind (arith, nat_tests) ] in
+    word_if run b false test
+
+-- a word that no run has
+pub waits_not : (run : Run) (b : ℕ) (found : Option ℕ) → word_of run b ≡ found → ((w : ℕ) → word_of run b ≡ Some w → ⊥) → word_of run b ≡ None
+waits_not run b None is none = is
+waits_not run b (Some w) is none = absurd (none w is)
+
 pub run_has : (run : Run) (x : List ℕ) (b w : ℕ) → run.first + run.count ≤ length x → word_of run b ≡ Some w → w ≡ slice_index (with_run run x) b
 unfolding nth_of
 run_has run x b w fits is =

@@ -22,7 +22,7 @@ abbrev pub may_leave : {M : Type 0} → ShownDevice M → Run → M → List ℕ
 may_leave shown waiting medium = After (WritesMany waiting.first (words_of waiting)) (shown.leaves medium)
 
 -- The words of a medium with those that wait in their places, and the images of both, wherever a
--- value has the two. The moment is the medium's. No call is counted.
+-- value has the two. The moment is the medium's. A word in doubt is no longer so where another waits. No call is counted.
 abbrev pub shown_over : {D M : Type 0} → ShownDevice M → (D → ℕ) → (D → M) → (D → Run) → ShownDevice D
 shown_over shown size medium waiting = record {
   size = size;
@@ -32,6 +32,8 @@ shown_over shown size medium waiting = record {
   leaves = λ d. may_leave shown (waiting d) (medium d);
   clock = λ d. shown.clock (medium d);
   left_since = λ d t i. may_leave shown (waiting d) (medium d) i ⊎ shown.left_since (medium d) t i;
+  tells_doubts = false;
+  doubted = λ d at. shown.doubted (medium d) at × (word_of (waiting d) at ≡ None);
   reads = λ _. 0;
   writes = λ _. 0;
   syncs = λ _. 0;

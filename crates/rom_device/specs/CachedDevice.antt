@@ -1,8 +1,8 @@
 -- What a contract sees of a device over a medium.
-use Rattle.std.specs.Prelude.{◌≡◌, ◌⊎◌, ℕ, Bool, IsTrue, IsFalse, nat_lt}
+use Rattle.std.specs.Prelude.{◌≡◌, ◌⊎◌, ◌&&◌, ℕ, Bool, IsTrue, IsFalse, None, nat_lt}
 use Rattle.rom_device.specs.Cached as cached
 use Rattle.rom_device.specs.Cached.{may_leave}
-use Rattle.rom_device.specs.Run.{with_run}
+use Rattle.rom_device.specs.Run.{word_of, with_run}
 use Rattle.rom_device.specs.Device.{ShownDevice}
 use Rattle.rom_device.specs.declared.cached_device.CachedDevice.{CachedDevice}
 
@@ -54,16 +54,19 @@ module _ {M : Type 0} {bound : _} where
 
   -- It shows its size and its counts; where the medium tells its words, these with those that wait in
   -- their places; and where the medium tells what a stop may leave, that with each word by itself as it
-  -- is there or as it waits.
-  abbrev pub shown_by_device : ShownDevice M → ShownDevice (CachedDevice M bound)
-  shown_by_device shown = record {
+  -- is there or as it waits. In doubt are the words that are so on the medium, but where another waits;
+  -- and where none ever is (the first argument says so of the medium), it tells images without doubts too.
+  abbrev pub shown_by_device : Bool → ShownDevice M → ShownDevice (CachedDevice M bound)
+  shown_by_device lasting shown = record {
     size = length_of;
     tells_words = shown.tells_words;
     words = λ d. with_run d.words.pending (shown.words d.words.medium);
-    tells_images = shown.tells_images;
+    tells_images = lasting && shown.tells_images;
     leaves = λ d. may_leave shown d.words.pending d.words.medium;
     clock = λ d. shown.clock d.words.medium;
     left_since = λ d t i. may_leave shown d.words.pending d.words.medium i ⊎ shown.left_since d.words.medium t i;
+    tells_doubts = shown.tells_images;
+    doubted = λ d at. shown.doubted d.words.medium at × (word_of d.words.pending at ≡ None);
     reads = read_count;
     writes = write_count;
     syncs = sync_count;

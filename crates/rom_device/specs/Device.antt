@@ -3,18 +3,21 @@ use Rattle.std.specs.Prelude.{◌≡◌, ◌⊎◌, ℕ, ◌+◌, ◌<◌, ◌�
 use Rattle.rom_model.specs.Faults.{Adds, AtMost, FailedLast, HasCause, counted}
 use Rattle.rom_model.specs.Space.{ChangesOnly}
 
--- A fixed number of 64-bit words that are read, written and made certain.
+-- A fixed number of 64-bit words that are read, written and made certain. An earlier program may have left words in doubt: they read as it wrote them last, but a stop may leave an older value, and no sync of this program makes them certain until it has written them itself.
 pub record ShownDevice (D : Type 0) : Type 1 where
   -- how many words it has
   pub size : D → ℕ
   -- the words as they read, where it tells them
   pub tells_words : Bool
   pub words : D → List ℕ
-  -- where it tells them, the images: what a stop now may leave, and what a stop at some moment since that one might have left, within a call or between two; and the moment, as a number that never falls
+  -- where it tells them, the images, with no word ever in doubt: what a stop now may leave, and what a stop at some moment since that one might have left, within a call or between two; and the moment, as a number that never falls
   pub tells_images : Bool
   pub leaves : D → List ℕ → Type 0
   pub clock : D → ℕ
   pub left_since : D → ℕ → List ℕ → Type 0
+  -- whether it tells the images with words in doubt, and which places are; of a medium `tells_images` says both
+  pub tells_doubts : Bool
+  pub doubted : D → ℕ → Type 0
   -- how many reads, writes and syncs were called, each up to 2 ^ 64 - 1; each word of a call for many is one
   pub reads : D → ℕ
   pub writes : D → ℕ
@@ -67,6 +70,14 @@ pub record Leaves {D : Type 0} (shown : ShownDevice D) (P : List ℕ → Type 0)
   pub nothing_else : (t : ℕ) (i : List ℕ) → t ≤ shown.clock old → shown.left_since new t i → shown.left_since old t i ⊎ P i
   pub keeps : (t : ℕ) (i : List ℕ) → t ≤ shown.clock old → shown.left_since old t i → shown.left_since new t i
 
+-- What holds of a device that tells the images with words in doubt, whatever its calls: a stop may leave the words as they read, and as many as they are, and this moment is the one alone since itself.
+pub record TellsDoubts {D : Type 0} (shown : ShownDevice D) : Type 0 where
+  pub words : IsTrue shown.tells_words
+  pub reads_image : (d : D) → shown.leaves d (shown.words d)
+  pub images_fit : (d : D) (i : List ℕ) → shown.leaves d i → length i ≡ length (shown.words d)
+  pub counts_now : (d : D) (t : ℕ) (i : List ℕ) → t ≤ shown.clock d → shown.leaves d i → shown.left_since d t i
+  pub only_now : (d : D) (i : List ℕ) → shown.left_since d (shown.clock d) i → shown.leaves d i
+
 module _ {D : Type 0} (shown : ShownDevice D) where
   -- the words, where the device tells them
   abbrev pub told_words : D → Option (List ℕ)
@@ -76,17 +87,36 @@ module _ {D : Type 0} (shown : ShownDevice D) where
   abbrev pub IsSynced : D → Type 0
   IsSynced device = IsTrue shown.tells_images → (i : List ℕ) → shown.leaves device i → i ≡ shown.words device
 
-  -- Calls that change the words, and each image, by this step alone.
+  -- a stop leaves each word as it reads, but for those in doubt
+  abbrev pub AreSettled : D → Type 0
+  AreSettled device = (i : List ℕ) → shown.leaves device i → (b : ℕ) → (slice_index i b ≡ slice_index (shown.words device) b) ⊎ shown.doubted device b
+
+  -- no place is in doubt that was not
+  abbrev pub DoubtsNoMore : D → D → Type 0
+  DoubtsNoMore old new = (b : ℕ) → shown.doubted new b → shown.doubted old b
+
+  -- that place is not in doubt, and none of so many from that one on
+  abbrev pub IsRenewed : ℕ → D → Type 0
+  IsRenewed at device = shown.doubted device at → ⊥
+
+  abbrev pub AreRenewed : ℕ → ℕ → D → Type 0
+  AreRenewed at count device = (k : ℕ) → k < count → shown.doubted device (at + k) → ⊥
+
+  -- Calls that change the words, and each image, by this step alone, and bring no word in doubt.
   pub record Does (step : List ℕ → List ℕ → Type 0) (old new : D) : Type 0 where
     pub size : shown.size new ≡ shown.size old
     pub words : IsTrue shown.tells_words → step (shown.words old) (shown.words new)
     pub images : IsTrue shown.tells_images → Runs shown step old new
+    pub doubts : IsTrue shown.tells_doubts → Runs shown step old new
+    pub fewer : DoubtsNoMore old new
 
   -- Calls of `read` alone: words and images stay.
   pub record OnlyReads (old new : D) : Type 0 where
     pub size : shown.size new ≡ shown.size old
     pub words : IsTrue shown.tells_words → shown.words new ≡ shown.words old
     pub images : IsTrue shown.tells_images → Runs shown Stays old new
+    pub doubts : IsTrue shown.tells_doubts → Runs shown Stays old new
+    pub fewer : DoubtsNoMore old new
     pub still : IsTrue shown.tells_images → (i : List ℕ) → shown.leaves old i → shown.leaves new i
     pub writes : shown.writes new ≡ shown.writes old
     pub syncs : shown.syncs new ≡ shown.syncs old

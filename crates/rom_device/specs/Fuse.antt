@@ -35,6 +35,8 @@ module _ {D : Type 0} (shown : ShownDevice D) where
     leaves = λ f. shown.leaves (inner_of f);
     clock = λ f. shown.clock (inner_of f);
     left_since = λ f. shown.left_since (inner_of f);
+    tells_doubts = shown.tells_doubts;
+    doubted = λ f. shown.doubted (inner_of f);
     reads = λ f. f.reads;
     writes = λ f. f.writes;
     syncs = λ f. f.syncs;

@@ -3,6 +3,10 @@ pub mod Device
 pub mod Laid
 pub mod Medium
 pub mod Ram
+pub mod Older
+pub mod Kept
+pub mod Resumed
+pub mod Resuming
 pub mod Log
 pub mod Images
 pub mod Choice
@@ -10,6 +14,7 @@ pub mod Followed
 pub mod Trips
 pub mod Memory
 pub mod Fuse
+pub mod Doubt
 pub mod Cached
 pub mod Over
 pub mod CachedDevice

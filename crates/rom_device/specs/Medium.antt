@@ -2,7 +2,7 @@
 use Rattle.std.specs.Prelude.{◌≡◌, ℕ, ◌+◌, ◌≤◌, Bool, false, if◌then◌else◌, IsTrue, List, [], length}
 use Rattle.std.specs.Bool.{OnTrue}
 use Rattle.rom_model.specs.Faults.{counted}
-use Rattle.rom_device.specs.Device.{ShownDevice, After, Does, WritesMany}
+use Rattle.rom_device.specs.Device.{ShownDevice, After, AreRenewed, Does, WritesMany}
 use Rattle.rom_device.specs.Laid.{firsts, laid}
 
 -- it has so many words from that place on, as far as it tells
@@ -15,6 +15,8 @@ pub record HandsOver {M : Type 0} (shown : ShownDevice M) (at : ℕ) (value : �
   pub does : Does shown (WritesMany at (firsts value count)) old new
   -- where all were handed over the words read so
   pub written : IsTrue shown.tells_words → OnTrue done (shown.words new ≡ laid at value count (shown.words old))
+  -- and none of these is in doubt
+  pub renewed : OnTrue done (AreRenewed shown at count new)
   -- none is made certain: what a stop might leave, it may leave still
   pub keeps : IsTrue shown.tells_images → (i : List ℕ) → shown.leaves old i → shown.leaves new i
   -- and where all were handed over, that with any of them in their places
@@ -34,6 +36,8 @@ tells_faults failed = record {
   leaves = λ _ _. Unit {0};
   clock = λ _. 0;
   left_since = λ _ _ _. Unit {0};
+  tells_doubts = false;
+  doubted = λ _ _. ⊥;
   reads = λ _. 0;
   writes = λ _. 0;
   syncs = λ _. 0;

@@ -41,7 +41,7 @@ pub struct Cached<M: Medium> {
 }
 
 impl<M: Medium> Cached<M> {
-    ghost use Rattle.rom_device.specs.Device.{Does, IsSynced, OnlyReads, Stays};
+    ghost use Rattle.rom_device.specs.Device.{AreSettled, Does, OnlyReads, Stays};
     ghost use Rattle.rom_device.specs.Cached.{has_failed_sync, shown_by_cached, AsWaiting, Gives, HandedOver};
 
     /// So many words of a medium, none of them read ahead.
@@ -283,7 +283,8 @@ impl<M: Medium> Cached<M> {
     fn make_certain(&mut self) -> bool
         requires handed { self.old.pending.count ≡ 0 }
         requires sure { IsFalse (has_failed_sync self.old) }
-        ensures certain { OnTrue result (IsSynced (shown_by_cached M.shown) self.new) }
+        ensures certain { IsTrue M.shown.tells_images →
+            OnTrue result (AreSettled (shown_by_cached M.shown) self.new) }
         ensures does { Does (shown_by_cached M.shown) Stays self.old self.new }
         ensures pending { self.new.pending ≡ self.old.pending }
         ensures faults { Blames result (M.shown.faults self.old.medium) (M.shown.faults self.new.medium) }
@@ -300,7 +301,8 @@ impl<M: Medium> Cached<M> {
     /// waits. After a sync of the medium that failed the system may have dropped what it could not
     /// write, and answer the next one with success. So none is asked for then.
     pub fn sync(&mut self) -> bool
-        ensures certain { OnTrue result (IsSynced (shown_by_cached M.shown) self.new) }
+        ensures certain { IsTrue M.shown.tells_images →
+            OnTrue result (AreSettled (shown_by_cached M.shown) self.new) }
         ensures does { Does (shown_by_cached M.shown) Stays self.old self.new }
         ensures faults { IsFalse (has_failed_sync self.old) → Blames result
             (M.shown.faults self.old.medium) (M.shown.faults self.new.medium) }

@@ -12,7 +12,8 @@ use crate::medium::Medium;
 /// promises no more than that the word reads so from now on, and a sync alone makes it certain.
 /// Once a sync of the medium has failed, each later sync of the device fails. No other call fails, and
 /// no sync before, but where a call of the medium failed in it or there is no medium (clauses `cause`,
-/// `all`, `fewer`). Where the device is let go, what waits is handed over, and no sync has promised it.
+/// `all`, `fewer`). A word that an earlier program left in doubt is so until it was written: each written
+/// word is handed over, also one that reads so already. Where the device is let go, what waits is handed over, and no sync has promised it.
 #[derive(Drop)]
 pub struct CachedDevice<M: Medium> {
     words: Cached<M>,
@@ -87,13 +88,13 @@ impl<M: Medium> CachedDevice<M> {
 
 impl<M: Medium> Device for CachedDevice<M> {
     ghost use Rattle.std.specs.Prelude.{◌⊎◌, ◌+◌, ◌≤◌, ℕ, nat_lt, slice_index, slice_set, IfOk, IsErr, OnOk, OnErr, is_err, is_ok};
-    ghost use Rattle.rom_device.specs.Device.{Counts, Does, IsSynced, Makes, OnlyReads, ReadsUpTo, Stays, Writes, WritesMany, WritingFailed};
+    ghost use Rattle.rom_device.specs.Device.{AreRenewed, AreSettled, Counts, Does, IsRenewed, IsSynced, Makes, OnlyReads, ReadsUpTo, Stays, Writes, WritesMany, WritingFailed};
     ghost use Rattle.rom_model.specs.Faults.{counted};
     ghost use Rattle.rom_device.specs.Medium.{Blames};
     ghost use Rattle.rom_device.specs.CachedDevice.{length_of, is_failing, medium_faults, medium_of, has_failed_sync, shown_by_device, IsUncertain, Keeps};
-    ghost use Rattle.std.proofs.Common.{arith};
+    ghost use Rattle.std.proofs.Common.{arith, refl};
 
-    ghost shown = { shown_by_device M.shown };
+    ghost shown = { shown_by_device M.lasting M.shown };
 
     fn len(&self) -> u64 {
         self.words.len()
@@ -107,9 +108,9 @@ impl<M: Medium> Device for CachedDevice<M> {
     fn read(&mut self, at: u64) -> Result<u64, Failed>
         requires { at < length_of self.old }
         ensures word { IsTrue M.shown.tells_words → IfOk result (λ word.
-            word ≡ slice_index ((shown_by_device M.shown).words self.old) at) }
-        ensures only { OnlyReads (shown_by_device M.shown) self.old self.new }
-        ensures counts { Counts (shown_by_device M.shown) 1 0 0 self.old self.new result }
+            word ≡ slice_index ((shown_by_device M.lasting M.shown).words self.old) at) }
+        ensures only { OnlyReads (shown_by_device M.lasting M.shown) self.old self.new }
+        ensures counts { Counts (shown_by_device M.lasting M.shown) 1 0 0 self.old self.new result }
         ensures keeps { Keeps M.missing (IsErr result) self.old self.new }
         ensures cause { IsFalse (M.missing (medium_of self.old)) → Blames (is_ok result)
             (medium_faults M.shown self.old) (medium_faults M.shown self.new) }
@@ -127,9 +128,9 @@ impl<M: Medium> Device for CachedDevice<M> {
         requires { at + length into.old ≤ length_of self.old }
         ensures len { length into.new ≡ length into.old }
         ensures read { IsTrue M.shown.tells_words → (k : ℕ) → k < result → slice_index into.new k
-            ≡ slice_index ((shown_by_device M.shown).words self.old) (at + k) }
-        ensures only { OnlyReads (shown_by_device M.shown) self.old self.new }
-        ensures counts { ReadsUpTo (shown_by_device M.shown) result
+            ≡ slice_index ((shown_by_device M.lasting M.shown).words self.old) (at + k) }
+        ensures only { OnlyReads (shown_by_device M.lasting M.shown) self.old self.new }
+        ensures counts { ReadsUpTo (shown_by_device M.lasting M.shown) result
             (length into.old) self.old self.new }
         ensures failing { 0 < length into.old →
             is_failing self.new ≡ nat_lt result (length into.old) }
@@ -158,10 +159,11 @@ impl<M: Medium> Device for CachedDevice<M> {
     fn write(&mut self, at: u64, value: u64) -> Result<(), Failed>
         requires { at < length_of self.old }
         ensures written { IsTrue M.shown.tells_words →
-            OnOk result ((shown_by_device M.shown).words self.new
-            ≡ slice_set ((shown_by_device M.shown).words self.old) at value) }
-        ensures does { Does (shown_by_device M.shown) (Writes at value) self.old self.new }
-        ensures counts { Counts (shown_by_device M.shown) 0 1 0 self.old self.new result }
+            OnOk result ((shown_by_device M.lasting M.shown).words self.new
+            ≡ slice_set ((shown_by_device M.lasting M.shown).words self.old) at value) }
+        ensures does { Does (shown_by_device M.lasting M.shown) (Writes at value) self.old self.new }
+        ensures renews { OnOk result (IsRenewed (shown_by_device M.lasting M.shown) at self.new) }
+        ensures counts { Counts (shown_by_device M.lasting M.shown) 0 1 0 self.old self.new result }
         ensures keeps { Keeps M.missing (IsErr result) self.old self.new }
         ensures cause { IsFalse (M.missing (medium_of self.old)) → Blames (is_ok result)
             (medium_faults M.shown self.old) (medium_faults M.shown self.new) }
@@ -178,12 +180,14 @@ impl<M: Medium> Device for CachedDevice<M> {
     fn write_words(&mut self, at: u64, values: &[u64]) -> Result<(), Failed>
         requires { at + length values.now ≤ length_of self.old }
         ensures written { IsTrue M.shown.tells_words → OnOk result ((k : ℕ) → k < length values.now
-            → slice_index ((shown_by_device M.shown).words self.new) (at + k)
+            → slice_index ((shown_by_device M.lasting M.shown).words self.new) (at + k)
             ≡ slice_index values.now k) }
-        ensures failed { OnErr result (WritingFailed (shown_by_device M.shown) at
+        ensures failed { OnErr result (WritingFailed (shown_by_device M.lasting M.shown) at
             values.now self.old self.new) }
-        ensures does { Does (shown_by_device M.shown) (WritesMany at values.now) self.old self.new }
-        ensures makes { Makes (shown_by_device M.shown) 0 (length values.now) 0
+        ensures does { Does (shown_by_device M.lasting M.shown) (WritesMany at values.now) self.old self.new }
+        ensures renews { OnOk result (AreRenewed (shown_by_device M.lasting M.shown) at
+            (length values.now) self.new) }
+        ensures makes { Makes (shown_by_device M.lasting M.shown) 0 (length values.now) 0
             self.old self.new result }
         ensures failing { 0 < length values.now → is_failing self.new ≡ is_err result }
         ensures none { length values.now ≡ 0 → self.new ≡ self.old }
@@ -205,9 +209,11 @@ impl<M: Medium> Device for CachedDevice<M> {
     }
 
     fn sync(&mut self) -> Result<(), Failed>
-        ensures certain { OnOk result (IsSynced (shown_by_device M.shown) self.new) }
-        ensures does { Does (shown_by_device M.shown) Stays self.old self.new }
-        ensures counts { Counts (shown_by_device M.shown) 0 0 1 self.old self.new result }
+        ensures certain { OnOk result (IsSynced (shown_by_device M.lasting M.shown) self.new) }
+        ensures settles { IsTrue M.shown.tells_images → OnOk result
+            (AreSettled (shown_by_device M.lasting M.shown) self.new) }
+        ensures does { Does (shown_by_device M.lasting M.shown) Stays self.old self.new }
+        ensures counts { Counts (shown_by_device M.lasting M.shown) 0 0 1 self.old self.new result }
         ensures medium { M.missing (medium_of self.new) ≡ M.missing (medium_of self.old) }
         ensures missing { IsTrue (M.missing (medium_of self.old)) → IsErr result }
         ensures failed_sync { IsTrue (has_failed_sync self.old) → IsErr result }
@@ -226,26 +232,46 @@ impl<M: Medium> Device for CachedDevice<M> {
         Ok(())
     }
 
+    ghost use Rattle.rom_device.specs.Doubt.{and_last};
     ghost use Rattle.rom_device.specs.Over.{reads_as_image, images_as_long, is_since, is_now, length_over};
 
-    ghost tells_both = { M.tells_both };
+    ghost tells_both = { λ told. M.tells_both (and_last M.lasting M.shown.tells_images told) };
 
     ghost reads_image = { λ d told. reads_as_image M.shown d.words.pending d.words.medium
-        (Prim.omega (arith, d.words.inside, d.words.long (M.tells_both told)))
-        (M.reads_image d.words.medium told) };
+        (Prim.omega (arith, d.words.inside, d.words.long (M.tells_both (and_last M.lasting M.shown.tells_images told))))
+        (M.reads_image d.words.medium (and_last M.lasting M.shown.tells_images told)) };
 
     ghost words_fit = { λ d told. length_over d.words.pending (M.shown.words d.words.medium)
         (d.words.long told) };
 
     ghost images_fit = { λ d i told left. images_as_long M.shown d.words.pending d.words.medium i
-        (λ j has. Prim.omega (arith, M.images_fit d.words.medium j told has, d.words.long (M.tells_both told)))
-        left };
+        (λ j has. Prim.omega (
+          arith,
+          M.images_fit d.words.medium j (and_last M.lasting M.shown.tells_images told) has,
+          d.words.long (M.tells_both (and_last M.lasting M.shown.tells_images told)),
+        )) left };
 
     ghost counts_now = { λ d t i _ _ left. is_since M.shown d.words.pending
         d.words.medium t i left };
 
     ghost only_now = { λ d i told since. is_now M.shown d.words.pending d.words.medium i
-        (λ past. M.only_now d.words.medium i told past) since };
+        (λ past. M.only_now d.words.medium i (and_last M.lasting M.shown.tells_images told) past) since };
+
+    ghost doubts_told = { λ told. record {
+      words = M.tells_both told;
+      reads_image = λ d. reads_as_image M.shown d.words.pending d.words.medium
+          (Prim.omega (arith, d.words.inside, d.words.long (M.tells_both told)))
+          (M.reads_image d.words.medium told);
+      images_fit = λ d i left. images_as_long M.shown d.words.pending d.words.medium i
+          (λ j has. Prim.omega (
+            arith,
+            M.images_fit d.words.medium j told has,
+            length_over d.words.pending (M.shown.words d.words.medium) refl,
+          )) left;
+      counts_now = λ d t i _ left. is_since M.shown d.words.pending d.words.medium t i left;
+      only_now = λ d i since. is_now M.shown d.words.pending d.words.medium i
+          (λ past. M.only_now d.words.medium i told past) since;
+    } };
 
     ghost size_fits = { λ d. Prim.omega (arith, d.words.small) };
 

@@ -1,6 +1,6 @@
 //! A word that is written between two syncs.
-ghost use Rattle.std.specs.Prelude.{◌≡◌, ◌<◌, OnOk, IsTrue, slice_set};
-ghost use Rattle.rom_device.specs.Device.{IsSynced, Leaves, Makes, Writes};
+ghost use Rattle.std.specs.Prelude.{◌≡◌, ◌<◌, ℕ, OnOk, IsTrue, slice_set};
+ghost use Rattle.rom_device.specs.Device.{AreSettled, DoubtsNoMore, IsRenewed, IsSynced, Leaves, Makes, Writes};
 
 use crate::device::{Device, Failed};
 
@@ -15,6 +15,14 @@ pub fn write_certain<D: Device>(device: &mut D, at: u64, value: u64) -> Result<(
     ensures certain { OnOk result (IsSynced D.shown device.new) }
     ensures images { IsTrue D.shown.tells_images
         → Leaves D.shown (Writes at value (D.shown.words device.old)) device.old device.new }
+    ensures settles { IsTrue D.shown.tells_doubts → OnOk result (AreSettled D.shown device.new) }
+    ensures renews { OnOk result (IsRenewed D.shown at device.new) }
+    ensures fewer { DoubtsNoMore D.shown device.old device.new }
+
+    // Where no word is in doubt, images are as of a device of which none ever is.
+    ensures doubts { IsTrue D.shown.tells_doubts →
+        ((place : ℕ) → IsRenewed D.shown place device.old) →
+        Leaves D.shown (Writes at value (D.shown.words device.old)) device.old device.new }
     ensures size { D.shown.size device.new ≡ D.shown.size device.old }
     ensures makes { Makes D.shown 0 1 2 device.old device.new result }
 {

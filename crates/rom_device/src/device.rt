@@ -1,6 +1,6 @@
 //! A device, and the rules of what a stop may leave of it.
 ghost use Rattle.std.specs.Prelude.{◌≡◌, ◌+◌, ◌<◌, ◌≤◌, ◌^◌, List, ℕ, length, IfOk, OnOk, OnErr, IsTrue, slice_set, slice_index};
-ghost use Rattle.rom_device.specs.Device.{ShownDevice, Counts, Does, IsSynced, Makes, OnlyReads, ReadsUpTo, Stays, Writes, WritesMany, WritingFailed};
+ghost use Rattle.rom_device.specs.Device.{ShownDevice, AreRenewed, AreSettled, Counts, Does, IsRenewed, IsSynced, Makes, OnlyReads, ReadsUpTo, Stays, TellsDoubts, Writes, WritesMany, WritingFailed};
 
 /// A call of a device did not succeed. The device's count of faults rose in that call.
 #[derive(Clone, Copy, Debug, PartialEq, Eq)]
@@ -12,9 +12,15 @@ pub struct Failed;
 /// A stop may leave each word that was written since the last successful sync as it was, or as
 /// any of those writes made it. Whether a device tells its words, and whether it tells what a
 /// stop may leave, is a matter of its type.
+///
+/// A device may have words in doubt: an earlier program wrote them, and had them refused by a sync or made
+/// none. They read as that program wrote them last, a stop may leave an older value there, and a sync of
+/// this program makes a word certain only once this program has written it. Of a type that tells images
+/// (`tells_images`) no word is ever in doubt; one that tells them with doubts says so by `tells_doubts`.
 pub trait Device {
     /// What it shows of itself: how many words it has, which no call changes; the words, and the
-    /// images that a stop may leave, where it tells them; and how many calls were made and failed.
+    /// images that a stop may leave, where it tells them; which places are in doubt; and how many calls
+    /// were made and failed.
     ghost shown: { ShownDevice Self };
 
     /// How many words it has.
@@ -53,12 +59,14 @@ pub trait Device {
         into.len()
     }
 
-    /// Puts a value at that place. After `Failed` the word is the old or the new one.
+    /// Puts a value at that place. After `Failed` the word is the old or the new one. After `Ok` it is not
+    /// in doubt: a sync that succeeds makes it certain.
     fn write(&mut self, at: u64, value: u64) -> Result<(), Failed>
         requires { at < shown.size self.old }
         ensures written { IsTrue shown.tells_words
             → OnOk result (shown.words self.new ≡ slice_set (shown.words self.old) at value) }
         ensures does { Does shown (Writes at value) self.old self.new }
+        ensures renews { OnOk result (IsRenewed shown at self.new) }
         ensures counts { Counts shown 0 1 0 self.old self.new result };
 
     /// Writes words one after another, from that place on, up to the first that fails. After `Failed`
@@ -69,6 +77,7 @@ pub trait Device {
             → slice_index (shown.words self.new) (at + k) ≡ slice_index values.now k) }
         ensures failed { OnErr result (WritingFailed shown at values.now self.old self.new) }
         ensures does { Does shown (WritesMany at values.now) self.old self.new }
+        ensures renews { OnOk result (AreRenewed shown at (length values.now) self.new) }
         ensures makes { Makes shown 0 (length values.now) 0 self.old self.new result }
     {
         for index in 0..values.len() {
@@ -78,9 +87,11 @@ pub trait Device {
     }
 
     /// Makes the words certain: after `Ok` a stop leaves them as they read. After `Failed` it is
-    /// promised of none, and a stop leaves nothing that it might not have left before.
+    /// promised of none, and a stop leaves nothing that it might not have left before. Words in doubt stay
+    /// so.
     fn sync(&mut self) -> Result<(), Failed>
         ensures certain { OnOk result (IsSynced shown self.new) }
+        ensures settles { IsTrue shown.tells_doubts → OnOk result (AreSettled shown self.new) }
         ensures does { Does shown Stays self.old self.new }
         ensures counts { Counts shown 0 0 1 self.old self.new result };
 
@@ -105,6 +116,9 @@ pub trait Device {
     /// Since this moment there is no other.
     ghost only_now: { (d : Self) (i : List ℕ) → IsTrue shown.tells_images
         → shown.left_since d (shown.clock d) i → shown.leaves d i };
+
+    /// The same holds with words in doubt.
+    ghost doubts_told: { IsTrue shown.tells_doubts → TellsDoubts shown };
 
     ghost size_fits: { (d : Self) → shown.size d < 2 ^ 64 };
 

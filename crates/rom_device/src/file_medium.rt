@@ -15,7 +15,8 @@ use std::os::unix::fs::FileExt;
 /// - A read that is done gives the words as they stand in the file, and leaves them.
 /// - What is handed over changes these words alone, and where it is done they read so. Each of them is
 ///   the old one or the new one, and no mixture: where the call fails, and after a stop at any moment.
-/// - After a sync that succeeds, where none failed before, a stop leaves the words as they read.
+/// - After a sync that succeeds, where none failed before, a stop leaves each word that was handed over
+///   since the file was opened as it reads, and each word that was certain then.
 /// - Nothing else changes the file, which has as many words as its device was told, or more.
 ///
 /// All that stands between these three calls and a `Device` has clauses, for each medium.
@@ -59,6 +60,12 @@ impl Medium for FileMedium {
     // A file keeps no note of a sync that failed, and it tells nothing of which this could speak. Who
     // reads the clauses as if it told takes it as true from the first sync of its device that fails.
     ghost doubtful = { λ _. false };
+
+    // It tells nothing that could be in doubt. Who reads the clauses as if it told takes each word that was
+    // not handed over since the file was opened as one that may be.
+    ghost lasting = { false };
+
+    ghost never_doubted = { λ no. Prim.cc };
 
     #[inline]
     fn is_missing(&self) -> bool {

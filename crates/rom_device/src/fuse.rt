@@ -82,8 +82,9 @@ impl<D: Device> Fuse<D> {
 impl<D: Device> Device for Fuse<D> {
     ghost use Rattle.std.specs.Prelude.{◌+◌, ◌≤◌, ℕ, IfOk, OnOk, OnErr, length, slice_index, slice_set};
     ghost use Rattle.std.proofs.Common.{arith};
-    ghost use Rattle.rom_device.specs.Device.{Counts, Does, IsSynced, Makes, OnlyReads, ReadsUpTo, Stays, Writes, WritesMany, WritingFailed};
+    ghost use Rattle.rom_device.specs.Device.{AreRenewed, AreSettled, Counts, Does, IsRenewed, IsSynced, Makes, OnlyReads, ReadsUpTo, Stays, Writes, WritesMany, WritingFailed};
     ghost use Rattle.rom_device.specs.Fuse.{inner_of, shown_by_fuse, MadeReads, Passes, PassesUpTo, PassesWrites};
+    ghost use Rattle.rom_device.specs.Doubt.{fuse_doubts};
 
     ghost shown = { shown_by_fuse D.shown };
 
@@ -137,6 +138,7 @@ impl<D: Device> Device for Fuse<D> {
             → OnOk result (D.shown.words (inner_of self.new)
             ≡ slice_set (D.shown.words (inner_of self.old)) at value) }
         ensures does { Does (shown_by_fuse D.shown) (Writes at value) self.old self.new }
+        ensures renews { OnOk result (IsRenewed (shown_by_fuse D.shown) at self.new) }
         ensures counts { Counts (shown_by_fuse D.shown) 0 1 0 self.old self.new result }
         ensures passes { Passes D.shown 0 1 0 self.old self.new result }
     {
@@ -156,6 +158,7 @@ impl<D: Device> Device for Fuse<D> {
         ensures failed { OnErr result
             (WritingFailed (shown_by_fuse D.shown) at values.now self.old self.new) }
         ensures does { Does (shown_by_fuse D.shown) (WritesMany at values.now) self.old self.new }
+        ensures renews { OnOk result (AreRenewed (shown_by_fuse D.shown) at (length values.now) self.new) }
         ensures makes { Makes (shown_by_fuse D.shown) 0 (length values.now) 0
             self.old self.new result }
         ensures passes { PassesWrites D.shown at values.now self.old self.new result }
@@ -168,6 +171,8 @@ impl<D: Device> Device for Fuse<D> {
 
     fn sync(&mut self) -> Result<(), Failed>
         ensures certain { OnOk result (IsSynced (shown_by_fuse D.shown) self.new) }
+        ensures settles { IsTrue D.shown.tells_doubts →
+            OnOk result (AreSettled (shown_by_fuse D.shown) self.new) }
         ensures does { Does (shown_by_fuse D.shown) Stays self.old self.new }
         ensures counts { Counts (shown_by_fuse D.shown) 0 0 1 self.old self.new result }
         ensures passes { Passes D.shown 0 0 1 self.old self.new result }
@@ -192,6 +197,8 @@ impl<D: Device> Device for Fuse<D> {
     ghost counts_now = { λ f t i told le left. D.counts_now f.inner t i told le left };
 
     ghost only_now = { λ f i told left. D.only_now f.inner i told left };
+
+    ghost doubts_told = { λ told. fuse_doubts D.shown (D.doubts_told told) };
 
     ghost size_fits = { λ f. D.size_fits f.inner };
 

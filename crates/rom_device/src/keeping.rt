@@ -10,7 +10,7 @@ use crate::cached::Cached;
 use crate::medium::Medium;
 
 impl<M: Medium> Cached<M> {
-    ghost use Rattle.rom_device.specs.Device.{Does, OnlyReads, Writes, WritesMany, WritesUpTo};
+    ghost use Rattle.rom_device.specs.Device.{AreRenewed, Does, IsRenewed, OnlyReads, Writes, WritesMany, WritesUpTo};
     ghost use Rattle.rom_device.specs.Cached.{has_failed_sync, shown_by_cached};
 
     // Hands over what waits, unless the word at that place is the next. `false` says that it still
@@ -130,6 +130,7 @@ impl<M: Medium> Cached<M> {
             (with_run self.new.pending (M.shown.words self.new.medium)
             ≡ slice_set (with_run self.old.pending (M.shown.words self.old.medium)) at value) }
         ensures does { Does (shown_by_cached M.shown) (Writes at value) self.old self.new }
+        ensures renews { OnTrue result (IsRenewed (shown_by_cached M.shown) at self.new) }
         ensures kept { OnFalse result (self.new.pending ≡ self.old.pending) }
         ensures stays { OnFalse result (self.new.windows ≡ self.old.windows) }
         ensures none { IsTrue (M.missing self.old.medium) → IsFalse result }
@@ -162,6 +163,7 @@ impl<M: Medium> Cached<M> {
             values.now (with_run self.old.pending (M.shown.words self.old.medium))
             (with_run self.new.pending (M.shown.words self.new.medium)) }
         ensures does { Does (shown_by_cached M.shown) (WritesMany at values.now) self.old self.new }
+        ensures renews { AreRenewed (shown_by_cached M.shown) at result self.new }
         ensures none { IsTrue (M.missing self.old.medium) → result ≡ 0 }
         ensures all { IsFalse (M.missing self.old.medium) → result ≡ length values.now →
             M.shown.faults self.new.medium ≡ M.shown.faults self.old.medium }

@@ -7,7 +7,9 @@
 //! `proofs/Going` the lemmas by which runs of calls are joined.
 //!
 //! `Ram` never fails. `Memory` fails exactly where it is told to or its room is used up, and a crash
-//! of it gives each image that a stop may leave, and no other. `Fuse` fails from some call on.
+//! of it gives each image that a stop may leave, and no other. `Resumed` is one that an earlier program
+//! left, with older words of which no sync makes the newer ones certain until they are written again.
+//! `Fuse` fails from some call on.
 //! `CachedDevice` reads ahead and gathers the words of a `Medium`, and tells what its medium tells:
 //! over a `Memory` all, over a file nothing. `FileDevice` is the one over a file. What is trusted of a
 //! file stands where it is made a medium, in `file_medium.rt`.
@@ -23,11 +25,13 @@ mod file_medium;
 mod followed;
 mod fuse;
 mod keeping;
+mod kept;
 mod medium;
 mod memory;
 mod memory_medium;
 mod page;
 mod ram;
+mod resumed;
 mod run;
 mod trip;
 mod windows;
@@ -42,4 +46,5 @@ pub use fuse::Fuse;
 pub use medium::Medium;
 pub use memory::Memory;
 pub use ram::Ram;
+pub use resumed::Resumed;
 pub use trip::{Trip, every_trip};

@@ -1,7 +1,7 @@
 //! What a cached device stands on.
 ghost use Rattle.std.specs.Prelude.{◌≡◌, ◌+◌, ◌*◌, ◌%◌, ◌<◌, ◌≤◌, ◌^◌, Bool, List, ℕ, length, IsTrue, IsFalse, slice_index};
 ghost use Rattle.std.specs.Bool.{OnTrue};
-ghost use Rattle.rom_device.specs.Device.{ShownDevice, Does, IsSynced, OnlyReads, Stays};
+ghost use Rattle.rom_device.specs.Device.{ShownDevice, AreSettled, Does, OnlyReads, Stays};
 ghost use Rattle.rom_device.specs.Laid.{word_among, words_among};
 ghost use Rattle.rom_device.specs.Medium.{Blames, HandsOver, HasPlaces};
 
@@ -11,6 +11,10 @@ ghost use Rattle.rom_device.specs.Medium.{Blames, HandsOver, HasPlaces};
 ///
 /// Whether a medium tells its words, and whether it tells what a stop may leave, is a matter of its
 /// type. What is handed over need not be certain before a sync.
+///
+/// An earlier program may have left words in doubt, as of a device: they read as they were handed over
+/// last, a stop may leave an older value there, and a sync makes them certain only once they were handed
+/// over again. Whether that may be is a matter of the type too (`lasting`).
 pub trait Medium: Drop {
     /// What it shows of itself, as a device does. Its calls need not be counted, and its faults are.
     ghost shown: { ShownDevice Self };
@@ -21,6 +25,9 @@ pub trait Medium: Drop {
     /// Whether a sync may succeed and yet make nothing certain. Only a sync that fails may bring that
     /// about: the system may have dropped what it could not write.
     ghost doubtful: { Self → Bool };
+
+    /// Whether no word is ever in doubt, whoever handed it over: then a sync makes all of them certain.
+    ghost lasting: { Bool };
 
     fn is_missing(&self) -> bool
         ensures { result ≡ missing self.now };
@@ -50,15 +57,18 @@ pub trait Medium: Drop {
         ensures stays { missing self.new ≡ missing self.old }
         ensures sure { doubtful self.new ≡ doubtful self.old };
 
-    /// Makes certain what was handed over: then a stop leaves the words as they read. After a failure
-    /// it is promised of none, then or later.
+    /// Makes certain what was handed over: then a stop leaves the words as they read, but for those in
+    /// doubt. After a failure it is promised of none, then or later.
     fn sync(&mut self) -> bool
-        ensures certain { IsFalse (doubtful self.old) → OnTrue result (IsSynced shown self.new) }
+        ensures certain { IsTrue shown.tells_images → IsFalse (doubtful self.old) →
+            OnTrue result (AreSettled shown self.new) }
         ensures does { Does shown Stays self.old self.new }
         ensures faults { Blames result (shown.faults self.old) (shown.faults self.new) }
         ensures stays { missing self.new ≡ missing self.old }
         ensures sure { OnTrue result (doubtful self.new ≡ doubtful self.old) }
         ensures none { IsTrue (missing self.old) → IsFalse result };
+
+    ghost never_doubted: { IsTrue lasting → (m : Self) (at : ℕ) → shown.doubted m at → ⊥ };
 
     /// A medium that tells what a stop may leave tells its words.
     ghost tells_both: { IsTrue shown.tells_images → IsTrue shown.tells_words };

@@ -116,6 +116,18 @@ impl Memory {
         // No image is left out: each that a stop may leave is that of some choice.
         ensures every { (image : List ℕ) → shown_by_memory.leaves self image → IsPicked self image }
     {
+        let (words, _start, _made) = self.crashed(choice);
+        words
+    }
+
+    // The same, with the words at its making and the calls made since.
+    pub(crate) fn crashed(self, choice: &[u64]) -> (Vec<u64>, Vec<u64>, Vec<LoggedCall>)
+        ensures picked { Picks self choice.now result.0.items }
+        ensures left { shown_by_memory.leaves self result.0.items }
+        ensures every { (image : List ℕ) → shown_by_memory.leaves self image → IsPicked self image }
+        ensures start { result.1.items ≡ start_of self }
+        ensures made { result.2.items ≡ calls_of self }
+    {
         let Memory {
             start,
             mut words,
@@ -132,7 +144,7 @@ impl Memory {
             let number = choice.get(at).copied().unwrap_or(0);
             words[at] = picked_value(&start, &made, at as u64, number);
         }
-        words
+        (words, start, made)
     }
 }
 
@@ -242,6 +254,7 @@ impl Device for Memory {
         Ok(())
     }
 
+    ghost use Rattle.rom_device.specs.Doubt.{untold};
     ghost use Rattle.rom_device.specs.Images.{may_leave_words, length-words_after, length-MayLeave, since_counts_now, since_only_now};
 
     ghost tells_both = { λ _. refl };
@@ -256,6 +269,8 @@ impl Device for Memory {
         (reverse m.made.items) i may };
 
     ghost only_now = { λ m i _ since. since_only_now m.start.items (reverse m.made.items) i since };
+
+    ghost doubts_told = { λ never. untold never };
 
     ghost size_fits = { λ m. m.small };
 

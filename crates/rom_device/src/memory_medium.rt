@@ -1,5 +1,5 @@
 //! Words in memory as a medium, so that the contract of one is met with words and images told.
-ghost use Rattle.std.specs.Prelude.{false};
+ghost use Rattle.std.specs.Prelude.{false, true};
 ghost use Rattle.rom_device.specs.Memory.{shown_by_memory};
 ghost use Rattle.rom_device.specs.Images.{may_leave_words, length-words_after, length-MayLeave, since_counts_now, since_only_now};
 
@@ -19,6 +19,11 @@ impl Medium for Memory {
 
     // A sync that fails loses nothing, so the next one is believed.
     ghost doubtful = { λ _. false };
+
+    // No program came before.
+    ghost lasting = { true };
+
+    ghost never_doubted = { λ _ _ _ no. no };
 
     fn is_missing(&self) -> bool {
         false

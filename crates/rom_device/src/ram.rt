@@ -48,6 +48,8 @@ impl Device for Ram {
       leaves = λ _ _. Unit {0};
       clock = λ _. 0;
       left_since = λ _ _ _. Unit {0};
+      tells_doubts = false;
+      doubted = λ _ _. ⊥;
       reads = λ r. r.reads;
       writes = λ r. r.writes;
       syncs = λ r. r.syncs;
@@ -90,6 +92,8 @@ impl Device for Ram {
     ghost counts_now = { λ _ _ _ _ _ _. tt };
 
     ghost only_now = { λ _ _ _ _. tt };
+
+    ghost doubts_told = { λ no. Prim.cc };
 
     ghost size_fits = { λ r. r.small };
 

@@ -8,6 +8,7 @@ use Rattle.rom_run.specs.Statuses.{number_of}
 use Rattle.rom_run.proofs.Showing.{refusal_ends}
 use Rattle.rom_stat.proofs.Showing.{put_stops}
 use Rattle.rom_device.specs.Device.{OnlyReads, ShownDevice}
+use Rattle.rom_device.proofs.Going.{runs_none}
 use Rattle.rom_text.specs.Runs.{IsTold}
 use Rattle.rom_text.specs.Streams.{ShownSink, StopsWriting}
 use Rattle.rom_dump.specs.Promise.{IsStatus, Promise}
@@ -69,12 +70,9 @@ module _ {D K : Type 0} (shown : ShownDevice D) (sink : ShownSink K) (was : D) (
   uncalled = record {
     size = refl;
     words = λ told. refl;
-    images = λ told. record {
-      later = omega arith;
-      now = λ i left. record { from = i; was = left; by = refl };
-      nothing_else = λ t i since. inl since;
-      keeps = λ t i le since. since;
-    };
+    images = λ told. runs_none shown (λ x y. y ≡ x) (λ x. refl) was;
+    doubts = λ told. runs_none shown (λ x y. y ≡ x) (λ x. refl) was;
+    fewer = λ at is. is;
     still = λ told i left. left;
     writes = refl;
     syncs = refl;

@@ -4,8 +4,9 @@ ghost use Rattle.rom_model.specs.Blocks.{region_len};
 ghost use Rattle.rom_device.specs.Device.{Does, IsSynced, Leaves, Stays};
 ghost use Rattle.rom_header.specs.Headers.{IsIdle};
 ghost use Rattle.rom_header.specs.Layout.{words_needed};
-ghost use Rattle.rom_header.specs.Regions.{IsCurrentRegion};
+ghost use Rattle.rom_header.specs.Regions.{IsCurrentRegion, SameRegion};
 ghost use Rattle.rom_header.specs.Writing.{Alters};
+ghost use Rattle.rom_recover.specs.Doubt.{IsLeftInDoubt};
 ghost use Rattle.rom_recover.specs.Recovered.{IsDone, Mended};
 ghost use Rattle.rom_open.specs.Calls.{Calls, HasFaults, is_recovered};
 ghost use Rattle.rom_header.specs.Held.{Holds, HoldsOne};
@@ -75,6 +76,9 @@ fn accept<D: Device, O: Object>(alloc: Global, device: &mut D) -> Result<Accepte
     ensures images { IsTrue D.shown.tells_images →
         Leaves D.shown (Mended (named_order (D.shown.words device.old)) (D.shown.words device.old))
         device.old device.new }
+    ensures doubts { IsTrue D.shown.tells_doubts →
+        IsLeftInDoubt D.shown (named_order (D.shown.words device.old)) device.old →
+        Leaves D.shown (SameRegion (D.shown.words device.old)) device.old device.new }
     ensures idle { IsTrue D.shown.tells_words →
         IsIdle (D.shown.words device.old) → Does D.shown Stays device.old device.new }
     ensures faults { HasFaults result
@@ -135,6 +139,11 @@ pub fn open_device<D: Device, O: Object>(alloc: Global, device: D) -> Result<Ope
     ensures images { IsTrue D.shown.tells_images →
         Leaves D.shown (Mended (named_order (D.shown.words device)) (D.shown.words device))
         device (device_of result) }
+
+    // So also where an earlier program left words in doubt.
+    ensures doubts { IsTrue D.shown.tells_doubts →
+        IsLeftInDoubt D.shown (named_order (D.shown.words device)) device →
+        Leaves D.shown (SameRegion (D.shown.words device)) device (device_of result) }
     ensures held_images { IsTrue D.shown.tells_images → IfOk result (λ opened.
         (s : O.State) (k : ℕ) → O.Contents opened.geometry opened.image.items s k →
         Leaves D.shown (λ i. Holds O.Contents opened.geometry i s k) device opened.device) }

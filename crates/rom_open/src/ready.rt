@@ -4,8 +4,9 @@ ghost use Rattle.rom_model.specs.Blocks.{region_len};
 ghost use Rattle.rom_device.specs.Device.{Does, IsSynced, Leaves, Stays};
 ghost use Rattle.rom_header.specs.Headers.{IsIdle};
 ghost use Rattle.rom_header.specs.Layout.{main_of, words_needed};
-ghost use Rattle.rom_header.specs.Regions.{IsHeap};
+ghost use Rattle.rom_header.specs.Regions.{IsHeap, SameRegion};
 ghost use Rattle.rom_header.specs.Writing.{Alters};
+ghost use Rattle.rom_recover.specs.Doubt.{IsLeftInDoubt};
 ghost use Rattle.rom_recover.specs.Recovered.{IsDone, Mended};
 ghost use Rattle.rom_open.specs.Calls.{Calls, HasFaults};
 ghost use Rattle.rom_open.specs.Opening.{MendsNamed};
@@ -54,6 +55,9 @@ pub fn make_ready<D: Device>(alloc: Global, device: &mut D) -> Result<Ready, Why
     ensures images { IsTrue D.shown.tells_images →
         Leaves D.shown (Mended (named_order (D.shown.words device.old)) (D.shown.words device.old))
         device.old device.new }
+    ensures doubts { IsTrue D.shown.tells_doubts →
+        IsLeftInDoubt D.shown (named_order (D.shown.words device.old)) device.old →
+        Leaves D.shown (SameRegion (D.shown.words device.old)) device.old device.new }
     ensures idle { IsTrue D.shown.tells_words →
         IsIdle (D.shown.words device.old) → Does D.shown Stays device.old device.new }
     ensures faults { HasFaults result

@@ -36,7 +36,7 @@ state_idle n x y done =
 
 -- what a copy in this state leaves, in its midst and at its end
 module _ (n : ℕ) (x : List ℕ) (is : IsHeap n x) where
-  same : (s : State) (from to : ℕ) → IsWay n s from to → get_or x 3 0 ≡ state_word s → (y : List ℕ) → ChangesOnly to (region_len n) x y → SameRegion x y
+  pub same : (s : State) (from to : ℕ) → IsWay n s from to → get_or x 3 0 ≡ state_word s → (y : List ℕ) → ChangesOnly to (region_len n) x y → SameRegion x y
   same Idle from to way state y only = elim way [ ]
   same Mutating from to way state y only =
       let within : ChangesOnly 8 (region_len n) x y = subst (λ (k : ℕ). ChangesOnly k (region_len n) x y) way.1 only in

@@ -1,9 +1,9 @@
 -- Copies that go on with one more piece.
-use Rattle.std.proofs.Common.{IsTrue, ◌≡◌, ◌⊎◌, inl, inr, ℕ, ◌+◌, ◌-◌, ◌<◌, ◌≤◌, List, length, slice_index, refl, arith, sym, ap, ◌∙◌}
+use Rattle.std.proofs.Common.{IsTrue, ◌≡◌, ◌⊎◌, inl, inr, ℕ, ◌+◌, ◌-◌, ◌<◌, ◌≤◌, List, length, slice_index, refl, arith, sym, ap, subst, ◌∙◌}
 use Rattle.std.proofs.lemmas.Bool.{cases_lt}
 use Rattle.rom_model.specs.Space.{ChangesOnly}
 use Rattle.rom_model.proofs.Changes.{changes_none, changes_joins, changes_wider}
-use Rattle.rom_device.specs.Device.{ShownDevice, Does, WritesMany}
+use Rattle.rom_device.specs.Device.{ShownDevice, AreRenewed, Does, DoubtsNoMore, OnlyReads, Stays, WritesMany}
 use Rattle.rom_device.proofs.Going.{does_by, runs_by, runs_on}
 use Rattle.rom_recover.specs.Copied.{Copied, CopiesSome}
 
@@ -79,15 +79,53 @@ module _ {D : Type 0} (shown : ShownDevice D) where
     ];
   })
 
+  -- a piece that was read is written
+  pub piece_does : (IsTrue shown.tells_images → IsTrue shown.tells_words) → (IsTrue shown.tells_doubts → IsTrue shown.tells_words) → (from to count : ℕ) (values : List ℕ) (a b c : D) → OnlyReads shown a b → Does shown (WritesMany to values) b c
+      → length values ≡ count → (IsTrue shown.tells_words → (k : ℕ) → k < count → slice_index values k ≡ slice_index (shown.words a) (from + k)) → Does shown (CopiesSome (shown.words a) from to count) a c
+  piece_does both doubts_both from to count values a b c only write size read = record {
+    size = write.size ∙ only.size;
+    words = λ told. copies told (shown.words a) (shown.words c) (subst (λ (l : List ℕ). WritesMany to values l (shown.words c)) (only.words told) (write.words told));
+    images = λ told. runs_on shown step (copies_joins (shown.words a) from to count) a b c (runs_by shown Stays step still a b (only.images told)) (runs_by shown (WritesMany to values) step (copies (both told)) b c (write.images told));
+    doubts = λ told. runs_on shown step (copies_joins (shown.words a) from to count) a b c (runs_by shown Stays step still a b (only.doubts told)) (runs_by shown (WritesMany to values) step (copies (doubts_both told)) b c (write.doubts told));
+    fewer = λ at is. only.fewer at (write.fewer at is);
+  }
+    where
+      step : List ℕ → List ℕ → Type 0
+      step = CopiesSome (shown.words a) from to count
+
+      still : (x y : List ℕ) → Stays x y → step x y
+      still x y same = subst (λ (l : List ℕ). step x l) (sym same) (copies_none (shown.words a) from to count x)
+
+      copies : IsTrue shown.tells_words → (x y : List ℕ) → WritesMany to values x y → step x y
+      copies told x y many = record {
+        only = subst (λ (n : ℕ). ChangesOnly to n x y) size many.only;
+        either = λ k lt. elim (many.either k (omega (arith, lt, size))) [
+          | inl stays ↦ inl stays
+          | inr put ↦ inr (put ∙ read told k lt)
+        ];
+      }
+
+  -- places that are not in doubt, and those of one piece more
+  pub renewed_piece : (to done count : ℕ) (b c : D) → DoubtsNoMore shown b c → AreRenewed shown to done b → AreRenewed shown (to + done) count c → AreRenewed shown to (done + count) c
+  renewed_piece to done count b c fewer so_far piece k lt is = elim (cases_lt k done) [
+    | inl before ↦ so_far k before (fewer (to + k) is)
+    | inr past ↦
+        let there : to + k ≡ to + done + (k - done) = omega (arith, past) in
+        piece (k - done) (omega (arith, lt, past)) (subst (λ (at : ℕ). shown.doubted c at) there is)
+  ]
+
   -- one piece more
-  pub does_piece : (IsTrue shown.tells_images → IsTrue shown.tells_words) → (from to len done count : ℕ) → (from + len ≤ to) ⊎ (to + len ≤ from) → done + count ≤ len → (a b c : D)
+  pub does_piece : (IsTrue shown.tells_images → IsTrue shown.tells_words) → (IsTrue shown.tells_doubts → IsTrue shown.tells_words) → (from to len done count : ℕ) → (from + len ≤ to) ⊎ (to + len ≤ from) → done + count ≤ len → (a b c : D)
       → Does shown (CopiesSome (shown.words a) from to len) a b → Does shown (CopiesSome (shown.words b) (from + done) (to + done) count) b c
       → Does shown (CopiesSome (shown.words a) from to len) a c
-  does_piece both from to len done count apart fits a b c so_far piece = record {
+  does_piece both doubts_both from to len done count apart fits a b c so_far piece = record {
     size = piece.size ∙ so_far.size;
     words = λ told. copies_joins (shown.words a) from to len (shown.words a) (shown.words b) (shown.words c) (so_far.words told) (wide told (shown.words b) (shown.words c) (piece.words told));
     images = λ told. runs_on shown (CopiesSome (shown.words a) from to len) (copies_joins (shown.words a) from to len) a b c (so_far.images told)
         (runs_by shown (CopiesSome (shown.words b) (from + done) (to + done) count) (CopiesSome (shown.words a) from to len) (wide (both told)) b c (piece.images told));
+    doubts = λ told. runs_on shown (CopiesSome (shown.words a) from to len) (copies_joins (shown.words a) from to len) a b c (so_far.doubts told)
+        (runs_by shown (CopiesSome (shown.words b) (from + done) (to + done) count) (CopiesSome (shown.words a) from to len) (wide (doubts_both told)) b c (piece.doubts told));
+    fewer = λ at is. so_far.fewer at (piece.fewer at is);
   }
     where
       wide : IsTrue shown.tells_words → (x y : List ℕ) → CopiesSome (shown.words b) (from + done) (to + done) count x y → CopiesSome (shown.words a) from to len x y

@@ -2,6 +2,7 @@
 pub mod CopyBack
 pub mod Keeping
 mod Restoring
+mod Doubting
 mod Pieces
 mod Copying
 pub mod Calling

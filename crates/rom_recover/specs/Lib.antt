@@ -3,3 +3,4 @@ pub mod Copied
 pub mod Image
 pub mod Recovered
 pub mod Calls
+pub mod Doubt

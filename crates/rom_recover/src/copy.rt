@@ -1,6 +1,6 @@
 //! Copies of words on a device.
 ghost use Rattle.std.specs.Prelude.{◌≡◌, ◌⊎◌, ◌+◌, ◌≤◌, OnOk, IsTrue, length};
-ghost use Rattle.rom_device.specs.Device.{Does, Makes};
+ghost use Rattle.rom_device.specs.Device.{AreRenewed, Does, Makes};
 ghost use Rattle.rom_recover.specs.Copied.{Copied, CopiesSome};
 ghost use Rattle.rom_recover.specs.Image.{IsEmptyOrFull, IsReadFrom};
 
@@ -26,6 +26,7 @@ fn copy_piece<D: Device>(
         OnOk result (Copied from to count (D.shown.words device.old) (D.shown.words device.new)) }
     ensures does { Does D.shown (CopiesSome (D.shown.words device.old) from to count)
         device.old device.new }
+    ensures renews { OnOk result (AreRenewed D.shown to count device.new) }
     ensures makes { Makes D.shown count count 0 device.old device.new result }
 {
     if device.read_words(from, &mut words[..count]) < count {
@@ -54,6 +55,7 @@ pub fn copy_words<D: Device>(
         OnOk result (Copied from to len (D.shown.words device.old) (D.shown.words device.new)) }
     ensures does { Does D.shown (CopiesSome (D.shown.words device.old) from to len)
         device.old device.new }
+    ensures renews { OnOk result (AreRenewed D.shown to len device.new) }
     ensures makes { Makes D.shown len len 0 device.old device.new result }
 {
     let mut words = [0; PIECE];

@@ -1,13 +1,14 @@
 //! Recovery of a heap on a device.
-ghost use Rattle.std.specs.Prelude.{◌≡◌, ◌<◌, ◌≤◌, IfOk, IfErr, OnOk, IsTrue, length, slice_index};
+ghost use Rattle.std.specs.Prelude.{◌≡◌, ◌<◌, ◌≤◌, ℕ, List, IfOk, IfErr, OnOk, IsTrue, length, slice_index};
 ghost use Rattle.rom_model.specs.Blocks.{region_len};
 ghost use Rattle.rom_model.specs.Faults.{AtMost};
 ghost use Rattle.rom_device.specs.Device.{IsSynced, Leaves, Makes, OnlyReads};
 ghost use Rattle.rom_header.specs.Headers.{IsIdle, state_word};
 ghost use Rattle.rom_header.specs.Layout.{STATE, words_needed};
-ghost use Rattle.rom_header.specs.Regions.{IsHeap};
+ghost use Rattle.rom_header.specs.Regions.{IsHeap, SameRegion};
 ghost use Rattle.rom_header.specs.Writing.{Alters};
 ghost use Rattle.rom_recover.specs.Calls.{Calls, SyncsOnce, WithinRecovery, reads_at_most};
+ghost use Rattle.rom_recover.specs.Doubt.{IsImageRecovered, IsLeftInDoubt};
 ghost use Rattle.rom_recover.specs.Image.{IsEmptyOrFull, KeepsMain};
 ghost use Rattle.rom_recover.specs.Recovered.{IsDone, IsFirst, IsStateOf, Mended, Mends};
 
@@ -103,6 +104,16 @@ pub fn recover_into<D: Device>(
     ensures left { Alters D.shown (Mends geometry) device.old device.new }
     ensures images { IsTrue D.shown.tells_images →
         Leaves D.shown (Mended geometry (D.shown.words device.old)) device.old device.new }
+
+    // An earlier program may have left words in doubt, and have been told so by a sync or not: nothing
+    // is lost, and what counts is certain then.
+    ensures doubts { IsTrue D.shown.tells_doubts →
+        IsLeftInDoubt D.shown geometry device.old →
+        Leaves D.shown (SameRegion (D.shown.words device.old)) device.old device.new }
+    ensures recovers { IsTrue D.shown.tells_doubts →
+        IsLeftInDoubt D.shown geometry device.old →
+        OnOk result ((i : List ℕ) → D.shown.leaves device.new i →
+        IsImageRecovered (D.shown.words device.old) (D.shown.words device.new) i) }
     ensures idle { IsTrue D.shown.tells_words →
         IsIdle (D.shown.words device.old) → SyncsOnce D.shown device.old device.new }
 {
@@ -144,6 +155,16 @@ pub fn recover<D: Device>(device: &mut D, geometry: Geometry) -> Result<Recovere
     ensures left { Alters D.shown (Mends geometry) device.old device.new }
     ensures images { IsTrue D.shown.tells_images →
         Leaves D.shown (Mended geometry (D.shown.words device.old)) device.old device.new }
+
+    // An earlier program may have left words in doubt, and have been told so by a sync or not: nothing
+    // is lost, and what counts is certain then.
+    ensures doubts { IsTrue D.shown.tells_doubts →
+        IsLeftInDoubt D.shown geometry device.old →
+        Leaves D.shown (SameRegion (D.shown.words device.old)) device.old device.new }
+    ensures recovers { IsTrue D.shown.tells_doubts →
+        IsLeftInDoubt D.shown geometry device.old →
+        OnOk result ((i : List ℕ) → D.shown.leaves device.new i →
+        IsImageRecovered (D.shown.words device.old) (D.shown.words device.new) i) }
     ensures idle { IsTrue D.shown.tells_words →
         IsIdle (D.shown.words device.old) → SyncsOnce D.shown device.old device.new }
 {

@@ -1,11 +1,12 @@
 //! The copy of the region that counts over the other one.
-ghost use Rattle.std.specs.Prelude.{◌≡◌, ◌≢◌, ◌+◌, ◌<◌, ◌≤◌, OnOk, IsTrue, length, slice_index};
+ghost use Rattle.std.specs.Prelude.{◌≡◌, ◌≢◌, ◌+◌, ◌<◌, ◌≤◌, ℕ, List, OnOk, IsTrue, length, slice_index};
 ghost use Rattle.rom_model.specs.Blocks.{region_len};
-ghost use Rattle.rom_device.specs.Device.{Does, IsSynced, Leaves, Makes, Stays};
+ghost use Rattle.rom_device.specs.Device.{AreSettled, DoubtsNoMore, IsRenewed, IsSynced, Leaves, Makes, Runs, Stays, Writes};
 ghost use Rattle.rom_header.specs.Headers.{state_word};
 ghost use Rattle.rom_header.specs.Layout.{STATE, words_needed};
-ghost use Rattle.rom_header.specs.Regions.{IsHeap};
+ghost use Rattle.rom_header.specs.Regions.{IsHeap, SameRegion};
 ghost use Rattle.rom_header.specs.Writing.{Alters};
+ghost use Rattle.rom_recover.specs.Doubt.{IsCertainBut, IsImageRecovered, IsOfOther, MayBeInDoubt};
 ghost use Rattle.rom_recover.specs.Image.{IsEmptyOrFull, KeepsMain};
 ghost use Rattle.rom_recover.specs.Recovered.{IsDone, IsWay, Mended, Mends};
 
@@ -24,14 +25,23 @@ fn way(geometry: Geometry, state: State) -> (u64, u64)
     }
 }
 
-/// Writes the state once more, as it reads, and makes it certain.
+/// Writes the state once more, as it reads, and makes it certain. Where it was certain before, nothing
+/// changes; where it was in doubt, it is so no longer.
 fn renew_state<D: Device>(device: &mut D, state: State) -> Result<(), Failed>
     requires there { STATE < D.shown.size device.old }
     requires state { IsTrue D.shown.tells_words →
         slice_index (D.shown.words device.old) STATE ≡ state_word state }
     requires certain { IsSynced D.shown device.old }
-    ensures stays { Does D.shown Stays device.old device.new }
+    ensures size { D.shown.size device.new ≡ D.shown.size device.old }
+    ensures words { IsTrue D.shown.tells_words →
+        D.shown.words device.new ≡ D.shown.words device.old }
+    ensures images { IsTrue D.shown.tells_images → Runs D.shown Stays device.old device.new }
     ensures certain { OnOk result (IsSynced D.shown device.new) }
+    ensures doubts { IsTrue D.shown.tells_doubts →
+        Runs D.shown (Writes STATE (state_word state)) device.old device.new }
+    ensures settles { IsTrue D.shown.tells_doubts → OnOk result (AreSettled D.shown device.new) }
+    ensures renews { OnOk result (IsRenewed D.shown STATE device.new) }
+    ensures fewer { DoubtsNoMore D.shown device.old device.new }
     ensures makes { Makes D.shown 0 1 1 device.old device.new result }
 {
     device.write(STATE, state.word())?;
@@ -62,6 +72,15 @@ fn copy_over<D: Device>(
     ensures left { Alters D.shown (Mends geometry) device.old device.new }
     ensures images { IsTrue D.shown.tells_images →
         Leaves D.shown (Mended geometry (D.shown.words device.old)) device.old device.new }
+
+    // The state must be certain before: only words of the region that is written may be in doubt.
+    ensures doubts { IsTrue D.shown.tells_doubts →
+        IsCertainBut D.shown (IsOfOther geometry (state_word state)) device.old →
+        Leaves D.shown (SameRegion (D.shown.words device.old)) device.old device.new }
+    ensures recovers { IsTrue D.shown.tells_doubts →
+        IsCertainBut D.shown (IsOfOther geometry (state_word state)) device.old →
+        OnOk result ((i : List ℕ) → D.shown.leaves device.new i →
+        IsImageRecovered (D.shown.words device.old) (D.shown.words device.new) i) }
     ensures makes { Makes D.shown (region_len geometry) (region_len geometry + 1) 2
         device.old device.new result }
 {
@@ -100,6 +119,15 @@ pub fn redo<D: Device>(
     ensures left { Alters D.shown (Mends geometry) device.old device.new }
     ensures images { IsTrue D.shown.tells_images →
         Leaves D.shown (Mended geometry (D.shown.words device.old)) device.old device.new }
+
+    // The state may be in doubt, and words of the region that does not count.
+    ensures doubts { IsTrue D.shown.tells_doubts →
+        IsCertainBut D.shown (MayBeInDoubt geometry (state_word state)) device.old →
+        Leaves D.shown (SameRegion (D.shown.words device.old)) device.old device.new }
+    ensures recovers { IsTrue D.shown.tells_doubts →
+        IsCertainBut D.shown (MayBeInDoubt geometry (state_word state)) device.old →
+        OnOk result ((i : List ℕ) → D.shown.leaves device.new i →
+        IsImageRecovered (D.shown.words device.old) (D.shown.words device.new) i) }
     ensures makes { Makes D.shown (region_len geometry) (region_len geometry + 2) 3
         device.old device.new result }
 {

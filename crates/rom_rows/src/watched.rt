@@ -76,6 +76,8 @@ impl<'a, D: Device> Device for Watched<'a, D> {
       leaves = λ w. D.shown.leaves w.inner;
       clock = λ w. D.shown.clock w.inner;
       left_since = λ w. D.shown.left_since w.inner;
+      tells_doubts = false;
+      doubted = λ _ _. ⊥;
       reads = λ w. D.shown.reads w.inner;
       writes = λ w. D.shown.writes w.inner;
       syncs = λ w. D.shown.syncs w.inner;
@@ -124,6 +126,8 @@ impl<'a, D: Device> Device for Watched<'a, D> {
     ghost counts_now = { λ w t i told le left. D.counts_now w.inner t i told le left };
 
     ghost only_now = { λ w i told left. D.only_now w.inner i told left };
+
+    ghost doubts_told = { λ no. Prim.cc };
 
     ghost size_fits = { λ w. D.size_fits w.inner };
 

@@ -36,7 +36,7 @@ module _ {D : Type 0} (shown : ShownDevice D) (was : D) where
   within_uncalled Standing = record {
     calls = λ tells. uncalled _ _ _;
     by_order = inl (uncalled 4 0 0);
-    idle = λ tells idle. record { size = refl; words = λ told. refl; images = λ told. runs_none shown _ (λ x. refl) was };
+    idle = λ tells idle. record { size = refl; words = λ told. refl; images = λ told. runs_none shown _ (λ x. refl) was; doubts = λ told. runs_none shown _ (λ x. refl) was; fewer = λ at is. is };
     stops = inl refl;
   }
   within_uncalled Upgraded = record {
@@ -50,7 +50,7 @@ module _ {D : Type 0} (shown : ShownDevice D) (was : D) where
   kept_uncalled (New order) = record {
     size = refl;
     outside = λ told. record { as_long = refl; before = λ k lt. refl; behind = λ k le. refl };
-    spared = λ told refused. record { size = refl; words = λ told. refl; images = λ told. runs_none shown _ (λ x. refl) was };
+    spared = λ told refused. record { size = refl; words = λ told. refl; images = λ told. runs_none shown _ (λ x. refl) was; doubts = λ told. runs_none shown _ (λ x. refl) was; fewer = λ at is. is };
   }
   kept_uncalled Standing = record {
     size = refl;

@@ -4,7 +4,7 @@ use crate::devices::{AMPLE, Failing, choice, device};
 use crate::files::{bytes_of, device_over, path};
 use crate::regions::{change, heap, region};
 use rom_device::CallKind::{Read, Sync, Write};
-use rom_device::{Device, Fuse};
+use rom_device::{Device, Fuse, Resumed};
 use rom_header::{State, read_header};
 use rom_recover::{RecoverRefused, Recovered, recover};
 use std::alloc::{AllocError, Global};
@@ -129,6 +129,69 @@ fn both_regions_become_the_one_that_counts(rt: HostRuntime) -> Result<(), Fail> 
         assert!(rt; bytes.as_slice() == bytes_of(alloc, left.as_slice())?.as_slice());
     }
     fs::remove_file(&rt, path.as_path())?;
+    Ok(())
+}
+
+/// A state as it reads and as it may still be on the disk, and whether main and back are the newer region.
+/// The state alone is in doubt, as where the sync behind its writing failed: that of a commit, of a repair,
+/// of a batch's beginning, or none.
+const IN_DOUBT: [(u64, u64, bool, bool); 4] = [
+    (2, 1, true, false),
+    (1, 2, true, false),
+    (1, 0, false, false),
+    (0, 2, true, true),
+];
+
+/// Stops recovery of words whose state is in doubt after so many calls, and recovers what is left: both
+/// regions are then the one that counted, or by the older state the one that it tells.
+fn loses_nothing<R: Abort + AllocGlobal>(
+    rt: &R,
+    words: &[u64],
+    older: u64,
+    left: (&[u64], &[u64]),
+    calls: u64,
+    kind: u64,
+) -> Result<(), Fail> {
+    let memory = device(rt.alloc(), words, AMPLE, &[])?;
+    let mut fuse = Fuse::new(
+        Resumed::new(memory, with_state(rt.alloc(), words, older)?),
+        calls,
+    );
+    let done = recovered(&mut fuse).is_some_and(|done| done.is_ok());
+    let stop = fuse.inner().crash(&choice(kind / 2), &[kind % 2 == 0; 8]);
+    let mut memory = device(rt.alloc(), stop.as_slice(), AMPLE, &[])?;
+    let again = recovered(&mut memory).is_some_and(|again| again.is_ok());
+    let same = memory.words() == left.0 || !done && memory.words() == left.1;
+    assert!(rt; again && same, "after {calls} calls, {kind}");
+    Ok(())
+}
+
+/// These words under another state.
+fn with_state(alloc: Global, words: &[u64], state: u64) -> Result<Vec<u64>, AllocError> {
+    let mut words = words.to_vec(alloc)?;
+    change(words.as_mut_slice(), &[(3, state)]);
+    Ok(words)
+}
+
+#[test]
+fn a_state_in_doubt_loses_nothing(rt: HostRuntime) -> Result<(), Fail> {
+    let alloc = rt.alloc();
+    let (newer, older) = (region(true, &[]), region(false, &[]));
+    for (state, on_disk, main, back) in &IN_DOUBT {
+        let main = if *main { newer } else { older };
+        let back = if *back { newer } else { older };
+        let words = among_others(alloc, *state, &main, &back)?;
+        let counts = if *state == 1 { back } else { main };
+        let other = if *on_disk == 1 { back } else { main };
+        let left = among_others(alloc, 0, &counts, &counts)?;
+        let before = among_others(alloc, 0, &other, &other)?;
+        let left = (left.as_slice(), before.as_slice());
+        for kind in 0..4 {
+            for stop in 0..34 {
+                loses_nothing(&rt, words.as_slice(), *on_disk, left, 7 * stop, kind)?;
+            }
+        }
+    }
     Ok(())
 }
 

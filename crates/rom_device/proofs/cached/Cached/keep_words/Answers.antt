@@ -3,7 +3,7 @@ use Rattle.std.proofs.lemmas.Bool.{cases_lt}
 use Rattle.rom_device.specs.Run.{word_of}
 use Rattle.rom_device.specs.Windows.{word_in}
 use Rattle.rom_device.specs.Cached.{shown_by_cached}
-use Rattle.rom_device.proofs.Many.{many_on, many_only}
+use Rattle.rom_device.proofs.Many.{many_on, many_only, renewed_on, renewed_still}
 use Rattle.rom_device.proofs.Passing.{now_written, still_written, writes_up_to}
 use Rattle.rom_device.proofs.Caching.{length-with_run}
 use Rattle.rom_device.proofs.cached.Cached.keep_words.Goals as goal
@@ -25,6 +25,10 @@ pub returns-then-not-keep-clause-does : goal.returns-then-not-keep-clause-does
 returns-then-not-keep-clause-does g c =
     many_on (shown_by_cached g.M.Medium.shown) c.args.at c.args.values.now c.loop-index.index c.loop-index-test.true c.args.self.now c.loop-index.self c.keep.new.self c.loop-index.invariant.does c.keep.ensures.does
 
+pub returns-then-not-keep-clause-renews : goal.returns-then-not-keep-clause-renews
+returns-then-not-keep-clause-renews g c =
+    renewed_still (shown_by_cached g.M.Medium.shown) c.args.at c.loop-index.index c.loop-index.self c.keep.new.self c.keep.ensures.does.fewer c.loop-index.invariant.renews
+
 pub loop-index-preserved : goal.loop-index-preserved
 loop-index-preserved g c =
     let index : ℕ = c.loop-index.index in
@@ -45,6 +49,7 @@ loop-index-preserved g c =
           let last : index + 1 - 1 ≡ index = omega arith in
           subst (λ (n : ℕ). word_of c.keep.new.self.pending (c.args.at + n) ≡ Some (slice_index c.args.values.now n)) (sym last) c.if-not-keep.ensures.waits;
       does = many_on shown c.args.at c.args.values.now index c.loop-index-test.true c.args.self.now now c.keep.new.self c.loop-index.invariant.does c.keep.ensures.does;
+      renews = renewed_on shown c.args.at index now c.keep.new.self c.keep.ensures.does.fewer c.loop-index.invariant.renews c.if-not-keep.ensures.renews;
       only = λ told. many_only c.args.at index (slice_index c.args.values.now index) (shown.words c.args.self.now) (shown.words now) (shown.words c.keep.new.self) (c.loop-index.invariant.only told) (inr (c.if-not-keep.ensures.written told));
       written = λ told. now_written c.args.at index c.args.values.now (shown.words now) (shown.words c.keep.new.self)
           (omega (arith, length-with_run now.pending (g.M.Medium.shown.words now.medium), now.long told, c.loop-index.invariant.does.size, c.requires, c.loop-index-test.true)) (c.if-not-keep.ensures.written told) (c.loop-index.invariant.written told);

@@ -1,9 +1,9 @@
 use Rattle.std.proofs.Common.{refl}
-use Rattle.rom_device.proofs.Caching.{cached_syncs, certain}
+use Rattle.rom_device.proofs.Caching.{cached_syncs, settled}
 use Rattle.rom_device.proofs.cached.Cached.make_certain.Goals as goal
 
 pub returns-clause-certain : goal.returns-clause-certain
-returns-clause-certain g c = certain g.M.Medium.shown c.args.self.now.pending c.sync-synced.new.self c.sync-synced.result c.requires.handed (c.sync-synced.ensures.certain (c.args.self.now.sure c.requires.sure))
+returns-clause-certain g c told = settled g.M.Medium.shown c.args.self.now.pending c.sync-synced.new.self c.sync-synced.result c.requires.handed (c.sync-synced.ensures.certain told (c.args.self.now.sure c.requires.sure))
 
 pub returns-clause-does : goal.returns-clause-does
 returns-clause-does g c =

@@ -1,4 +1,4 @@
-use Rattle.std.proofs.Common.{ℕ, List, rules, subst, sym}
+use Rattle.std.proofs.Common.{ℕ, List, rules, refl, subst, sym}
 use Rattle.rom_device.specs.Device.{WritesMany, WritesUpTo}
 use Rattle.rom_device.specs.Run.{with_run}
 use Rattle.rom_device.proofs.OnMedium.{device_does}
@@ -16,4 +16,7 @@ returns-then-kept-values-clause-failed g c =
 
 pub returns-then-kept-values-clause-does : goal.returns-then-kept-values-clause-does
 returns-then-kept-values-clause-does g c =
-    device_does g.M.Medium.shown (WritesMany c.args.at c.args.values.now) c.args.self.now c.fault.new.self c.keep_words-kept.new.self c.fault.ensures.words c.keep_words-kept.ensures.does
+    device_does g.M.Medium.lasting g.M.Medium.shown (WritesMany c.args.at c.args.values.now) c.args.self.now c.fault.new.self c.keep_words-kept.new.self c.fault.ensures.words c.keep_words-kept.ensures.does
+
+pub returns-clause-does : goal.returns-clause-does
+returns-clause-does g c = device_does g.M.Medium.lasting g.M.Medium.shown (WritesMany c.args.at c.args.values.now) c.args.self.now _ c.keep_words-kept.new.self refl c.keep_words-kept.ensures.does

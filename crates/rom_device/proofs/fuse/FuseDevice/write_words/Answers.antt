@@ -2,7 +2,7 @@ use Rattle.std.proofs.Common.{◌≡◌, ◌<◌, ◌+◌, Bool, true, false, is
 use Rattle.std.proofs.lemmas.Bool.Decides.{nat_tests}
 use Rattle.rom_device.specs.Device.{WritingFailed}
 use Rattle.rom_device.specs.Fuse.{inner_of, calls_left, shown_by_fuse, MadeWrites}
-use Rattle.rom_device.proofs.Many.{many_on, many_only}
+use Rattle.rom_device.proofs.Many.{many_on, many_only, renewed_on}
 use Rattle.rom_device.proofs.Passing.{made_writes_on, was_passed, up_to_failed, still_written, now_written, writes_up_to}
 use Rattle.rom_device.proofs.fuse.FuseDevice.write_words.Goals as goal
 
@@ -49,6 +49,7 @@ loop-index-preserved g c =
     let passed = c.write.ensures.passes.passed some in
     record {
       does = many_on (shown_by_fuse g.D.Device.shown) c.args.at c.args.values.now c.loop-index.index c.loop-index-test.true c.args.self.now c.loop-index.self c.write.new.self c.loop-index.invariant.does c.write.ensures.does;
+      renews = renewed_on (shown_by_fuse g.D.Device.shown) c.args.at c.loop-index.index c.loop-index.self c.write.new.self c.write.ensures.does.fewer c.loop-index.invariant.renews c.in_ok-write.ensures.renews;
       only = λ tells. many_only c.args.at c.loop-index.index (slice_index c.args.values.now c.loop-index.index) (g.D.Device.shown.words (inner_of c.args.self.now)) (g.D.Device.shown.words (inner_of c.loop-index.self)) (g.D.Device.shown.words (inner_of c.write.new.self))
           (c.loop-index.invariant.only tells) (inr (c.in_ok-write.ensures.written tells));
       written = λ tells. now_written c.args.at c.loop-index.index c.args.values.now (g.D.Device.shown.words (inner_of c.loop-index.self)) (g.D.Device.shown.words (inner_of c.write.new.self))

@@ -1,5 +1,6 @@
 use Rattle.std.proofs.Common.{◌≡◌, ◌∷◌, ◌++◌, [], true, arith, length, ap, rules}
 use Rattle.rom_device.specs.declared.call.LoggedCall.TheVariants.{Sync}
+use Rattle.rom_device.specs.Doubt.{untold}
 use Rattle.rom_device.proofs.Synced.{newest, sync_now, sync_since, sync_keeps}
 use Rattle.rom_device.proofs.memory.MemoryDevice.sync.Goals as goal
 
@@ -16,4 +17,6 @@ returns-clause-does c =
         nothing_else = λ t i since. sync_since _ _ _ t i is since;
         keeps = λ t i le since. sync_keeps _ _ _ t i is le since;
       };
+      doubts = λ never. untold never;
+      fewer = λ b is. is;
     }

@@ -27,6 +27,7 @@ returns-then-is_err-clause-hands c =
     record {
       does = does_next c.args.at (word_among bytes) index (words_among bytes) c.read_u64-value.result c.loop-index-test.true value c.args.self.now c.loop-index.self c.write.new.self c.loop-index.invariant.does c.write.ensures.does;
       written = λ told. search rules;
+      renewed = tt;
       keeps = λ told i left. write_keeps (c.args.at + index) c.read_u64-value.result c.loop-index.self c.write.new.self c.write.result c.write.ensures.lists i (c.loop-index.invariant.keeps i left);
       each = λ told. search rules;
     }

@@ -1,6 +1,6 @@
 use Rattle.std.proofs.Common.{◌≡◌, ℕ, ◌<◌, reverse, slice_index, vec_len}
 use Rattle.rom_device.specs.Choice.{picked}
-use Rattle.rom_device.proofs.memory.Memory.crash.Given as goal
+use Rattle.rom_device.proofs.memory.Memory.crashed.Given as goal
 
 abbrev pub invariant-loop-at : goal.invariant-loop-at
 invariant-loop-at l = record {

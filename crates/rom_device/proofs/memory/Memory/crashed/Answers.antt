@@ -2,7 +2,7 @@ use Rattle.std.proofs.Common.{◌≡◌, ◌<◌, length, reverse, arith, rules}
 use Rattle.std.proofs.lemmas.List.{length-reverse}
 use Rattle.rom_device.specs.Images.{length-MayLeave}
 use Rattle.rom_device.proofs.Choices.{picked_may, may_picked}
-use Rattle.rom_device.proofs.memory.Memory.crash.Goals as goal
+use Rattle.rom_device.proofs.memory.Memory.crashed.Goals as goal
 
 pub returns-clause-left : goal.returns-clause-left
 returns-clause-left c =
