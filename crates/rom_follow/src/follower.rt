@@ -251,8 +251,8 @@ impl<D: Device, N: Label> Follower<D, N> {
 
         // The device went through the passes of the records, one after another, from the start on.
         ensures went { EachStory trio Contents result.session (λ story. WentThrough D.shown
-            Contents (on_words trio) story (HasStarted D.shown N.base.faults N.start)
-            result.device) }
+            Contents (on_words trio) story
+            (HasStarted D.shown N.base.faults N.start N.since) result.device) }
         ensures size { D.shown.size result.device ≡ N.start.size }
         ensures outside { IsTrue D.shown.tells_words →
             WithinHeap N.base.order N.start.words (D.shown.words result.device) }

@@ -1,7 +1,6 @@
 -- What the making of a heap answers and leaves.
 use Rattle.std.specs.Prelude.{◌≡◌, ◌≢◌, ◌⊎◌, ℕ, Bool, List, slice_index, Result, Ok, Err}
 use Rattle.rom_model.specs.Faults.{FailedLast}
-use Rattle.rom_device.specs.Device.{ShownDevice, Leaves}
 use Rattle.rom_header.specs.Fresh.{IsNew, HasTooFewFor}
 use Rattle.rom_header.specs.Layout.{MAGIC}
 use Rattle.rom_header.specs.declared.fresh.FormatRefused.{FormatRefused}
@@ -35,10 +34,3 @@ HasFaultsUnmade (Refused format.Device) before now failing = FailedLast before n
 HasFaultsUnmade (Refused format.AlreadyAHeap) before now failing = now ≡ before
 HasFaultsUnmade (Refused (format.TooSmall need have)) before now failing = now ≡ before
 HasFaultsUnmade OutOfMemory before now failing = now ≡ before
-
--- A heap of this order and with this state was made on the device, and then worked on. Until it stood, a stop left what could be left before, or no heap, or the new one; once it stood, the new one alone; and since then that, or what has P.
-pub record IsMadeThen {D S : Type 0} (shown : ShownDevice D) (Contents : ℕ → List ℕ → S → ℕ → Type 0) (order : ℕ) (state : S) (P : List ℕ → Type 0) (was now : D) : Type 0 where
-  pub at : D
-  pub making : Leaves shown (NoneOrHolds Contents order state) was at
-  pub stands : (i : List ℕ) → shown.leaves at i → Holds Contents order i state 0
-  pub since : Leaves shown P at now

@@ -2,13 +2,15 @@
 use Rattle.std.specs.Prelude.{◌≡◌, ◌⊎◌, ℕ, ◌+◌, ◌*◌, ◌≤◌, List, slice_index, Err, IsTrue}
 use Rattle.rom_model.specs.Blocks.{IsOrder, region_len}
 use Rattle.rom_model.specs.Faults.{StopsAtFault}
-use Rattle.rom_device.specs.Device.{ShownDevice, Does, Makes, Stays}
+use Rattle.rom_device.specs.Device.{ShownDevice, Does, Leaves, Makes, Stays}
 use Rattle.rom_header.specs.Calls.{format_fault, format_reads, format_syncs, format_writes}
 use Rattle.rom_header.specs.Headers.{IsIdle}
+use Rattle.rom_header.specs.Held.{Holds}
 use Rattle.rom_header.specs.Layout.{STATE, words_needed}
 use Rattle.rom_recover.specs.Calls.{CallsWithin}
 use Rattle.rom_open.specs.AtRest.{IsAtRest}
 use Rattle.rom_open.specs.Calls.{opening_reads, opening_syncs, opening_writes}
+use Rattle.rom_open.specs.Making.{NoneOrHolds}
 use Rattle.rom_open.specs.Refusals.{named_order}
 use Rattle.rom_open.specs.declared.new_heap.NotFormatted.{NotFormatted}
 use Rattle.rom_open.specs.declared.new_heap.NotFormatted.TheVariants.{Refused, OutOfMemory}
@@ -54,11 +56,13 @@ module _ {D : Type 0} (shown : ShownDevice D) where
     pub faults : shown.faults now ≡ shown.faults was
     pub rest : LiesAtRest order now
 
-  -- A heap of this order was made once at most, likewise.
-  pub record HasMadeHeap (order : ℕ) (was now : D) : Type 0 where
+  -- A heap of this order with this state was made once at most, likewise. Until it stood, a stop left what could be left before, or no heap, or the new one; now that it stands, the new one alone.
+  pub record HasMadeHeap {S : Type 0} (Contents : ℕ → List ℕ → S → ℕ → Type 0) (order : ℕ) (state : S) (was now : D) : Type 0 where
     pub calls : CallsOfMaking order was now
     pub faults : shown.faults now ≡ shown.faults was
     pub rest : LiesAtRest order now
+    pub making : IsTrue shown.tells_images → Leaves shown (NoneOrHolds Contents order state) was now
+    pub stands : IsTrue shown.tells_images → (i : List ℕ) → shown.leaves now i → Holds Contents order i state 0
 
 -- The calls where no heap was made, by the reason: those of the making that was refused so, and none for want of memory.
 abbrev pub MakesNone : {D : Type 0} → ShownDevice D → ℕ → NotFormatted → D → D → Type 0

@@ -2,6 +2,7 @@
 use Rattle.std.specs.Prelude.{◌≡◌, ◌⊎◌, ℕ, List, [], ◌∷◌, length, IsTrue, IsSome, IsNone, IfSome, Option, Some, None}
 use Rattle.std.specs.Global.{Vec}
 use Rattle.rom_heap.specs.Answers.{Rejects, earlier}
+use Rattle.rom_model.specs.Machine.{on_words}
 use Rattle.rom_model.specs.Region.{Contents}
 use Rattle.rom_model.specs.Trio.{trio}
 use Rattle.rom_device.specs.Device.{ShownDevice}
@@ -9,10 +10,10 @@ use Rattle.rom_combine.specs.Costs.{IsUnfailed}
 use Rattle.rom_text.specs.Lines.{AreScripts}
 use Rattle.rom_text.specs.Runs.{AreAskedOnce}
 use Rattle.rom_text.specs.Streams.{ShownSink, ShownSource, StopsWriting, WriteFailed}
+use Rattle.rom_store.specs.Lasting.{HasLasted}
 use Rattle.rom_store.specs.Sessions.{EachStory, SessionSeen}
 use Rattle.rom_script.specs.Lines.{Reads}
 use Rattle.rom_run.specs.Complete.{IsAtHand, IsRefusedByName, NoneFailed}
-use Rattle.rom_run.specs.Keeping.{IsLasting}
 use Rattle.rom_run.specs.Promise.{Promise}
 use Rattle.rom_run.specs.Use.{Makes, Plays, Read}
 use Rattle.rom_run.specs.Working.{HasNone, HasSession, IsDeviceKept}
@@ -55,7 +56,7 @@ module _ {D X K : Type 0} (shown : ShownDevice D) (source : ShownSource X) (sink
     -- where the heap was opened, the stream was followed, and what a stop of the device leaves is told by the history
     pub story : IfSome session (HasSession trio Contents shown Standing was now (λ story. OfOne inputs.items left.items (λ x y. IsToldOfStream source sink x y old new status story)))
     -- and each pass that added to it was certain at its commit: no stop since then has left less of it
-    pub lasting : IfSome session (λ s. EachStory trio Contents s (IsLasting trio Contents shown Standing was now))
+    pub lasting : IfSome session (λ s. EachStory trio Contents s (λ story. HasLasted shown Contents (on_words trio) story now))
     -- else what a stop may leave, and why it was not opened; and the stream was not read
     pub none : IsNone session → HasNone trio Contents shown sink Rejects earlier Standing was now old new status
     pub unread : IsNone session → left.items ≡ inputs.items

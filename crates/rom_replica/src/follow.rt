@@ -79,7 +79,7 @@ fn follow_as<D: Device + Send, N: Label, S: Source, R: Wait, G: Gate>(
         (λ story. HasLeftSince D.shown N.start N.since
         (SessionImage Contents (on_words trio) story) result.closed.device) }
     ensures went { EachStory trio Contents result.closed.session (λ story. WentThrough D.shown
-        Contents (on_words trio) story (HasStarted D.shown N.base.faults N.start)
+        Contents (on_words trio) story (HasStarted D.shown N.base.faults N.start N.since)
         result.closed.device) }
     ensures size { D.shown.size result.closed.device ≡ N.start.size }
     ensures outside { IsTrue D.shown.tells_words →
@@ -125,7 +125,8 @@ fn follow_on<D: Device + Send, S: Source, R: Wait, G: Gate>(
         result.closed.device) }
     ensures went { EachStory trio Contents result.closed.session (λ story. WentThrough D.shown
         Contents (on_words trio) story (HasStarted D.shown (base_of opening.key).faults
-        (start_of D.shown opening.device)) result.closed.device) }
+        (start_of D.shown opening.device) (D.shown.left_since opening.device))
+        result.closed.device) }
     ensures size { D.shown.size result.closed.device ≡ D.shown.size opening.device }
     ensures outside { IsTrue D.shown.tells_words → WithinHeap (base_of opening.key).order
         (D.shown.words opening.device) (D.shown.words result.closed.device) }

@@ -1,5 +1,5 @@
 -- Words that hold a heap are not refused, nor are words in which one can be made; so with a session, or a heap that is made, none is refused.
-use Rattle.std.specs.Prelude.{◌≡◌, ℕ, ◌+◌, Bool, if◌then◌else◌, List, Some, None, IfSome, IsTrue, Ok, Err, slice_index}
+use Rattle.std.specs.Prelude.{◌≡◌, ◌≢◌, ℕ, ◌+◌, Bool, if◌then◌else◌, List, Some, None, IfSome, IsTrue, Ok, Err, slice_index}
 use Rattle.std.proofs.Common.{refl, sym, ap, ◌∙◌, arith, subst, inl, inr}
 use Rattle.rom_model.specs.Blocks.{region_len}
 use Rattle.rom_model.specs.Earlier.{Earlier}
@@ -18,18 +18,15 @@ use Rattle.rom_recover.specs.Recovered.{DifferAt}
 use Rattle.rom_text.specs.Streams.{ShownSink}
 use Rattle.rom_open.proofs.Holding.{holds_one}
 use Rattle.rom_open.specs.Refusals.{IsRefusal, IsUnfit, IsUnready, named_order}
-use Rattle.rom_open.specs.declared.new_heap.NotFormatted.TheVariants.{Refused}
 use Rattle.rom_open.specs.declared.reasons.Why.{Why}
 use Rattle.rom_upgrade.specs.Upgrading.{IsUnfitOld, IsUpgradeRefusal}
 use Rattle.rom_open.specs.declared.reasons.Why.TheVariants.{NotAHeap, BadVersion, BadOrder, BadState, TooSmall, Twins, OldRegion, NewRegion, Malformed, Device, OutOfMemory}
 use Rattle.rom_run.specs.Complete.{IsAtHand, IsRefusedByName}
 use Rattle.rom_run.specs.Keeping.{IsHeapRefused, IsOpening}
-use Rattle.rom_run.specs.Refusing.{refusal_status, unmade_status}
-use Rattle.rom_run.specs.Statuses.{number_of}
+use Rattle.rom_run.specs.Refusing.{HasName}
 use Rattle.rom_run.specs.Use.{HasOrder}
 use Rattle.rom_run.specs.declared.heap.Heap.{Heap}
 use Rattle.rom_run.specs.declared.heap.Heap.TheVariants.{New, Standing, Upgraded}
-use Rattle.rom_run.specs.declared.status.Status.TheVariants.{HeapRefused}
 
 -- one region of the words counts
 one_region : (words : List ℕ) (m n : ℕ) (p q : List ℕ) → IsCurrentRegion m words p → IsCurrentRegion n words q → (m ≡ n) × (p ≡ q)
@@ -50,7 +47,7 @@ no_difference order words region offset main back (inr (inr busy)) differ = let 
 
 module _ {S : Type 0} (Contents : ℕ → List ℕ → S → ℕ → Type 0) (order : ℕ) (words : List ℕ) (state : S) (count : ℕ) (held : Holds Contents order words state count) where
   -- neither header nor regions are refused
-  ready : (why : Why) → refusal_status why ≡ HeapRefused → IsUnready words why → ⊥
+  ready : (why : Why) → HasName why → IsUnready words why → ⊥
   ready NotAHeap name is = is.1 held.current.heap.header.magic
   ready (BadVersion version) name is = is.3 (is.2 ∙ held.current.heap.header.version)
   ready (BadOrder n) name (long, magic, version, order_is, inl low) =
@@ -69,7 +66,7 @@ module _ {S : Type 0} (Contents : ℕ → List ℕ → S → ℕ → Type 0) (or
   ready OldRegion name is = is
   ready NewRegion name is = is
   ready (Malformed offset rule) name is = is
-  ready Device name is = let no : 7 ≡ 3 = ap number_of name in absurd (omega (arith, no))
+  ready Device name is = absurd (name.0 refl)
   ready OutOfMemory name is = is
 
   -- the region that counts is not one that stands for nothing
@@ -80,10 +77,10 @@ module _ {S : Type 0} (Contents : ℕ → List ℕ → S → ℕ → Type 0) (or
 
 -- so it is not refused, in this version
 module _ {S : Type 0} (Contents : ℕ → List ℕ → S → ℕ → Type 0) (Rejects : ℕ → List ℕ → Unfit → Type 0) (order : ℕ) (words : List ℕ) (state : S) (count : ℕ) (held : Holds Contents order words state count) where
-  fit : (why : Why) (region : List ℕ) → refusal_status why ≡ HeapRefused → IsCurrentRegion (named_order words) words region → IsUnfit Contents Rejects (named_order words) region why → ⊥
+  fit : (why : Why) (region : List ℕ) → HasName why → IsCurrentRegion (named_order words) words region → IsUnfit Contents Rejects (named_order words) region why → ⊥
   fit (Malformed offset rule) region name current is = stands Contents order words state count held region current is.none
   fit OldRegion region name current is = stands Contents order words state count held region current is.none
-  fit OutOfMemory region name current is = let no : 6 ≡ 3 = ap number_of name in absurd (omega (arith, no))
+  fit OutOfMemory region name current is = absurd (name.1 refl)
   fit NewRegion region name current is = is
   fit NotAHeap region name current is = is
   fit (BadVersion version) region name current is = is
@@ -93,7 +90,7 @@ module _ {S : Type 0} (Contents : ℕ → List ℕ → S → ℕ → Type 0) (Re
   fit (Twins offset main back) region name current is = is
   fit Device region name current is = is
 
-  unrefused : (why : Why) → refusal_status why ≡ HeapRefused → IsRefusal Contents Rejects words why → ⊥
+  unrefused : (why : Why) → HasName why → IsRefusal Contents Rejects words why → ⊥
   unrefused why name (inl is) = ready Contents order words state count held why name is
   unrefused why name (inr is) = fit why is.0 name is.1 is.2
 
@@ -115,10 +112,10 @@ apart_played earlier Upgraded is = absurd is
 
 -- an upgrade does not refuse words that hold something in the version before
 module _ {S : Type 0} (earlier : Earlier S) (apart : IsToldApart earlier) (order : ℕ) (words : List ℕ) (state : S) (count : ℕ) (held : Holds earlier.Contents order words state count) where
-  fit_before : (why : Why) (region : List ℕ) → refusal_status why ≡ HeapRefused → IsCurrentRegion (named_order words) words region → IsUnfitOld earlier (named_order words) region why → ⊥
+  fit_before : (why : Why) (region : List ℕ) → HasName why → IsCurrentRegion (named_order words) words region → IsUnfitOld earlier (named_order words) region why → ⊥
   fit_before (Malformed offset rule) region name current is = stands earlier.Contents order words state count held region current is.1.none
   fit_before NewRegion region name current is = stands earlier.Contents order words state count held region current (λ s k stood. apart (named_order words) region s k stood is)
-  fit_before OutOfMemory region name current is = let no : 6 ≡ 3 = ap number_of name in absurd (omega (arith, no))
+  fit_before OutOfMemory region name current is = absurd (name.1 refl)
   fit_before OldRegion region name current is = is
   fit_before NotAHeap region name current is = is
   fit_before (BadVersion version) region name current is = is
@@ -128,15 +125,15 @@ module _ {S : Type 0} (earlier : Earlier S) (apart : IsToldApart earlier) (order
   fit_before (Twins offset main back) region name current is = is
   fit_before Device region name current is = is
 
-  unrefused_before : (why : Why) → refusal_status why ≡ HeapRefused → IsUpgradeRefusal earlier words why → ⊥
+  unrefused_before : (why : Why) → HasName why → IsUpgradeRefusal earlier words why → ⊥
   unrefused_before why name (inl is) = ready earlier.Contents order words state count held why name is
   unrefused_before why name (inr is) = fit_before why is.0 name is.1 is.2
 
 -- where a heap can be made it is not refused
-unspared : (order : ℕ) (words : List ℕ) → IsFormatAnswer order words (Ok tt) → (why : FormatRefused) → unmade_status (Refused why) ≡ HeapRefused → IsFormatAnswer order words (Err why) → ⊥
+unspared : (order : ℕ) (words : List ℕ) → IsFormatAnswer order words (Ok tt) → (why : FormatRefused) → why ≢ format.Device → IsFormatAnswer order words (Err why) → ⊥
 unspared order words can format.AlreadyAHeap name is = can.0 is
 unspared order words can (format.TooSmall need have) name is = let long = can.1 in let a = is.1 in let b = is.2 in let c = is.3 in absurd (omega (arith, long, a, b, c))
-unspared order words can format.Device name is = let no : 7 ≡ 3 = ap number_of name in absurd (omega (arith, no))
+unspared order words can format.Device name is = absurd (name refl)
 
 module _ {S : Type 0} (Contents : ℕ → List ℕ → S → ℕ → Type 0) (Rejects : ℕ → List ℕ → Unfit → Type 0) (earlier : Earlier S) where
   -- a heap that is at hand is not refused by name

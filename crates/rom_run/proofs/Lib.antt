@@ -8,6 +8,7 @@ pub mod Showing
 pub mod Lawful
 pub mod Replies
 pub mod Told
+pub mod Sessions
 pub mod Statuses
 pub mod Uncalled
 pub mod Accepted

@@ -1,6 +1,6 @@
 -- Why there is no heap, as it is told.
-use Rattle.std.specs.Prelude.{◌≡◌, ◌≢◌, ◌⊎◌, ℕ, List, IsTrue, codes, Result, Err}
-use Rattle.std.proofs.Common.{refl, ap, arith, inl, inr}
+use Rattle.std.specs.Prelude.{◌≡◌, ◌≢◌, ◌⊎◌, ℕ, Bool, List, IsTrue, codes, Result, Err}
+use Rattle.std.proofs.Common.{refl, sym, ap, ◌∙◌, arith, subst, inl, inr}
 use Rattle.rom_model.specs.Earlier.{Earlier}
 use Rattle.rom_model.specs.Machine.{Machine}
 use Rattle.rom_model.specs.declared.unfit.Unfit.{Unfit}
@@ -16,18 +16,31 @@ use Rattle.rom_open.specs.Making.{HasFaultsUnmade, IfMade, NamesTooFewFor}
 use Rattle.rom_open.specs.declared.new_heap.NotFormatted.{NotFormatted}
 use Rattle.rom_open.specs.declared.new_heap.NotFormatted.TheVariants as unmade
 use Rattle.rom_open.specs.declared.reasons.Why.{Why}
-use Rattle.rom_open.specs.declared.reasons.Why.TheVariants.{Device, OutOfMemory}
+use Rattle.rom_open.specs.declared.reasons.Why.TheVariants.{Device, OutOfMemory, Twins}
 use Rattle.rom_open.specs.Refusals.{IsRefusal, NamesTooFew}
 use Rattle.rom_open.specs.Within.{MakesNone, WithinMaking, WithinOpening}
 use Rattle.rom_upgrade.specs.Calls as upgrade
 use Rattle.rom_upgrade.specs.Calls.{HasUpgradeFaults, UpgradeCalls, WithinUpgrade}
 use Rattle.rom_upgrade.specs.Upgrading.{IsUpgradeRefusal}
 use Rattle.rom_run.specs.Keeping.{HasDeviceFailed, IsLeft, IsUnmade}
-use Rattle.rom_run.specs.Refusing.{refusal_line, refusal_status, unmade_line, unmade_status}
+use Rattle.rom_run.specs.Refusing.{HasName, refusal_line, refusal_status, unmade_line, unmade_status}
 use Rattle.rom_run.specs.Statuses.{number_of}
 use Rattle.rom_run.specs.Working.{HasNone}
 use Rattle.rom_run.specs.declared.heap.Heap.TheVariants.{New, Standing, Upgraded}
 use Rattle.rom_run.specs.declared.status.Status.TheVariants.{DeviceFailed, HeapRefused, NoMemory}
+
+-- a reason that is told with 3 has a name
+name_of : (why : Why) → refusal_status why ≡ HeapRefused → HasName why
+name_of why named = (
+  λ is. let no : 3 ≡ 7 = ap number_of (sym named ∙ ap refusal_status is) in omega (arith, no),
+  λ is. let no : 3 ≡ 6 = ap number_of (sym named ∙ ap refusal_status is) in omega (arith, no),
+)
+
+-- and is told where no call failed, or where the regions differ
+unfailed_by_name : (why : Why) (before now : ℕ) (failing : Bool) → HasName why → HasFaults {T = Unit {0}} (Err why) before now failing → ((offset main back : ℕ) → why ≢ Twins offset main back) → now ≡ before
+unfailed_by_name Device before now failing named faults apart = absurd (named.0 refl)
+unfailed_by_name (Twins offset main back) before now failing named faults apart = absurd (apart offset main back refl)
+unfailed_by_name other before now failing named faults apart = faults
 
 -- an upgrade that is refused by name made the calls of an opening that is refused so
 named_writes : (order state : ℕ) (why : Why) (before now : ℕ) → refusal_status why ≡ HeapRefused → upgrade.AreWrites {T = Unit {0}} order state (Err why) before now → AreWrites {T = Unit {0}} order state (Err why) before now
@@ -62,26 +75,25 @@ module _ {D O : Type 0} (shown : ShownDevice D) (sink : ShownSink O) (was now : 
   -- a heap that was not made for a script, as it is told
   pub refused_unmade : (why : NotFormatted) (n : ℕ) → n ≡ number_of (unmade_status why) → n ≡ 3 →
       (IsTrue shown.tells_words → (w : FormatRefused) → why ≡ unmade.Refused w → IsFormatAnswer order (shown.words was) (Err w)) → ((w : FormatRefused) → why ≡ unmade.Refused w → HasTooFewFor order (shown.size was) w) →
-      MakesNone shown order why was now → HasFaultsUnmade why (shown.faults was) (shown.faults now) (shown.failing now) → IsTold sink old new (unmade_line why) → IsUnmade shown sink order was now old new
-  refused_unmade (unmade.Refused format.AlreadyAHeap) n is three answer sizes calls faults told = record { why = format.AlreadyAHeap; by_name = refl; refused = λ tells. answer tells format.AlreadyAHeap refl; sizes = tt; calls = calls; faults = faults; told = told }
-  refused_unmade (unmade.Refused (format.TooSmall need have)) n is three answer sizes calls faults told = record {
+      MakesNone shown order why was now → IsTold sink old new (unmade_line why) → IsUnmade shown sink order was now old new
+  refused_unmade (unmade.Refused format.AlreadyAHeap) n is three answer sizes calls told = record { why = format.AlreadyAHeap; by_name = λ is. cc; refused = λ tells. answer tells format.AlreadyAHeap refl; sizes = tt; calls = calls; told = told }
+  refused_unmade (unmade.Refused (format.TooSmall need have)) n is three answer sizes calls told = record {
     why = format.TooSmall need have;
-    by_name = refl;
+    by_name = λ is. cc;
     refused = λ tells. answer tells (format.TooSmall need have) refl;
     sizes = sizes (format.TooSmall need have) refl;
     calls = calls;
-    faults = faults;
     told = told;
   }
-  refused_unmade (unmade.Refused format.Device) n is three answer sizes calls faults told = absurd (omega arith)
-  refused_unmade unmade.OutOfMemory n is three answer sizes calls faults told = absurd (omega arith)
+  refused_unmade (unmade.Refused format.Device) n is three answer sizes calls told = absurd (omega arith)
+  refused_unmade unmade.OutOfMemory n is three answer sizes calls told = absurd (omega arith)
 
   -- or alone
   pub refused_alone : (why : NotFormatted) (n : ℕ) → n ≡ number_of (unmade_status why) → n ≡ 3 →
       (IsTrue shown.tells_words → IfMade (Err why) (IsFormatAnswer order (shown.words was))) → IfMade (Err why) (NamesTooFewFor order (shown.size was)) →
       IfMade (Err why) (λ made. Makes shown (format_reads made) (format_writes order made) (format_syncs made) was now (format_fault made)) → IsTold sink old new (unmade_line why) → IsUnmade shown sink order was now old new
-  refused_alone (unmade.Refused format.AlreadyAHeap) n is three answer sizes makes told = record { why = format.AlreadyAHeap; by_name = refl; refused = answer; sizes = sizes; calls = makes; faults = makes.cause.none; told = told }
-  refused_alone (unmade.Refused (format.TooSmall need have)) n is three answer sizes makes told = record { why = format.TooSmall need have; by_name = refl; refused = answer; sizes = sizes; calls = makes; faults = makes.cause.none; told = told }
+  refused_alone (unmade.Refused format.AlreadyAHeap) n is three answer sizes makes told = record { why = format.AlreadyAHeap; by_name = λ is. cc; refused = answer; sizes = sizes; calls = makes; told = told }
+  refused_alone (unmade.Refused (format.TooSmall need have)) n is three answer sizes makes told = record { why = format.TooSmall need have; by_name = λ is. cc; refused = answer; sizes = sizes; calls = makes; told = told }
   refused_alone (unmade.Refused format.Device) n is three answer sizes makes told = absurd (omega arith)
   refused_alone unmade.OutOfMemory n is three answer sizes makes told = absurd (omega arith)
 
@@ -108,7 +120,7 @@ module _ {S C Q R A D K : Type 0} (machine : Machine S C Q R A) (Contents : ℕ 
   none_made order why answer sizes calls faults images memory within told = record {
     images = images;
     calls = within;
-    heap_refused = λ three. refused_unmade shown sink was now old new order why _ refl three answer sizes calls faults told;
+    heap_refused = λ three. refused_unmade shown sink was now old new order why _ refl three answer sizes calls told;
     device_failed = λ seven. failed_unmade shown sink was now old new order why _ refl seven faults told;
     unfailed = unfailed why faults;
     uncalled = λ six. memory (remembered why six);
@@ -163,7 +175,17 @@ module _ {S C Q R A D K : Type 0} (machine : Machine S C Q R A) (Contents : ℕ 
       by_name why named three answer sizes calls faults told images = record {
         images = images;
         calls = within;
-        heap_refused = λ is. record { why = why; by_name = named; refused = answer; sizes = sizes; calls = calls; within = within; images = images; faults = faults; told = told };
+        heap_refused = λ is. record {
+          why = why;
+          by_name = name_of why named;
+          refused = answer;
+          sizes = λ need have same. subst (λ (w : Why). NamesTooFew (shown.size was) w) same sizes;
+          calls = calls;
+          within = within;
+          images = images;
+          unfailed = unfailed_by_name why _ _ _ (name_of why named) faults;
+          told = told;
+        };
         device_failed = λ seven. absurd (omega (arith, three, seven));
         unfailed = λ six. absurd (omega (arith, three, six));
         uncalled = λ six. tt;
@@ -181,13 +203,13 @@ module _ {S C Q R A D K : Type 0} (machine : Machine S C Q R A) (Contents : ℕ 
     calls = within;
     heap_refused = λ three. record {
       why = why;
-      by_name = named why three;
+      by_name = name_of why (named why three);
       refused = answer;
-      sizes = sizes;
+      sizes = λ need have same. subst (λ (w : Why). NamesTooFew (shown.size was) w) same sizes;
       calls = λ tells. named_calls shown (shown.words was) was now why (named why three) (calls tells);
       within = opened (unfailed 3 why three (λ is. omega (arith, is)));
       images = λ tells. left tells (unfailed 3 why three (λ is. omega (arith, is)));
-      faults = faults;
+      unfailed = unfailed_by_name why _ _ _ (name_of why (named why three)) faults;
       told = told;
     };
     device_failed = λ seven. opening_failed shown sink was now old new why _ refl seven faults told;

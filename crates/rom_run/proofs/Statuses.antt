@@ -1,5 +1,5 @@
 -- Which statuses a command ends with, and what follows from each.
-use Rattle.std.specs.Prelude.{◌≡◌, ◌⊎◌, ◌↔◌, ℕ, List, Option, Some, None, Result, Err}
+use Rattle.std.specs.Prelude.{◌≡◌, ◌⊎◌, ℕ, List, Some, Result, Err}
 use Rattle.std.proofs.Common.{ap, arith, inl, inr, ⊎_elim}
 use Rattle.rom_text.specs.Runs.{SourceFailed, SourceTooLong}
 use Rattle.rom_text.specs.Streams.{ShownSink, ShownSource}
@@ -17,9 +17,6 @@ never_two (Plays heap Drawn) status is two = absurd (omega (arith, is, two))
 never_two (Makes order) status is two = absurd (omega (arith, is, two))
 never_two Shows status is two = absurd (omega (arith, is, two))
 never_two Upgrades status is two = absurd (omega (arith, is, two))
-
-pub is_a_command : (does : Use) (status : ℕ) → IsStatus (Some does) status → (status ≡ 2) ↔ ◌≡◌ {A = Option Use} (Some does) None
-is_a_command does status is = (never_two does status is, λ none. absurd (let no : ⊥ = cc in no))
 
 -- ---- scripts that were read and played
 
@@ -48,11 +45,6 @@ module _ {P : Type 0} (status : ℕ) (is : (status ≡ 0) ⊎ (status ≡ 1) ⊎
   played_not_run left (inr (inl four)) = played_not_failed four
   played_not_run left (inr (inr (inl six))) = left (inr six)
   played_not_run left (inr (inr (inr eight))) = played_not_long eight
-
-  pub played_unfailed : (status ≡ 6 → P) → (status ≡ 4) ⊎ (status ≡ 6) ⊎ (status ≡ 8) → P
-  played_unfailed same (inl four) = played_not_failed four
-  played_unfailed same (inr (inl six)) = same six
-  played_unfailed same (inr (inr eight)) = played_not_long eight
 
 -- ---- scripts that could not be read
 

@@ -1,5 +1,5 @@
 -- How a command ends where nothing fails, when its heap is refused, and how many lines of a caller tell of a fault.
-use Rattle.std.specs.Prelude.{◌≡◌, ◌⊎◌, ℕ, Bool, true, false, IsTrue, List, Option, Some, IfSome, IsSomeAnd, Ok, Err, slice_get}
+use Rattle.std.specs.Prelude.{◌≡◌, ◌≢◌, ◌⊎◌, ℕ, Bool, true, false, IsTrue, List, Option, Some, IfSome, IsSomeAnd, Ok, Err, slice_get}
 use Rattle.std.specs.List.{AllByRecursion, list_any}
 use Rattle.rom_model.specs.Earlier.{Earlier}
 use Rattle.rom_model.specs.Faulted.{RoseBy, faulted_lines}
@@ -15,18 +15,17 @@ use Rattle.rom_device.specs.Device.{ShownDevice}
 use Rattle.rom_header.specs.Fresh.{IsFormatAnswer}
 use Rattle.rom_header.specs.Held.{Holds}
 use Rattle.rom_header.specs.declared.fresh.FormatRefused.{FormatRefused}
+use Rattle.rom_header.specs.declared.fresh.FormatRefused.TheVariants as format
 use Rattle.rom_combine.specs.Costs.{IsUnfailed}
 use Rattle.rom_text.specs.Runs.{SourceTooLong}
 use Rattle.rom_text.specs.Streams.{ShownSink, ShownSource}
 use Rattle.rom_open.specs.Refusals.{IsRefusal}
-use Rattle.rom_open.specs.declared.new_heap.NotFormatted.TheVariants.{Refused}
 use Rattle.rom_open.specs.declared.reasons.Why.{Why}
 use Rattle.rom_upgrade.specs.Upgrading.{IsUpgradeRefusal}
-use Rattle.rom_run.specs.Refusing.{refusal_status, unmade_status}
+use Rattle.rom_run.specs.Refusing.{HasName}
 use Rattle.rom_run.specs.Use.{Use, heap_of}
 use Rattle.rom_run.specs.declared.heap.Heap.{Heap}
 use Rattle.rom_run.specs.declared.heap.Heap.TheVariants.{New, Standing, Upgraded}
-use Rattle.rom_run.specs.declared.status.Status.TheVariants.{HeapRefused}
 
 module _ {S : Type 0} (Contents : ℕ → List ℕ → S → ℕ → Type 0) where
   -- the words hold some state
@@ -47,9 +46,9 @@ module _ {S : Type 0} (Contents : ℕ → List ℕ → S → ℕ → Type 0) (ea
 module _ {S : Type 0} (Contents : ℕ → List ℕ → S → ℕ → Type 0) (Rejects : ℕ → List ℕ → Unfit → Type 0) (earlier : Earlier S) where
   -- For a reason that has a name, which no fault and no want of memory is, a heap isn't made in these words, or the one that is to stand in them isn't opened, or isn't upgraded.
   abbrev pub IsRefusedByName : Heap → List ℕ → Type 0
-  IsRefusedByName (New order) words = (why : FormatRefused) × (unmade_status (Refused why) ≡ HeapRefused) × IsFormatAnswer order words (Err why)
-  IsRefusedByName Standing words = (why : Why) × (refusal_status why ≡ HeapRefused) × IsRefusal Contents Rejects words why
-  IsRefusedByName Upgraded words = (why : Why) × (refusal_status why ≡ HeapRefused) × IsUpgradeRefusal earlier words why
+  IsRefusedByName (New order) words = (why : FormatRefused) × (why ≢ format.Device) × IsFormatAnswer order words (Err why)
+  IsRefusedByName Standing words = (why : Why) × HasName why × IsRefusal Contents Rejects words why
+  IsRefusedByName Upgraded words = (why : Why) × HasName why × IsUpgradeRefusal earlier words why
 
   module _ {D : Type 0} (shown : ShownDevice D) (was now : D) where
     -- With 3 the heap is refused by name; and where it is, and no call of the device fails, it is 3, unless a script can't be read or is too long (4, 8), or memory is short (6).

@@ -1,5 +1,5 @@
 -- What becomes of the device that a command works on, and why there is no heap to work on.
-use Rattle.std.specs.Prelude.{◌≡◌, ◌≤◌, ℕ, List, ◌++◌, IsTrue, codes, decimal, Option, IfSome, Ok, Err}
+use Rattle.std.specs.Prelude.{◌≡◌, ◌≢◌, ◌≤◌, ℕ, List, ◌++◌, IsTrue, codes, decimal, Option, IfSome, Ok, Err}
 use Rattle.rom_model.specs.Earlier.{Earlier}
 use Rattle.rom_model.specs.Faults.{FailedLast}
 use Rattle.rom_model.specs.Machine.{Machine, on_words}
@@ -9,28 +9,30 @@ use Rattle.rom_model.specs.Story.{Story}
 use Rattle.rom_model.specs.declared.unfit.Unfit.{Unfit}
 use Rattle.rom_device.specs.Device.{ShownDevice, Does, Leaves, Stays}
 use Rattle.rom_header.specs.Fresh.{IsFormatAnswer, HasTooFewFor, IsRefused}
+use Rattle.rom_header.specs.Headers.{HasTooFew}
 use Rattle.rom_header.specs.Held.{Holds}
 use Rattle.rom_header.specs.Layout.{words_needed}
 use Rattle.rom_header.specs.declared.fresh.FormatRefused.{FormatRefused}
+use Rattle.rom_header.specs.declared.fresh.FormatRefused.TheVariants as format
+use Rattle.rom_header.specs.declared.header.HeaderRefused.TheVariants as header
 use Rattle.rom_recover.specs.Recovered.{Mended}
 use Rattle.rom_combine.specs.Costs.{WithinHeap}
 use Rattle.rom_combine.specs.Session.{ImageNow, SessionImage}
 use Rattle.rom_text.specs.Runs.{IsTold}
 use Rattle.rom_text.specs.Streams.{ShownSink}
-use Rattle.rom_open.specs.Calls.{Calls, HasFaults}
-use Rattle.rom_open.specs.Making.{IsMadeThen, NoneOrHolds}
-use Rattle.rom_open.specs.Refusals.{IsRefusal, NamesTooFew, named_order}
+use Rattle.rom_open.specs.Calls.{Calls}
+use Rattle.rom_open.specs.Making.{NoneOrHolds}
+use Rattle.rom_open.specs.Refusals.{IsRefusal, named_order}
 use Rattle.rom_open.specs.Within.{HasMadeHeap, HasOpened, MakesNone, WithinMaking, WithinOpening}
-use Rattle.rom_store.specs.Lasting.{HasLasted}
 use Rattle.rom_store.specs.Traced.{WentThrough}
 use Rattle.rom_open.specs.declared.new_heap.NotFormatted.TheVariants.{Refused}
 use Rattle.rom_open.specs.declared.reasons.Why.{Why}
+use Rattle.rom_open.specs.declared.reasons.Why.TheVariants.{TooSmall, Twins}
 use Rattle.rom_upgrade.specs.Calls.{WithinUpgrade}
-use Rattle.rom_upgrade.specs.Upgrading.{IsUpgradeRefusal, UpgradeImage}
-use Rattle.rom_run.specs.Refusing.{refusal_line, refusal_status, unmade_line, unmade_status}
+use Rattle.rom_upgrade.specs.Upgrading.{IsUpgradeRefusal, IsWhole, UpgradeImage}
+use Rattle.rom_run.specs.Refusing.{HasName, refusal_line, unmade_line}
 use Rattle.rom_run.specs.declared.heap.Heap.{Heap}
 use Rattle.rom_run.specs.declared.heap.Heap.TheVariants.{New, Standing, Upgraded}
-use Rattle.rom_run.specs.declared.status.Status.TheVariants.{HeapRefused}
 
 -- Which words, where they are told, may differ afterwards: those of the heap that is made, or the state and the two regions of the one that the words name, which is opened or upgraded. No word behind is touched.
 abbrev pub IsKept : Heap → List ℕ → List ℕ → Type 0
@@ -44,12 +46,6 @@ module _ {D : Type 0} (shown : ShownDevice D) where
   IsCalledWithin (New order) was now = WithinMaking shown order was now
   IsCalledWithin Standing was now = WithinOpening shown was now
   IsCalledWithin Upgraded was now = WithinUpgrade shown was now
-
-  -- So, where there is a session on a heap of this order, before its first pass; and no call failed. On a heap that is upgraded there is none: an upgrade is no update, and leaves the count as it is.
-  abbrev pub HasBegun : Heap → ℕ → D → D → Type 0
-  HasBegun (New made) order was first = HasMadeHeap shown made was first
-  HasBegun Standing order was first = HasOpened shown order was first
-  HasBegun Upgraded order was first = ⊥
 
 -- Of an object:
 module _ {S C Q R A : Type 0} (machine : Machine S C Q R A) (Contents : ℕ → List ℕ → S → ℕ → Type 0) where
@@ -66,25 +62,27 @@ module _ {S C Q R A : Type 0} (machine : Machine S C Q R A) (Contents : ℕ → 
     IsLeft earlier Standing was now = Leaves shown (Mended (named_order (shown.words was)) (shown.words was)) was now
     IsLeft earlier Upgraded was now = Leaves shown (UpgradeImage Contents earlier (shown.words was)) was now
 
-    -- What it may leave, where there is one: what could be left before, or an image of the session. Until a heap that is made stands, it may leave none, and from then on none but such an image. On a heap that is upgraded there is no session.
-    abbrev pub IsLeftBySession : Heap → D → D → Story S → Type 0
-    IsLeftBySession (New order) was now story = IsMadeThen shown Contents order machine.empty (SessionImage Contents (on_words machine) story) was now
-    IsLeftBySession Standing was now story = Leaves shown (SessionImage Contents (on_words machine) story) was now
-    IsLeftBySession Upgraded was now story = ⊥
-
-    -- What a stop at the end may leave: the history, or that and the batch in doubt.
-    abbrev pub IsHeldNow : D → Story S → Type 0
-    IsHeldNow now story = (i : List ℕ) → shown.leaves now i → ImageNow Contents (on_words machine) story i
+    -- Where there is a session on a heap of this order, the device before its first pass: the heap was made, or opened, once, and no call failed. On a heap that is upgraded there is no session: an upgrade is no update, and leaves the count as it is.
+    abbrev pub HasBegun : Heap → ℕ → D → D → Type 0
+    HasBegun (New made) order was first = HasMadeHeap shown Contents made machine.empty was first
+    HasBegun Standing order was first = HasOpened shown order was first
+    HasBegun Upgraded order was first = ⊥
 
     -- No call of the opening failed, or of the making. The passes counted the device's faults from there on, up to now at most; and the device went through them, one after another, from where the heap was opened or made, once, up to now.
     pub record CountsFaults (heap : Heap) (was now : D) (story : Story S) : Type 0 where
       pub before : story.opening_faults ≡ shown.faults was
       pub after : faults_after story.opening_faults story.records ≤ shown.faults now
-      pub went : WentThrough shown Contents (on_words machine) story (HasBegun shown heap story.order was) now
+      pub went : WentThrough shown Contents (on_words machine) story (HasBegun heap story.order was) now
 
-    -- From the commit of each of these passes on that added to the history, whatever a stop left holds what it published, and all before.
-    abbrev pub IsLasting : Heap → D → D → Story S → Type 0
-    IsLasting heap was now story = HasLasted shown Contents (on_words machine) story (HasBegun shown heap story.order was) now
+    -- What a stop at any moment may leave, where there is a session: what could be left before, or an image of the session; on a heap that was made, so since it stood, which was before the first pass.
+    abbrev pub IsLeftBySession : Heap → D → D → D → Story S → Type 0
+    IsLeftBySession (New order) was first now story = Leaves shown (SessionImage Contents (on_words machine) story) first now
+    IsLeftBySession Standing was first now story = Leaves shown (SessionImage Contents (on_words machine) story) was now
+    IsLeftBySession Upgraded was first now story = ⊥
+
+    -- What a stop at the end may leave: the history, or that and the batch in doubt.
+    abbrev pub IsHeldNow : D → Story S → Type 0
+    IsHeldNow now story = (i : List ℕ) → shown.leaves now i → ImageNow Contents (on_words machine) story i
 
 module _ {D : Type 0} (shown : ShownDevice D) where
   -- Nothing changes where a heap that is to be made stands already, or there are too few words for it.
@@ -103,28 +101,29 @@ module _ {D K : Type 0} (shown : ShownDevice D) (sink : ShownSink K) where
   -- The heap isn't made, for this reason: the words and the length are refused so, the device was called just as often as it takes to find it, and the line names it.
   pub record IsUnmade (order : ℕ) (was now : D) (old new : K) : Type 0 where
     pub why : FormatRefused
-    pub by_name : unmade_status (Refused why) ≡ HeapRefused
+    pub by_name : why ≢ format.Device
     pub refused : IsTrue shown.tells_words → IsFormatAnswer order (shown.words was) (Err why)
     pub sizes : HasTooFewFor order (shown.size was) why
     pub calls : MakesNone shown order (Refused why) was now
-    pub faults : shown.faults now ≡ shown.faults was
     pub told : IsTold sink old new (unmade_line (Refused why))
 
-  -- A heap of this order is made where none stood and there are words enough: the device holds the empty state and the count 0, and so does whatever a stop leaves of it.
+  -- A heap of this order is made where none stood and there are words enough, and no call failed: the device holds the empty state and the count 0, and so does whatever a stop leaves of it.
   pub record IsMade {S : Type 0} (Contents : ℕ → List ℕ → S → ℕ → Type 0) (empty : S) (order : ℕ) (was now : D) (old new : K) : Type 0 where
     pub accepted : IsTrue shown.tells_words → IsFormatAnswer order (shown.words was) (Ok tt)
     pub fits : words_needed order ≤ shown.size was
     pub held : IsTrue shown.tells_words → Holds Contents order (shown.words now) empty 0
     pub images : IsTrue shown.tells_images → (i : List ℕ) → shown.leaves now i → Holds Contents order i empty 0
+    pub faults : shown.faults now ≡ shown.faults was
     pub told : IsTold sink old new (codes "formatted order " ++ decimal order)
 
-  -- A heap of the version before, of this order, is made one of this: the device held some state and some count in that version, and holds the same in this one, and so does whatever a stop leaves of it now.
+  -- A heap of the version before, of this order, is made one of this: the device held some state and some count in that version, and holds the same in this one, in both regions, and so does whatever a stop leaves of it now.
   pub record IsUpgraded {S : Type 0} (Contents : ℕ → List ℕ → S → ℕ → Type 0) (earlier : Earlier S) (was now : D) (old new : K) : Type 0 where
     pub order : ℕ
     pub fits : words_needed order ≤ shown.size was
     pub held : IsTrue shown.tells_words → (state : S) × (count : ℕ) × Holds earlier.Contents order (shown.words was) state count
     pub holds : IsTrue shown.tells_images → (state : S) (count : ℕ) → Holds earlier.Contents order (shown.words was) state count → Holds Contents order (shown.words now) state count
     pub images : IsTrue shown.tells_images → (state : S) (count : ℕ) → Holds earlier.Contents order (shown.words was) state count → (i : List ℕ) → shown.leaves now i → Holds Contents order i state count
+    pub whole : IsTrue shown.tells_images → IsWhole order (shown.words now)
     pub told : IsTold sink old new (codes "upgraded order " ++ decimal order)
 
   -- Of the device's calls the last one failed, and no other, and the line says so.
@@ -132,16 +131,16 @@ module _ {D K : Type 0} (shown : ShownDevice D) (sink : ShownSink K) where
     pub failed : FailedLast (shown.faults was) (shown.faults now) (shown.failing now)
     pub told : IsTold sink old new (codes "device failed")
 
-  -- The heap isn't opened, to be worked on or to be upgraded, likewise: it is as an opening that is refused so leaves it, with no call more.
+  -- The heap isn't opened, to be worked on or to be upgraded, likewise: it is as an opening that is refused so leaves it, with no call more. No call failed; or where the regions differ, the last one may have.
   pub record IsUnopened (Refuses : List ℕ → Why → Type 0) (was now : D) (old new : K) : Type 0 where
     pub why : Why
-    pub by_name : refusal_status why ≡ HeapRefused
+    pub by_name : HasName why
     pub refused : IsTrue shown.tells_words → Refuses (shown.words was) why
-    pub sizes : NamesTooFew (shown.size was) why
+    pub sizes : (need have : ℕ) → why ≡ TooSmall need have → HasTooFew (shown.size was) (header.TooSmall need have)
     pub calls : IsTrue shown.tells_words → Calls {T = Unit {0}} shown (shown.words was) was now (Err why)
     pub within : WithinOpening shown was now
     pub images : IsTrue shown.tells_images → Leaves shown (Mended (named_order (shown.words was)) (shown.words was)) was now
-    pub faults : HasFaults {T = Unit {0}} (Err why) (shown.faults was) (shown.faults now) (shown.failing now)
+    pub unfailed : ((offset main back : ℕ) → why ≢ Twins offset main back) → shown.faults now ≡ shown.faults was
     pub told : IsTold sink old new (refusal_line why)
 
   module _ {S : Type 0} (Contents : ℕ → List ℕ → S → ℕ → Type 0) (Rejects : ℕ → List ℕ → Unfit → Type 0) (earlier : Earlier S) where

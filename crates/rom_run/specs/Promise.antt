@@ -1,8 +1,8 @@
 -- What a program promises of a command.
-use Rattle.std.specs.Prelude.{◌≡◌, ◌≢◌, ◌↔◌, ◌⊎◌, ℕ, List, length, map, IsSome, IsNone, IfSome, codes, Option, None}
+use Rattle.std.specs.Prelude.{◌≡◌, ◌≢◌, ◌⊎◌, ℕ, List, map, IsSome, IsNone, IfSome, codes, Option}
 use Rattle.std.specs.Global.{Vec}
 use Rattle.rom_model.specs.Earlier.{Earlier}
-use Rattle.rom_model.specs.Machine.{Machine}
+use Rattle.rom_model.specs.Machine.{Machine, on_words}
 use Rattle.rom_model.specs.Story.{Story}
 use Rattle.rom_model.specs.declared.line.Step.{Step}
 use Rattle.rom_model.specs.declared.line.LineResult.{LineResult}
@@ -10,11 +10,11 @@ use Rattle.rom_model.specs.declared.unfit.Unfit.{Unfit}
 use Rattle.rom_device.specs.Device.{ShownDevice}
 use Rattle.rom_text.specs.Runs.{AreAskedOnce, AreAtEnd, AreWithin, IsTold, SourceFailed, SourceTooLong}
 use Rattle.rom_text.specs.Streams.{ShownSink, ShownSource, StopsWriting, WriteFailed}
+use Rattle.rom_store.specs.Lasting.{HasLasted}
 use Rattle.rom_store.specs.Sessions.{EachStory, SessionSeen}
 use Rattle.rom_run.specs.Complete.{HasFewFaults, IsComplete, IsRefusedExactly}
-use Rattle.rom_run.specs.Keeping.{IsLasting}
 use Rattle.rom_run.specs.Played.{HasReplies}
-use Rattle.rom_run.specs.Use.{HasNotFailed, HasNotRun, HasRead, HasRun, IsStatus, Use, heap_of}
+use Rattle.rom_run.specs.Use.{HasNotRun, HasRead, HasRun, IsStatus, Use, heap_of}
 use Rattle.rom_run.specs.Working.{HasMade, HasNone, HasSession, IsDeviceKept, IsStill}
 
 -- of a program's object, device, sources and sink; which scripts it plays, and what it prints of their results
@@ -39,16 +39,14 @@ module _ {S C Q R A D X K : Type 0} (machine : Machine S C Q R A) (Contents : �
     pub story : IfSome asked (λ does. IfSome session (HasSession machine Contents shown (heap_of does) was now (HasReplies machine AreRun Prints sources.items old new status)))
     pub still : IfSome session (λ s. EachStory machine Contents s (IsStill Contents shown asked was now))
     -- each pass that added to the history was certain at its commit: no stop since then has left less of it
-    pub lasting : IfSome asked (λ does. IfSome session (λ s. EachStory machine Contents s (IsLasting machine Contents shown (heap_of does) was now)))
+    pub lasting : IfSome session (λ s. EachStory machine Contents s (λ story. HasLasted shown Contents (on_words machine) story now))
     -- else what a stop may leave, and why scripts were not run, or a heap not shown or not upgraded
     pub none : IfSome asked (λ does. IsNone session → HasNone machine Contents shown sink Rejects earlier (heap_of does) was now old new status)
     pub made : status ≡ 0 → HasMade machine Contents earlier shown sink asked was now old new
     -- the device
     pub kept : IfSome asked (λ does. IsDeviceKept shown (heap_of does) was now)
     pub uncalled : (status ≡ 2) ⊎ (status ≡ 4) ⊎ (status ≡ 8) → now ≡ was
-    pub unfailed : HasNotFailed asked status → shown.faults now ≡ shown.faults was
     -- the sources
-    pub many : length left.items ≡ length sources.items
     pub asked_once : AreAskedOnce source sources.items left.items
     pub unread : status ≡ 2 → left ≡ sources
     pub fit : HasRead status → AreWithin source sources.items
@@ -57,9 +55,7 @@ module _ {S C Q R A D X K : Type 0} (machine : Machine S C Q R A) (Contents : �
     pub none_failed : status ≢ 4 → map source.faults left.items ≡ map source.faults sources.items
     pub too_long : status ≡ 8 → SourceTooLong source sink sources.items left.items old new
     -- and the sink
-    pub not_a_command : (status ≡ 2) ↔ (asked ≡ None)
     pub not_a_command_told : status ≡ 2 → IsTold sink old new (codes "not a command")
-    pub no_memory : status ≡ 6 → IsTold sink old new (codes "no memory")
     pub sink_failed : status ≡ 5 → WriteFailed sink old new
     pub writing : StopsWriting sink old new
     pub rest : sink.rest new ≡ sink.rest old

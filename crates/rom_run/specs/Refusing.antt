@@ -1,5 +1,5 @@
 -- What is told of a heap that is not opened, not made or not upgraded: a line, and a status.
-use Rattle.std.specs.Prelude.{ℕ, List, ◌++◌, codes, decimal}
+use Rattle.std.specs.Prelude.{◌≢◌, ℕ, List, ◌++◌, codes, decimal}
 use Rattle.rom_model.specs.declared.unfit.Rule.{Rule}
 use Rattle.rom_model.specs.declared.unfit.Rule.TheVariants.{Root, Link, Pad, Ends, Count, Order, Bucket, Repeat, Tree, Stamp}
 use Rattle.rom_header.specs.declared.fresh.FormatRefused.TheVariants as format
@@ -39,6 +39,10 @@ refusal_line NewRegion = codes "refused: region version 2"
 refusal_line (Malformed offset rule) = codes "refused: malformed at " ++ decimal offset ++ codes ", rule " ++ rule_name rule
 refusal_line Device = codes "device failed"
 refusal_line OutOfMemory = codes "no memory"
+
+-- a reason that has a name, which no fault and no want of memory is
+abbrev pub HasName : Why → Type 0
+HasName why = (why ≢ Device) × (why ≢ OutOfMemory)
 
 abbrev pub refusal_status : Why → Status
 refusal_status Device = DeviceFailed

@@ -58,14 +58,6 @@ HasNotRun (Some Shows) status = (status ≡ 3) ⊎ (status ≡ 6) ⊎ (status �
 HasNotRun (Some Upgrades) status = Unit {0}
 HasNotRun None status = Unit {0}
 
--- With these no call of the device has failed: none was made, or each was answered. An upgrade is done before the last write, of IDLE; where that one fails, the next opening repairs it.
-abbrev pub HasNotFailed : Option Use → ℕ → Type 0
-HasNotFailed (Some (Plays heap scripts)) status = (status ≡ 4) ⊎ (status ≡ 6) ⊎ (status ≡ 8)
-HasNotFailed (Some (Makes order)) status = (status ≡ 0) ⊎ (status ≡ 6)
-HasNotFailed (Some Shows) status = (status ≡ 0) ⊎ (status ≡ 6)
-HasNotFailed (Some Upgrades) status = status ≡ 6
-HasNotFailed None status = Unit {0}
-
 -- With these every script was read to its end.
 abbrev pub HasRead : ℕ → Type 0
 HasRead status = (status ≡ 0) ⊎ (status ≡ 1) ⊎ (status ≡ 3) ⊎ (status ≡ 5) ⊎ (status ≡ 7)

@@ -1,5 +1,5 @@
 -- What is promised of a heap that a command works on.
-use Rattle.std.specs.Prelude.{◌≡◌, ◌≤◌, ℕ, List, IsTrue, codes, Option, Some, None}
+use Rattle.std.specs.Prelude.{◌≡◌, ◌≤◌, ℕ, List, [], IsTrue, codes, Option, Some, None}
 use Rattle.rom_model.specs.Earlier.{Earlier}
 use Rattle.rom_model.specs.Machine.{Machine}
 use Rattle.rom_model.specs.Story.{Story}
@@ -11,7 +11,7 @@ use Rattle.rom_recover.specs.Recovered.{Mended}
 use Rattle.rom_text.specs.Runs.{IsTold}
 use Rattle.rom_text.specs.Streams.{ShownSink}
 use Rattle.rom_open.specs.Refusals.{named_order}
-use Rattle.rom_open.specs.Within.{CallsOfOrder, LiesAtRest, WithinOpening}
+use Rattle.rom_open.specs.Within.{WithinOpening}
 use Rattle.rom_store.specs.Sessions.{EachStory, HasStory, SessionSeen}
 use Rattle.rom_run.specs.Keeping.{CountsFaults, HasDeviceFailed, IsCalledWithin, IsHeapRefused, IsHeldNow, IsKept, IsLeft, IsLeftBySession, IsMade, IsOpening, IsSpared, IsUncalled, IsUpgraded}
 use Rattle.rom_run.specs.Use.{Makes, Plays, Shows, Upgrades, Use}
@@ -25,13 +25,13 @@ module _ {D : Type 0} (shown : ShownDevice D) where
     pub spared : IsSpared shown heap was now
 
 module _ {S C Q R A : Type 0} (machine : Machine S C Q R A) (Contents : ℕ → List ℕ → S → ℕ → Type 0) {D : Type 0} (shown : ShownDevice D) where
-  -- A session on this heap: how it began, what a stop leaves at the end and at any moment, and that its passes are the device's.
+  -- A session on this heap: how it began, that its passes are the device's, and what a stop leaves at any moment and at the end. The heap stood, and the first pass began, at one and the same device.
   pub record IsSessionOn (heap : Heap) (was now : D) (story : Story S) : Type 0 where
     pub opening : IsOpening machine Contents heap (told_words shown was) story
     pub fits : words_needed story.order ≤ shown.size was
-    pub at_end : IsTrue shown.tells_images → IsHeldNow machine Contents shown now story
-    pub since : IsTrue shown.tells_images → IsLeftBySession machine Contents shown heap was now story
     pub faults : CountsFaults machine Contents shown heap was now story
+    pub since : IsTrue shown.tells_images → IsLeftBySession machine Contents shown heap was faults.went.first now story
+    pub at_end : IsTrue shown.tells_images → IsHeldNow machine Contents shown now story
 
   -- It has a story, and each of its stories is such a session and has P.
   pub record HasSession (heap : Heap) (was now : D) (P : Story S → Type 0) (session : SessionSeen) : Type 0 where
@@ -50,13 +50,12 @@ module _ {S C Q R A : Type 0} (machine : Machine S C Q R A) (Contents : ℕ → 
       pub uncalled : status ≡ 6 → IsUncalled shown heap was now
       pub no_memory : status ≡ 6 → IsTold sink old new (codes "no memory")
 
--- A heap that is only shown is as it was: its words hold what the story begins with, under IDLE and in both regions; whatever a stop leaves, the same region counts as before; and the device was called no more often than to open it, by the words and by the order.
+-- A heap that is only shown is as it was: no pass was made on it, so that the session's first device is its last one; its words hold what the story begins with; whatever a stop leaves, the same region counts as before; and the device was called no more often than to open it.
 pub record IsAsBefore {S D : Type 0} (Contents : ℕ → List ℕ → S → ℕ → Type 0) (shown : ShownDevice D) (was now : D) (story : Story S) : Type 0 where
+  pub unpassed : story.records ≡ []
   pub held : IsTrue shown.tells_words → Holds Contents story.order (shown.words now) story.opening story.opening_count
-  pub at_rest : LiesAtRest shown story.order now
   pub at_end : IsTrue shown.tells_images → (i : List ℕ) → shown.leaves now i → Holds Contents story.order i story.opening story.opening_count
   pub calls : WithinOpening shown was now
-  pub by_order : CallsOfOrder shown story.order was now
   pub images : IsTrue shown.tells_images → Leaves shown (Mended (named_order (shown.words was)) (shown.words was)) was now
 
 abbrev pub IsStill : {S D : Type 0} → (ℕ → List ℕ → S → ℕ → Type 0) → ShownDevice D → Option Use → D → D → Story S → Type 0

@@ -1,10 +1,10 @@
 //! All that a program does once it has understood its words.
-ghost use Rattle.std.specs.Prelude.{◌≡◌, ◌≢◌, ◌↔◌, ◌⊎◌, length, map, codes, IfSome, IsSome, IsNone, None};
+ghost use Rattle.std.specs.Prelude.{◌≡◌, ◌≢◌, ◌⊎◌, length, map, codes, IfSome, IsSome, IsNone, None};
 ghost use Rattle.rom_run.specs.Asked.{HasSources, IsAskedOf, use_of};
 ghost use Rattle.rom_text.specs.Lines.{AreScripts};
 ghost use Rattle.rom_run.specs.Played.{HasReplies, IsOutput};
 ghost use Rattle.rom_run.specs.Promise.{Promise};
-ghost use Rattle.rom_run.specs.Use.{HasNotFailed, HasNotRun, HasRead, HasRun, IsStatus, heap_of};
+ghost use Rattle.rom_run.specs.Use.{HasNotRun, HasRead, HasRun, IsStatus, heap_of};
 ghost use Rattle.rom_run.specs.Working.{HasMade, HasNone, HasSession, IsDeviceKept, IsStill};
 ghost use Rattle.rom_text.specs.Runs.{AreAskedOnce, AreAtEnd, AreWithin, IsTold, SourceFailed, SourceTooLong};
 ghost use Rattle.rom_text.specs.Streams.{StopsWriting, WriteFailed};
@@ -78,9 +78,6 @@ where
         IsDeviceKept D.shown (heap_of does) device result.device) }
     ensures uncalled { (result.status ≡ 2) ⊎ (result.status ≡ 4) ⊎ (result.status ≡ 8)
         → result.device ≡ device }
-    ensures unfailed { HasNotFailed (use_of asked) result.status →
-        D.shown.faults result.device ≡ D.shown.faults device }
-    ensures many { length result.scripts.items ≡ length scripts.items }
     ensures asked_once { AreAskedOnce S.shown scripts.items result.scripts.items }
     ensures unread { result.status ≡ 2 → result.scripts ≡ scripts }
     ensures fit { HasRead result.status → AreWithin S.shown scripts.items }
@@ -91,10 +88,8 @@ where
         map S.shown.faults result.scripts.items ≡ map S.shown.faults scripts.items }
     ensures too_long { result.status ≡ 8 →
         SourceTooLong S.shown K.shown scripts.items result.scripts.items out.old out.new }
-    ensures not_a_command { (result.status ≡ 2) ↔ (use_of asked ≡ None) }
     ensures not_a_command_told { result.status ≡ 2 →
         IsTold K.shown out.old out.new (codes "not a command") }
-    ensures no_memory { result.status ≡ 6 → IsTold K.shown out.old out.new (codes "no memory") }
     ensures sink_failed { result.status ≡ 5 → WriteFailed K.shown out.old out.new }
     ensures writing { StopsWriting K.shown out.old out.new }
     ensures rest { K.shown.rest out.new ≡ K.shown.rest out.old }

@@ -1,10 +1,10 @@
 //! Scripts of sources, on a heap.
-ghost use Rattle.std.specs.Prelude.{◌≡◌, ◌≢◌, ◌⊎◌, ◌<◌, ◌≤◌, length, map, codes, IfSome, IsNone, IsSome, None, Some};
+ghost use Rattle.std.specs.Prelude.{◌≡◌, ◌≢◌, ◌⊎◌, ◌<◌, ◌≤◌, length, map, IfSome, IsNone, IsSome, None, Some};
 ghost use Rattle.rom_text.specs.Lines.{AreScripts};
 ghost use Rattle.rom_run.specs.Played.{HasReplies, IsOutput};
-ghost use Rattle.rom_run.specs.Use.{HasNotFailed, HasNotRun, HasOrder, HasRead, HasRun, IsStatus, Plays, Read};
+ghost use Rattle.rom_run.specs.Use.{HasNotRun, HasOrder, HasRead, HasRun, IsStatus, Plays, Read};
 ghost use Rattle.rom_run.specs.Working.{HasNone, HasSession, IsDeviceKept};
-ghost use Rattle.rom_text.specs.Runs.{AreAskedOnce, AreAtEnd, AreWithin, IsTold, SourceFailed, SourceTooLong};
+ghost use Rattle.rom_text.specs.Runs.{AreAskedOnce, AreAtEnd, AreWithin, SourceFailed, SourceTooLong};
 ghost use Rattle.rom_text.specs.Streams.{StopsWriting, WriteFailed};
 
 use crate::ended::Ended;
@@ -58,9 +58,6 @@ where
         O.earlier heap device result.device out.old out.new result.status }
     ensures kept { IsDeviceKept D.shown heap device result.device }
     ensures uncalled { (result.status ≡ 4) ⊎ (result.status ≡ 8) → result.device ≡ device }
-    ensures unfailed { HasNotFailed (Some (Plays heap Read)) result.status →
-        D.shown.faults result.device ≡ D.shown.faults device }
-    ensures many { length result.scripts.items ≡ length scripts.items }
     ensures asked_once { AreAskedOnce S.shown scripts.items result.scripts.items }
     ensures fit { HasRead result.status → AreWithin S.shown scripts.items }
     ensures read { HasRead result.status → AreAtEnd S.shown result.scripts.items }
@@ -70,7 +67,6 @@ where
         map S.shown.faults result.scripts.items ≡ map S.shown.faults scripts.items }
     ensures too_long { result.status ≡ 8 →
         SourceTooLong S.shown K.shown scripts.items result.scripts.items out.old out.new }
-    ensures no_memory { result.status ≡ 6 → IsTold K.shown out.old out.new (codes "no memory") }
     ensures sink_failed { result.status ≡ 5 → WriteFailed K.shown out.old out.new }
     ensures writing { StopsWriting K.shown out.old out.new }
     ensures rest { K.shown.rest out.new ≡ K.shown.rest out.old }

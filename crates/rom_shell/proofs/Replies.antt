@@ -6,9 +6,11 @@ use Rattle.rom_model.specs.Trio.{trio}
 use Rattle.rom_device.specs.Device.{ShownDevice}
 use Rattle.rom_script.specs.Drill.{drill_scripts}
 use Rattle.rom_text.specs.Streams.{ShownSink, ShownSource}
-use Rattle.rom_store.specs.Sessions.{SessionSeen}
+use Rattle.rom_store.specs.Sessions.{EachStory, SessionSeen}
 use Rattle.rom_run.specs.Played.{HasReplies}
-use Rattle.rom_run.specs.Working.{HasSession}
+use Rattle.rom_run.specs.Use.{Plays, Scripts}
+use Rattle.rom_run.specs.Working.{HasSession, IsStill}
+use Rattle.rom_run.specs.declared.heap.Heap.{Heap}
 use Rattle.rom_run.specs.declared.heap.Heap.TheVariants.{New, Standing}
 use Rattle.rom_shell.specs.Drilled.{HaveDrilled}
 use Rattle.rom_shell.specs.Run.{AreRun, IsPrinted}
@@ -19,6 +21,11 @@ use Rattle.rom_words.specs.Words.{Stat, Drill}
 pub no_source : {S : Type 0} (xs : List S) → length xs ≡ 0 → xs ≡ []
 no_source [] none = refl
 no_source (x ∷ xs) none = absurd (omega arith)
+
+-- of a heap on which scripts were played nothing is said to be as it was
+pub played_still : {D : Type 0} (shown : ShownDevice D) (was now : D) (heap : Heap) (scripts : Scripts) (session : Option SessionSeen) → IfSome session (λ s. EachStory trio Contents s (IsStill Contents shown (Some (Plays heap scripts)) was now))
+played_still shown was now heap scripts None = tt
+played_still shown was now heap scripts (Some s) = λ story of. tt
 
 module _ {D S O : Type 0} (shown : ShownDevice D) (source : ShownSource S) (sink : ShownSink O) (was now : D) (sources : List S) (old new : O) (none : sources ≡ []) where
   -- of a heap that was shown, if it was

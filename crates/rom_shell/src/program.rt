@@ -1,11 +1,11 @@
 //! The top call: all that the program does.
-ghost use Rattle.std.specs.Prelude.{◌≡◌, ◌≢◌, ◌↔◌, ◌⊎◌, length, map, codes, None, IfSome, IsSome, IsNone};
+ghost use Rattle.std.specs.Prelude.{◌≡◌, ◌≢◌, ◌⊎◌, length, map, codes, None, IfSome, IsSome, IsNone};
 ghost use Rattle.rom_heap.specs.Answers.{Rejects, earlier};
 ghost use Rattle.rom_model.specs.Region.{Contents};
 ghost use Rattle.rom_model.specs.Trio.{trio};
 ghost use Rattle.rom_run.specs.Played.{HasReplies};
 ghost use Rattle.rom_run.specs.Promise.{Promise};
-ghost use Rattle.rom_run.specs.Use.{HasNotFailed, HasNotRun, HasRead, HasRun, IsStatus, heap_of};
+ghost use Rattle.rom_run.specs.Use.{HasNotRun, HasRead, HasRun, IsStatus, heap_of};
 ghost use Rattle.rom_run.specs.Working.{HasMade, HasNone, HasSession, IsDeviceKept, IsStill};
 ghost use Rattle.rom_text.specs.Determines.{TextDetermines};
 ghost use Rattle.rom_text.specs.Runs.{AreAskedOnce, AreAtEnd, AreWithin, IsTold, SourceFailed, SourceTooLong};
@@ -57,9 +57,6 @@ fn run_command<R: Threads + Wait + Sync, D: Device + Send, S: Source, O: Sink, G
         IsDeviceKept D.shown (heap_of does) device result.device) }
     ensures uncalled { (result.status ≡ 2) ⊎ (result.status ≡ 4) ⊎ (result.status ≡ 8) →
         result.device ≡ device }
-    ensures unfailed { HasNotFailed (use_of (command words.now)) result.status →
-        D.shown.faults result.device ≡ D.shown.faults device }
-    ensures many { length result.scripts.items ≡ length scripts.items }
     ensures asked_once { AreAskedOnce S.shown scripts.items result.scripts.items }
     ensures unread { result.status ≡ 2 → result.scripts ≡ scripts }
     ensures fit { HasRead result.status → AreWithin S.shown scripts.items }
@@ -70,10 +67,8 @@ fn run_command<R: Threads + Wait + Sync, D: Device + Send, S: Source, O: Sink, G
         map S.shown.faults result.scripts.items ≡ map S.shown.faults scripts.items }
     ensures too_long { result.status ≡ 8 →
         SourceTooLong S.shown O.shown scripts.items result.scripts.items out.old out.new }
-    ensures not_a_command { (result.status ≡ 2) ↔ (use_of (command words.now) ≡ None) }
     ensures not_a_command_told { result.status ≡ 2 →
         IsTold O.shown out.old out.new (codes "not a command") }
-    ensures no_memory { result.status ≡ 6 → IsTold O.shown out.old out.new (codes "no memory") }
     ensures sink_failed { result.status ≡ 5 → WriteFailed O.shown out.old out.new }
     ensures writing { StopsWriting O.shown out.old out.new }
     ensures rest { O.shown.rest out.new ≡ O.shown.rest out.old }

@@ -125,8 +125,8 @@ module _ {S C Q R A D : Type 0} (m : Machine S C Q R A) (Contents : ℕ → List
         }))
 
     pub ended_went : (table : TableId) (start : Start) (test : ℕ → List ℕ → Type 0) (c : Locked D) → IsHeld shown Contents (on_words m) table base start test c → t ≡ c.twin → p ≡ plan_of c.view →
-        EachStory m Contents session (λ story. WentThrough shown Contents (on_words m) story (HasStarted shown base.faults start) t.device)
-    ended_went table start test c held twin_is plan_is = let First = HasStarted shown base.faults start in
+        EachStory m Contents session (λ story. WentThrough shown Contents (on_words m) story (HasStarted shown base.faults start test) t.device)
+    ended_went table start test c held twin_is plan_is = let First = HasStarted shown base.faults start test in
         on_session (λ story. WentThrough shown Contents (on_words m) story First t.device)
         (each_story m Contents base p t.phase (λ story. WentThrough shown Contents (on_words m) story First t.device) (λ s k doubt op in_doubt.
         went_doubt shown Contents (on_words m) (story_at base s k p) doubt First t.device

@@ -8,7 +8,7 @@ use Rattle.rom_device.specs.Device.{ShownDevice, After, Becomes, Runs}
 use Rattle.rom_combine.proofs.Sessions.{len_more}
 use Rattle.rom_combine.proofs.Since.{now_since}
 use Rattle.rom_combine.specs.Session.{HoldsAfter}
-use Rattle.rom_store.specs.Traced.{ArePassesOn, IsPassOn, MayMake, PassImage, WentThrough}
+use Rattle.rom_store.specs.Traced.{ArePassesOn, IsPassOn, MayMake, PassImage}
 use Rattle.rom_store.specs.Lasting.{AreLasting, HasLasted, HoldsAtLeast}
 
 module _ {D S : Type 0} (shown : ShownDevice D) (Contents : ℕ → List ℕ → S → ℕ → Type 0) (step : ℕ → S → ℕ → List ℕ → Option (S × List ℕ)) (story : Story S) where
@@ -86,7 +86,6 @@ module _ {D S : Type 0} (shown : ShownDevice D) (Contents : ℕ → List ℕ →
       lasting r.len (before ++ r ∷ []) rs next now (with_it len before r rs stands) (ends len before r rs stands) on,
     )
 
-  -- What each pass of the story published lasts, by whichever way the device went through them.
-  pub has_lasted : ((d : D) (i : List ℕ) → IsTrue shown.tells_images → shown.left_since d (shown.clock d) i → shown.leaves d i) → (First : D → Type 0) (now : D)
-      → HasLasted shown Contents step story First now
-  has_lasted only_now First now went told = lasting told (λ d i left. only_now d i told left) 0 [] story.records went.first now refl refl went.passes
+  -- What each pass of the story published lasts, from wherever and by whichever way the device went through them.
+  pub has_lasted : ((d : D) (i : List ℕ) → IsTrue shown.tells_images → shown.left_since d (shown.clock d) i → shown.leaves d i) → (now : D) → HasLasted shown Contents step story now
+  has_lasted only_now now first passes told = lasting told (λ d i left. only_now d i told left) 0 [] story.records first now refl refl passes

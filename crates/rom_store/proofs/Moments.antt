@@ -6,7 +6,7 @@ use Rattle.rom_model.specs.declared.record.PassRecord.{PassRecord}
 use Rattle.rom_device.specs.Device.{ShownDevice}
 use Rattle.rom_store.specs.Lasting.{AreLasting, HasLasted, HoldsAtLeast}
 use Rattle.rom_store.specs.Moments.{AreCommittedBy, AreDated, IsCertainBy, LastsSince}
-use Rattle.rom_store.specs.Traced.{ArePassesOn, WentThrough}
+use Rattle.rom_store.specs.Traced.{ArePassesOn}
 
 module _ {D S : Type 0} (shown : ShownDevice D) (Contents : ℕ → List ℕ → S → ℕ → Type 0) (step : ℕ → S → ℕ → List ℕ → Option (S × List ℕ)) (story : Story S) where
   -- what holds more holds less
@@ -31,13 +31,13 @@ module _ {D S : Type 0} (shown : ShownDevice D) (Contents : ℕ → List ℕ →
     ]
 
     -- Where the device went through the passes of the story, and their records have its moments, what was certain by a moment is held by each image that a stop has left since one that is not behind it.
-    pub lasts_since : (First : D → Type 0) (now : D) → HasLasted shown Contents step story First now → (went : WentThrough shown Contents step story First now) → IsTrue shown.tells_images → AreDated committed shown Contents step story 0 story.records went.first now went.passes
+    pub lasts_since : (first now : D) → HasLasted shown Contents step story now → (passes : ArePassesOn shown Contents step story 0 story.records first now) → IsTrue shown.tells_images → AreDated committed shown Contents step story 0 story.records first now passes
         → (moment len : ℕ) → 0 < len → IsCertainBy committed story moment len → LastsSince committed shown Contents step story moment len now
-    lasts_since First now h went told dated moment len some c =
-        let (on, dated_on, lasts_on) = moved in find now moment len 0 c.first c.rest went.first now on dated_on lasts_on c.committed_by some c.reaches
+    lasts_since first now h passes told dated moment len some c =
+        let (on, dated_on, lasts_on) = moved in find now moment len 0 c.first c.rest first now on dated_on lasts_on c.committed_by some c.reaches
       where
         Known : List PassRecord → Type 0
-        Known rs = (on : ArePassesOn shown Contents step story 0 rs went.first now) × AreDated committed shown Contents step story 0 rs went.first now on × AreLasting shown Contents step story now 0 rs went.first now on
+        Known rs = (on : ArePassesOn shown Contents step story 0 rs first now) × AreDated committed shown Contents step story 0 rs first now on × AreLasting shown Contents step story now 0 rs first now on
 
         moved : Known (c.first ++ c.rest)
-        moved = subst Known c.stands (went.passes, dated, h went told)
+        moved = subst Known c.stands (passes, dated, h first passes told)

@@ -438,7 +438,7 @@ module _ {S : Type 0} (Contents : ℕ → List ℕ → S → ℕ → Type 0) (st
     later = λ told. let on = (writes.does.images told).later in omega (arith, on, h.later told);
     keeps = λ told t i le was. (writes.does.images told).keeps t i (omega (arith, le, h.later told)) (h.keeps told t i le was);
     since = λ told s k op t i left. ⊎_elim (past told s k op t i) (here told s k op t i) ((runs told s k op).nothing_else t i left);
-    went = λ s k op. went_on Contents step shown b p q callers r c.twin d.twin x s k op (HasStarted shown b.faults start) h.ends writes.only.reads
+    went = λ s k op. went_on Contents step shown b p q callers r c.twin d.twin x s k op (HasStarted shown b.faults start test) h.ends writes.only.reads
         (subst (λ (n : ℕ). BeginsIn shown c.twin.phase n p.main c.twin.device) h.order_is began) h.needed
         (subst (λ (n : ℕ). SpendsAtMost shown (batch_writes c.twin.phase n (region_len n)) (batch_syncs c.twin.phase) c.twin.device d.twin.device) h.order_is most)
         (λ e. subst (λ (n : ℕ). FailsEarly shown n p.main c.twin d.twin) h.order_is (failed_by e))

@@ -47,4 +47,4 @@ pub record IsHeld {D S : Type 0} (shown : ShownDevice D) (Contents : ℕ → Lis
   pub keeps : IsTrue shown.tells_images → (t : ℕ) (i : List ℕ) → t ≤ start.clock → test t i → shown.left_since c.twin.device t i
   pub since : IsTrue shown.tells_images → (s : S) (k : ℕ) → Contents base.order base.image s k → (t : ℕ) (i : List ℕ) → shown.left_since c.twin.device t i → test t i ⊎ SessionImage Contents step (story_at base s k (plan_of c.view)) i
   -- the device went through the passes of the records, from the one of the start on, and is left by them so
-  pub went : (s : S) (k : ℕ) → Contents base.order base.image s k → WentThrough shown Contents step (story_at base s k (plan_of c.view)) (HasStarted shown base.faults start) c.twin.device
+  pub went : (s : S) (k : ℕ) → Contents base.order base.image s k → WentThrough shown Contents step (story_at base s k (plan_of c.view)) (HasStarted shown base.faults start test) c.twin.device

@@ -4,7 +4,7 @@ use Rattle.rom_model.specs.Story.{Story}
 use Rattle.rom_model.specs.declared.record.PassRecord.{PassRecord}
 use Rattle.rom_device.specs.Device.{ShownDevice}
 use Rattle.rom_combine.specs.Session.{AtBoundary, AtDoubt}
-use Rattle.rom_store.specs.Traced.{ArePassesOn, WentThrough}
+use Rattle.rom_store.specs.Traced.{ArePassesOn}
 
 module _ {D S : Type 0} (shown : ShownDevice D) (Contents : ℕ → List ℕ → S → ℕ → Type 0) (step : ℕ → S → ℕ → List ℕ → Option (S × List ℕ)) (story : Story S) where
   -- An image of the session that holds no less of the history than this much: all up to a boundary there or behind it, and then nothing, or the batch of a pass in doubt.
@@ -21,6 +21,6 @@ module _ {D S : Type 0} (shown : ShownDevice D) (Contents : ℕ → List ℕ →
   AreLasting last len [] was now same = Unit {0}
   AreLasting last len (r ∷ rs) was now on = (len < r.len → Lasts r.len on.1.mid last) × AreLasting last r.len rs on.0 now on.2
 
-  -- and with all passes of the story, by whichever way the device went through them
-  abbrev pub HasLasted : (First : D → Type 0) (now : D) → Type 0
-  HasLasted First now = (went : WentThrough shown Contents step story First now) → IsTrue shown.tells_images → AreLasting now 0 story.records went.first now went.passes
+  -- and with all passes of the story, from wherever and by whichever way the device went through them
+  abbrev pub HasLasted : D → Type 0
+  HasLasted now = (first : D) (passes : ArePassesOn shown Contents step story 0 story.records first now) → IsTrue shown.tells_images → AreLasting now 0 story.records first now passes

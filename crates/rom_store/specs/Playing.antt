@@ -6,6 +6,7 @@ use Rattle.rom_model.specs.History.{LAST_COUNT}
 use Rattle.rom_model.specs.Lawful.{IsLawful}
 use Rattle.rom_model.specs.Machine.{Machine, on_words}
 use Rattle.rom_model.specs.Passes.{faults_after}
+use Rattle.rom_model.specs.Story.{Story}
 use Rattle.rom_model.specs.declared.line.LineResult.{LineResult}
 use Rattle.rom_model.specs.declared.unfit.Unfit.{Unfit}
 use Rattle.rom_model.specs.declared.line.Step.{Step}
@@ -17,7 +18,7 @@ use Rattle.rom_store.specs.Callers.{Caller, IsNewCaller}
 use Rattle.rom_store.specs.Closing.{ClosedSeen}
 use Rattle.rom_store.specs.Indexed.{Indexed}
 use Rattle.rom_store.specs.Openings.{HasBeenRefused}
-use Rattle.rom_store.specs.Sessions.{EachStory, HasStory}
+use Rattle.rom_store.specs.Sessions.{EachStory, HasStory, IsStoryOf}
 use Rattle.rom_store.specs.Start.{HasStarted, start_of}
 use Rattle.rom_store.specs.Traced.{WentThrough}
 use Rattle.rom_store.specs.Working.{IsRoom}
@@ -45,17 +46,18 @@ IsUnplayed shown Contents Rejects was (NoRoom device) = device ≡ was
 IsUnplayed shown Contents Rejects was (Unopened refused) = HasBeenRefused shown Contents Rejects was refused.device refused.why
 
 module _ {D S C Q R A : Type 0} (shown : ShownDevice D) (machine : Machine S C Q R A) (Contents : ℕ → List ℕ → S → ℕ → Type 0) (scripts : List (Vec (Step C Q))) (results : List (Vec (LineResult R A))) where
-  -- What every session of scripts is. It has a story, and of each: what the lines were told is lawful; each image that a stop leaves now holds the published history, or that with the batch in doubt; the device went through the passes of the records, from one on of which First holds, and they have no more faults than it counts.
+  -- What every session of scripts is. It has a story, and of each: what the lines were told is lawful; each image that a stop leaves now holds the published history, or that with the batch in doubt; the device went through the passes of the records, from one on of which First holds, since which each image is one of the session; and the passes have no more faults than it counts.
   pub record IsSession (First : D → Type 0) (closed : ClosedSeen D) : Type 0 where
     pub story : HasStory machine Contents closed.session
     pub lawful : EachStory machine Contents closed.session (λ story. IsLawful machine story (map (λ v. v.items) scripts) (map (λ v. v.items) results))
     pub now : IsTrue shown.tells_images → EachStory machine Contents closed.session (λ story. (i : List ℕ) → shown.leaves closed.device i → ImageNow Contents (on_words machine) story i)
     pub went : EachStory machine Contents closed.session (λ story. WentThrough shown Contents (on_words machine) story First closed.device)
+    pub since : IsTrue shown.tells_images → (story : Story S) (is : IsStoryOf machine Contents closed.session story) → Leaves shown (SessionImage Contents (on_words machine) story) (went story is).first closed.device
     pub faults : faults_after closed.session.faults closed.session.records ≤ shown.faults closed.device
 
   -- So, and it began with this opening, on this device, which no other call was made of in between: each image since then could be left before or is one of the session, and of the device's words only the state and the two regions differ.
   pub record IsPlayed (base : Base) (was : D) (closed : ClosedSeen D) : Type 0 where
-    pub session : IsSession (HasStarted shown base.faults (start_of shown was)) closed
+    pub session : IsSession (HasStarted shown base.faults (start_of shown was) (shown.left_since was)) closed
     pub order : closed.session.order ≡ base.order
     pub image : closed.session.image ≡ base.image
     pub opening_faults : closed.session.faults ≡ base.faults

@@ -70,8 +70,8 @@ impl<D: Device, O: Object, N: Label> Store<D, O, N> {
 
         // The device went through the passes of the records, one after another, from the start on.
         ensures went { EachStory O.machine O.Contents result.session (λ story. WentThrough D.shown
-            O.Contents (on_words O.machine) story (HasStarted D.shown N.base.faults N.start)
-            result.device) }
+            O.Contents (on_words O.machine) story
+            (HasStarted D.shown N.base.faults N.start N.since) result.device) }
         ensures size { D.shown.size result.device ≡ N.start.size }
         ensures outside { IsTrue D.shown.tells_words →
             WithinHeap N.base.order N.start.words (D.shown.words result.device) }

@@ -2,20 +2,18 @@
 ghost use Rattle.std.specs.Prelude.{◌≡◌, Err, Ok, ◌*◌, ◌<◌, ◌≤◌, length, All, IfErr, IfOk, IsTrue, OnOk};
 ghost use Rattle.rom_model.specs.Blocks.{IsOrder};
 ghost use Rattle.rom_model.specs.History.{LAST_COUNT};
-ghost use Rattle.rom_model.specs.Machine.{on_words};
 ghost use Rattle.rom_model.specs.Space.{ChangesOnly};
 ghost use Rattle.rom_model.specs.VecSpace.{words_of};
 ghost use Rattle.rom_device.specs.Device.{Does, Leaves, Stays};
 ghost use Rattle.rom_header.specs.Fresh.{HasTooFewFor, IsFormatAnswer, IsRefused};
 ghost use Rattle.rom_header.specs.Layout.{words_needed};
 ghost use Rattle.rom_header.specs.declared.fresh.FormatRefused.{FormatRefused};
-ghost use Rattle.rom_open.specs.Making.{HasFaultsUnmade, IsMadeThen, NoneOrHolds};
+ghost use Rattle.rom_open.specs.Making.{HasFaultsUnmade, NoneOrHolds};
 ghost use Rattle.rom_open.specs.Within.{HasMadeHeap, MakesNone, WithinMaking};
 ghost use Rattle.rom_open.specs.declared.new_heap.NotFormatted.TheVariants as unmade;
 ghost use Rattle.rom_lr.specs.Opening.{dealt_view};
 ghost use Rattle.rom_lr.specs.Seats.{IsWriterOf, opened_with, writer_view};
 ghost use Rattle.rom_combine.specs.AtRest.{IsReady};
-ghost use Rattle.rom_combine.specs.Session.{SessionImage};
 ghost use Rattle.rom_store.specs.Callers.{IsNewCaller};
 ghost use Rattle.rom_store.specs.Indexed.{Indexed};
 ghost use Rattle.rom_store.specs.Playing.{HasRooms, IsSession};
@@ -120,9 +118,11 @@ where
     requires few { All (λ v. length v.items ≤ LAST_COUNT) scripts.now }
 
     // The results are those of one history, from the empty state, and the device went through its
-    // passes, after one making.
+    // passes, after one making; what a stop left by then is told by the making, and since then by the
+    // session.
     ensures session { IfOk result (λ played. IsSession D.shown O.machine O.Contents scripts.now
-        played.results.items (HasMadeHeap D.shown order device) played.closed) }
+        played.results.items (HasMadeHeap D.shown O.Contents order O.machine.empty device)
+        played.closed) }
     ensures order { IfOk result (λ played. played.closed.session.order ≡ order) }
     ensures empty { IfOk result (λ played. EachStory O.machine O.Contents played.closed.session
         (λ story. (story.opening ≡ O.machine.empty) × (story.opening_count ≡ 0))) }
@@ -130,7 +130,7 @@ where
         IsFormatAnswer order (D.shown.words device) (Ok tt)) }
 
     // It has room there, no call of the making failed, and the device keeps its length and the words
-    // of others; what a stop left since the call began is told by the making and the session.
+    // of others.
     ensures fits { OnOk result (words_needed order ≤ D.shown.size device) }
     ensures faults { IfOk result (λ played.
         played.closed.session.faults ≡ D.shown.faults device) }
@@ -139,10 +139,6 @@ where
     ensures outside { IsTrue D.shown.tells_words → IfOk result (λ played.
         ChangesOnly 0 (words_needed order) (D.shown.words device)
         (D.shown.words played.closed.device)) }
-    ensures since { IsTrue D.shown.tells_images → IfOk result (λ played. EachStory O.machine
-        O.Contents played.closed.session (λ story. IsMadeThen D.shown O.Contents order
-        O.machine.empty (SessionImage O.Contents (on_words O.machine) story) device
-        played.closed.device)) }
 
     // Else no heap was made.
     ensures memory { IfErr result (λ failed.

@@ -72,7 +72,7 @@ where
         (SessionImage O.Contents (on_words O.machine) story) result.closed.device) }
     ensures went { EachStory O.machine O.Contents result.closed.session (λ story.
         WentThrough D.shown O.Contents (on_words O.machine) story
-        (HasStarted D.shown N.base.faults N.start) result.closed.device) }
+        (HasStarted D.shown N.base.faults N.start N.since) result.closed.device) }
     ensures size { D.shown.size result.closed.device ≡ N.start.size }
     ensures outside { IsTrue D.shown.tells_words →
         WithinHeap N.base.order N.start.words (D.shown.words result.closed.device) }

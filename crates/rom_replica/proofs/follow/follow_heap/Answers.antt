@@ -52,7 +52,7 @@ returns-in-Ok-clause-session g c =
           after =
               let counted : faults_after story.opening_faults story.records ≡ faults_after closed.session.faults closed.session.records = λ i. faults_after (of.faults_is i) (of.records i) in
               omega (arith, counted, after.faults);
-          went = went_since shown Contents (on_words trio) story (HasStarted shown b.faults (start_of shown opening.device)) (HasOpened shown story.order was) closed.device
+          went = went_since shown Contents (on_words trio) story (HasStarted shown b.faults (start_of shown opening.device) (shown.left_since opening.device)) (HasOpened shown story.order was) closed.device
               (λ d since. opened_first shown story.order was opening.device d b.faults opened.within (subst (λ (n : ℕ). CallsOfOrder shown n was opening.device) (sym (same story of)) opened.by_order) opened.faults.1
               (λ told. (b.image, subst (λ (n : ℕ). IsAtRest n b.image (shown.words opening.device)) (sym (same story of)) (opened.rest told))) since)
               (after.went story of);

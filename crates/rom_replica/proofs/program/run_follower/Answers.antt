@@ -1,9 +1,7 @@
-use Rattle.std.proofs.Common.{inl, Some}
+use Rattle.std.proofs.Common.{inl}
 use Rattle.rom_model.specs.Region.{Contents}
 use Rattle.rom_model.specs.Trio.{trio}
 use Rattle.rom_run.proofs.Lasting.{lasting}
-use Rattle.rom_run.specs.Use.{Plays, Read}
-use Rattle.rom_run.specs.declared.heap.Heap.TheVariants.{Standing}
 use Rattle.rom_replica.proofs.Completing.{completes, named, refuses}
 use Rattle.rom_replica.proofs.program.run_follower.Goals as goal
 
@@ -27,7 +25,7 @@ returns g c =
         refused_so = λ tells three. named shown source sink was ended.device c.args.inputs.items ended.scripts.items c.args.out.now c.follow.new.out ended.status ended.session is.story is.none tells (is.not_taken (inl three)) three;
         refused = λ tells. refuses shown source sink was ended.device c.args.inputs.items ended.scripts.items c.args.out.now c.follow.new.out ended.status ended.session is.story is.none tells is.statuses is.taken;
         story = is.story;
-        lasting = lasting trio Contents shown was ended.device only_now _ (Some (Plays Standing Read)) ended.session is.story;
+        lasting = lasting trio Contents shown ended.device only_now ended.session;
         none = is.none;
         unread = is.unread;
         kept = is.kept;

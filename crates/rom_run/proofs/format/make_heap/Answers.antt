@@ -12,6 +12,7 @@ returns-in-Ok-clause-made g c = λ done. record {
   fits = c.in-Ok.ensures.fits;
   held = c.in-Ok.ensures.held;
   images = c.in-Ok.ensures.held_images;
+  faults = c.in-Ok.ensures.makes.cause.none;
   told = subst (λ line. IsTold g.K.Sink.shown c.args.out.now c.tell.new.out line)
       (two_pieces (codes "formatted order ") c.format.result.now ∙ ap (λ digits. codes "formatted order " ++ digits) c.format.ensures.text) c.tell.ensures.told;
 }

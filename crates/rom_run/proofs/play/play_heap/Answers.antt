@@ -1,7 +1,24 @@
 use Rattle.std.proofs.Common.{rules}
 use Rattle.rom_store.specs.Openings.{HasBeenRefused}
+use Rattle.rom_run.proofs.Sessions.{made_session, standing_session}
 use Rattle.rom_run.proofs.Showing.{none_made, none_opened, refusal_ends, unmade_ends}
 use Rattle.rom_run.proofs.play.play_heap.Goals as goal
+
+pub returns-in-Ok-clause-session : goal.returns-in-Ok-clause-session
+returns-in-Ok-clause-session g c =
+    let o = g.O.Object in
+    let played = c.in-Ok.played in
+    let is = c.in-Ok.ensures in
+    rw c.in-New.is
+    (made_session g.D.Device.shown o.machine o.Contents c.args.scripts.now played.results.items c.args.device played.closed is.faults c.in-New.order is.session is.order is.empty is.accepted is.fits)
+
+pub returns-in-Ok-play-clause-session : goal.returns-in-Ok-play-clause-session
+returns-in-Ok-play-clause-session g c =
+    let o = g.O.Object in
+    let played = c.in-Ok-play.played in
+    let is = c.in-Ok-play.ensures in
+    rw c.in-Standing.is
+    (standing_session g.D.Device.shown o.machine o.Contents c.args.scripts.now played.results.items c.args.device played.closed is.faults is.session is.held is.fits is.since)
 
 pub returns-in-Err-clause-none : goal.returns-in-Err-clause-none
 returns-in-Err-clause-none g c =

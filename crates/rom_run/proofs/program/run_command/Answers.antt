@@ -1,7 +1,7 @@
 use Rattle.std.proofs.Common.{arith}
 use Rattle.rom_run.specs.Use.{Makes, Plays, Read}
 use Rattle.rom_run.proofs.Sources.{all_unasked}
-use Rattle.rom_run.proofs.Statuses.{is_a_command, never_two}
+use Rattle.rom_run.proofs.Statuses.{never_two}
 use Rattle.rom_run.proofs.program.run_command.Goals as goal
 
 pub returns-in_default-clause-asked_once : goal.returns-in_default-clause-asked_once
@@ -22,17 +22,11 @@ returns-in-Play-clause-none g c = rw (c.in-Some.is, c.in-Play.is) c.play_sources
 pub returns-in-Play-clause-kept : goal.returns-in-Play-clause-kept
 returns-in-Play-clause-kept g c = rw (c.in-Some.is, c.in-Play.is) c.play_sources.ensures.kept
 
-pub returns-in-Play-clause-unfailed : goal.returns-in-Play-clause-unfailed
-returns-in-Play-clause-unfailed g c = rw (c.in-Some.is, c.in-Play.is) c.play_sources.ensures.unfailed
-
 pub returns-in-Play-clause-story : goal.returns-in-Play-clause-story
 returns-in-Play-clause-story g c = rw (c.in-Some.is, c.in-Play.is) c.play_sources.ensures.session
 
 pub returns-in-Play-clause-unread : goal.returns-in-Play-clause-unread
 returns-in-Play-clause-unread g c = never_two (Plays c.in-Play.heap Read) _ c.play_sources.ensures.statuses
-
-pub returns-in-Play-clause-not_a_command : goal.returns-in-Play-clause-not_a_command
-returns-in-Play-clause-not_a_command g c = rw (c.in-Some.is, c.in-Play.is) (is_a_command (Plays c.in-Play.heap Read) _ c.play_sources.ensures.statuses)
 
 pub returns-in-Play-clause-not_a_command_told : goal.returns-in-Play-clause-not_a_command_told
 returns-in-Play-clause-not_a_command_told g c = never_two (Plays c.in-Play.heap Read) _ c.play_sources.ensures.statuses
@@ -59,9 +53,6 @@ returns-in-Make-clause-made g c = rw (c.in-Some.is, c.in-Make.is, c.of-in-Make.e
 
 pub returns-in-Make-clause-kept : goal.returns-in-Make-clause-kept
 returns-in-Make-clause-kept g c = rw (c.in-Some.is, c.in-Make.is, c.of-in-Make.ensures) c.make_heap-status.ensures.kept
-
-pub returns-in-Make-clause-not_a_command : goal.returns-in-Make-clause-not_a_command
-returns-in-Make-clause-not_a_command g c = rw (c.in-Some.is, c.in-Make.is, c.of-in-Make.ensures) (is_a_command (Makes c.in-Make.order) _ c.make_heap-status.ensures.statuses)
 
 pub returns-in-Make-clause-not_a_command_told : goal.returns-in-Make-clause-not_a_command_told
 returns-in-Make-clause-not_a_command_told g c = rw c.of-in-Make.ensures (never_two (Makes c.in-Make.order) _ c.make_heap-status.ensures.statuses)

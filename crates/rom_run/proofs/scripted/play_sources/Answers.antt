@@ -1,10 +1,10 @@
-use Rattle.std.proofs.Common.{◌≡◌, ◌∙◌, inr, map, length, ap}
+use Rattle.std.proofs.Common.{◌≡◌, ◌∙◌, map}
 use Rattle.std.proofs.lemmas.List.{with_items_is}
 use Rattle.rom_text.specs.Lines.{AreScripts}
 use Rattle.rom_run.specs.Played.{IsOutput}
 use Rattle.rom_run.specs.Statuses.{number_of}
 use Rattle.rom_run.proofs.Replies.{replies_of, unread_memory}
-use Rattle.rom_run.proofs.Statuses.{played_not_failed, played_not_long, played_not_run, played_not_unread, played_status, played_unfailed, unread_ends, unread_failed, unread_four, unread_not_five, unread_not_read, unread_not_run, unread_too_long}
+use Rattle.rom_run.proofs.Statuses.{played_not_failed, played_not_long, played_not_run, played_not_unread, played_status, unread_ends, unread_failed, unread_four, unread_not_five, unread_not_read, unread_not_run, unread_too_long}
 use Rattle.rom_run.proofs.Uncalled.{kept_uncalled, none_uncalled, unread_otherwise}
 use Rattle.rom_run.proofs.scripted.play_sources.Goals as goal
 
@@ -39,16 +39,6 @@ returns-in-Ok-clause-kept g c = rw c.after.ensures c.play_lines.ensures.kept
 pub returns-in-Ok-clause-uncalled : goal.returns-in-Ok-clause-uncalled
 returns-in-Ok-clause-uncalled g c = rw c.after.ensures (played_not_unread _ c.play_lines.ensures.statuses)
 
-pub returns-in-Ok-clause-unfailed : goal.returns-in-Ok-clause-unfailed
-returns-in-Ok-clause-unfailed g c =
-    let played = c.play_lines.ensures in
-    rw c.after.ensures (played_unfailed _ played.statuses (λ six. (played.none (played.not_run (inr six))).unfailed six))
-
-pub returns-in-Ok-clause-many : goal.returns-in-Ok-clause-many
-returns-in-Ok-clause-many g c =
-    let many = c.in-Ok.ensures.many in
-    rw (c.after.ensures, with_items_is c.args.scripts c.read_scripts.new.sources (c.in-Ok.ensures.many ∙ c.deref_mut.ensures.len)) (many ∙ ap length c.deref_mut.ensures.value)
-
 pub returns-in-Ok-clause-asked_once : goal.returns-in-Ok-clause-asked_once
 returns-in-Ok-clause-asked_once g c =
     rw (c.after.ensures, with_items_is c.args.scripts c.read_scripts.new.sources (c.in-Ok.ensures.many ∙ c.deref_mut.ensures.len), ← c.deref_mut.ensures.value) c.in-Ok.ensures.asked_once
@@ -69,12 +59,6 @@ returns-in-Ok-clause-none_failed g c =
 
 pub returns-in-Ok-clause-too_long : goal.returns-in-Ok-clause-too_long
 returns-in-Ok-clause-too_long g c = rw c.after.ensures (played_not_long _ c.play_lines.ensures.statuses)
-
-pub returns-in-Ok-clause-no_memory : goal.returns-in-Ok-clause-no_memory
-returns-in-Ok-clause-no_memory g c =
-    let unprinted : c.read_scripts.new.out ≡ c.args.out.now = c.in-Ok.ensures.unprinted in
-    let played = c.play_lines.ensures in
-    rw (c.after.ensures, ← unprinted) (λ six. (played.none (played.not_run (inr six))).no_memory six)
 
 pub returns-in-Ok-clause-sink_failed : goal.returns-in-Ok-clause-sink_failed
 returns-in-Ok-clause-sink_failed g c =
@@ -109,11 +93,6 @@ returns-in-Err-clause-none g c =
 pub returns-in-Err-clause-kept : goal.returns-in-Err-clause-kept
 returns-in-Err-clause-kept g c = rw c.of.ensures (kept_uncalled g.D.Device.shown c.args.device c.args.heap)
 
-pub returns-in-Err-clause-many : goal.returns-in-Err-clause-many
-returns-in-Err-clause-many g c =
-    let many = c.in-Err.ensures.many in
-    rw (c.of.ensures, with_items_is c.args.scripts c.read_scripts.new.sources (c.in-Err.ensures.many ∙ c.deref_mut.ensures.len)) (many ∙ ap length c.deref_mut.ensures.value)
-
 pub returns-in-Err-clause-asked_once : goal.returns-in-Err-clause-asked_once
 returns-in-Err-clause-asked_once g c =
     rw (c.of.ensures, with_items_is c.args.scripts c.read_scripts.new.sources (c.in-Err.ensures.many ∙ c.deref_mut.ensures.len), ← c.deref_mut.ensures.value) c.in-Err.ensures.asked_once
@@ -138,11 +117,6 @@ pub returns-in-Err-clause-too_long : goal.returns-in-Err-clause-too_long
 returns-in-Err-clause-too_long g c =
     rw (c.of.ensures, with_items_is c.args.scripts c.read_scripts.new.sources (c.in-Err.ensures.many ∙ c.deref_mut.ensures.len), ← c.deref_mut.ensures.value)
     (unread_too_long g.S.Source.shown g.K.Sink.shown c.deref_mut.result.now c.read_scripts.new.sources c.args.out.now c.read_scripts.new.out c.in-Err.status c.in-Err.ensures.unread)
-
-pub returns-in-Err-clause-no_memory : goal.returns-in-Err-clause-no_memory
-returns-in-Err-clause-no_memory g c =
-    rw c.of.ensures
-    (λ six. unread_memory g.S.Source.shown g.K.Sink.shown c.deref_mut.result.now c.read_scripts.new.sources c.args.out.now c.read_scripts.new.out c.in-Err.status c.in-Err.ensures.unread six)
 
 pub returns-in-Err-clause-sink_failed : goal.returns-in-Err-clause-sink_failed
 returns-in-Err-clause-sink_failed g c = rw c.of.ensures (unread_not_five c.in-Err.status c.in-Err.ensures.statuses)

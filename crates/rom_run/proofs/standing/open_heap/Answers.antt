@@ -75,10 +75,9 @@ returns-in-Ok-clause-still g c =
     let heap = c.in-Ok.field-0 in
     let session_is = c.unchanged-session.ensures ∙ (λ i. unchanged (c.order-order.ensures.order i) (c.of-space.ensures i) c.fault_count-faults.result) in
     rw session_is (λ story of. record {
+      unpassed = of.records;
       held = λ told. subst (λ (n : ℕ). Holds o.Contents n (shown.words heap.device) story.opening story.opening_count) (sym of.order_is) (c.in-Ok.ensures.holds told story.opening story.opening_count of.opening);
-      at_rest = λ told. (heap.image.items, subst (λ (n : ℕ). IsAtRest n heap.image.items (shown.words heap.device)) (sym of.order_is) (c.in-Ok.ensures.rest told));
       calls = c.in-Ok.ensures.within;
-      by_order = subst (λ (n : ℕ). CallsOfOrder shown n c.args.device heap.device) (sym of.order_is) c.in-Ok.ensures.by_order;
       at_end = λ images i left. subst (λ (n : ℕ). Holds o.Contents n i story.opening story.opening_count) (sym of.order_is)
           (subst (λ words. Holds o.Contents heap.geometry words story.opening story.opening_count) (sym (c.in-Ok.ensures.certain refl images i left))
           (c.in-Ok.ensures.holds (g.met.D.Device.tells_both images) story.opening story.opening_count of.opening));

@@ -2,6 +2,7 @@ use Rattle.std.proofs.Common.{◌≡◌, ◌++◌, ◌∙◌, ℕ, IsTrue, ap, a
 use Rattle.rom_header.specs.Held.{Holds}
 use Rattle.rom_text.specs.Runs.{IsTold}
 use Rattle.rom_open.specs.Refusals.{named_order}
+use Rattle.rom_upgrade.specs.Upgrading.{IsWhole}
 use Rattle.rom_run.proofs.Joined.{two_pieces}
 use Rattle.rom_run.proofs.Showing.{none_upgraded}
 use Rattle.rom_run.proofs.upgrade.upgrade_heap.Goals as goal
@@ -33,6 +34,7 @@ returns-in-Ok-clause-made g c = λ done.
       held = λ tells. (told.answer tells).1;
       holds = λ images state count is. subst (λ (n : ℕ). Holds o.Contents n (shown.words c.in-Ok.device) state count) (sym (named images)) (told.upgraded images state count (held images state count is));
       images = λ images state count is i left. subst (λ (n : ℕ). Holds o.Contents n i state count) (sym (named images)) (told.at_end images state count (held images state count is) i left);
+      whole = λ images. subst (λ (n : ℕ). IsWhole n (shown.words c.in-Ok.device)) (sym (named images)) (told.whole images);
       told = subst (λ line. IsTold g.K.Sink.shown c.args.out.now c.tell.new.out line)
           (two_pieces (codes "upgraded order ") c.format.result.now ∙ ap (λ digits. codes "upgraded order " ++ digits) c.format.ensures.text) c.tell.ensures.told;
     }

@@ -1,7 +1,9 @@
-use Rattle.std.proofs.Common.{◌+◌, ◌*◌, ◌≤◌, All, length, map, ap, sym, subst, arith}
+use Rattle.std.proofs.Common.{◌≡◌, ◌+◌, ◌*◌, ◌≤◌, All, length, map, ap, sym, subst, ◌∙◌, arith}
 use Rattle.std.proofs.lemmas.List.{get_or-map, length-map}
 use Rattle.std.proofs.lemmas.List.Elements.{All-map}
+use Rattle.rom_model.specs.Lawful.{IsLawful}
 use Rattle.rom_model.specs.Trio.{trio}
+use Rattle.rom_script.specs.Drill.{drill_scripts}
 use Rattle.rom_shell.proofs.Drilling.{served_few, served_many}
 use Rattle.rom_shell.proofs.drill.drill_heap.Goals as goal
 
@@ -26,3 +28,16 @@ end_of-requires-clause-told_few g c =
     let told : All (λ rs. length rs ≤ most) (map (λ v. v.items) results) = served_few trio story most 1 (map (λ v. v.items) scripts) (map (λ v. v.items) results) served (All-map (λ ls. length ls ≤ most) (λ v. v.items) scripts few) in
     λ k d lt.
     omega (arith, ap length (get_or-map (λ v. v.items) results k d d.items lt), told k d.items (omega (arith, lt, length-map results (λ v. v.items))), c.requires.calls)
+
+pub returns-in-Ok-play_heap-clause-session : goal.returns-in-Ok-play_heap-clause-session
+returns-in-Ok-play_heap-clause-session g c =
+    let session = c.in-Ok-play_heap.ensures.session in
+    let results = map (λ v. v.items) c.in-Ok-play_heap.played.results.items in
+    let lines : map (λ v. v.items) c.deref.result.now ≡ drill_scripts c.args.start c.args.callers c.args.calls = ap (map (λ v. v.items)) c.deref.ensures.value ∙ c.in-Ok.ensures.lines in
+    let unprinted : c.play_heap.new.out ≡ c.args.out.now = c.in-Ok-play_heap.ensures.unprinted in
+    let drilled = rw unprinted at c.end_of.ensures.drilled in
+    rw (c.end_of.ensures.session, c.end_of.ensures.device) record {
+      story = session.story;
+      each = session.each;
+      told = λ story of. drilled story of (subst (λ scripts. IsLawful trio story scripts results) lines (session.told story of));
+    }

@@ -2,10 +2,10 @@ use Rattle.std.proofs.Common.{◌≡◌, ◌∙◌, length, [], Some, ap, arith,
 use Rattle.rom_run.specs.Statuses.{number_of}
 use Rattle.rom_run.specs.Use.{Drawn, Makes, Plays, Read, Shows, Upgrades}
 use Rattle.rom_run.specs.declared.heap.Heap.TheVariants.{New, Standing}
-use Rattle.rom_run.proofs.Statuses.{is_a_command, never_two}
+use Rattle.rom_run.proofs.Statuses.{never_two}
 use Rattle.rom_words.specs.Wanted.{named, texts}
 use Rattle.rom_words.specs.Words.{Try, Run, Format, Stat, Upgrade, Drill, command, scripts_of}
-use Rattle.rom_shell.proofs.Replies.{drilled_session, no_source, shown_session}
+use Rattle.rom_shell.proofs.Replies.{drilled_session, no_source, played_still, shown_session}
 use Rattle.rom_shell.proofs.program.run_command.Goals as goal
 
 pub returns-in-Try-clause-story : goal.returns-in-Try-clause-story
@@ -42,6 +42,12 @@ returns-in-Format-clause-none g c =
       uncalled = made.uncalled;
       no_memory = made.no_memory;
     })
+
+pub returns-in-Run-clause-still : goal.returns-in-Run-clause-still
+returns-in-Run-clause-still g c =
+    let is : Some (Run c.in-Run.file.now (texts c.in-Run.scripts.items)) ≡ command c.args.words.now = subst (λ a. named (Some a) ≡ command c.args.words.now) c.in-Run.is c.in-Some.ensures.named in
+    let ended = c.play_sources-in-Run.result in
+    rw (sym is) (played_still g.D.Device.shown c.args.device ended.device Standing Read ended.session)
 
 pub returns-in-Stat-clause-still : goal.returns-in-Stat-clause-still
 returns-in-Stat-clause-still g c =
@@ -87,17 +93,11 @@ returns-in-Try-clause-not_run g c = rw (← c.in-Some.ensures.named, c.in-Try.is
 pub returns-in-Try-clause-kept : goal.returns-in-Try-clause-kept
 returns-in-Try-clause-kept g c = rw (← c.in-Some.ensures.named, c.in-Try.is) c.play_sources.ensures.kept
 
-pub returns-in-Try-clause-unfailed : goal.returns-in-Try-clause-unfailed
-returns-in-Try-clause-unfailed g c = rw (← c.in-Some.ensures.named, c.in-Try.is) c.play_sources.ensures.unfailed
-
 pub returns-in-Try-clause-none : goal.returns-in-Try-clause-none
 returns-in-Try-clause-none g c = rw (← c.in-Some.ensures.named, c.in-Try.is) c.play_sources.ensures.none
 
 pub returns-in-Try-clause-unread : goal.returns-in-Try-clause-unread
 returns-in-Try-clause-unread g c = (never_two (Plays (New 4) Read) _ c.play_sources.ensures.statuses)
-
-pub returns-in-Try-clause-not_a_command : goal.returns-in-Try-clause-not_a_command
-returns-in-Try-clause-not_a_command g c = rw (← c.in-Some.ensures.named, c.in-Try.is) (is_a_command (Plays (New 4) Read) _ c.play_sources.ensures.statuses)
 
 pub returns-in-Try-clause-not_a_command_told : goal.returns-in-Try-clause-not_a_command_told
 returns-in-Try-clause-not_a_command_told g c = (never_two (Plays (New 4) Read) _ c.play_sources.ensures.statuses)
@@ -114,14 +114,8 @@ returns-in-Run-clause-not_run g c = rw (← c.in-Some.ensures.named, c.in-Run.is
 pub returns-in-Run-clause-kept : goal.returns-in-Run-clause-kept
 returns-in-Run-clause-kept g c = rw (← c.in-Some.ensures.named, c.in-Run.is) c.play_sources-in-Run.ensures.kept
 
-pub returns-in-Run-clause-unfailed : goal.returns-in-Run-clause-unfailed
-returns-in-Run-clause-unfailed g c = rw (← c.in-Some.ensures.named, c.in-Run.is) c.play_sources-in-Run.ensures.unfailed
-
 pub returns-in-Run-clause-unread : goal.returns-in-Run-clause-unread
 returns-in-Run-clause-unread g c = (never_two (Plays Standing Read) _ c.play_sources-in-Run.ensures.statuses)
-
-pub returns-in-Run-clause-not_a_command : goal.returns-in-Run-clause-not_a_command
-returns-in-Run-clause-not_a_command g c = rw (← c.in-Some.ensures.named, c.in-Run.is) (is_a_command (Plays Standing Read) _ c.play_sources-in-Run.ensures.statuses)
 
 pub returns-in-Run-clause-not_a_command_told : goal.returns-in-Run-clause-not_a_command_told
 returns-in-Run-clause-not_a_command_told g c = (never_two (Plays Standing Read) _ c.play_sources-in-Run.ensures.statuses)
@@ -138,9 +132,6 @@ returns-in-Format-clause-made g c = rw (← c.in-Some.ensures.named, c.in-Format
 pub returns-in-Format-clause-unread : goal.returns-in-Format-clause-unread
 returns-in-Format-clause-unread g c = rw c.of-in-Format.ensures (never_two (Makes c.in-Format.order) _ c.make_heap-status.ensures.statuses)
 
-pub returns-in-Format-clause-not_a_command : goal.returns-in-Format-clause-not_a_command
-returns-in-Format-clause-not_a_command g c = rw (← c.in-Some.ensures.named, c.in-Format.is, c.of-in-Format.ensures) (is_a_command (Makes c.in-Format.order) _ c.make_heap-status.ensures.statuses)
-
 pub returns-in-Format-clause-not_a_command_told : goal.returns-in-Format-clause-not_a_command_told
 returns-in-Format-clause-not_a_command_told g c = rw c.of-in-Format.ensures (never_two (Makes c.in-Format.order) _ c.make_heap-status.ensures.statuses)
 
@@ -153,9 +144,6 @@ returns-in-Stat-clause-kept g c = rw (← c.in-Some.ensures.named, c.in-Stat.is,
 pub returns-in-Stat-clause-unread : goal.returns-in-Stat-clause-unread
 returns-in-Stat-clause-unread g c = rw c.after.ensures (never_two Shows _ c.show_heap.ensures.statuses)
 
-pub returns-in-Stat-clause-not_a_command : goal.returns-in-Stat-clause-not_a_command
-returns-in-Stat-clause-not_a_command g c = rw (← c.in-Some.ensures.named, c.in-Stat.is, c.after.ensures) (is_a_command Shows _ c.show_heap.ensures.statuses)
-
 pub returns-in-Stat-clause-not_a_command_told : goal.returns-in-Stat-clause-not_a_command_told
 returns-in-Stat-clause-not_a_command_told g c = rw c.after.ensures (never_two Shows _ c.show_heap.ensures.statuses)
 
@@ -167,9 +155,6 @@ returns-in-Upgrade-clause-kept g c = rw (← c.in-Some.ensures.named, c.in-Upgra
 
 pub returns-in-Upgrade-clause-unread : goal.returns-in-Upgrade-clause-unread
 returns-in-Upgrade-clause-unread g c = rw c.after-in-Upgrade.ensures (never_two Upgrades _ c.upgrade_heap.ensures.statuses)
-
-pub returns-in-Upgrade-clause-not_a_command : goal.returns-in-Upgrade-clause-not_a_command
-returns-in-Upgrade-clause-not_a_command g c = rw (← c.in-Some.ensures.named, c.in-Upgrade.is, c.after-in-Upgrade.ensures) (is_a_command Upgrades _ c.upgrade_heap.ensures.statuses)
 
 pub returns-in-Upgrade-clause-not_a_command_told : goal.returns-in-Upgrade-clause-not_a_command_told
 returns-in-Upgrade-clause-not_a_command_told g c = rw c.after-in-Upgrade.ensures (never_two Upgrades _ c.upgrade_heap.ensures.statuses)
@@ -185,9 +170,6 @@ returns-in-Drill-clause-none g c = rw (← c.in-Some.ensures.named, c.in-Drill.i
 
 pub returns-in-Drill-clause-unread : goal.returns-in-Drill-clause-unread
 returns-in-Drill-clause-unread g c = rw c.after-in-Drill.ensures (never_two (Plays (New 12) Drawn) _ c.drill_heap.ensures.statuses)
-
-pub returns-in-Drill-clause-not_a_command : goal.returns-in-Drill-clause-not_a_command
-returns-in-Drill-clause-not_a_command g c = rw (← c.in-Some.ensures.named, c.in-Drill.is, c.after-in-Drill.ensures) (is_a_command (Plays (New 12) Drawn) _ c.drill_heap.ensures.statuses)
 
 pub returns-in-Drill-clause-not_a_command_told : goal.returns-in-Drill-clause-not_a_command_told
 returns-in-Drill-clause-not_a_command_told g c = rw c.after-in-Drill.ensures (never_two (Plays (New 12) Drawn) _ c.drill_heap.ensures.statuses)

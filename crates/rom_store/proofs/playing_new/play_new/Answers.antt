@@ -1,11 +1,11 @@
-use Rattle.std.proofs.Common.{◌≡◌, ◌∙◌, ◌*◌, ℕ, List, arith, rules, sym, subst}
+use Rattle.std.proofs.Common.{◌≡◌, ◌∙◌, ◌*◌, ℕ, IsTrue, List, arith, rules, sym, subst}
 use Rattle.rom_combine.specs.AtRest.{IsReady}
 use Rattle.rom_rule.specs.declared.views.Base.{Base}
 use Rattle.rom_combine.specs.Costs.{WithinHeap}
-use Rattle.rom_combine.specs.Session.{SessionImage}
 use Rattle.rom_device.specs.Device.{Leaves}
-use Rattle.rom_model.specs.Machine.{on_words}
 use Rattle.rom_header.specs.Fresh.{IsNew}
+use Rattle.rom_header.specs.Held.{Holds}
+use Rattle.rom_open.specs.Making.{NoneOrHolds}
 use Rattle.rom_open.specs.Within.{LiesAtRest, WithinMaking}
 use Rattle.rom_model.specs.VecSpace.{words_of}
 use Rattle.rom_rule.specs.Views.{base_of}
@@ -43,8 +43,14 @@ returns-clause-session g c =
     let made = c.write_heap.ensures.made told in
     let new : IsNew c.args.order region (shown.words c.write_heap.new.device) = search rules in
     (region, record { heap = new.heap; idle = new.idle; main_is = new.main_is; back_is = new.back_is }) in
+    let making : IsTrue shown.tells_images → Leaves shown (NoneOrHolds g.O.Object.Contents c.args.order g.O.Object.machine.empty) c.args.device c.write_heap.new.device = λ told. c.write_heap.ensures.images told in
+    let stands : IsTrue shown.tells_images → (i : List ℕ) → shown.leaves c.write_heap.new.device i → Holds g.O.Object.Contents c.args.order i g.O.Object.machine.empty 0 = λ told. let held = c.write_heap.ensures.held_images told in search rules in
+    let made = subst (λ d. LiesAtRest shown c.args.order d × (IsTrue shown.tells_images → Leaves shown (NoneOrHolds g.O.Object.Contents c.args.order g.O.Object.machine.empty) c.args.device d)
+    × (IsTrue shown.tells_images → (i : List ℕ) → shown.leaves d i → Holds g.O.Object.Contents c.args.order i g.O.Object.machine.empty 0)) (λ j. (sym c.of-opening.ensures.opening j).device) (rests, making, stands) in
+    let w = g.world in
+    let laws = g.met.D.Device w.𝓛 w.𝓜 w.𝓡 ((λ s x. x), (λ x. x), (λ x. x), λ x. x) in
     session_since shown g.O.Object.machine g.O.Object.Contents c.args.scripts.now c.play_on.result.results.items _ _ c.play_on.result.closed
-    (λ d same. made_first shown c.args.order c.args.device opening.device d (base_of opening.key).faults within ((λ j. (base_is j).faults) ∙ c.fault_count.ensures) (subst (λ d. LiesAtRest shown c.args.order d) (λ j. (sym c.of-opening.ensures.opening j).device) rests) same) c.play_on.ensures.played.session
+    (λ d same. made_first shown g.O.Object.Contents c.args.order g.O.Object.machine.empty c.args.device opening.device d (base_of opening.key).faults laws.counts_now laws.only_now within ((λ j. (base_is j).faults) ∙ c.fault_count.ensures) made.0 made.1 made.2 same) c.play_on.ensures.played.session
 
 pub returns-clause-order : goal.returns-clause-order
 returns-clause-order g c = c.play_on.ensures.played.order ∙ (λ j. (base_of (c.of-opening.ensures.opening j).key).order) ∙ (λ j. (c.in-Ok.ensures.base j).order)
@@ -82,15 +88,3 @@ returns-clause-empty g c = λ story is.
     let at : object.Contents c.args.order region story.opening story.opening_count = subst (λ (z : ℕ × List ℕ). object.Contents z.0 z.1 story.opening story.opening_count) (λ j. (order_is j, image_is j)) is.opening in
     let w = g.world in
     (g.met.O.Object w.𝓛 w.𝓜 w.𝓡 ((λ s x. x), (λ x. x), (λ x. x), λ x. x)).one_contents c.args.order region story.opening object.machine.empty story.opening_count 0 at c.in-Ok.ensures.region
-
-pub returns-clause-since : goal.returns-clause-since
-returns-clause-since g c = λ told story is.
-    let shown = g.D.Device.shown in
-    let step = on_words g.O.Object.machine in
-    let closed = c.play_on.result.closed in
-    record {
-      at = c.write_heap.new.device;
-      making = c.write_heap.ensures.images told;
-      stands = let held = c.write_heap.ensures.held_images told in search rules;
-      since = subst (λ d. Leaves shown (SessionImage g.O.Object.Contents step story) d closed.device) (λ j. (c.of-opening.ensures.opening j).device) (c.play_on.ensures.played.since told story is);
-    }

@@ -1,11 +1,30 @@
+use Rattle.std.specs.Prelude.{ℕ}
+use Rattle.rom_combine.specs.Session.{SessionImage}
+use Rattle.rom_model.specs.Machine.{on_words}
+use Rattle.rom_rule.specs.Views.{base_of}
+use Rattle.rom_store.specs.Start.{start_of}
+use Rattle.rom_store.proofs.Spans.{leaves_first}
 use Rattle.rom_store.proofs.running.play_on.Goals as goal
 
 pub returns : goal.returns
 returns g c =
+    let shown = g.D.Device.shown in
     let closed = c.play_as.ensures in
+    let last = c.play_as.result.closed.device in
+    let opening = c.args.opening in
+    let faults : ℕ = (base_of opening.key).faults in
     record {
       played = record {
-        session = record { story = closed.story; lawful = closed.lawful; now = closed.now; went = closed.went; faults = closed.faults };
+        session = record {
+          story = closed.story;
+          lawful = closed.lawful;
+          now = closed.now;
+          went = closed.went;
+          since = λ told story is.
+              let w = closed.went story is in
+              leaves_first shown (start_of shown opening.device) (shown.left_since opening.device) faults (SessionImage g.O.Object.Contents (on_words g.O.Object.machine) story) w.first last told w.begun (closed.since told story is);
+          faults = closed.faults;
+        };
         order = closed.order;
         image = closed.image;
         opening_faults = closed.opening_faults;

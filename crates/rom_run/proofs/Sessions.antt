@@ -1,0 +1,69 @@
+-- The session of scripts that were played on a heap, by what the players of it say.
+use Rattle.std.specs.Prelude.{◌≡◌, ◌≤◌, ℕ, List, map, IsTrue, Ok}
+use Rattle.std.specs.Global.{Vec}
+use Rattle.std.proofs.Common.{ap, arith, subst, sym, ◌∙◌}
+use Rattle.rom_model.specs.Lawful.{IsLawful}
+use Rattle.rom_model.specs.Machine.{Machine, on_words}
+use Rattle.rom_model.specs.Passes.{faults_after}
+use Rattle.rom_model.specs.Story.{Story}
+use Rattle.rom_model.specs.declared.line.LineResult.{LineResult}
+use Rattle.rom_model.specs.declared.line.Step.{Step}
+use Rattle.rom_device.specs.Device.{Leaves, ShownDevice}
+use Rattle.rom_header.specs.Fresh.{IsFormatAnswer}
+use Rattle.rom_header.specs.Held.{Holds}
+use Rattle.rom_header.specs.Layout.{words_needed}
+use Rattle.rom_open.specs.Within.{HasMadeHeap, HasOpened}
+use Rattle.rom_combine.specs.Session.{SessionImage}
+use Rattle.rom_store.specs.Closing.{ClosedSeen}
+use Rattle.rom_store.specs.Playing.{IsSession}
+use Rattle.rom_store.specs.Sessions.{EachStory, IsStoryOf}
+use Rattle.rom_run.proofs.Told.{if_told}
+use Rattle.rom_run.specs.Working.{HasSession}
+use Rattle.rom_run.specs.declared.heap.Heap.TheVariants.{New, Standing}
+
+module _ {D S C Q R A : Type 0} (shown : ShownDevice D) (machine : Machine S C Q R A) (Contents : ℕ → List ℕ → S → ℕ → Type 0) (scripts : List (Vec (Step C Q))) (results : List (Vec (LineResult R A))) (was : D) (closed : ClosedSeen D) (faults : closed.session.faults ≡ shown.faults was) where
+  abbrev Lawful : Story S → Type 0
+  Lawful story = IsLawful machine story (map (λ v. v.items) scripts) (map (λ v. v.items) results)
+
+  -- the records' counts are not above the device's
+  counted : (story : Story S) → IsStoryOf machine Contents closed.session story → faults_after closed.session.faults closed.session.records ≤ shown.faults closed.device → faults_after story.opening_faults story.records ≤ shown.faults closed.device
+  counted story is few = let same : faults_after story.opening_faults story.records ≡ faults_after closed.session.faults closed.session.records = λ i. faults_after (is.faults_is i) (is.records i) in omega (arith, same, few)
+
+  long_enough : (n m : ℕ) → n ≡ m → words_needed m ≤ shown.size was → words_needed n ≤ shown.size was
+  long_enough n m same fits = let long : words_needed n ≡ words_needed m = ap words_needed same in omega (arith, long, fits)
+
+  -- on a heap that was made
+  pub made_session : (order : ℕ) → IsSession shown machine Contents scripts results (HasMadeHeap shown Contents order machine.empty was) closed → closed.session.order ≡ order
+      → EachStory machine Contents closed.session (λ story. (story.opening ≡ machine.empty) × (story.opening_count ≡ 0)) → (IsTrue shown.tells_words → IsFormatAnswer order (shown.words was) (Ok tt)) → words_needed order ≤ shown.size was
+      → HasSession machine Contents shown (New order) was closed.device Lawful closed.session
+  made_session order of order_is empty accepted fits = record {
+    story = of.story;
+    each = λ story is. record {
+      opening = (if_told shown.tells_words (shown.words was) (λ words. IsFormatAnswer order words (Ok tt)) accepted, is.order_is ∙ order_is, (empty story is).0, (empty story is).1);
+      fits = long_enough story.order order (is.order_is ∙ order_is) fits;
+      faults = record { before = is.faults_is ∙ faults; after = counted story is of.faults; went = of.went story is };
+      since = λ told. of.since told story is;
+      at_end = λ told. of.now told story is;
+    };
+    told = of.lawful;
+  }
+
+  -- and on one that stands
+  pub standing_session : IsSession shown machine Contents scripts results (HasOpened shown closed.session.order was) closed → (IsTrue shown.tells_words → EachStory machine Contents closed.session (λ story. Holds Contents story.order (shown.words was) story.opening story.opening_count))
+      → words_needed closed.session.order ≤ shown.size was → (IsTrue shown.tells_images → EachStory machine Contents closed.session (λ story. Leaves shown (SessionImage Contents (on_words machine) story) was closed.device))
+      → HasSession machine Contents shown Standing was closed.device Lawful closed.session
+  standing_session of held fits since = record {
+    story = of.story;
+    each = λ story is. record {
+      opening = if_told shown.tells_words (shown.words was) (λ words. Holds Contents story.order words story.opening story.opening_count) (λ told. held told story is);
+      fits = long_enough story.order closed.session.order is.order_is fits;
+      faults = record {
+        before = is.faults_is ∙ faults;
+        after = counted story is of.faults;
+        went = let w = of.went story is in record { first = w.first; begun = subst (λ (n : ℕ). HasOpened shown n was w.first) (sym is.order_is) w.begun; passes = w.passes };
+      };
+      since = λ told. since told story is;
+      at_end = λ told. of.now told story is;
+    };
+    told = of.lawful;
+  }
