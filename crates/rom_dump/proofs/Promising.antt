@@ -3,7 +3,8 @@ use Rattle.std.proofs.Common.{◌≡◌, ◌≢◌, ◌⊎◌, inl, inr, ℕ, Li
 use Rattle.std.specs.Prelude.{codes, IfSome, Option, Some, None}
 use Rattle.rom_open.specs.declared.reasons.Why.{Why}
 use Rattle.rom_elements.specs.declared.element.Element.{Element}
-use Rattle.rom_run.specs.Refusing.{refusal_status}
+use Rattle.rom_model.specs.State as model
+use Rattle.rom_run.specs.Refusing.{refusal_line, refusal_status}
 use Rattle.rom_run.specs.Statuses.{number_of}
 use Rattle.rom_run.proofs.Showing.{refusal_ends}
 use Rattle.rom_stat.proofs.Showing.{put_stops}
@@ -12,8 +13,9 @@ use Rattle.rom_device.proofs.Going.{runs_none}
 use Rattle.rom_text.specs.Runs.{IsTold}
 use Rattle.rom_text.specs.Streams.{ShownSink, StopsWriting}
 use Rattle.rom_dump.specs.Promise.{IsStatus, Promise}
-use Rattle.rom_dump.specs.Shown.{EndsAsScript, EndsAsText, IsAnswered}
-use Rattle.rom_dump.specs.Words.{Command, Script, Check}
+use Rattle.rom_view.specs.declared.alone.Region.{Region}
+use Rattle.rom_dump.specs.Shown.{EndsAsScript, EndsAsText, IsAnswered, IsAnsweredBy, IsPrinted}
+use Rattle.rom_dump.specs.Words.{Command, Script, Check, region_asked}
 
 -- the status of a refusal
 refusal_three : (why : Why) (n : ℕ) → n ≡ number_of (refusal_status why) → (n ≡ 3) ⊎ ((n ≡ 6) ⊎ (n ≡ 7))
@@ -26,24 +28,24 @@ refusal_three why n is = elim (refusal_ends why) [
 ]
 
 refused_status : (does : Command) (n : ℕ) → (n ≡ 3) ⊎ ((n ≡ 6) ⊎ (n ≡ 7)) → IsStatus (Some does) n
-refused_status (Script file part) n (inl e) = inr (inl e)
-refused_status (Script file part) n (inr (inl e)) = inr (inr (inr (inl e)))
-refused_status (Script file part) n (inr (inr e)) = inr (inr (inr (inr (inl e))))
-refused_status (Check file) n (inl e) = inr (inl e)
-refused_status (Check file) n (inr (inl e)) = inr (inr (inl e))
-refused_status (Check file) n (inr (inr e)) = inr (inr (inr e))
+refused_status (Script file from part) n (inl e) = inr (inl e)
+refused_status (Script file from part) n (inr (inl e)) = inr (inr (inr (inl e)))
+refused_status (Script file from part) n (inr (inr e)) = inr (inr (inr (inr (inl e))))
+refused_status (Check file from) n (inl e) = inr (inl e)
+refused_status (Check file from) n (inr (inl e)) = inr (inr (inl e))
+refused_status (Check file from) n (inr (inr e)) = inr (inr (inr e))
 
 not_two : (does : Command) (n : ℕ) → IsStatus (Some does) n → n ≢ 2
-not_two (Script file part) n (inl e) is = absurd (omega (arith, e, is))
-not_two (Script file part) n (inr (inl e)) is = absurd (omega (arith, e, is))
-not_two (Script file part) n (inr (inr (inl e))) is = absurd (omega (arith, e, is))
-not_two (Script file part) n (inr (inr (inr (inl e)))) is = absurd (omega (arith, e, is))
-not_two (Script file part) n (inr (inr (inr (inr (inl e))))) is = absurd (omega (arith, e, is))
-not_two (Script file part) n (inr (inr (inr (inr (inr e))))) is = absurd (omega (arith, e, is))
-not_two (Check file) n (inl e) is = absurd (omega (arith, e, is))
-not_two (Check file) n (inr (inl e)) is = absurd (omega (arith, e, is))
-not_two (Check file) n (inr (inr (inl e))) is = absurd (omega (arith, e, is))
-not_two (Check file) n (inr (inr (inr e))) is = absurd (omega (arith, e, is))
+not_two (Script file from part) n (inl e) is = absurd (omega (arith, e, is))
+not_two (Script file from part) n (inr (inl e)) is = absurd (omega (arith, e, is))
+not_two (Script file from part) n (inr (inr (inl e))) is = absurd (omega (arith, e, is))
+not_two (Script file from part) n (inr (inr (inr (inl e)))) is = absurd (omega (arith, e, is))
+not_two (Script file from part) n (inr (inr (inr (inr (inl e))))) is = absurd (omega (arith, e, is))
+not_two (Script file from part) n (inr (inr (inr (inr (inr e))))) is = absurd (omega (arith, e, is))
+not_two (Check file from) n (inl e) is = absurd (omega (arith, e, is))
+not_two (Check file from) n (inr (inl e)) is = absurd (omega (arith, e, is))
+not_two (Check file from) n (inr (inr (inl e))) is = absurd (omega (arith, e, is))
+not_two (Check file from) n (inr (inr (inr e))) is = absurd (omega (arith, e, is))
 
 module _ {K : Type 0} (sink : ShownSink K) (old new : K) where
   -- a text that is printed, whole or in part, or told
@@ -51,18 +53,29 @@ module _ {K : Type 0} (sink : ShownSink K) (old new : K) where
   text_stops text n (inl done) = put_stops sink old new text (inl done.1)
   text_stops text n (inr cut) = put_stops sink old new text (inr cut.1)
 
-  script_status : (file : List ℕ) (part : Option ℕ) (es : List Element) (n : ℕ) → EndsAsScript sink part es old new n → IsStatus (Some (Script file part)) n × StopsWriting sink old new
-  script_status file (Some part) es n (inl done) = (inl done.0, text_stops _ n (inl done))
-  script_status file (Some part) es n (inr cut) = (inr (inr (inl cut.0)), text_stops _ n (inr cut))
-  script_status file None es n (inl (within, inl done)) = (inl done.0, text_stops _ n (inl done))
-  script_status file None es n (inl (within, inr cut)) = (inr (inr (inl cut.0)), text_stops _ n (inr cut))
-  script_status file None es n (inr (long, eight, told)) = (inr (inr (inr (inr (inr eight)))), put_stops sink old new _ told)
+  script_status : (file : List ℕ) (from : Option Region) (part : Option ℕ) (es : List Element) (n : ℕ) → EndsAsScript sink part es old new n → IsStatus (Some (Script file from part)) n × StopsWriting sink old new
+  script_status file from (Some part) es n (inl done) = (inl done.0, text_stops _ n (inl done))
+  script_status file from (Some part) es n (inr cut) = (inr (inr (inl cut.0)), text_stops _ n (inr cut))
+  script_status file from None es n (inl (within, inl done)) = (inl done.0, text_stops _ n (inl done))
+  script_status file from None es n (inl (within, inr cut)) = (inr (inr (inl cut.0)), text_stops _ n (inr cut))
+  script_status file from None es n (inr (long, eight, told)) = (inr (inr (inr (inr (inr eight)))), put_stops sink old new _ told)
+
+  printed_status : (does : Command) (line : List ℕ) (order : ℕ) (state : model.State) (count n : ℕ) → IsPrinted sink does line order state count old new n → IsStatus (Some does) n × StopsWriting sink old new
+  printed_status (Script file from part) line order state count n again = script_status file from part again.elements n again.printed
+  printed_status (Check file from) line order state count n put = (inl put.0, put_stops sink old new _ put.1)
+
+  refusal_told : (does : Command) (why : Why) (n : ℕ) → n ≡ number_of (refusal_status why) → IsTold sink old new (refusal_line why) → IsStatus (Some does) n × StopsWriting sink old new
+  refusal_told does why n is told = (refused_status does n (refusal_three why n is), put_stops sink old new _ told)
 
   -- each command ends with one of its statuses, and writes nothing behind a write that failed
+  by_region : {D : Type 0} (shown : ShownDevice D) (from : Option Region) (does : Command) (was now : D) (n : ℕ) → IsAnsweredBy shown sink from does was now old new n → IsStatus (Some does) n × StopsWriting sink old new
+  by_region shown None does was now n (inl one) = printed_status does _ one.order one.state one.count n one.printed
+  by_region shown None does was now n (inr none) = refusal_told does none.why n none.status_is none.told
+  by_region shown (Some name) does was now n (inl one) = printed_status does _ one.order one.state one.count n one.printed
+  by_region shown (Some name) does was now n (inr none) = refusal_told does none.why n none.status_is none.told
+
   answered_status : {D : Type 0} (shown : ShownDevice D) (does : Command) (was now : D) (n : ℕ) → IsAnswered shown sink does was now old new n → IsStatus (Some does) n × StopsWriting sink old new
-  answered_status shown (Script file part) was now n (inl one) = script_status file part one.printed.elements n one.printed.printed
-  answered_status shown (Check file) was now n (inl one) = (inl one.printed.0, put_stops sink old new _ one.printed.1)
-  answered_status shown does was now n (inr none) = (refused_status does n (refusal_three none.why n none.status_is), put_stops sink old new _ none.told)
+  answered_status shown does was now n answered = by_region shown (region_asked does) does was now n answered
 
 module _ {D K : Type 0} (shown : ShownDevice D) (sink : ShownSink K) (was : D) (old new : K) (asked : Option Command) (status : ℕ) where
   -- a device of which no call was made

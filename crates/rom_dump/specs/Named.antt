@@ -7,8 +7,8 @@ use Rattle.rom_dump.specs.declared.words.Dump.TheVariants as dump
 
 -- the command that was read, if one was
 abbrev pub named : Option Dump → Option Command
-named (Some (dump.Script file part)) = Some (Script file.now part)
-named (Some (dump.Check file)) = Some (Check file.now)
+named (Some (dump.Script file from part)) = Some (Script file.now from part)
+named (Some (dump.Check file from)) = Some (Check file.now from)
 named None = None
 
 -- the file that was read, if one was
@@ -22,5 +22,5 @@ IsPartNumber part = (1 ≤ part) × (part ≤ 3)
 
 -- a part that is asked for is one of them
 abbrev pub AsksForPart : Dump → Type 0
-AsksForPart (dump.Script file part) = IfSome part IsPartNumber
-AsksForPart (dump.Check file) = Unit {0}
+AsksForPart (dump.Script file from part) = IfSome part IsPartNumber
+AsksForPart (dump.Check file from) = Unit {0}

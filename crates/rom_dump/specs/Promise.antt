@@ -8,8 +8,8 @@ use Rattle.rom_dump.specs.Words.{Command, Script, Check}
 
 -- the statuses with which a command may end, or words that are none
 abbrev pub IsStatus : Option Command → ℕ → Type 0
-IsStatus (Some (Script file part)) status = (status ≡ 0) ⊎ (status ≡ 3) ⊎ (status ≡ 5) ⊎ (status ≡ 6) ⊎ (status ≡ 7) ⊎ (status ≡ 8)
-IsStatus (Some (Check file)) status = (status ≡ 0) ⊎ (status ≡ 3) ⊎ (status ≡ 6) ⊎ (status ≡ 7)
+IsStatus (Some (Script file from part)) status = (status ≡ 0) ⊎ (status ≡ 3) ⊎ (status ≡ 5) ⊎ (status ≡ 6) ⊎ (status ≡ 7) ⊎ (status ≡ 8)
+IsStatus (Some (Check file from)) status = (status ≡ 0) ⊎ (status ≡ 3) ⊎ (status ≡ 6) ⊎ (status ≡ 7)
 IsStatus None status = status ≡ 2
 
 -- Whatever the words are, the device is only read; and what they ask for is shown, or the heap refused.

@@ -26,7 +26,10 @@ use Rattle.rom_text.specs.Limits.{FitsScript, IsWithinLimit}
 use Rattle.rom_text.specs.Runs.{IsCutShort, IsTold, IsWritten}
 use Rattle.rom_text.specs.Streams.{ShownSink}
 use Rattle.rom_text.specs.Text.{line_text}
-use Rattle.rom_dump.specs.Words.{Command, Script, Check}
+use Rattle.rom_view.specs.View.{HoldsAlone, IsRefusalOf}
+use Rattle.rom_view.specs.declared.alone.Region.{Region}
+use Rattle.rom_view.specs.declared.alone.Region.TheVariants.{Main, Back}
+use Rattle.rom_dump.specs.Words.{Command, Script, Check, region_asked}
 
 -- which region counts, and why
 abbrev pub counting_text : State → List ℕ
@@ -34,9 +37,14 @@ counting_text Idle = line_text (codes "counts both: idle")
 counting_text Mutating = line_text (codes "counts back: a batch is under way")
 counting_text Copying = line_text (codes "counts main: a copy is under way")
 
--- and the five lines of the heap
-abbrev pub check_text : ℕ → State → model.State → ℕ → List ℕ
-check_text order kind state count = counting_text kind ++ stat_text order state count
+-- or which region is shown by itself
+abbrev pub alone_text : Region → List ℕ
+alone_text Main = line_text (codes "main by itself")
+alone_text Back = line_text (codes "back by itself")
+
+-- that line, and the five lines of the heap
+abbrev pub check_text : List ℕ → ℕ → model.State → ℕ → List ℕ
+check_text line order state count = line ++ stat_text order state count
 
 -- a script that is too long is told with the number of its parts
 abbrev pub too_long_line : ℕ → List ℕ
@@ -69,10 +77,10 @@ module _ {K : Type 0} (sink : ShownSink K) where
     pub fit : (number : ℕ) → FitsScript (script_of (part_of number elements))
     pub printed : EndsAsScript part elements old new status
 
-  -- what a command prints of a heap of this order, in which the region counts that stands for this state and this count
-  abbrev pub IsPrinted : Command → ℕ → State → model.State → ℕ → K → K → ℕ → Type 0
-  IsPrinted (Script file part) order kind state count old new status = IsPutAgain order state part old new status
-  IsPrinted (Check file) order kind state count old new status = (status ≡ 0) × IsPut sink old new (check_text order kind state count)
+  -- what a command prints of a heap of this order by a region, of which the line tells, that stands for this state and this count
+  abbrev pub IsPrinted : Command → List ℕ → ℕ → model.State → ℕ → K → K → ℕ → Type 0
+  IsPrinted (Script file from part) line order state count old new status = IsPutAgain order state part old new status
+  IsPrinted (Check file from) line order state count old new status = (status ≡ 0) × IsPut sink old new (check_text line order state count)
 
 module _ {D K : Type 0} (shown : ShownDevice D) (sink : ShownSink K) where
   -- The device holds this state and this count in a heap of this order, by the region that counts under the state that its header names; and what is asked for of these is printed.
@@ -86,7 +94,7 @@ module _ {D K : Type 0} (shown : ShownDevice D) (sink : ShownSink K) where
     pub fits : words_needed order ≤ shown.size was
     pub room : live state ≤ cap order
     pub faults : shown.faults now ≡ shown.faults was
-    pub printed : IsPrinted sink asked order kind state count old new status
+    pub printed : IsPrinted sink asked (counting_text kind) order state count old new status
 
   -- The heap is refused, for the reason that an opening tells of the same words, with its line and its status.
   pub record IsRefused (was now : D) (old new : K) (status : ℕ) : Type 0 where
@@ -97,5 +105,30 @@ module _ {D K : Type 0} (shown : ShownDevice D) (sink : ShownSink K) where
     pub faults : HasFaults {T = Unit {0}} (Err why) (shown.faults was) (shown.faults now) (shown.failing now)
     pub told : IsTold sink old new (refusal_line why)
 
+  -- In a heap of this order, the region of this name by itself stands for this state and this count, whatever the heap's state is and its other region; and what is asked for of these is printed.
+  pub record IsShownFrom (name : Region) (asked : Command) (was now : D) (old new : K) (status : ℕ) : Type 0 where
+    pub order : ℕ
+    pub state : model.State
+    pub count : ℕ
+    pub held : IsTrue shown.tells_words → HoldsAlone Contents name order (shown.words was) state count
+    pub fits : words_needed order ≤ shown.size was
+    pub room : live state ≤ cap order
+    pub faults : shown.faults now ≡ shown.faults was
+    pub printed : IsPrinted sink asked (alone_text name) order state count old new status
+
+  -- The header is refused, or that region is, with the line and the status of any refusal. The heap's state is no reason, and its other region is none.
+  pub record IsRefusedFrom (name : Region) (was now : D) (old new : K) (status : ℕ) : Type 0 where
+    pub why : Why
+    pub status_is : status ≡ number_of (refusal_status why)
+    pub refused : IsTrue shown.tells_words → IsRefusalOf Contents Rejects name (shown.words was) why
+    pub sizes : NamesTooFew (shown.size was) why
+    pub faults : HasFaults {T = Unit {0}} (Err why) (shown.faults was) (shown.faults now) (shown.failing now)
+    pub told : IsTold sink old new (refusal_line why)
+
+  -- a command is answered by the region that counts, or by the one that it names
+  abbrev pub IsAnsweredBy : Option Region → Command → D → D → K → K → ℕ → Type 0
+  IsAnsweredBy None asked was now old new status = IsShown asked was now old new status ⊎ IsRefused was now old new status
+  IsAnsweredBy (Some name) asked was now old new status = IsShownFrom name asked was now old new status ⊎ IsRefusedFrom name was now old new status
+
   abbrev pub IsAnswered : Command → D → D → K → K → ℕ → Type 0
-  IsAnswered asked was now old new status = IsShown asked was now old new status ⊎ IsRefused was now old new status
+  IsAnswered asked was now old new status = IsAnsweredBy (region_asked asked) asked was now old new status

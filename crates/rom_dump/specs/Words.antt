@@ -3,33 +3,61 @@ use Rattle.std.specs.Prelude.{ℕ, List, [], ◌∷◌, codes, Option, Some, Non
 use Rattle.std.specs.Str.{bytes_eq}
 use Rattle.rom_run.specs.Plain.{is_name}
 use Rattle.rom_text.specs.Phrases.{number_within}
+use Rattle.rom_view.specs.declared.alone.Region.{Region}
+use Rattle.rom_view.specs.declared.alone.Region.TheVariants.{Main, Back}
 
 -- what the words ask for
 pub data Command : Type 0 where
-  -- print the script of the heap in the file, or that part of it, counted from 1
-  Script : List ℕ → Option ℕ → Command
-  -- say which region of the heap in the file counts, and its sizes
-  Check : List ℕ → Command
+  -- print the script of the heap in the file, or that part of it, counted from 1; by the region of that name, if one is named
+  Script : List ℕ → Option Region → Option ℕ → Command
+  -- say which region of the heap in the file counts, and its sizes; or those of the region of that name
+  Check : List ℕ → Option Region → Command
 
--- the whole script of a file
-abbrev pub whole_words : List ℕ → Option Command
-whole_words file = if is_name file then Some (Script file None) else None
+-- the region of that name
+abbrev pub region_named : List ℕ → Option Region
+region_named name = if bytes_eq name (codes "main") then Some Main else if bytes_eq name (codes "back") then Some Back else None
 
--- a part of it, of which there are three at most
-abbrev pub part_words : List ℕ → List ℕ → List ℕ → Option Command
-part_words file option part =
-    if is_name file then (if bytes_eq option (codes "--part") then option_map (λ k. Script file (Some k)) (number_within 1 3 part) else None) else None
+-- the region behind `--from`
+abbrev pub from_words : List ℕ → List ℕ → Option Region
+from_words option name = if bytes_eq option (codes "--from") then region_named name else None
+
+-- the part behind `--part`, of which there are three at most
+abbrev pub part_words : List ℕ → List ℕ → Option ℕ
+part_words option part = if bytes_eq option (codes "--part") then number_within 1 3 part else None
+
+-- one of them stands there
+abbrev pub region_or_part : Option Region → Option ℕ → Option (Option Region × Option ℕ)
+region_or_part (Some name) part = Some (Some name, None)
+region_or_part None (Some part) = Some (None, Some part)
+region_or_part None None = None
+
+-- or both do
+abbrev pub region_and_part : Option Region → Option ℕ → Option (Option Region × Option ℕ)
+region_and_part (Some name) (Some part) = Some (Some name, Some part)
+region_and_part (Some name) None = None
+region_and_part None part = None
+
+-- what the words behind a file ask for, if all are well said: a region, then a part, and neither has to be there
+abbrev pub options_of : List (List ℕ) → Option (Option Region × Option ℕ)
+options_of [] = Some (None, None)
+options_of (option ∷ value ∷ []) = region_or_part (from_words option value) (part_words option value)
+options_of (from ∷ name ∷ option ∷ part ∷ []) = region_and_part (from_words from name) (part_words option part)
+options_of words = None
 
 -- what the words behind `script` ask for
 abbrev pub script_words : List (List ℕ) → Option Command
-script_words (file ∷ []) = whole_words file
-script_words (file ∷ option ∷ part ∷ []) = part_words file option part
-script_words words = None
+script_words [] = None
+script_words (file ∷ options) = if is_name file then option_map (λ asked. Script file asked.0 asked.1) (options_of options) else None
 
--- behind `check`
+-- behind `check`, which has no parts
+abbrev pub check_of : List ℕ → Option (Option Region × Option ℕ) → Option Command
+check_of file (Some (from, None)) = Some (Check file from)
+check_of file (Some (from, Some part)) = None
+check_of file None = None
+
 abbrev pub check_words : List (List ℕ) → Option Command
-check_words (file ∷ []) = if is_name file then Some (Check file) else None
-check_words words = None
+check_words [] = None
+check_words (file ∷ options) = if is_name file then check_of file (options_of options) else None
 
 -- the command of this name, with these words behind it
 abbrev pub command_of : List ℕ → List (List ℕ) → Option Command
@@ -44,6 +72,11 @@ command (name ∷ words) = command_of name words
 
 -- the file that it reads
 abbrev pub file_of : Option Command → Option (List ℕ)
-file_of (Some (Script file part)) = Some file
-file_of (Some (Check file)) = Some file
+file_of (Some (Script file from part)) = Some file
+file_of (Some (Check file from)) = Some file
 file_of None = None
+
+-- the region that it names, if it names one
+abbrev pub region_asked : Command → Option Region
+region_asked (Script file from part) = from
+region_asked (Check file from) = from

@@ -1,10 +1,10 @@
-//! Which region of a heap counts, and its sizes.
-ghost use Rattle.std.specs.Prelude.{◌≡◌, ℕ, List};
+//! Which region of a heap counts, and its sizes; or those of one region by itself.
+ghost use Rattle.std.specs.Prelude.{◌≡◌, ℕ, List, None, Some};
 ghost use Rattle.rom_model.specs.Blocks.{IsOrder};
 ghost use Rattle.rom_model.specs.Region.{Contents};
 ghost use Rattle.rom_model.specs.State as model;
 ghost use Rattle.rom_device.specs.Device.{OnlyReads};
-ghost use Rattle.rom_dump.specs.Shown.{IsAnswered, check_text, counting_text};
+ghost use Rattle.rom_dump.specs.Shown.{IsAnswered, alone_text, check_text, counting_text};
 ghost use Rattle.rom_dump.specs.Words.{Check};
 ghost use Rattle.rom_run.specs.Statuses.{number_of};
 ghost use Rattle.rom_text.specs.Streams.{Prints};
@@ -17,49 +17,99 @@ use rom_model::VecSpace;
 use rom_run::Status;
 use rom_stat::print_stat;
 use rom_text::{IoFailed, Sink, print_text};
-use rom_view::{Viewed, view_device};
+use rom_view::{Region, view_device, view_region};
 use std::alloc::Global;
 
-/// Prints which region counts.
-fn print_counting<O: Sink>(state: State, out: &mut O) -> Result<(), IoFailed>
-    ensures prints { Prints O.shown out.old out.new result (counting_text state) }
+/// Which region counts.
+fn counting_line(state: State) -> &'static str
+    ensures { result.now ≡ counting_text state }
 {
     match state {
-        State::Idle => print_text(out, "counts both: idle\n"),
-        State::Mutating => print_text(out, "counts back: a batch is under way\n"),
-        State::Copying => print_text(out, "counts main: a copy is under way\n"),
+        State::Idle => "counts both: idle\n",
+        State::Mutating => "counts back: a batch is under way\n",
+        State::Copying => "counts main: a copy is under way\n",
     }
 }
 
-/// Prints which region counts, and the five lines of the heap.
-fn print_check<O: Sink>(viewed: Viewed, out: &mut O) -> Result<(), IoFailed>
-    requires order { IsOrder viewed.order }
-    requires region { (s : model.State) × (k : ℕ) × Contents viewed.order viewed.image.items s k }
-    ensures prints { (s : model.State) (k : ℕ) → Contents viewed.order viewed.image.items s k →
-        Prints O.shown out.old out.new result (check_text viewed.order viewed.state s k) }
+/// Which region is shown by itself.
+fn alone_line(region: Region) -> &'static str
+    ensures { result.now ≡ alone_text region }
 {
-    let Viewed {
-        order,
-        state,
-        image,
-    } = viewed;
+    match region {
+        Region::Main => "main by itself\n",
+        Region::Back => "back by itself\n",
+    }
+}
+
+/// Prints the line of a region, and the five lines of the heap in it.
+fn print_check<O: Sink>(
+    line: &str,
+    order: u32,
+    image: Vec<u64>,
+    out: &mut O,
+) -> Result<(), IoFailed>
+    requires order { IsOrder order }
+    requires region { (s : model.State) × (k : ℕ) × Contents order image.items s k }
+    ensures prints { (s : model.State) (k : ℕ) → Contents order image.items s k →
+        Prints O.shown out.old out.new result (check_text line.now order s k) }
+{
     let mut space = VecSpace::of(image);
-    print_counting(state, out)?;
+    print_text(out, line)?;
     print_stat(&mut space, order, out)
 }
 
-/// Says which region of the heap on the device counts, and its sizes, or why it is refused.
-pub fn check_heap<D: Device, O: Sink>(alloc: Global, device: &mut D, out: &mut O) -> Status
-    ensures answered { (file : List ℕ) → IsAnswered D.shown O.shown (Check file)
+/// Says which region counts, and its sizes, or why the heap is refused.
+fn check_counted<D: Device, O: Sink>(alloc: Global, device: &mut D, out: &mut O) -> Status
+    ensures answered { (file : List ℕ) → IsAnswered D.shown O.shown (Check file None)
         device.old device.new out.old out.new (number_of result) }
     ensures only { OnlyReads D.shown device.old device.new }
     ensures rest { O.shown.rest out.new ≡ O.shown.rest out.old }
 {
     match view_device::<D, Trio>(alloc, device) {
         Ok(viewed) => {
-            let _ = print_check(viewed, out);
+            let _ = print_check(counting_line(viewed.state), viewed.order, viewed.image, out);
             Status::Done
         }
         Err(why) => refuse(why, out),
+    }
+}
+
+/// Says the sizes of one region by itself, or why it is refused.
+fn check_region<D: Device, O: Sink>(
+    alloc: Global,
+    device: &mut D,
+    region: Region,
+    out: &mut O,
+) -> Status
+    ensures answered { (file : List ℕ) → IsAnswered D.shown O.shown (Check file (Some region))
+        device.old device.new out.old out.new (number_of result) }
+    ensures only { OnlyReads D.shown device.old device.new }
+    ensures rest { O.shown.rest out.new ≡ O.shown.rest out.old }
+{
+    match view_region::<D, Trio>(alloc, device, region) {
+        Ok(alone) => {
+            let _ = print_check(alone_line(region), alone.order, alone.image, out);
+            Status::Done
+        }
+        Err(why) => refuse(why, out),
+    }
+}
+
+/// Says which region of the heap on the device counts, and its sizes, or those of the region of this name by
+/// itself, or why it is refused.
+pub fn check_heap<D: Device, O: Sink>(
+    alloc: Global,
+    device: &mut D,
+    from: Option<Region>,
+    out: &mut O,
+) -> Status
+    ensures answered { (file : List ℕ) → IsAnswered D.shown O.shown (Check file from)
+        device.old device.new out.old out.new (number_of result) }
+    ensures only { OnlyReads D.shown device.old device.new }
+    ensures rest { O.shown.rest out.new ≡ O.shown.rest out.old }
+{
+    match from {
+        Some(region) => check_region(alloc, device, region, out),
+        None => check_counted(alloc, device, out),
     }
 }

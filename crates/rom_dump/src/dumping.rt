@@ -24,7 +24,11 @@ pub fn dump<D: Device, O: Sink>(alloc: Global, words: &Names, device: &mut D, ou
         return Status::NotACommand.number();
     };
     match asked {
-        Dump::Script { file: _, part } => show_script(alloc, device, part, out).number(),
-        Dump::Check(_) => check_heap(alloc, device, out).number(),
+        Dump::Script {
+            file: _,
+            from,
+            part,
+        } => show_script(alloc, device, from, part, out).number(),
+        Dump::Check { file: _, from } => check_heap(alloc, device, from, out).number(),
     }
 }

@@ -1,11 +1,13 @@
 //! A program that shows what a heap of a queue, a set and a map holds, and leaves it: `script FILE` prints the
-//! lines that make it again, `check FILE` says which region counts and why, and the sizes.
+//! lines that make it again, `check FILE` says which region counts and why, and the sizes. Of a damaged heap
+//! both show one region by itself, where `--from` names it.
 //!
 //! `dump` does all that the program does. Its contract promises that the device is only read, that what is told
 //! is what the region that counts stands for, whatever an update in its midst has left, and of a refusal the
-//! very one that an opening tells of the same words. Of a script it promises what it is for: its lines, read as
-//! scripts are read and taken from the empty state in a heap of at least that order, give the state again, and
-//! none of them is told that the heap is full.
+//! very one that an opening tells of the same words. Where a region is named, what is told is what that one
+//! stands for, and a refusal is of the header or of that region. Of a script it promises what it is for: its
+//! lines, read as scripts are read and taken from the empty state in a heap of at least that order, give the
+//! state again, and none of them is told that the heap is full.
 #![tactic(auto)]
 
 mod check;

@@ -1,11 +1,16 @@
-//! The script of a heap.
-ghost use Rattle.std.specs.Prelude.{◌≡◌, ℕ, List, IfSome};
+//! The script of a heap, or of one region by itself.
+ghost use Rattle.std.specs.Prelude.{◌≡◌, ◌⊎◌, ℕ, List, IfSome, None, Some};
+ghost use Rattle.rom_model.specs.Blocks.{IsOrder};
+ghost use Rattle.rom_model.specs.Region.{Contents};
+ghost use Rattle.rom_model.specs.State as model;
 ghost use Rattle.rom_device.specs.Device.{OnlyReads};
 ghost use Rattle.rom_dump.specs.Named.{IsPartNumber};
-ghost use Rattle.rom_dump.specs.Shown.{EndsAsText, EndsAsWhole, IsAnswered, too_long_line};
+ghost use Rattle.rom_dump.specs.Shown.{EndsAsText, EndsAsWhole, IsAnswered, IsPutAgain, too_long_line};
 ghost use Rattle.rom_dump.specs.Words.{Script};
+ghost use Rattle.rom_open.specs.declared.reasons.Why.TheVariants.{OutOfMemory};
 ghost use Rattle.rom_rebuild.specs.Parts.{lines_in};
 ghost use Rattle.rom_rebuild.specs.Script.{script_of};
+ghost use Rattle.rom_run.specs.Refusing.{refusal_line};
 ghost use Rattle.rom_run.specs.Statuses.{number_of};
 ghost use Rattle.rom_text.specs.Runs.{IsTold};
 
@@ -19,7 +24,7 @@ use rom_open::Why;
 use rom_rebuild::Part;
 use rom_run::{Status, tell};
 use rom_text::{Sink, print_gathered};
-use rom_view::{Viewed, view_device};
+use rom_view::{Region, view_device, view_region};
 use std::alloc::Global;
 
 /// Says that a script is too long, and how many parts it has.
@@ -58,28 +63,22 @@ fn print_whole<O: Sink>(whole: &Part, out: &mut O) -> Status
     print_part(whole, out)
 }
 
-/// Prints the script of the heap on the device, or this part of it, or why the heap is refused.
-pub fn show_script<D: Device, O: Sink>(
+/// Prints the script of the heap in a region, or this part of it. There may be no memory for its elements.
+fn print_script<O: Sink>(
     alloc: Global,
-    device: &mut D,
+    order: u32,
+    image: Vec<u64>,
     part: Option<u64>,
     out: &mut O,
 ) -> Status
-    requires { IfSome part IsPartNumber }
-    ensures answered { (file : List ℕ) → IsAnswered D.shown O.shown (Script file part)
-        device.old device.new out.old out.new (number_of result) }
-    ensures only { OnlyReads D.shown device.old device.new }
+    requires order { IsOrder order }
+    requires region { (s : model.State) × (k : ℕ) × Contents order image.items s k }
+    requires part { IfSome part IsPartNumber }
+    ensures printed { (s : model.State) (k : ℕ) → Contents order image.items s k →
+        IsPutAgain O.shown order s part out.old out.new (number_of result)
+        ⊎ ((result ≡ Status.NoMemory) × IsTold O.shown out.old out.new (refusal_line OutOfMemory)) }
     ensures rest { O.shown.rest out.new ≡ O.shown.rest out.old }
 {
-    let viewed = match view_device::<D, Trio>(alloc, device) {
-        Ok(viewed) => viewed,
-        Err(why) => return refuse(why, out),
-    };
-    let Viewed {
-        order,
-        state: _,
-        image,
-    } = viewed;
     let mut space = VecSpace::of(image);
     let Ok(elements) = Elements::of(alloc, &mut space, order) else {
         return refuse(Why::OutOfMemory, out);
@@ -87,5 +86,66 @@ pub fn show_script<D: Device, O: Sink>(
     match part {
         Some(part) => print_part(&Part::of(&elements, part), out),
         None => print_whole(&Part::whole(&elements), out),
+    }
+}
+
+/// Prints the script of the region that counts, or this part of it, or why the heap is refused.
+fn show_counted<D: Device, O: Sink>(
+    alloc: Global,
+    device: &mut D,
+    part: Option<u64>,
+    out: &mut O,
+) -> Status
+    requires { IfSome part IsPartNumber }
+    ensures answered { (file : List ℕ) → IsAnswered D.shown O.shown (Script file None part)
+        device.old device.new out.old out.new (number_of result) }
+    ensures only { OnlyReads D.shown device.old device.new }
+    ensures rest { O.shown.rest out.new ≡ O.shown.rest out.old }
+{
+    match view_device::<D, Trio>(alloc, device) {
+        Ok(viewed) => print_script(alloc, viewed.order, viewed.image, part, out),
+        Err(why) => refuse(why, out),
+    }
+}
+
+/// Prints the script of one region by itself, or this part of it, or why it is refused.
+fn show_region<D: Device, O: Sink>(
+    alloc: Global,
+    device: &mut D,
+    region: Region,
+    part: Option<u64>,
+    out: &mut O,
+) -> Status
+    requires { IfSome part IsPartNumber }
+    ensures answered { (file : List ℕ) → IsAnswered D.shown O.shown
+        (Script file (Some region) part)
+        device.old device.new out.old out.new (number_of result) }
+    ensures only { OnlyReads D.shown device.old device.new }
+    ensures rest { O.shown.rest out.new ≡ O.shown.rest out.old }
+{
+    match view_region::<D, Trio>(alloc, device, region) {
+        Ok(alone) => print_script(alloc, alone.order, alone.image, part, out),
+        Err(why) => refuse(why, out),
+    }
+}
+
+/// Prints the script of the heap on the device, or this part of it, or why it is refused: by the region of
+/// this name, or by the one that counts.
+pub fn show_script<D: Device, O: Sink>(
+    alloc: Global,
+    device: &mut D,
+    from: Option<Region>,
+    part: Option<u64>,
+    out: &mut O,
+) -> Status
+    requires { IfSome part IsPartNumber }
+    ensures answered { (file : List ℕ) → IsAnswered D.shown O.shown (Script file from part)
+        device.old device.new out.old out.new (number_of result) }
+    ensures only { OnlyReads D.shown device.old device.new }
+    ensures rest { O.shown.rest out.new ≡ O.shown.rest out.old }
+{
+    match from {
+        Some(region) => show_region(alloc, device, region, part, out),
+        None => show_counted(alloc, device, part, out),
     }
 }

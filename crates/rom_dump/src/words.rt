@@ -1,48 +1,85 @@
-//! The words of the command line: `script` with a file, and with a part where one is asked for, or `check`
-//! with a file.
+//! The words of the command line: `script` or `check` with a file, then the region where one is named, and of
+//! `script` the part where one is asked for.
 ghost use Rattle.std.specs.Prelude.{◌≡◌, IfSome};
-ghost use Rattle.rom_dump.specs.Named.{AsksForPart, named, named_file};
+ghost use Rattle.rom_dump.specs.Named.{AsksForPart, IsPartNumber, named, named_file};
 ghost use Rattle.rom_dump.specs.Words.{command, file_of};
 ghost use Rattle.rom_dump.specs.Words as asks;
 
 use rom_rebuild::MOST_PARTS;
 use rom_run::is_name;
 use rom_text::{Name, Names, read_within};
+use rom_view::Region;
 
 /// What the words ask for. No name is empty or begins with a dash.
 #[derive(Clone, Copy, Debug)]
 pub enum Dump<'a> {
-    /// To print the script of the heap in this file, or this part of it, which is 1 to 3.
-    Script { file: &'a Name, part: Option<u64> },
-    /// To say which region counts in this file, and the sizes of the heap.
-    Check(&'a Name),
+    /// To print the script of the heap in this file, or this part of it, which is 1 to 3; by the region of
+    /// this name, or by the one that counts.
+    Script {
+        file: &'a Name,
+        from: Option<Region>,
+        part: Option<u64>,
+    },
+    /// To say which region counts in this file, and the sizes of the heap; or those of the region of this name.
+    Check {
+        file: &'a Name,
+        from: Option<Region>,
+    },
 }
 
-/// A file, whose whole script is asked for.
-fn read_whole(file: &Name) -> Option<Dump<'_>>
-    ensures named { named result ≡ asks.whole_words file.now }
-    ensures part { IfSome result AsksForPart }
+/// The region behind `--from`.
+fn read_from(option: &Name, name: &Name) -> Option<Region>
+    ensures { result ≡ asks.from_words option.now name.now }
 {
-    if is_name(file) {
-        Some(Dump::Script { file, part: None })
-    } else {
-        None
-    }
-}
-
-/// A file, and the part of its script that is asked for.
-fn read_part<'a>(file: &'a Name, option: &Name, part: &Name) -> Option<Dump<'a>>
-    ensures named { named result ≡ asks.part_words file.now option.now part.now }
-    ensures part { IfSome result AsksForPart }
-{
-    if !is_name(file) || option.as_str() != "--part" {
+    if option.as_str() != "--from" {
         return None;
     }
-    let part = read_within(part.as_str(), 1, MOST_PARTS)?;
-    Some(Dump::Script {
-        file,
-        part: Some(part),
-    })
+    match name.as_str() {
+        "main" => Some(Region::Main),
+        "back" => Some(Region::Back),
+        _ => None,
+    }
+}
+
+/// The part behind `--part`.
+fn read_part(option: &Name, part: &Name) -> Option<u64>
+    ensures part { result ≡ asks.part_words option.now part.now }
+    ensures within { IfSome result IsPartNumber }
+{
+    if option.as_str() != "--part" {
+        return None;
+    }
+    read_within(part.as_str(), 1, MOST_PARTS)
+}
+
+/// A region or a part.
+fn read_option(option: &Name, value: &Name) -> Option<(Option<Region>, Option<u64>)>
+    ensures options { result ≡ asks.region_or_part (asks.from_words option.now value.now)
+        (asks.part_words option.now value.now) }
+    ensures part { IfSome result (λ asked. IfSome asked.1 IsPartNumber) }
+{
+    if let Some(region) = read_from(option, value) {
+        return Some((Some(region), None));
+    }
+    let part = read_part(option, value)?;
+    Some((None, Some(part)))
+}
+
+/// What the words behind a file ask for.
+fn read_options(words: &[Name]) -> Option<(Option<Region>, Option<u64>)>
+    ensures options { result ≡ asks.options_of words.now }
+    ensures part { IfSome result (λ asked. IfSome asked.1 IsPartNumber) }
+{
+    match words {
+        [] => Some((None, None)),
+        [option, value] => read_option(option, value),
+        [from, name, option, part] => {
+            let region = read_from(from, name)?;
+            let part = read_part(option, part)?;
+            Some((Some(region), Some(part)))
+        }
+        _ => None,
+    }
 }
 
 /// What the words behind `script` ask for.
@@ -50,26 +87,27 @@ fn read_script(words: &[Name]) -> Option<Dump<'_>>
     ensures named { named result ≡ asks.script_words words.now }
     ensures part { IfSome result AsksForPart }
 {
-    match words {
-        [file] => read_whole(file),
-        [file, option, part] => read_part(file, option, part),
-        _ => None,
+    let (file, options) = words.split_first()?;
+    if !is_name(file) {
+        return None;
     }
+    let (from, part) = read_options(options)?;
+    Some(Dump::Script { file, from, part })
 }
 
-/// Behind `check`.
+/// Behind `check`, which has no parts.
 fn read_check(words: &[Name]) -> Option<Dump<'_>>
     ensures named { named result ≡ asks.check_words words.now }
     ensures part { IfSome result AsksForPart }
 {
-    let [file] = words else {
+    let (file, options) = words.split_first()?;
+    if !is_name(file) {
+        return None;
+    }
+    let (from, None) = read_options(options)? else {
         return None;
     };
-    if is_name(file) {
-        Some(Dump::Check(file))
-    } else {
-        None
-    }
+    Some(Dump::Check { file, from })
 }
 
 /// The command that the words are. It takes no memory.
@@ -90,6 +128,6 @@ pub fn dump_file(words: &Names) -> Option<&Name>
     ensures { named_file result ≡ file_of (command words.now) }
 {
     match read_dump(words)? {
-        Dump::Script { file, part: _ } | Dump::Check(file) => Some(file),
+        Dump::Script { file, .. } | Dump::Check { file, .. } => Some(file),
     }
 }

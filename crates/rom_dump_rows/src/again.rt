@@ -103,14 +103,14 @@ fn line_of(alloc: Global, full: &Full, index: u64, rising: bool) -> Result<Strin
 
 /// A device, and what a command of `romulus` told of it.
 #[derive(Drop)]
-struct Told {
-    device: Ram,
-    status: u8,
-    text: String,
+pub(crate) struct Told {
+    pub(crate) device: Ram,
+    pub(crate) status: u8,
+    pub(crate) text: String,
 }
 
 /// Runs a command of `romulus`, with a script where it takes one.
-fn ran<R: Threads + Wait + Sync + AllocGlobal>(
+pub(crate) fn ran<R: Threads + Wait + Sync + AllocGlobal>(
     rt: &R,
     words: &[&str],
     device: Ram,
@@ -164,7 +164,12 @@ fn made<R: Threads + Wait + Sync + AllocGlobal>(
 }
 
 /// What a command of `romulus_dump` tells, whose status is to be this one.
-fn dumped(alloc: Global, words: &[&str], device: &mut Ram, status: u8) -> Result<String, Fail> {
+pub(crate) fn dumped(
+    alloc: Global,
+    words: &[&str],
+    device: &mut Ram,
+    status: u8,
+) -> Result<String, Fail> {
     let names = names_of(alloc, words)?;
     let mut out = Collect::with_room(alloc, ROOM, 4096)?;
     if dump(alloc, &names, device, &mut out) != status {

@@ -10,26 +10,26 @@ use std::test::Fail;
 
 /// A heap, what is asked, and what is to be told.
 #[derive(Clone, Copy, Debug)]
-struct Row {
-    words: &'static [&'static str],
+pub(crate) struct Row {
+    pub(crate) words: &'static [&'static str],
     /// The word of the state.
-    state: u64,
+    pub(crate) state: u64,
     /// What differs from a new region in main and in back.
-    main: &'static [(usize, u64)],
-    back: &'static [(usize, u64)],
+    pub(crate) main: &'static [(usize, u64)],
+    pub(crate) back: &'static [(usize, u64)],
     /// Words of the device that are others.
-    changes: &'static [(usize, u64)],
+    pub(crate) changes: &'static [(usize, u64)],
     /// How many words the device has.
-    len: usize,
+    pub(crate) len: usize,
     /// How many calls of it succeed.
-    calls: u64,
+    pub(crate) calls: u64,
     /// For how many bytes the sink has room.
-    room: u64,
-    status: u8,
-    text: &'static str,
+    pub(crate) room: u64,
+    pub(crate) status: u8,
+    pub(crate) text: &'static str,
 }
 
-const NEW: Row = Row {
+pub(crate) const NEW: Row = Row {
     words: &["check", "heap"],
     state: 0,
     main: &[],
@@ -42,19 +42,19 @@ const NEW: Row = Row {
     text: "counts both: idle\norder 4\ncount 0\nqueue 0 set 0 map 0\nfree 15\ntotal 0\n",
 };
 
-const SCRIPT: Row = Row {
+pub(crate) const SCRIPT: Row = Row {
     words: &["script", "heap"],
     text: "",
     ..NEW
 };
 
-const NO_COMMAND: Row = Row {
+pub(crate) const NO_COMMAND: Row = Row {
     status: 2,
     text: "not a command\n",
     ..NEW
 };
 
-const REFUSED: Row = Row {
+pub(crate) const REFUSED: Row = Row {
     status: 3,
     ..SCRIPT
 };
@@ -316,7 +316,7 @@ fn ran(alloc: Global, row: &Row, words: &[u64]) -> Result<Found, Fail> {
 }
 
 /// Runs a row, and asserts that it tells what it is to tell, and leaves the device as it was.
-fn try_row<R: AllocGlobal + Abort>(rt: &R, row: &Row) -> Result<(), Fail> {
+pub(crate) fn try_row<R: AllocGlobal + Abort>(rt: &R, row: &Row) -> Result<(), Fail> {
     let words = device_of(rt.alloc(), row)?;
     let found = ran(rt.alloc(), row, &words)?;
     let same = found.words.as_slice() == words.as_slice();

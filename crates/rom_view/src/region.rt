@@ -1,4 +1,4 @@
-//! The region that counts, read into memory.
+//! A region, read into memory: the one that counts, or one from any place on.
 ghost use Rattle.std.specs.Prelude.{◌≡◌, ◌+◌, ◌≤◌, IfErr, OnOk, IsTrue, length, slice_index};
 ghost use Rattle.rom_model.specs.Blocks.{region_len};
 ghost use Rattle.rom_device.specs.Device.{OnlyReads};
@@ -16,7 +16,7 @@ use rom_open::Why;
 use rom_recover::compare;
 
 /// Reads as many words as the image has, from that place on.
-fn read_image<D: Device>(device: &mut D, at: u64, image: &mut [u64]) -> Result<(), Why>
+pub fn read_image<D: Device>(device: &mut D, at: u64, image: &mut [u64]) -> Result<(), Why>
     requires { at + length image.old ≤ D.shown.size device.old }
     ensures as_long { length image.new ≡ length image.old }
     ensures read { IsTrue D.shown.tells_words →

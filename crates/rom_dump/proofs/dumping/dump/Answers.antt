@@ -14,12 +14,12 @@ returns-in_default g c = record {
 
 pub returns-in-Script : goal.returns-in-Script
 returns-in-Script g c = record {
-  promise = promised g.D.Device.shown g.O.Sink.shown c.args.device.now c.args.out.now c.show_script.new.out (command c.args.words.now) c.number-in-Script.result c.show_script.new.device (Script c.in-Script.file.now c.in-Script.part) (number_of c.show_script.result)
+  promise = promised g.D.Device.shown g.O.Sink.shown c.args.device.now c.args.out.now c.show_script.new.out (command c.args.words.now) c.number-in-Script.result c.show_script.new.device (Script c.in-Script.file.now c.in-Script.from c.in-Script.part) (number_of c.show_script.result)
       (sym c.in-Some.ensures.named ∙ ap (λ (asked : Dump). named (Some asked)) c.in-Script.is) c.number-in-Script.ensures (c.show_script.ensures.answered c.in-Script.file.now) c.show_script.ensures.only c.show_script.ensures.rest;
 }
 
 pub returns-in-Check : goal.returns-in-Check
 returns-in-Check g c = record {
-  promise = promised g.D.Device.shown g.O.Sink.shown c.args.device.now c.args.out.now c.check_heap.new.out (command c.args.words.now) c.number-in-Check.result c.check_heap.new.device (Check c.in-Check.field-0.now) (number_of c.check_heap.result)
-      (sym c.in-Some.ensures.named ∙ ap (λ (asked : Dump). named (Some asked)) c.in-Check.is) c.number-in-Check.ensures (c.check_heap.ensures.answered c.in-Check.field-0.now) c.check_heap.ensures.only c.check_heap.ensures.rest;
+  promise = promised g.D.Device.shown g.O.Sink.shown c.args.device.now c.args.out.now c.check_heap.new.out (command c.args.words.now) c.number-in-Check.result c.check_heap.new.device (Check c.in-Check.file.now c.in-Check.from) (number_of c.check_heap.result)
+      (sym c.in-Some.ensures.named ∙ ap (λ (asked : Dump). named (Some asked)) c.in-Check.is) c.number-in-Check.ensures (c.check_heap.ensures.answered c.in-Check.file.now) c.check_heap.ensures.only c.check_heap.ensures.rest;
 }
