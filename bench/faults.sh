@@ -145,12 +145,16 @@ begin rest
 echo "$status" >>"$folder/statuses"
 echo "a text whose writes fail: status $status"
 
-# A new heap, with each call failing: a file that is no heap, or the empty one; then one is made all the same.
+# new FROM CALL FAULT: a new heap where no file is, or in one that holds none, with each call failing: a file that is
+# no heap, or the empty one; then one is made all the same.
 new() {
+    from=$1
+    shift
     nth=1
     looked=0
     while :; do
         rm -f "$heap"
+        [ "$from" = none ] || cp "$folder/$from" "$heap"
         timeout 20 strace -f -qq -o "$folder/calls" -P "$heap" -e trace="$1" -e inject="$1:$2:when=$nth" "$program" format "$heap" --order 4 >"$text"
         status=$?
         grep -q INJECTED "$folder/calls" || break
@@ -159,20 +163,22 @@ new() {
         [ "$status: $(cat "$text")" = "7: device failed" ] || { echo "WRONG: format, $1 $nth, $2: status $status, $(cat "$text")"; wrong=1; }
         case $("$program" stat "$heap") in
             "refused: not a heap" | "refused: too small, need 8, have 0" | "device failed" | "$empty") ;;
-            *) echo "WRONG: format, $1 $nth, $2: then $("$program" stat "$heap")"; wrong=1 ;;
+            *) echo "WRONG: format over $from, $1 $nth, $2: then $("$program" stat "$heap")"; wrong=1 ;;
         esac
         "$program" format "$heap" --order 4 >"$text"
         [ "$("$program" stat "$heap")" = "$empty" ] || { echo "WRONG: format, $1 $nth, $2: no heap can be made then"; wrong=1; }
         nth=$((nth + 1))
     done
-    [ "$looked" -gt 0 ] || { echo "WRONG: a new heap: no $1 was made"; wrong=1; }
-    echo "a new heap: $1 with $2: $looked runs"
+    [ "$looked" -gt 0 ] || { echo "WRONG: a new heap over $from: no $1 was made"; wrong=1; }
+    echo "a new heap over $from: $1 with $2: $looked runs"
 }
 rm -f "$heap"
 "$program" format "$heap" --order 4 >"$text"
 empty=$("$program" stat "$heap")
+head -c 1500 "$folder/main" | tail -c 1400 >"$folder/other"
 for fault in openat:error=EIO flock:error=EIO statx:error=EIO ftruncate:error=ENOSPC pread64:error=EIO pwrite64:error=EIO pwrite64:error=ENOSPC pwrite64:retval=0 fdatasync:error=EIO; do
-    new "${fault%%:*}" "${fault#*:}"
+    new none "${fault%%:*}" "${fault#*:}"
+    new other "${fault%%:*}" "${fault#*:}"
 done
 
 # halved NAME BEGIN SCRIPT PATH CALL CUT: each such call in turn, and where nothing is cut all of them, do half

@@ -155,6 +155,16 @@ line_of() {
         8) echo '^script [0-9]* too long$' ;;
     esac
 }
+# Whether standard error has the usage of six lines with status 2, and causes with 4 and 7. With 8 it may have
+# those of later scripts, and with 0 that a file is longer than the heap that was made in it.
+told() {
+    case $1 in
+        2) [ "$(wc -l <"$folder/errors")" -eq 6 ] && grep -q '^usage: romulus ' "$folder/errors" ;;
+        4 | 7) [ -s "$folder/errors" ] && ! grep -qvE '^romulus: .*: (no such file|permission denied|is a folder|Not a directory .*)$' "$folder/errors" ;;
+        8) ;;
+        *) ! grep -qvE '^romulus: .*: longer than this heap, so not begun anew: ' "$folder/errors" ;;
+    esac
+}
 [ -s "$folder/lines" ] || { echo "no lines were drawn" >&2; exit 1; }
 wrong=0
 fresh
@@ -172,7 +182,7 @@ while read -r kind words; do
         [234678]) [ "$(wc -l <"$folder/text")" -eq 1 ] && grep -q "$(line_of "$status")" "$folder/text" || is_wrong "another line" ;;
         [01]) [ -s "$folder/text" ] || is_wrong "no text" ;;
     esac
-    [ -s "$folder/errors" ] && is_wrong "$(head -c 200 "$folder/errors")"
+    told "$status" || is_wrong "on standard error: $(head -c 200 "$folder/errors")"
     case $status$touched in 2yes | 4yes | 8yes) is_wrong "a file was touched" ;; esac
     [ "$touched" = no ] || fresh
 done <"$folder/lines"

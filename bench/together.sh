@@ -27,12 +27,29 @@ is_wrong() {
     wrong=1
 }
 
-# Runs a command that is to be refused, since another program holds the file.
+# Runs a command that is to be refused, since another program holds the file, after it has waited some seconds.
 refused() {
-    text=$("$program" "$@" 2>&1)
+    errors=$(mktemp "$folder/errors.XXXXXX")
+    began=$(date +%s)
+    text=$("$program" "$@" 2>"$errors")
     status=$?
-    echo "  $1: status $status, $text"
-    [ "$status: $text" = "7: device failed" ] || is_wrong "$1 was not refused"
+    waited=$(($(date +%s) - began))
+    told=$(cat "$errors")
+    echo "  $1: status $status, $text; $told; $waited s"
+    [ "$status: $text" = "7: device failed" ] && [ "$told" = "romulus: $2: locked by another program" ] &&
+        [ "$waited" -ge 4 ] && [ "$waited" -le 30 ]
+}
+
+# Runs these commands side by side, since each of them waits; all are to be refused.
+all_refused() {
+    waiting=
+    while read -r words; do
+        refused $words &
+        waiting="$waiting $!"
+    done
+    for one in $waiting; do
+        wait "$one" || is_wrong "one was not refused as it should be"
+    done
 }
 
 # Waits, for ten seconds at most, until some program has locked the file. To try the lock would be to
@@ -75,18 +92,15 @@ for turn in $(seq "$turns"); do
     done_before=$now
 done
 
-echo "beside a run that waits for its script:"
+echo "beside a run that waits for its script, which keeps nobody off:"
 mkfifo "$folder/waiting" || exit 1
 exec 3<>"$folder/waiting"
 "$program" run "$heap" "$folder/waiting" >"$folder/one" 3>&- &
 holder=$!
-until_locked "$heap"
-cp "$heap" "$folder/before"
-refused run "$heap" "$folder/short"
-refused stat "$heap"
-refused format "$heap" --order 4
-refused format "$heap" --order 16
-cmp "$folder/before" "$heap" || is_wrong "the heap's file changed"
+sleep 0.5
+now=$(counted "$heap")
+echo "  stat: count $now"
+[ "$now" = "$done_before" ] || is_wrong "the count is $now in place of $done_before"
 cat "$folder/script" >"$folder/waiting"
 exec 3>&-
 wait "$holder"
@@ -95,20 +109,38 @@ now=$(counted "$heap")
 echo "  the run itself: status $ended, $(tail -n 1 "$folder/one")"
 [ "$ended $now" = "0 $((done_before + updates))" ] || is_wrong "the run ended with $ended, and the count is $now"
 
-echo "a file of no bytes that another program has locked:"
+echo "beside another program that has the heap, and one that has a file of no bytes:"
 : >"$folder/empty"
-flock "$folder/empty" "$program" format "$folder/empty" --order 4 >"$folder/one"
-ended=$?
-echo "  format: status $ended, $(cat "$folder/one"), $(wc -c <"$folder/empty") bytes"
-[ "$ended" -eq 7 ] && [ ! -s "$folder/empty" ] || is_wrong "it was formatted"
+exec 8<"$heap" 9<"$folder/empty"
+flock 8 && flock 9 || exit 1
+cp "$heap" "$folder/before"
+all_refused <<END
+run $heap $folder/short
+stat $heap
+format $heap --order 4
+format $heap --order 16
+upgrade $heap
+format $folder/empty --order 4
+END
+cmp "$folder/before" "$heap" || is_wrong "the heap's file changed"
+[ ! -s "$folder/empty" ] || is_wrong "the file of no bytes was lengthened"
+
+echo "a stat that waits for the heap, which is let go meanwhile:"
+counted "$heap" >"$folder/one" &
+holder=$!
+sleep 1
+flock -u 8
+wait "$holder"
+exec 8<&- 9<&-
+echo "  stat: count $(cat "$folder/one")"
+[ "$(cat "$folder/one")" = "$now" ] || is_wrong "it did not come to the heap"
 
 echo "a run that is killed among its updates:"
 before=$(counted "$heap")
 "$program" run "$heap" "$folder/long" >/dev/null &
 holder=$!
 until_locked "$heap"
-sleep 0.3
-refused stat "$heap"
+refused stat "$heap" || is_wrong "stat was not refused"
 kill -9 "$holder"
 wait "$holder" 2>/dev/null
 now=$(counted "$heap")
@@ -120,11 +152,6 @@ echo "  the next run: status $ended, $(tail -n 1 "$folder/one")"
 [ "$ended $(counted "$heap")" = "0 $((now + updates))" ] || is_wrong "the next run ended with $ended"
 
 echo "a copy that is made under the lock:"
-flock "$heap" sleep 1 &
-holder=$!
-until_locked "$heap"
-refused stat "$heap"
-wait "$holder"
 flock "$heap" cp "$heap" "$folder/copy"
 "$program" stat "$folder/copy" >"$folder/two"
 "$program" stat "$heap" | cmp - "$folder/two" && echo "  the copy and the heap show the same" || is_wrong "the copy is another heap"

@@ -12,22 +12,25 @@ mod bank;
 
 use bank::{MOVES, ORDER, run_bank};
 use rom_header::Geometry;
-use rom_host::{file_of, hold_streams, words_of};
+use rom_host::{Program, file_of, hold_streams, words_of};
 use std::io;
 use std::process::ExitCode;
 
 fn main(rt: HostRuntime) -> io::Result<ExitCode> {
     hold_streams(&rt)?;
-    let words = words_of(&rt)?;
+    let mut program = Program::new(&rt, "bank");
+    let words = words_of(&program)?;
     let (Some(file), None) = (words.at(0), words.at(1)) else {
-        eprintln!(&rt; "usage: bank FILE")?;
+        program.say("usage: bank FILE");
         return Ok(ExitCode::from(2));
     };
-    let device = file_of(&rt, file, Geometry::of_order(ORDER).need())?;
+    program.spare(file);
+    let device = file_of(&program, file, Geometry::of_order(ORDER).need())?;
     let books = match run_bank(&rt, device) {
         Ok(books) => books,
         Err(refused) => {
-            eprintln!(&rt; "no heap: {:?}", refused.why)?;
+            let cause = format!(in rt.alloc(); "no heap: {:?}", refused.why)?;
+            program.say(cause.as_str());
             return Ok(ExitCode::FAILURE);
         }
     };

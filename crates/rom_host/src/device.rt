@@ -1,11 +1,15 @@
 //! The device that a command works on.
+use crate::cause::Cause;
+use crate::program::Program;
 use rom_device::{FileDevice, Ram};
+use rom_header::MAGIC;
 use rom_text::DeviceWant;
 use std::alloc::AllocError;
-use std::fs::{File, OpenFile, OpenOptions};
-use std::io;
+use std::fs::{File, OpenOptions, TryLockError};
 use std::io::ErrorKind;
-use std::os::unix::fs::OpenOptionsExt;
+use std::os::unix::fs::{FileExt, OpenOptionsExt};
+use std::time::Duration;
+use std::{fs, io, thread};
 
 /// A device that the words of a command line name.
 #[derive(Drop)]
@@ -17,17 +21,51 @@ pub enum HostDevice {
     Memory(Ram),
 }
 
-/// Locks a heap's file for this program alone, or says that it cannot be opened: another program has
-/// locked it, or it takes no lock. Two programs that write one heap would each undo what the other
-/// did. The lock goes with the file, so with the process at the latest, however that ends.
-fn locked(file: File) -> io::Result<File> {
-    file.try_lock()?;
-    Ok(file)
+/// Who else may have a file open.
+#[derive(Clone, Copy)]
+enum Beside {
+    /// Nobody: two programs that write one heap would each undo what the other did.
+    Nobody,
+    /// Those who read it too.
+    Readers,
+}
+
+/// What becomes of the bytes of a file that holds no heap, where no word behind the wanted ones is among them.
+#[derive(Clone, Copy, PartialEq)]
+enum NoHeap {
+    /// They stay.
+    Kept,
+    /// They go, since a new heap is to take their place.
+    Dropped,
+}
+
+fn try_lock(file: &File, beside: Beside) -> Result<(), TryLockError> {
+    match beside {
+        Beside::Nobody => file.try_lock(),
+        Beside::Readers => file.try_lock_shared(),
+    }
+}
+
+/// Locks a heap's file, and tries again for some seconds while another program has it. That the file takes no
+/// lock is an error too. The lock goes with the file, so with the process at the latest, however that ends.
+fn lock(program: &Program<'_>, file: &File, beside: Beside) -> io::Result<()> {
+    for _ in 0..program.naps {
+        match try_lock(file, beside) {
+            Err(TryLockError::WouldBlock) => thread::sleep(program.rt, Duration::from_millis(50)),
+            locked => return Ok(locked?),
+        }
+    }
+    Ok(try_lock(file, beside)?)
 }
 
 /// The words of a file that is there.
-fn open_old(rt: &HostRuntime, name: &str) -> io::Result<FileDevice> {
-    let file = locked(OpenOptions::new().read(true).write(true).open(rt, name)?)?;
+fn open_old(program: &Program<'_>, name: &str) -> Result<FileDevice, Cause> {
+    program.may_open()?;
+    let file = OpenOptions::new()
+        .read(true)
+        .write(true)
+        .open(program.rt, name)?;
+    lock(program, &file, Beside::Nobody)?;
     let bytes = file.metadata()?.len();
     Ok(FileDevice::new(file, bytes))
 }
@@ -35,81 +73,134 @@ fn open_old(rt: &HostRuntime, name: &str) -> io::Result<FileDevice> {
 /// The words of a file that is only read: it is opened for reading alone, so that each write of it would fail,
 /// and locked against those who write, while others may read it too. A folder can be opened so,
 /// and has no words, whatever length the system tells of it; nor has anything else that is no file.
-fn open_to_read(rt: &HostRuntime, name: &str) -> io::Result<FileDevice> {
-    let file = File::open(rt, name)?;
-    file.try_lock_shared()?;
+fn open_to_read(program: &Program<'_>, name: &str) -> Result<FileDevice, Cause> {
+    program.may_open()?;
+    let file = File::open(program.rt, name)?;
     let metadata = file.metadata()?;
-    if !metadata.is_file() {
-        return Err(ErrorKind::InvalidInput.into());
+    if metadata.is_dir() {
+        return Err(io::Error::from(ErrorKind::IsADirectory).into());
     }
-    Ok(FileDevice::new(file, metadata.len()))
+    if !metadata.is_file() {
+        return Err(Cause::no_file());
+    }
+    lock(program, &file, Beside::Readers)?;
+    // Asked for once it is locked: until then another program may have lengthened it.
+    let bytes = file.metadata()?.len();
+    Ok(FileDevice::new(file, bytes))
+}
+
+/// The folder in which a name stands.
+fn folder_of(name: &str) -> &str {
+    match name.rsplit_once('/') {
+        None => ".",
+        Some((folder, _)) => { if folder.is_empty() { "/" } else { folder } }
+    }
 }
 
 /// Makes certain that a file is found by its name: a sync of the file promises what the file holds, and the name
-/// stands in its folder. A folder that this user may not read, or whose system cannot sync it, is an error.
-fn sync_folder(rt: &HostRuntime, name: &str) -> io::Result<()> {
-    let folder = match name.rsplit_once('/') {
-        None => ".",
-        Some((folder, _)) => { if folder.is_empty() { "/" } else { folder } }
-    };
-    File::open(rt, folder)?.sync_all()
+/// stands in its folder. Of a name that is a link, that is the folder of the file to which it leads. A
+/// folder that this user may not read, or whose system cannot sync it, is an error.
+fn sync_folder(program: &Program<'_>, name: &str) -> io::Result<()> {
+    if fs::symlink_metadata(program.rt, name)?.is_symlink() {
+        let path = fs::canonicalize(program.rt, name)?;
+        return File::open(program.rt, folder_of(path.as_str()))?.sync_all();
+    }
+    File::open(program.rt, folder_of(name))?.sync_all()
+}
+
+/// The first word of a file of so many bytes, with zeros behind those that it has.
+fn first_word(file: &File, bytes: u64) -> io::Result<u64> {
+    let mut word = [0; 8];
+    let there = bytes.min(8) as usize;
+    file.read_exact_at(&mut word[..there], 0)?;
+    Ok(u64::from_le_bytes(word))
 }
 
 /// The words of a file that is made if need be, for its owner alone, and lengthened with zeros to so many. It
-/// is never shortened. Its name is certain before it is lengthened: so one that has its length has its name.
-fn open_made(rt: &HostRuntime, name: &str, words: u64) -> io::Result<FileDevice> {
-    let file = locked(
-        OpenOptions::new()
-            .read(true)
-            .write(true)
-            .create(true)
-            .mode(0o600)
-            .open(rt, name)?,
-    )?;
-    // Asked for once it is locked: until then another program may have lengthened it.
+/// is never shortened, but where it holds no heap and its bytes are to go: then it is cut to none and begins
+/// with new blocks of the disk, since a file system may forget what is written a second time to blocks whose
+/// first writing failed. One that is longer keeps its blocks and all bytes behind the heap, and standard
+/// error tells so. The name is certain before the file is cut or lengthened: so one that has its length
+/// has its name.
+fn open_made(
+    program: &Program<'_>,
+    name: &str,
+    words: u64,
+    no_heap: NoHeap,
+) -> Result<FileDevice, Cause> {
+    program.may_open()?;
+    let file = OpenOptions::new()
+        .read(true)
+        .write(true)
+        .create(true)
+        .mode(0o600)
+        .open(program.rt, name)?;
+    lock(program, &file, Beside::Nobody)?;
+    // Asked for once it is locked: until then another program may have lengthened it, or made a heap there.
     let bytes = file.metadata()?.len();
     let wanted = words.saturating_mul(8);
-    if bytes < wanted {
-        sync_folder(rt, name)?;
+    let is_heap = first_word(&file, bytes)? == MAGIC;
+    if bytes < wanted || !is_heap {
+        sync_folder(program, name).map_err(Cause::of_folder)?;
+    }
+    let anew = no_heap == NoHeap::Dropped && !is_heap && 0 < bytes;
+    if anew && wanted < bytes {
+        program.tell(name, &Cause::longer());
+    } else if anew {
+        file.set_len(0)?;
+        file.set_len(wanted)?;
+    } else if bytes < wanted {
         file.set_len(wanted)?;
     }
     Ok(FileDevice::new(file, bytes.max(wanted)))
 }
 
-/// These words of a file, or a device that fails where there are none.
-fn or_missing(opened: io::Result<FileDevice>) -> Result<FileDevice, AllocError> {
+/// These words of a file, or a device that fails where there are none, and then why on standard error.
+fn or_missing(
+    program: &Program<'_>,
+    name: &str,
+    opened: Result<FileDevice, Cause>,
+) -> Result<FileDevice, AllocError> {
     match opened {
         Ok(device) => Ok(device),
-        Err(error) if error.kind() == ErrorKind::OutOfMemory => Err(AllocError),
-        Err(_) => Ok(FileDevice::missing()),
+        Err(cause) if cause.error.kind() == ErrorKind::OutOfMemory => Err(AllocError),
+        Err(cause) => {
+            program.tell(name, &cause);
+            Ok(FileDevice::missing())
+        }
     }
 }
 
 /// A device over a file for who only reads it. It fails where there is no file or another program has locked
-/// it to write. `AllocError` is told where the system has no memory to open it.
-pub fn reader_of(rt: &HostRuntime, name: &str) -> Result<FileDevice, AllocError> {
-    or_missing(open_to_read(rt, name))
+/// it to write, and standard error tells why. `AllocError` is told where the system has no memory to open it.
+pub fn reader_of(program: &Program<'_>, name: &str) -> Result<FileDevice, AllocError> {
+    or_missing(program, name, open_to_read(program, name))
 }
 
 /// The words of a file, locked for this program alone, which is made if need be, for its owner alone, and
-/// lengthened with zeros to so many; then its name is on the disk too. They fail where it cannot be opened or
-/// lengthened, or its folder cannot be synced, or another program has locked it. `AllocError` is told where
-/// the system has no memory to open it.
-pub fn file_of(rt: &HostRuntime, name: &str, words: u64) -> Result<FileDevice, AllocError> {
-    or_missing(open_made(rt, name, words))
+/// lengthened with zeros to so many; then its name is on the disk too. No byte that stands there is lost. They
+/// fail where it cannot be opened or lengthened, or its folder cannot be synced, or another program has locked it,
+/// and standard error tells why. `AllocError` is told where the system has no memory to open it.
+pub fn file_of(program: &Program<'_>, name: &str, words: u64) -> Result<FileDevice, AllocError> {
+    or_missing(program, name, open_made(program, name, words, NoHeap::Kept))
 }
 
 /// So many words in memory, each 0.
-fn memory_of(rt: &HostRuntime, words: u64) -> Result<HostDevice, AllocError> {
-    Ok(HostDevice::Memory(Ram::zeroed(rt.alloc(), words)?))
+fn memory_of(program: &Program<'_>, words: u64) -> Result<HostDevice, AllocError> {
+    Ok(HostDevice::Memory(Ram::zeroed(program.rt.alloc(), words)?))
 }
 
-/// The device that is asked for. Words that are no command have none, and get an empty one.
-pub fn device_of(rt: &HostRuntime, wanted: &DeviceWant) -> Result<HostDevice, AllocError> {
-    match wanted {
-        DeviceWant::Nothing => memory_of(rt, 0),
-        DeviceWant::Fresh(words) => memory_of(rt, *words),
-        DeviceWant::Old(name) => Ok(HostDevice::File(or_missing(open_old(rt, name.as_str()))?)),
-        DeviceWant::Made(name, words) => Ok(HostDevice::File(file_of(rt, name.as_str(), *words)?)),
-    }
+/// The device that is asked for. Words that are no command have none, and get an empty one. A file that is to be
+/// made is that of `format`: so what stands in one without a heap goes, unless it is longer than the heap.
+pub fn device_of(program: &Program<'_>, wanted: &DeviceWant) -> Result<HostDevice, AllocError> {
+    let (name, opened) = match wanted {
+        DeviceWant::Nothing => return memory_of(program, 0),
+        DeviceWant::Fresh(words) => return memory_of(program, *words),
+        DeviceWant::Old(name) => (name, open_old(program, name.as_str())),
+        DeviceWant::Made(name, words) => {
+            let made = open_made(program, name.as_str(), *words, NoHeap::Dropped);
+            (name, made)
+        }
+    };
+    Ok(HostDevice::File(or_missing(program, name.as_str(), opened)?))
 }

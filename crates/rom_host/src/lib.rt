@@ -1,13 +1,18 @@
 //! What `main` of every program here does: it holds the standard streams, takes the words of
-//! the command line, opens the device and the scripts that these name, and says that there is no
-//! memory.
+//! the command line, opens the scripts and the device that these name, and says why it cannot, or that
+//! there is no memory.
 //!
 //! The contracts promise a source for each name of a script; of files nothing is told. What cannot be
-//! opened is a device or a source of which each call fails.
+//! opened is a device or a source of which each call fails, and a line on standard error.
 #![tactic(auto)]
 
+mod cause;
 mod device;
+mod opened;
+mod program;
 mod streams;
 
 pub use device::{HostDevice, device_of, file_of, reader_of};
-pub use streams::{hold_streams, no_memory, sources_of, words_of};
+pub use opened::{Opened, open_all};
+pub use program::Program;
+pub use streams::{Reading, Script, hold_streams, sources_of, words_of};

@@ -3,10 +3,11 @@
 use crate::devices::{Step, takes};
 use crate::files::{path, zeroed};
 use rom_device::{Device, FileDevice};
-use rom_host::{HostDevice, device_of, file_of, reader_of, sources_of};
+use rom_header::MAGIC;
+use rom_host::{HostDevice, Program, Reading, device_of, file_of, reader_of, sources_of};
 use rom_text::{DeviceWant, Name, Names, Source};
 use std::fs;
-use std::os::unix::fs::MetadataExt;
+use std::os::unix::fs::{MetadataExt, symlink};
 use std::path::PathBuf;
 use std::test::Fail;
 
@@ -23,9 +24,9 @@ const MISSING: [Step; 4] = [
 enum How {
     /// As a command line wants one that is there.
     Old,
-    /// As a command line wants one that is made, with so many words.
+    /// As `format` wants one that is made, with so many words.
     Made(u64),
-    /// To be made, with so many words.
+    /// To be made, with so many words, of which none that stands there is lost.
     Of(u64),
     /// For reading alone.
     Read,
@@ -35,16 +36,17 @@ enum How {
 /// let go, where there is a file.
 type Row = (How, u64, &'static [Step], Option<u64>);
 
-/// A device over the file.
+/// A device over the file. A lock that somebody else has is not waited for.
 fn opened(rt: &HostRuntime, path: &PathBuf, how: How) -> Result<FileDevice, Fail> {
+    let program = Program::new(rt, "rom_units").hasty();
     let name = Name::of(rt.alloc(), path.as_str())?;
     let want = match how {
-        How::Of(words) => return Ok(file_of(rt, path.as_str(), words)?),
-        How::Read => return Ok(reader_of(rt, path.as_str())?),
+        How::Of(words) => return Ok(file_of(&program, path.as_str(), words)?),
+        How::Read => return Ok(reader_of(&program, path.as_str())?),
         How::Old => DeviceWant::Old(name),
         How::Made(words) => DeviceWant::Made(name, words),
     };
-    match device_of(rt, &want)? {
+    match device_of(&program, &want)? {
         HostDevice::File(device) => Ok(device),
         HostDevice::Memory(_) => Err("words in memory".into()),
     }
@@ -91,6 +93,84 @@ const KEPT: [Row; 4] = [
         Some(96),
     ),
     (How::Old, 12, &[Step::Read(9, Some(7))], Some(96)),
+];
+
+/// A file without a heap is begun anew by `format` alone, and only where all its words are among the wanted ones.
+const ANEW: [Row; 6] = [
+    (
+        How::Of(10),
+        10,
+        &[
+            Step::Write(0, 5, true),
+            Step::Write(9, 7, true),
+            Step::Sync(true),
+        ],
+        Some(80),
+    ),
+    (
+        How::Of(10),
+        10,
+        &[Step::Read(0, Some(5)), Step::Read(9, Some(7))],
+        Some(80),
+    ),
+    (
+        How::Made(9),
+        10,
+        &[Step::Read(0, Some(5)), Step::Read(9, Some(7))],
+        Some(80),
+    ),
+    (
+        How::Made(10),
+        10,
+        &[
+            Step::Read(0, Some(0)),
+            Step::Read(9, Some(0)),
+            Step::Write(9, 7, true),
+        ],
+        Some(80),
+    ),
+    (How::Of(10), 10, &[Step::Read(9, Some(7))], Some(80)),
+    (
+        How::Made(12),
+        12,
+        &[Step::Read(9, Some(0)), Step::Read(11, Some(0))],
+        Some(96),
+    ),
+];
+
+/// A heap is never begun anew.
+const HEAP: [Row; 4] = [
+    (
+        How::Of(10),
+        10,
+        &[Step::Write(0, MAGIC, true), Step::Write(9, 7, true)],
+        Some(80),
+    ),
+    (How::Made(10), 10, &[Step::Read(9, Some(7))], Some(80)),
+    (
+        How::Made(12),
+        12,
+        &[Step::Read(0, Some(MAGIC)), Step::Read(9, Some(7))],
+        Some(96),
+    ),
+    (How::Made(4), 12, &[Step::Read(9, Some(7))], Some(96)),
+];
+
+/// Of a file of five bytes, `hello`.
+const SHORT: [Row; 3] = [
+    (How::Old, 0, &[], Some(5)),
+    (
+        How::Of(2),
+        2,
+        &[Step::Read(0, Some(0x6f_6c6c_6568)), Step::Read(1, Some(0))],
+        Some(16),
+    ),
+    (
+        How::Made(2),
+        2,
+        &[Step::Read(0, Some(0)), Step::Read(1, Some(0))],
+        Some(16),
+    ),
 ];
 
 /// Beside one that has the file to write.
@@ -152,25 +232,66 @@ fn a_file_is_made_for_its_owner_kept_and_opened_by_one_alone(rt: HostRuntime) ->
 }
 
 #[test]
-fn scripts_are_opened_in_their_order(rt: HostRuntime) -> Result<(), Fail> {
+fn only_a_file_without_a_heap_is_begun_anew(rt: HostRuntime) -> Result<(), Fail> {
+    for (name, rows) in [("host_anew", ANEW.as_slice()), ("host_heap", &HEAP)] {
+        let file = path(&rt, name)?;
+        opens(&rt, &file, rows)?;
+        fs::remove_file(&rt, file.as_path())?;
+    }
+    let short = path(&rt, "host_short")?;
+    fs::write(&rt, short.as_path(), b"hello".as_slice())?;
+    opens(&rt, &short, &SHORT)?;
+    fs::remove_file(&rt, short.as_path())?;
+
+    // A link leads to the file, which is made where it leads.
+    let there = path(&rt, "host_there")?;
+    let link = path(&rt, "host_link")?;
+    symlink(&rt, there.as_path(), link.as_path())?;
+    opens(&rt, &link, &[(How::Made(2), 2, &[], Some(16))])?;
+    opens(&rt, &there, &[(How::Old, 2, &[], Some(16))])?;
+    fs::remove_file(&rt, link.as_path())?;
+    fs::remove_file(&rt, there.as_path())?;
+    Ok(())
+}
+
+/// What a source gives at one read of at most eight bytes, or nothing where it fails.
+fn given<'a, S: Source>(source: &mut S, buf: &'a mut [u8; 8]) -> Option<&'a [u8]> {
+    match source.read(buf) {
+        Ok(count) => buf.get(..count as usize),
+        Err(_) => None,
+    }
+}
+
+#[test]
+fn scripts_come_in_their_order(rt: HostRuntime) -> Result<(), Fail> {
+    let program = Program::new(&rt, "rom_units");
     let first = path(&rt, "host_first")?;
     let second = path(&rt, "host_second")?;
     fs::write(&rt, first.as_path(), b"len\n".as_slice())?;
     fs::write(&rt, second.as_path(), b"total\n".as_slice())?;
+    // What cannot be read ends it: a name that is none, or a folder.
+    for stop in ["/nowhere/script", "/"] {
+        let mut names = Names::new(rt.alloc());
+        for name in [second.as_str(), first.as_str(), stop, first.as_str()] {
+            names.push(rt.alloc(), name)?;
+        }
+        let mut sources = sources_of(&program, &names, Reading::First)?;
+        assert_eq!(rt; sources.len(), 4);
+        let texts = [Some(b"total\n".as_slice()), Some(b"len\n"), None, None];
+        for (source, text) in sources.iter_mut().zip(texts) {
+            let mut buf = [0u8; 8];
+            assert_eq!(rt; given(source, &mut buf), text);
+        }
+    }
+    // One that is read as it comes is not read before that.
     let mut names = Names::new(rt.alloc());
-    names.push(rt.alloc(), second.as_str())?;
-    names.push(rt.alloc(), "/nowhere/script")?;
     names.push(rt.alloc(), first.as_str())?;
-    let mut sources = sources_of(&rt, &names)?;
-    assert_eq!(rt; sources.len(), 3);
-    let texts = [Some(b"total\n".as_slice()), None, Some(b"len\n")];
-    for (source, text) in sources.iter_mut().zip(texts) {
+    let mut sources = sources_of(&program, &names, Reading::Beside)?;
+    fs::write(&rt, first.as_path(), b"peek\n".as_slice())?;
+    for source in sources.iter_mut() {
         let mut buf = [0u8; 8];
-        let read = match source.read(&mut buf) {
-            Ok(count) => buf.get(..count as usize),
-            Err(_) => None,
-        };
-        assert_eq!(rt; read, text);
+        assert_eq!(rt; given(source, &mut buf), Some(b"peek\n".as_slice()));
+        assert_eq!(rt; given(source, &mut buf), Some(b"".as_slice()));
     }
     fs::remove_file(&rt, first.as_path())?;
     fs::remove_file(&rt, second.as_path())?;

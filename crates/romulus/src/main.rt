@@ -1,56 +1,55 @@
 //! Runs a command on a heap: makes the device and the streams that the words name, and calls `run`.
 #![tactic(auto)]
 
-ghost use Rattle.std.specs.Prelude.{◌≡◌, length};
-ghost use Rattle.rom_shell.specs.Words.{command, scripts_of};
-
-use rom_device::Device;
-use rom_host::{HostDevice, device_of, hold_streams, no_memory, sources_of, words_of};
+use rom_host::{HostDevice, Opened, Program, Reading, hold_streams, open_all, words_of};
 use rom_shell::{NoGate, Status, files_of, run};
-use rom_text::{Adapted, Names};
 use std::alloc::AllocError;
-use std::fs::File;
-use std::io;
 use std::process::ExitCode;
 use std::sync::Wait;
 use std::thread::Threads;
 
-/// Runs the command on this device, prints to the standard output, and gives the status.
-fn run_on<R: Threads + Wait + Sync + AllocGlobal + Print, D: Device + Send + Drop>(
-    rt: &R,
-    words: &Names,
-    device: D,
-    sources: Vec<Adapted<File>>,
-) -> u8
-    requires { length sources.items ≡ length (scripts_of (command words.now)) }
-{
-    let mut out = Adapted::new(io::writer(rt));
-    run(rt, rt.alloc(), words, device, sources, &mut out, &NoGate).status
-}
+/// What standard error tells where the words are no command.
+const USAGE: &str = "\
+usage: romulus format FILE --order N               a new heap of order N, 4 to 16
+       romulus run FILE SCRIPT..                   1 to 16 scripts on a heap
+       romulus stat FILE                           its order, count, sizes and room
+       romulus upgrade FILE                        one of region version 1 to version 2
+       romulus try SCRIPT..                        scripts on a heap in memory
+       romulus drill START --callers C --calls M   drawn scripts there";
 
-/// Runs the command that the words are, and gives its status. The host has the words and the files;
-/// `rt` is the same runtime, as a handle that may start threads and wait for them.
-fn start<R: Threads + Wait + Sync + AllocGlobal + Print>(
-    host: &HostRuntime,
+/// Runs the command that the words are, and gives its status. The program opens files by its own runtime;
+/// `rt` is the same one, as a handle that may start threads and wait for them.
+fn start<R: Threads + Wait + Sync + AllocGlobal>(
+    program: &mut Program<'_>,
     rt: &R,
 ) -> Result<u8, AllocError> {
-    let words = words_of(host)?;
-    let wanted = files_of(host.alloc(), &words)?;
-    let sources = sources_of(host, &wanted.scripts)?;
-    match device_of(host, &wanted.device)? {
-        HostDevice::File(device) => Ok(run_on(rt, &words, device, sources)),
-        HostDevice::Memory(device) => Ok(run_on(rt, &words, device, sources)),
+    let words = words_of(program)?;
+    let wanted = files_of(rt.alloc(), &words)?;
+    let Opened { device, sources } = open_all(program, &wanted, Reading::First)?;
+    let mut out = program.output();
+    let status = match device {
+        HostDevice::File(device) => {
+            run(rt, rt.alloc(), &words, device, sources, &mut out, &NoGate).status
+        }
+        HostDevice::Memory(device) => {
+            run(rt, rt.alloc(), &words, device, sources, &mut out, &NoGate).status
+        }
+    };
+    if status == Status::NotACommand.number() {
+        program.say(USAGE);
     }
+    Ok(status)
 }
 
 fn main(rt: HostRuntime) -> ExitCode {
-    let no_memory_status = Status::NoMemory.number();
+    let no_memory = Status::NoMemory.number();
+    let mut program = Program::new(&rt, "romulus");
     if hold_streams(&rt).is_err() {
-        let _ = eprintln!(&rt; "romulus: /dev/null cannot be opened");
-        return no_memory(&rt, no_memory_status);
+        program.say("romulus: /dev/null cannot be opened");
+        return program.no_memory(no_memory);
     }
-    match start(&rt, &rt) {
+    match start(&mut program, &rt) {
         Ok(status) => ExitCode::from(status),
-        Err(_) => no_memory(&rt, no_memory_status),
+        Err(_) => program.no_memory(no_memory),
     }
 }

@@ -1,0 +1,60 @@
+//! Why a file cannot be had, in words.
+use std::fmt::{Display, Formatter};
+use std::io::ErrorKind;
+use std::{fmt, io};
+
+/// What the system answered where a file was to be opened, locked, lengthened or read, and of what it
+/// speaks. It is printed in words of its own where people meet it often, and else in the system's.
+#[derive(Clone, Copy)]
+pub(crate) struct Cause {
+    // Nothing where it speaks of the file itself, else what stands before the words.
+    of: &'static str,
+    pub(crate) error: io::Error,
+}
+
+impl Cause {
+    /// This of the folder in which the file's name stands.
+    pub(crate) fn of_folder(error: io::Error) -> Cause {
+        Cause {
+            of: "its folder: ",
+            error,
+        }
+    }
+
+    /// That the program would print into the file that it is to open.
+    pub(crate) fn own_output() -> Cause {
+        let words = "is this program's own standard output or standard error";
+        Cause::from(io::Error::new(ErrorKind::InvalidInput, words))
+    }
+
+    /// That a file without a heap keeps its blocks of the disk, since it has bytes behind the new heap. It is no
+    /// error.
+    pub(crate) fn longer() -> Cause {
+        let words = "longer than this heap, so not begun anew: remove it if a format of it failed";
+        Cause::from(io::Error::new(ErrorKind::InvalidInput, words))
+    }
+
+    /// That what stands at the name is neither a file nor a folder.
+    pub(crate) fn no_file() -> Cause {
+        Cause::from(io::Error::new(ErrorKind::InvalidInput, "is no file"))
+    }
+}
+
+impl From<io::Error> for Cause {
+    fn from(error: io::Error) -> Cause {
+        Cause { of: "", error }
+    }
+}
+
+impl Display for Cause {
+    fn fmt<W: fmt::Write>(&self, f: &mut Formatter<W>) -> fmt::Result {
+        f.write_str(self.of)?;
+        match self.error.kind() {
+            ErrorKind::NotFound => f.write_str("no such file"),
+            ErrorKind::PermissionDenied => f.write_str("permission denied"),
+            ErrorKind::IsADirectory => f.write_str("is a folder"),
+            ErrorKind::WouldBlock => f.write_str("locked by another program"),
+            _ => Display::fmt(&self.error, f),
+        }
+    }
+}

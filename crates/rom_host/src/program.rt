@@ -1,0 +1,119 @@
+//! The program that opens files by name, and what it tells people on standard error.
+use crate::cause::Cause;
+use rom_text::Adapted;
+use std::fs::Metadata;
+use std::io::{ErrorKind, Printer};
+use std::os::unix::fs::MetadataExt;
+use std::process::ExitCode;
+use std::{fs, io};
+
+/// How often a lock that another program has is tried again, 50 milliseconds apart: for five seconds.
+const NAPS: u64 = 100;
+
+/// A program at its edge: the runtime, the name that stands before each cause, and how long it waits for a
+/// lock. What it tells on standard error is for people; no contract speaks of it, and nothing rests on it.
+#[derive(Clone, Copy)]
+pub struct Program<'a> {
+    pub(crate) rt: &'a HostRuntime,
+    name: &'static str,
+    pub(crate) naps: u64,
+    // Whether standard output, and standard error, are the heap's own file.
+    prints_there: bool,
+    tells_there: bool,
+    // Why the heap's file is not to be opened at all.
+    refusal: Option<Cause>,
+}
+
+impl<'a> Program<'a> {
+    /// The program of this name. It waits for a lock for five seconds.
+    pub fn new(rt: &'a HostRuntime, name: &'static str) -> Program<'a> {
+        Program {
+            rt,
+            name,
+            naps: NAPS,
+            prints_there: false,
+            tells_there: false,
+            refusal: None,
+        }
+    }
+
+    /// The same, but a lock that another program has is not waited for.
+    pub fn hasty(self) -> Program<'a> {
+        Program { naps: 0, ..self }
+    }
+
+    /// Says a line on standard error, unless that is the heap's own file. Where it cannot be written, it is
+    /// lost.
+    pub fn say(&self, line: &str) {
+        if !self.tells_there {
+            let _ = eprintln!(self.rt; "{line}");
+        }
+    }
+
+    // Says on standard error what is wrong, behind the program's name.
+    pub(crate) fn complain(&self, what: &str) {
+        if !self.tells_there {
+            let _ = eprintln!(self.rt; "{}: {what}", self.name);
+        }
+    }
+
+    /// Says on standard error why this file cannot be had, as `romulus: heap: no such file`. It is one line
+    /// whatever the name is.
+    pub(crate) fn tell(&self, name: &str, cause: &Cause) {
+        if !self.tells_there {
+            let (program, shown) = (self.name, name.escape_debug());
+            let _ = eprintln!(self.rt; "{program}: {shown}: {cause}");
+        }
+    }
+
+    /// Looks whether standard output or standard error is this file, by which it is called a heap's. What is
+    /// written there would stand in the heap: so nothing is written from then on, and the file is not opened.
+    /// It is not opened either where the system cannot tell what stands at the name.
+    pub fn spare(&mut self, name: &str) {
+        match fs::metadata(self.rt, name) {
+            Ok(heap) if heap.is_file() => {
+                self.prints_there = self.is_at("/dev/stdout", &heap);
+                self.tells_there = self.is_at("/dev/stderr", &heap);
+                if self.prints_there || self.tells_there {
+                    self.refusal = Some(Cause::own_output());
+                }
+            }
+            Err(error) if error.kind() != ErrorKind::NotFound => {
+                self.refusal = Some(Cause::from(error));
+            }
+            _ => {}
+        }
+    }
+
+    // Whether the file of this name is that one.
+    fn is_at(&self, name: &str, there: &Metadata) -> bool {
+        match fs::metadata(self.rt, name) {
+            Ok(found) => found.dev() == there.dev() && found.ino() == there.ino(),
+            Err(_) => false,
+        }
+    }
+
+    // Whether the heap's file may be opened, or else why not.
+    pub(crate) fn may_open(&self) -> Result<(), Cause> {
+        match self.refusal {
+            Some(cause) => Err(cause),
+            None => Ok(()),
+        }
+    }
+
+    /// Standard output, or a sink whose every write fails where that is the heap's own file.
+    pub fn output(&self) -> Adapted<Printer<'a, HostRuntime>> {
+        if self.prints_there {
+            return Adapted::missing();
+        }
+        Adapted::new(io::writer(self.rt))
+    }
+
+    /// Says that there is no memory, and gives this status. Nothing has been done, and nothing can be.
+    pub fn no_memory(&self, status: u8) -> ExitCode {
+        if !self.prints_there {
+            let _ = println!(self.rt; "no memory");
+        }
+        ExitCode::from(status)
+    }
+}
