@@ -26,6 +26,7 @@ abbrev pub begins : Region → ℕ → ℕ
 begins Main order = MAIN
 begins Back order = back_at order
 
+-- its words
 abbrev pub region_of : Region → ℕ → List ℕ → List ℕ
 region_of Main order words = main_of order words
 region_of Back order words = back_of order words
