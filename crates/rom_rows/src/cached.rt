@@ -6,7 +6,7 @@
 
 use crate::callers::post_call;
 use crate::cores::{post_three, seated_on, take_three, take_told};
-use crate::heaps::{choice, counted, device};
+use crate::heaps::{AMPLE, choice, counted, device, heap};
 use rom_combine::{NoGate, Outcome};
 use rom_device::{CachedDevice, CallKind, Memory, Trip, every_trip};
 use rom_heap::Trio;
@@ -16,9 +16,6 @@ use std::alloc::Global;
 use std::process::Abort;
 use std::sync::Wait;
 use std::test::Fail;
-
-/// Room for all calls of a test.
-const AMPLE: u64 = 10_000;
 
 /// How many words a heap has. The first read takes all of them.
 const WORDS: u64 = 232;
@@ -69,11 +66,6 @@ struct Row {
     to: u64,
 }
 
-/// So many elements in the queue, the set and the map, and the count.
-fn heap(queue: u64, set: u64, map: u64, count: u64) -> Held {
-    Some((Answer::Sizes { queue, set, map }, count))
-}
-
 fn is_done(told: Told) -> bool {
     match told {
         Told::Made(done) | Told::Opened(done) => done,
@@ -84,10 +76,10 @@ fn is_done(told: Told) -> bool {
 /// Whether this may be found after work that ended so, where `before` was there. After an update the
 /// heap is empty, or has what the first pass put in, or the second, or both.
 fn may_hold(told: Told, before: Held, found: Held) -> bool {
-    let empty = heap(0, 0, 0, 0);
-    let first = heap(1, 1, 1, 3);
-    let second = heap(0, 0, 1, 1);
-    let both = heap(1, 1, 1, 4);
+    let empty = Some(heap(0, 0, 0, 0));
+    let first = Some(heap(1, 1, 1, 3));
+    let second = Some(heap(0, 0, 1, 1));
+    let both = Some(heap(1, 1, 1, 4));
     match told {
         Told::Made(true) => found == empty,
         Told::Made(false) => found == empty || found == before,
@@ -239,7 +231,7 @@ fn a_heap_behind_a_cache_is_as_it_was_told(rt: HostRuntime) -> Result<(), Fail> 
         Row {
             work: Work::Open,
             words: main,
-            before: heap(0, 0, 0, 0),
+            before: Some(heap(0, 0, 0, 0)),
             from: 0,
             each: recover - 4,
             needs: recover,
@@ -248,7 +240,7 @@ fn a_heap_behind_a_cache_is_as_it_was_told(rt: HostRuntime) -> Result<(), Fail> 
         Row {
             work: Work::Open,
             words: back,
-            before: heap(1, 1, 1, 3),
+            before: Some(heap(1, 1, 1, 3)),
             from: 0,
             each: recover - 4,
             needs: recover,
@@ -257,7 +249,7 @@ fn a_heap_behind_a_cache_is_as_it_was_told(rt: HostRuntime) -> Result<(), Fail> 
         Row {
             work: Work::Update,
             words: rest,
-            before: heap(0, 0, 0, 0),
+            before: Some(heap(0, 0, 0, 0)),
             from: OPENING,
             each: OPENING,
             needs: update,

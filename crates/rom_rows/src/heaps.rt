@@ -11,7 +11,7 @@ use std::alloc::{AllocError, Global};
 use std::test::Fail;
 
 /// Room for all calls of a test.
-const AMPLE: u64 = 10_000;
+pub(crate) const AMPLE: u64 = 10_000;
 
 /// How many calls it takes to open a heap at rest: 5 reads of the header, a read of each word of
 /// both regions, and a sync.
@@ -44,6 +44,11 @@ pub(crate) fn device(alloc: Global, count: u64, trips: &[Trip]) -> Result<Memory
         }
     }
     Memory::new(alloc, words, AMPLE, trips.to_vec(alloc)?)
+}
+
+/// So many elements in the queue, the set and the map, and the count.
+pub(crate) fn heap(queue: u64, set: u64, map: u64, count: u64) -> (Answer, u64) {
+    (Answer::Sizes { queue, set, map }, count)
 }
 
 /// How many elements an opened heap has, and its count.

@@ -2,7 +2,7 @@
 
 use crate::callers::post_call;
 use crate::cores::{post_three, read_count, seated_on, take_three, take_told};
-use crate::heaps::{OPENING, device, left};
+use crate::heaps::{AMPLE, OPENING, device, heap, left};
 use rom_combine::{NoGate, Outcome, Passed};
 use rom_device::{CallKind, Fuse, Trip, every_trip};
 use rom_model::{Answer, Call, Reply, Updated};
@@ -23,39 +23,16 @@ const COPYING_SYNCED: u64 = COPYING_WRITTEN + 1;
 /// Then the same words of back, their sync, and IDLE.
 const ALL: u64 = COPYING_SYNCED + CHANGED + 1 + 1;
 
-/// So many elements in the queue, the set and the map, and the count.
-fn heap(queue: u64, set: u64, map: u64, count: u64) -> (Answer, u64) {
-    (Answer::Sizes { queue, set, map }, count)
-}
-
-/// The call of that number fails, counted from 1. A write is of the words `from` to `to - 1`, and
-/// leaves the word as it was.
-fn trip(call: CallKind, from: u64, to: u64, nth: u64) -> Trip {
+/// The write of that number fails, counted from 1, among those of the words `from` to `to - 1`. It leaves
+/// the word as it was.
+fn write(from: u64, to: u64, nth: u64) -> Trip {
     Trip {
-        call,
+        call: CallKind::Write,
         from,
         to,
         nth,
         keeps_new: false,
     }
-}
-
-/// A sync. The opening makes the first one.
-fn sync(nth: u64) -> Trip {
-    every_trip(CallKind::Sync, nth)
-}
-
-/// A write of the state: of MUTATING, COPYING, IDLE.
-fn state(nth: u64) -> Trip {
-    trip(CallKind::Write, 3, 4, nth)
-}
-
-fn main(nth: u64) -> Trip {
-    trip(CallKind::Write, 8, 120, nth)
-}
-
-fn back(nth: u64) -> Trip {
-    trip(CallKind::Write, 120, 232, nth)
 }
 
 /// What the three calls are told where their pass ends so.
@@ -80,22 +57,23 @@ fn passed(outcome: Outcome) -> Passed {
     }
 }
 
-/// Runs a pass that is stopped after so many calls, those of the opening too, and tells how it ended,
-/// what the callers were told, and what is opened then.
-fn stop<R: Wait + AllocGlobal>(
+/// Runs a pass on a device of which these calls fail, and each one after so many, those of the opening
+/// too. It tells how the pass ended, what the callers were told, and what is opened then.
+fn run_once<R: Wait + AllocGlobal>(
     rt: &R,
+    trips: &[Trip],
     calls: u64,
     kind: u64,
-) -> Result<(Outcome, [Option<Updated<Reply>>; 3], (Answer, u64)), Fail> {
+) -> Result<(Passed, [Option<Updated<Reply>>; 3], (Answer, u64)), Fail> {
     let alloc = rt.alloc();
-    let fuse = Fuse::new(device(alloc, 0, &[])?, calls);
+    let fuse = Fuse::new(device(alloc, 0, trips)?, calls);
     let (mut core, shared, (mut first, mut second, mut third)) = seated_on(alloc, fuse)?;
     post_three(&shared, &mut first, &mut second, &mut third);
     let passed = core.pass(rt, &shared, &NoGate);
     let told = take_three(&shared, &mut first, &mut second, &mut third)?;
     let (twin, _writer) = core.into_parts();
     let memory = twin.into_device().inner();
-    Ok((passed.outcome, told, left(alloc, memory, kind)?))
+    Ok((passed, told, left(alloc, memory, kind)?))
 }
 
 #[test]
@@ -119,33 +97,13 @@ fn a_pass_that_is_stopped_is_whole_or_absent(rt: HostRuntime) -> Result<(), Fail
             };
             let want = if calls < least { absent } else { whole };
             assert_eq!(rt;
-                stop(&rt, OPENING + calls, kind)?,
-                (outcome, answers(outcome), want),
+                run_once(&rt, &[], OPENING + calls, kind)?,
+                (passed(outcome), answers(outcome), want),
                 "after {calls} calls"
             );
         }
     }
     Ok(())
-}
-
-/// Runs a pass with that fault, which ends so. What a stop leaves of the device then is opened.
-fn run_faulty<R: Wait + Abort + AllocGlobal>(
-    rt: &R,
-    fault: Trip,
-    outcome: Outcome,
-    kind: u64,
-) -> Result<(Answer, u64), Fail> {
-    let alloc = rt.alloc();
-    let (mut core, shared, (mut first, mut second, mut third)) = seated_on(
-        alloc,
-        device(alloc, 0, &[fault])?,
-    )?;
-    post_three(&shared, &mut first, &mut second, &mut third);
-    assert_eq!(rt; core.pass(rt, &shared, &NoGate), passed(outcome));
-    let told = take_three(&shared, &mut first, &mut second, &mut third)?;
-    assert_eq!(rt; told, answers(outcome));
-    let (twin, _writer) = core.into_parts();
-    left(alloc, twin.into_device(), kind)
 }
 
 /// Runs a pass with that fault, which leaves this phase, and then one that is no more hindered, with
@@ -185,23 +143,49 @@ fn a_fault_is_answered_and_repaired_by_the_next_pass(rt: HostRuntime) -> Result<
     let kept = heap(1, 0, 0, 1);
     let more = heap(2, 1, 1, 4);
     let either = [absent, whole, whole];
-    // The faults in the order of a pass's calls; the images that a stop leaves by each choice; and the
-    // next call's place and the heap after it.
+    // The faults in the order of a pass's calls: writes of the state's word, of main and of back, and syncs,
+    // the first of which is the opening's; the images that a stop leaves by each choice; and the next
+    // call's place and the heap after it.
     let rows = [
-        (state(1), Outcome::Failed, [absent; 3], 0, kept),
-        (sync(2), Outcome::Failed, [absent; 3], 0, kept),
-        (main(9), Outcome::Failed, [absent; 3], 0, kept),
-        (sync(3), Outcome::Failed, [absent; 3], 0, kept),
-        (state(2), Outcome::Doubt, either, 0, kept),
-        (sync(4), Outcome::Doubt, either, 0, kept),
-        (back(9), Outcome::Published, [whole; 3], 3, more),
-        (sync(5), Outcome::Published, [whole; 3], 3, more),
-        (state(3), Outcome::Published, [whole; 3], 3, more),
+        (write(3, 4, 1), Outcome::Failed, [absent; 3], 0, kept),
+        (
+            every_trip(CallKind::Sync, 2),
+            Outcome::Failed,
+            [absent; 3],
+            0,
+            kept,
+        ),
+        (write(8, 120, 9), Outcome::Failed, [absent; 3], 0, kept),
+        (
+            every_trip(CallKind::Sync, 3),
+            Outcome::Failed,
+            [absent; 3],
+            0,
+            kept,
+        ),
+        (write(3, 4, 2), Outcome::Doubt, either, 0, kept),
+        (
+            every_trip(CallKind::Sync, 4),
+            Outcome::Doubt,
+            either,
+            0,
+            kept,
+        ),
+        (write(120, 232, 9), Outcome::Published, [whole; 3], 3, more),
+        (
+            every_trip(CallKind::Sync, 5),
+            Outcome::Published,
+            [whole; 3],
+            3,
+            more,
+        ),
+        (write(3, 4, 3), Outcome::Published, [whole; 3], 3, more),
     ];
     for (fault, outcome, images, place, after) in rows {
         for kind in 0..3 {
-            let image = run_faulty(&rt, fault, outcome, kind)?;
-            assert_eq!(rt; image, images[kind as usize]);
+            let once = run_once(&rt, &[fault], AMPLE, kind)?;
+            let want = (passed(outcome), answers(outcome), images[kind as usize]);
+            assert_eq!(rt; once, want);
             let told = Some(Updated::Done(Reply::Queued, place));
             let found = run_both(&rt, fault, outcome, kind)?;
             assert_eq!(rt; found, (told, place + 1, after));

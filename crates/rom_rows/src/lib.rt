@@ -16,8 +16,6 @@ mod callers;
 #[cfg(test)]
 mod cores;
 #[cfg(test)]
-mod counting;
-#[cfg(test)]
 mod crowd;
 #[cfg(test)]
 mod early;
@@ -41,7 +39,5 @@ mod stay;
 mod stores;
 #[cfg(test)]
 mod turns;
-#[cfg(test)]
-mod waiting;
 mod watched;
 mod work;

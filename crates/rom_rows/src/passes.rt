@@ -1,13 +1,12 @@
 //! Passes over posted calls, by one thread.
 ghost use Rattle.std.specs.Prelude.{◌≡◌, ℕ};
 
-use crate::callers::post_call;
-use crate::cores::{post_three, read_count, seated_on, take_three, take_told};
-use crate::counting::Counting;
+use crate::cores::{post_three, read_count, seated_on, take_three};
 use crate::heaps::{OPENING, device};
 use rom_combine::{NoGate, Outcome, Passed};
 use rom_device::{CallKind, Device, every_trip};
-use rom_model::{Call, Reply, Updated};
+use rom_model::{Reply, Updated};
+use rom_test::{Holding, Roll};
 use rom_twin::Phase;
 use std::test::Fail;
 
@@ -33,7 +32,7 @@ fn a_pass_does_the_posted_calls_and_answers_each(rt: HostRuntime) -> Result<(), 
         alloc,
         device(alloc, 0, &trips)?,
     )?;
-    let gate = Counting::new();
+    let gate = Roll::new(alloc, &[], Holding::Nobody)?;
     post_three(&shared, &mut first, &mut second, &mut third);
     let passed = core.pass(&rt, &shared, &gate);
     let told = take_three(&shared, &mut first, &mut second, &mut third)?;
@@ -56,7 +55,10 @@ fn a_pass_does_the_posted_calls_and_answers_each(rt: HostRuntime) -> Result<(), 
         outcome: Outcome::Nothing,
     };
     assert_eq!(rt; passed, want);
-    assert_eq!(rt; (gate.times(), gate.done()), (1, 3));
+    assert_eq!(rt;
+        (gate.published_batches(), gate.differs(false, 3)),
+        (1, None)
+    );
     let (twin, _writer) = core.into_parts();
     assert_eq!(rt; twin.phase(), Phase::Clean);
     let memory = twin.into_device();
@@ -91,27 +93,5 @@ fn calls_at_the_limit_of_the_count_are_answered_as_spent(rt: HostRuntime) -> Res
         let memory = twin.into_device();
         assert_eq!(rt; memory.calls_made(), OPENING + u64::from(done) * FIRST);
     }
-    Ok(())
-}
-
-#[test]
-fn what_one_caller_did_in_a_pass_another_learns(rt: HostRuntime) -> Result<(), Fail> {
-    let alloc = rt.alloc();
-    let (mut core, shared, (mut first, mut second, mut third)) = seated_on(
-        alloc,
-        device(alloc, 0, &[])?,
-    )?;
-    post_call(&shared, &mut first, Call::Put(1, 1));
-    let passed = core.pass(&rt, &shared, &NoGate);
-    assert_eq!(rt; passed.done, 1);
-    let told = take_told(&shared, &mut first)?;
-    assert_eq!(rt; told, Some(Updated::Done(Reply::NoPrior, 0)));
-    // It has read nothing itself.
-    let note = shared.note(&mut first);
-    shared.learn(&mut second, note);
-    assert_eq!(rt; read_count(&shared, &mut second), 1);
-    let note = shared.note(&mut second);
-    shared.learn(&mut third, note);
-    assert_eq!(rt; read_count(&shared, &mut third), 1);
     Ok(())
 }

@@ -2,14 +2,13 @@
 ghost use Rattle.std.specs.Prelude.{◌≡◌, ◌≤◌, ◌<◌, All, IfOk, length, vec_len};
 ghost use Rattle.rom_model.specs.History.{LAST_COUNT};
 
-use crate::counting::Counting;
-use crate::crowd::new_heap;
 use crate::heaps::{device, left};
 use rom_combine::{Gate, NoGate};
 use rom_device::{CallKind, Device, every_trip};
 use rom_heap::Trio;
 use rom_model::{Answer, Call, LineResult, Query, Reply, Step, Updated};
 use rom_store::{Closed, Played, Refused, Unplayed, play};
+use rom_test::{Holding, Roll};
 use std::alloc::{AllocError, Global};
 use std::sync::Wait;
 use std::test::Fail;
@@ -18,34 +17,6 @@ use std::thread::Threads;
 type Line = Step<Call, Query>;
 
 type Told = LineResult<Reply, Answer>;
-
-/// How many updates each of 16 callers makes, with as many reads.
-const UPDATES: u64 = 32;
-
-/// The lines of a caller that puts a value of its own under key 5, and reads that key, in turn.
-fn putting(alloc: Global, caller: u64) -> Result<Vec<Line>, AllocError>
-    requires one { caller < 16 }
-    ensures few { IfOk result (λ lines. vec_len lines ≤ LAST_COUNT) }
-{
-    let mut lines = Vec::new(alloc);
-    for round in 0..UPDATES {
-        lines.push(Step::Update(Call::Put(5, 100 * caller + round)))?;
-        lines.push(Step::Ask(Query::Get(5)))?;
-    }
-    Ok(lines)
-}
-
-/// The lines of 16 callers.
-fn all_putting(alloc: Global) -> Result<Vec<Vec<Line>>, AllocError>
-    ensures many { IfOk result (λ scripts. vec_len scripts ≡ 16) }
-    ensures few { IfOk result (λ scripts. All (λ v. length v.items ≤ LAST_COUNT) scripts.items) }
-{
-    let mut scripts = Vec::new(alloc);
-    for caller in 0..16 {
-        scripts.push(putting(alloc, caller)?)?;
-    }
-    Ok(scripts)
-}
 
 /// The results of all scripts, and the store that was closed.
 fn played<D: Device + Send + Drop, R: Threads + Wait + Sync, G: Gate + Sync>(
@@ -76,80 +47,20 @@ fn take_place(taken: &mut [bool], place: u64) -> bool {
     }
 }
 
-/// The least place or front that may come after this line, where `least` may come before it; `None`
-/// where it may not stand there. The place of an update must be free, and is taken; a front is at most
-/// `count`.
-fn least_after(taken: &mut [bool], told: &Told, least: u64, count: u64) -> Option<u64> {
-    match told {
-        LineResult::Update(Updated::Done(_, place)) => {
-            let is_free = *place >= least && take_place(taken, *place);
-            is_free.then_some(place.saturating_add(1))
-        }
-        LineResult::Update(Updated::Failed | Updated::Doubt) => Some(least),
-        LineResult::Read(_, front) if least <= *front && *front <= count => Some(*front),
-        _ => None,
-    }
-}
-
 /// Whether the updates of a caller are done, each at a free place, which is then taken, or failed or in
-/// doubt, and its reads have fronts past those places and up to `count`, all rising.
-fn is_rising(taken: &mut [bool], results: &[Told], count: u64) -> bool {
+/// doubt, and the places rise.
+fn is_rising(taken: &mut [bool], results: &[Told]) -> bool {
     let mut least = 0;
     for told in results {
-        let Some(next) = least_after(taken, told, least, count) else {
-            return false;
-        };
-        least = next;
-    }
-    true
-}
-
-/// The value that an update put, and its place.
-fn value_put(line: &Line, told: &Told) -> Option<(u64, u64)> {
-    let Step::Update(Call::Put(_, value)) = line else {
-        return None;
-    };
-    let LineResult::Update(Updated::Done(_, place)) = told else {
-        return None;
-    };
-    Some((*value, *place))
-}
-
-/// Notes the value that was put at each place.
-fn note_values(values: &mut [u64], lines: &[Line], results: &[Told]) {
-    for (line, told) in lines.iter().zip(results.iter()) {
-        let Some((value, place)) = value_put(line, told) else {
-            continue;
-        };
-        if let Some(noted) = values.get_mut(place as usize) {
-            *noted = value;
-        }
-    }
-}
-
-/// The value under the key after so many updates, which put these.
-fn value_after(values: &[u64], updates: u64) -> Option<u64> {
-    let last = updates.checked_sub(1)?;
-    values.get(last as usize).copied()
-}
-
-/// Whether each reply tells the value that was put at the place before, and each answer that at the
-/// place before its front.
-fn tells_values(values: &[u64], results: &[Told]) -> bool {
-    for told in results {
-        let is_right = match told {
-            LineResult::Update(Updated::Done(reply, place)) => match value_after(values, *place) {
-                Some(value) => *reply == Reply::Was(value),
-                None => *reply == Reply::NoPrior,
-            },
-            LineResult::Read(answer, front) => match value_after(values, *front) {
-                Some(value) => *answer == Answer::Value(value),
-                None => *answer == Answer::Missing,
-            },
-            _ => true,
-        };
-        if !is_right {
-            return false;
+        match told {
+            LineResult::Update(Updated::Done(_, place)) => {
+                if *place < least || !take_place(taken, *place) {
+                    return false;
+                }
+                least = place.saturating_add(1);
+            }
+            LineResult::Update(Updated::Failed | Updated::Doubt) => {}
+            _ => return false,
         }
     }
     true
@@ -179,34 +90,6 @@ fn fates(results: &[Vec<Told>]) -> (u64, u64, u64) {
         fates.2 = fates.2.saturating_add(doubt);
     }
     fates
-}
-
-#[test]
-fn sixteen_callers_take_each_place_once(rt: HostRuntime) -> Result<(), Fail> {
-    let alloc = rt.alloc();
-    let scripts = all_putting(alloc)?;
-    let (results, mut closed) = played(&rt, alloc, new_heap(alloc)?, scripts.as_slice(), &NoGate)?;
-    assert_eq!(rt; results.len(), 16);
-    assert_eq!(rt; closed.count(), 16 * UPDATES);
-    let sizes = Answer::Sizes {
-        queue: 0,
-        set: 0,
-        map: 1,
-    };
-    assert_eq!(rt; closed.ask(&Query::Len), sizes);
-    assert_eq!(rt; fates(results.as_slice()), (16 * UPDATES, 0, 0));
-    let mut taken = vec![in alloc; false; 16 * UPDATES as usize]?;
-    let mut values = vec![in alloc; 0u64; 16 * UPDATES as usize]?;
-    for (lines, told) in scripts.iter().zip(results.iter()) {
-        assert_eq!(rt; told.len() as u64, 2 * UPDATES);
-        assert!(rt; is_rising(taken.as_mut_slice(), told.as_slice(), 16 * UPDATES));
-        note_values(values.as_mut_slice(), lines.as_slice(), told.as_slice());
-    }
-    assert!(rt; taken.iter().all(|mark| *mark));
-    for told in &results {
-        assert!(rt; tells_values(values.as_slice(), told.as_slice()));
-    }
-    Ok(())
 }
 
 /// Two numbers are put into the queue.
@@ -243,7 +126,7 @@ fn a_fault_fails_at_most_one_update_of_each_of_sixteen_callers(
     let scripts = all_queueing(alloc)?;
     for sync in [6, 8] {
         let memory = device(alloc, 0, &[every_trip(CallKind::Sync, sync)])?;
-        let gate = Counting::new();
+        let gate = Roll::new(alloc, &[2; 16], Holding::Callers)?;
         let (results, closed) = played(&rt, alloc, memory, scripts.as_slice(), &gate)?;
         let (done, failed, doubt) = fates(results.as_slice());
         let (hit, other) = if sync == 6 {
@@ -253,12 +136,12 @@ fn a_fault_fails_at_most_one_update_of_each_of_sixteen_callers(
         };
         assert_eq!(rt; (done.saturating_add(hit), other), (32, 0));
         assert!(rt; hit >= 1);
-        assert_eq!(rt; (closed.count(), gate.done()), (done, done));
+        assert_eq!(rt; (closed.count(), gate.differs(true, done)), (done, None));
         let mut taken = vec![in alloc; false; 32]?;
         for told in &results {
             let (_, failed, doubt) = fates_of(told.as_slice());
             assert!(rt; failed.saturating_add(doubt) <= 1);
-            assert!(rt; is_rising(taken.as_mut_slice(), told.as_slice(), done));
+            assert!(rt; is_rising(taken.as_mut_slice(), told.as_slice()));
         }
         assert!(rt; taken.iter().take(done as usize).all(|mark| *mark));
     }

@@ -164,15 +164,3 @@ fn each_reader_keeps_one_image_beside_a_switching_writer(rt: HostRuntime) -> Res
     }
     Ok(())
 }
-
-#[test]
-fn a_writer_alone_switches_and_settles(rt: HostRuntime) -> Result<(), Fail> {
-    let alloc = rt.alloc();
-    let heap = new_region::<Trio>(alloc, 4)?;
-    let (shared, mut writer, _seats) = seated(alloc, &heap)?;
-    to_main(&rt, &shared, &mut writer);
-    assert_eq!(rt; writer.version, 1);
-    to_back(&rt, &shared, &mut writer);
-    assert_eq!(rt; writer.version, 0);
-    Ok(())
-}

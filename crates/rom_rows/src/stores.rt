@@ -7,13 +7,13 @@ ghost use Rattle.rom_store.specs.Indexed.{Indexed};
 ghost use Rattle.rom_rows.specs.Stores.{IsLabelled};
 
 use crate::crowd::new_heap;
-use crate::waiting::wait_for;
-use rom_combine::{Gate, NoGate};
+use rom_combine::Gate;
 use rom_device::{Device, Ram};
 use rom_heap::Trio;
 use rom_lr::Steps;
 use rom_model::{Answer, Call, Query, Reply, Updated};
 use rom_store::{Closed, Label, Opening, Pass, Store, open_store};
+use rom_test::wait_for;
 use std::alloc::Global;
 use std::marker::Brand;
 use std::sync::Wait;
@@ -174,6 +174,8 @@ struct Told {
     first: Updated<Reply>,
     heard: Heard,
     second: (bool, Updated<Reply>),
+    third: Updated<Reply>,
+    learnt: (Answer, u64),
     order: u32,
     count: u64,
     last: Answer,
@@ -181,7 +183,8 @@ struct Told {
     published: u64,
 }
 
-/// Caller 1 puts 1 under key 1. Then it reads that, and caller 2 puts 2 there beside it.
+/// Caller 1 puts 1 under key 1. Then it reads that, and caller 2 puts 2 there beside it. Then caller 2 puts
+/// 3 there, and caller 1 learns what it has seen and reads.
 fn read_beside_update<D: Device + Send + Drop, N: Label + Send + Sync, R: Threads + Wait + Sync>(
     rt: &R,
     opening: Opening<D, Trio>,
@@ -199,7 +202,11 @@ fn read_beside_update<D: Device + Send + Drop, N: Label + Send + Sync, R: Thread
     let (store, mut passes) = opening.start::<N>();
     let (mut one, two) = parted::<N>(&mut passes);
     let first = store.update(rt, &mut one, &Call::Put(1, 1), &beside);
-    let ((one, heard), (two, second)) = read_and_update(rt, &store, one, two, &beside);
+    let ((mut one, heard), (mut two, second)) = read_and_update(rt, &store, one, two, &beside);
+    let third = store.update(rt, &mut two, &Call::Put(1, 3), &beside);
+    let note = store.note(&mut two);
+    store.learn(&mut one, note);
+    let learnt = store.query(&mut one, &Query::Get(1));
     let mut closed = close(rt, store, passes, one, two);
     let order = closed.order();
     let count = closed.count();
@@ -209,6 +216,8 @@ fn read_beside_update<D: Device + Send + Drop, N: Label + Send + Sync, R: Thread
         first,
         heard,
         second,
+        third,
+        learnt,
         order,
         count,
         last,
@@ -261,60 +270,14 @@ fn a_reading_keeps_its_state_beside_an_update(rt: HostRuntime) -> Result<(), Fai
             next: (Answer::Value(2), 2),
         },
         second: (true, Updated::Done(Reply::Was(1), 1)),
+        third: Updated::Done(Reply::Was(2), 2),
+        learnt: (Answer::Value(3), 3),
         order: 4,
-        count: 2,
-        last: Answer::Value(2),
-        counted: Some(2),
-        published: 2,
+        count: 3,
+        last: Answer::Value(3),
+        counted: Some(3),
+        published: 3,
     };
     assert_eq!(rt; told, want);
-    Ok(())
-}
-
-/// Caller 1 updates, and caller 2 learns what it has seen and reads.
-fn read_after_a_note<D: Device + Drop, N: Label, R: Wait>(
-    rt: &R,
-    opening: Opening<D, Trio>,
-) -> (Updated<Reply>, (Answer, u64), u64)
-    requires labelled { IsLabelled D.shown N.table N.base N.start N.since opening }
-    requires many { length opening.passes ≡ 2 }
-    requires callers { (base_of opening.key).callers ≡ 2 }
-    requires new { Indexed
-        (IsNewCaller Contents opening.table_id (base_of opening.key)) opening.passes }
-{
-    let (store, mut passes) = opening.start::<N>();
-    let (mut one, mut two) = parted::<N>(&mut passes);
-    let told = store.update(rt, &mut one, &Call::Enq(7), &NoGate);
-    let note = store.note(&mut one);
-    store.learn(&mut two, note);
-    let read = store.query(&mut two, &Query::Len);
-    let closed = close(rt, store, passes, one, two);
-    (told, read, closed.count())
-}
-
-fn tell_after_a_note<D: Device + Drop, R: Wait>(
-    rt: &R,
-    opening: Opening<D, Trio>,
-) -> (Updated<Reply>, (Answer, u64), u64)
-    requires many { length opening.passes ≡ 2 }
-    requires callers { (base_of opening.key).callers ≡ 2 }
-    requires new { Indexed
-        (IsNewCaller Contents opening.table_id (base_of opening.key)) opening.passes }
-{
-    read_after_a_note::<D, Brand, R>(rt, opening)
-}
-
-#[test]
-fn what_one_caller_did_another_learns_by_a_note(rt: HostRuntime) -> Result<(), Fail> {
-    let opening = opened(rt.alloc())?;
-    let (told, read, count) = tell_after_a_note(&rt, opening);
-    assert_eq!(rt; told, Updated::Done(Reply::Queued, 0));
-    let sizes = Answer::Sizes {
-        queue: 1,
-        set: 0,
-        map: 0,
-    };
-    assert_eq!(rt; read, (sizes, 1));
-    assert_eq!(rt; count, 1);
     Ok(())
 }

@@ -1,6 +1,7 @@
 //! The words of a device that a row begins with.
 
 use crate::rows::Words;
+use rom_test::changed;
 use std::alloc::{AllocError, Global};
 
 const HEADER: [u64; 8] = [0x524F_4D55_4C55_5331, 1, 4, 0, 0, 0, 0, 0];
@@ -31,14 +32,7 @@ pub fn words_of(alloc: Global, device: &Words, kept: &[u64]) -> Result<Vec<u64>,
     match device {
         Words::Zeros(many) => vec![in alloc; 0u64; *many as usize],
         Words::Heap(changes) => heap(alloc, changes),
-        Words::Regions(changes) => {
-            let mut twice = Vec::new(alloc);
-            for (offset, word) in *changes {
-                twice.push((offset.saturating_add(8), *word))?;
-                twice.push((offset.saturating_add(120), *word))?;
-            }
-            heap(alloc, twice.as_slice())
-        }
+        Words::Regions(changes) => changed(alloc, &heap(alloc, &[])?, changes),
         Words::Torn(from, to, changes) => {
             let mut words = heap(alloc, changes)?;
             for word in words.iter_mut().take(*to).skip(*from) {
@@ -47,15 +41,5 @@ pub fn words_of(alloc: Global, device: &Words, kept: &[u64]) -> Result<Vec<u64>,
             Ok(words)
         }
         Words::Kept => kept.to_vec(alloc),
-        Words::Aged => {
-            let mut words = kept.to_vec(alloc)?;
-            let region = kept.len().saturating_sub(8) / 2;
-            for at in [9, region.saturating_add(9)] {
-                if let Some(version) = words.get_mut(at) {
-                    *version = 1;
-                }
-            }
-            Ok(words)
-        }
     }
 }

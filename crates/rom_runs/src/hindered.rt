@@ -3,21 +3,16 @@
 
 use crate::heaps::words_of;
 use crate::rows::{PLAIN, Row, Text, Words};
-use crate::runner::{Found, ran, scripts_of, shown, try_rows};
+use crate::runner::{run_row, shown, try_rows};
 use rom_device::{CallKind, Device, Memory, Trip, every_trip};
+use rom_test::{Found, SMALL, places};
 use std::process::Abort;
 use std::sync::Wait;
 use std::test::Fail;
 use std::thread::Threads;
 
-/// The number of words of a device of order 4.
-pub const WORDS: usize = 232;
-
 /// No run of a test makes so many calls.
 pub const BEYOND: u64 = 4000;
-
-/// Room for each text.
-const ROOM: u64 = 1024;
 
 /// Three updates, each of which changes the heap.
 const UPDATES: Row = Row {
@@ -74,11 +69,9 @@ const OPENING: Row = Row {
 /// What is shown of it.
 const OPENED: [&str; 1] = ["order 4\ncount 1\nqueue 1 set 0 map 0\nfree 14\ntotal 0\n"];
 
-/// Runs a row.
-pub fn run_row<R: Threads + Wait + Sync + AllocGlobal>(rt: &R, row: &Row) -> Result<Found, Fail> {
-    let scripts = scripts_of(rt.alloc(), row)?;
-    let words = words_of(rt.alloc(), &row.device, &[])?;
-    ran(rt, row, words, scripts.as_slice(), ROOM)
+/// Runs a row on its device.
+pub fn run_new<R: Threads + Wait + Sync + AllocGlobal>(rt: &R, row: &Row) -> Result<Found, Fail> {
+    run_row(rt, row, words_of(rt.alloc(), &row.device, &[])?)
 }
 
 /// What is shown of the heap in what a stop leaves of a device, each word as the first or as the second that
@@ -87,14 +80,9 @@ fn left<R: Threads + Wait + Sync + AllocGlobal>(
     rt: &R,
     memory: Memory,
     choice: u64,
-) -> Result<String, Fail> {
-    let choices = vec![in rt.alloc(); choice; WORDS]?;
+) -> Result<Found, Fail> {
+    let choices = vec![in rt.alloc(); choice; SMALL]?;
     shown(rt, memory.crash(&choices))
-}
-
-/// How many updates were done, by the places that are printed.
-fn places(text: &str) -> u64 {
-    text.as_bytes().iter().filter(|byte| **byte == b'@').count() as u64
 }
 
 /// Whether the last update that did not fail is in doubt.
@@ -127,19 +115,14 @@ fn leaves_a_state<R: Threads + Wait + Sync + AllocGlobal>(
     choice: u64,
     states: &[&str],
 ) -> Result<bool, Fail> {
-    let Found {
-        status,
-        text,
-        has_session: _,
-        device,
-        roll: _,
-    } = found;
-    let left = left(rt, device, choice)?;
-    let is_state = states.iter().any(|state| left.as_str() == *state);
-    if text.as_str() == "device failed\n" {
+    let told = found.text().to_string(rt.alloc())?;
+    let status = found.status;
+    let left = left(rt, found.device, choice)?;
+    let is_state = states.iter().any(|state| left.text() == *state);
+    if told.as_str() == "device failed\n" {
         return Ok(is_state && status == 7);
     }
-    Ok(is_state && is_as_told(left.as_str(), text.as_str()))
+    Ok(is_state && is_as_told(left.text(), told.as_str()))
 }
 
 /// Stops a row after each number of calls, and looks at what is left.
@@ -148,11 +131,11 @@ fn try_stops<R: Threads + Wait + Sync + AllocGlobal + Abort>(
     row: &Row,
     states: &[&str],
 ) -> Result<(), Fail> {
-    let whole = run_row(rt, row)?;
+    let whole = run_new(rt, row)?;
     for calls in 0..whole.device.calls_made() {
         let stopped = Row { calls, ..*row };
         for choice in [0, 1] {
-            let fits = leaves_a_state(rt, run_row(rt, &stopped)?, choice, states)?;
+            let fits = leaves_a_state(rt, run_new(rt, &stopped)?, choice, states)?;
             assert!(rt; fits, "after {calls} calls, {choice}: {row:?}");
         }
     }
@@ -166,23 +149,13 @@ fn is_kept<R: Threads + Wait + Sync + AllocGlobal>(
     found: Found,
     choice: u64,
 ) -> Result<bool, Fail> {
-    let Found {
-        status,
-        text,
-        has_session: _,
-        device,
-        roll: _,
-    } = found;
-    let text = text.as_str();
-    let count = format!(in rt.alloc(); "count {}\n", places(text))?;
-    let as_read = shown(rt, device.words().to_vec(rt.alloc())?)?;
-    let left = left(rt, device, choice)?;
-    Ok(
-        matches!(status, 0 | 7)
-            && text.ends_with(count.as_str())
-            && is_as_told(as_read.as_str(), text)
-            && is_as_told(left.as_str(), text),
-    )
+    let told = found.text().to_string(rt.alloc())?;
+    let told = told.as_str();
+    let count = format!(in rt.alloc(); "count {}\n", places(told))?;
+    let is_whole = matches!(found.status, 0 | 7) && told.ends_with(count.as_str());
+    let as_read = shown(rt, found.device.words().to_vec(rt.alloc())?)?;
+    let left = left(rt, found.device, choice)?;
+    Ok(is_whole && is_as_told(as_read.text(), told) && is_as_told(left.text(), told))
 }
 
 /// Lets each call of that kind from this one on fail in turn, until there is no more. A write that fails
@@ -199,13 +172,11 @@ fn try_faults<R: Threads + Wait + Sync + AllocGlobal + Abort>(
                 keeps_new,
                 ..every_trip(call, nth)
             };
-            let found = run_row(
-                rt,
-                &Row {
-                    trip: Some(trip),
-                    ..UPDATES
-                },
-            )?;
+            let failing = Row {
+                trip: Some(trip),
+                ..UPDATES
+            };
+            let found = run_new(rt, &failing)?;
             faults = found.device.fault_count();
             assert!(rt; is_kept(rt, found, choice)?, "{trip:?}, {choice}");
         }

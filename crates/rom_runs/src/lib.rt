@@ -27,8 +27,6 @@ mod meetings;
 #[cfg(test)]
 mod model;
 #[cfg(test)]
-mod roll;
-#[cfg(test)]
 mod rows;
 #[cfg(test)]
 mod runner;

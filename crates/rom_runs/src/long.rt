@@ -1,9 +1,10 @@
 //! Long scripts of two callers on few keys, so that they meet there, the heap gets full, and amounts do not
-//! fit.
+//! fit; and scripts of sixteen callers on one key.
 
 use crate::heaps::words_of;
 use crate::rows::{PLAIN, Row, Text};
 use crate::runner::try_row;
+use rom_test::texts_of;
 use std::alloc::{AllocError, Global};
 use std::test::Fail;
 
@@ -71,8 +72,38 @@ const MADE: Row = Row {
 #[test]
 fn what_two_scripts_are_told_is_one_history(rt: HostRuntime) -> Result<(), Fail> {
     let alloc = rt.alloc();
-    let scripts = [script_of(alloc, 1)?, script_of(alloc, 2)?];
+    let (first, second) = (script_of(alloc, 1)?, script_of(alloc, 2)?);
     let words = words_of(alloc, &MADE.device, &[])?;
+    let scripts = [first.as_str(), second.as_str()];
     try_row(&rt, &MADE, &scripts, words.as_slice())?;
+    Ok(())
+}
+
+/// The script of a caller that gives one key values of its own, and reads it, in turn.
+fn putting(alloc: Global, caller: u64) -> Result<String, AllocError> {
+    let mut script = String::new(alloc);
+    for round in 0..32u64 {
+        let value = caller.saturating_mul(100).saturating_add(round);
+        script.push_str(format!(in alloc; "put 5 {value}\nget 5\n")?.as_str())?;
+    }
+    Ok(script)
+}
+
+const SIXTEEN: Row = Row {
+    words: &[
+        "try", "a", "a", "a", "a", "a", "a", "a", "a", "a", "a", "a", "a", "a", "a", "a", "a",
+    ],
+    ..MADE
+};
+
+#[test]
+fn sixteen_callers_put_and_read_one_key(rt: HostRuntime) -> Result<(), Fail> {
+    let alloc = rt.alloc();
+    let mut scripts = Vec::new(alloc);
+    for caller in 0..16 {
+        scripts.push(putting(alloc, caller)?)?;
+    }
+    let words = words_of(alloc, &SIXTEEN.device, &[])?;
+    try_row(&rt, &SIXTEEN, &texts_of(alloc, &scripts)?, words.as_slice())?;
     Ok(())
 }

@@ -1,14 +1,18 @@
-//! Callers who meet: each goes on with its first line only when all others have begun theirs. And calls
-//! that come together at the last counts that there are, so that a pass finds more of them than it does.
+//! Callers who meet: each goes on with its first line only when all others have begun theirs, and so with
+//! its last one, before which there are others in most scripts. And calls that come together at the last counts that there are, so that a pass finds more of them than it does.
 
-use crate::rows::{Holding, PLAIN, Row, Text, Words};
+use crate::rows::{PLAIN, Row, Text, Words};
 use crate::runner::try_rows;
+use rom_test::Holding;
 use std::test::Fail;
 
 /// Scripts of few lines and of several.
 const SHORT: &str = "enq 7\nget 7\n";
 
 const THREE: &str = "put 1 1\nadd 2\nrem 2\n";
+
+/// Queries alone.
+const QUERIES: &str = "peek\nlen\nget 1\nfresh 0\n";
 
 const LONG: &str = "put 1 1\nadd 2\nhas 2\nrem 2\nget 1\nmove 1 1 1\ntotal\nlen\n";
 
@@ -37,7 +41,7 @@ const RUN: Row = Row {
     ..SIXTEEN
 };
 
-static ROWS: [Row; 9] = [
+static ROWS: [Row; 12] = [
     TWO,
     Row {
         words: &["run", "file", "one", "two"],
@@ -65,6 +69,20 @@ static ROWS: [Row; 9] = [
     },
     Row {
         scripts: &[THREE; 16],
+        ..RUN
+    },
+    Row {
+        scripts: &[QUERIES; 2],
+        ..TWO
+    },
+    Row {
+        words: &["run", "file", "one", "two", "three"],
+        scripts: &[QUERIES; 3],
+        device: Words::Kept,
+        ..RUN
+    },
+    Row {
+        scripts: &[QUERIES; 16],
         ..RUN
     },
     Row {

@@ -2,7 +2,9 @@
 //!
 //! It shares no code with the object of a heap, which it is to agree with.
 
-use rom_model::{Answer, Call, Group, Kind, Query, Replies, Reply, Single, SingleReply};
+use crate::texts::{answer_text, reply_text, step_of};
+use rom_model::{Answer, Call, Group, Kind, Query, Replies, Reply, Single, SingleReply, Step};
+use rom_test::{Asked, Replayed};
 use std::alloc::{AllocError, Global};
 use std::collections::VecDeque;
 
@@ -20,7 +22,7 @@ struct Pair {
 
 /// The elements, each list in no order but the queue's.
 #[derive(Drop)]
-pub struct Model {
+pub struct Elements {
     queue: VecDeque<u64>,
     set: Vec<u64>,
     map: Vec<Pair>,
@@ -28,10 +30,10 @@ pub struct Model {
     stamp: u64,
 }
 
-impl Model {
+impl Elements {
     /// Nothing in any of them. Only a group takes memory later.
-    pub fn new(alloc: Global) -> Result<Model, AllocError> {
-        Ok(Model {
+    pub fn new(alloc: Global) -> Result<Elements, AllocError> {
+        Ok(Elements {
             queue: VecDeque::with_capacity(alloc, ROOM)?,
             set: Vec::with_capacity(alloc, ROOM)?,
             map: Vec::with_capacity(alloc, ROOM)?,
@@ -146,8 +148,8 @@ impl Model {
     }
 
     /// The same elements, in other memory.
-    fn copied(&self, alloc: Global) -> Result<Model, AllocError> {
-        let mut copy = Model::new(alloc)?;
+    fn copied(&self, alloc: Global) -> Result<Elements, AllocError> {
+        let mut copy = Elements::new(alloc)?;
         for number in self.queue.iter() {
             copy.queue.push_back(*number)?;
         }
@@ -176,7 +178,7 @@ impl Model {
     }
 
     /// Does an update at this place.
-    pub fn apply(&mut self, alloc: Global, call: &Call, place: u64) -> Result<Reply, AllocError> {
+    fn apply(&mut self, alloc: Global, call: &Call, place: u64) -> Result<Reply, AllocError> {
         self.stamp = place.saturating_add(1);
         match call.kind() {
             Kind::Single(single) => Ok(Reply::plain(self.one(&single)?)),
@@ -185,7 +187,7 @@ impl Model {
     }
 
     /// Answers a query.
-    pub fn tell(&self, query: &Query) -> Answer {
+    fn tell(&self, query: &Query) -> Answer {
         match *query {
             Query::Has(number) if self.set.contains(&number) => Answer::Yes,
             Query::Has(_) => Answer::No,
@@ -213,6 +215,33 @@ impl Model {
                 let fresh = self.map.iter().filter(|pair| pair.stamp > place);
                 Answer::Fresh(fresh.count() as u64)
             }
+        }
+    }
+}
+
+impl Replayed for Elements {
+    fn asked(&self, line: &str) -> Asked {
+        match step_of(line) {
+            Step::Update(_) => Asked::Update,
+            Step::Ask(_) => Asked::Query,
+            Step::Unread => Asked::Unread,
+        }
+    }
+
+    fn update(&mut self, alloc: Global, line: &str, place: u64) -> Result<String, AllocError> {
+        match step_of(line) {
+            Step::Update(call) => {
+                let reply = self.apply(alloc, &call, place)?;
+                reply_text(alloc, &reply, place)
+            }
+            _ => Ok(String::new(alloc)),
+        }
+    }
+
+    fn answer(&self, alloc: Global, line: &str, front: u64) -> Result<String, AllocError> {
+        match step_of(line) {
+            Step::Ask(query) => answer_text(alloc, &self.tell(&query), front),
+            _ => Ok(String::new(alloc)),
         }
     }
 }

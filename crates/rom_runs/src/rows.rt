@@ -1,6 +1,7 @@
 //! What a row of data has.
 
 use rom_device::Trip;
+use rom_test::{Holding, NEVER};
 
 /// A run of the program, and what it tells.
 #[derive(Clone, Copy, Debug)]
@@ -44,8 +45,6 @@ pub enum Words {
     Torn(usize, usize, &'static [(usize, u64)]),
     /// Those that the row before left.
     Kept,
-    /// The same of a new heap, both regions of which say that they are of version 1.
-    Aged,
 }
 
 /// What a sink has room for.
@@ -59,17 +58,6 @@ pub enum Sink {
     Each,
 }
 
-/// Whom the gate holds up.
-#[derive(Clone, Copy, Debug, PartialEq, Eq)]
-pub enum Holding {
-    /// Nobody.
-    Nobody,
-    /// Each caller as it begins its first line, until each of the others has begun its own.
-    Callers,
-    /// The first pass, until each caller has begun its first line, and then for a while.
-    FirstPass,
-}
-
 /// What is printed.
 #[derive(Clone, Copy, Debug)]
 pub enum Text {
@@ -78,9 +66,6 @@ pub enum Text {
     /// A text of one history that begins in an empty heap with this count.
     OneHistory(u64),
 }
-
-/// No call of a device is past so many.
-pub const NEVER: u64 = u64::MAX;
 
 /// A row that prints nothing, of which others say how they differ.
 pub const PLAIN: Row = Row {

@@ -1,43 +1,26 @@
 //! Runs a row, and looks at all that it is to tell.
-ghost use Rattle.std.specs.Prelude.{◌<◌};
 
 use crate::heaps::words_of;
-use crate::lawful::is_lawful;
-use crate::roll::Roll;
-use crate::rows::{Holding, NEVER, PLAIN, Row, Sink, Text, Words};
+use crate::model::Elements;
+use crate::rows::{PLAIN, Row, Sink, Text, Words};
 use rom_device::{Device, Fuse, Memory};
-use rom_script::{Bytes, Collect, Names};
-use rom_shell::{files_of, run};
+use rom_shell::{NoGate, files_of, run};
+use rom_store::Gate;
+use rom_test::{
+    Found, Handed, NEVER, Roll, count_of, device_of, hand, is_lawful, lines_in, lines_of, places,
+    texts_of,
+};
 use std::alloc::{AllocError, Global};
 use std::process::Abort;
 use std::sync::Wait;
 use std::test::Fail;
 use std::thread::Threads;
 
-/// Room for what is printed and for calls of a device, whatever is done.
+/// Room for what is printed beside the lines of scripts.
 const ROOM: u64 = 4096;
 
 /// No line is told more bytes.
 const MOST_TOLD: u64 = 48;
-
-/// No run has more lines that call its device.
-const MOST_LINES: u64 = 250_000;
-
-/// No line makes more calls of a device, on average.
-const MOST_CALLS: u64 = 36;
-
-/// A short script is read, and a short text written, in pieces of few bytes.
-const SHORT: usize = 4096;
-
-/// What a run left.
-#[derive(Drop)]
-pub struct Found {
-    pub status: u8,
-    pub text: String,
-    pub has_session: bool,
-    pub device: Memory,
-    pub roll: Roll,
-}
 
 /// A text with each line as often as it says.
 fn written(alloc: Global, text: &str) -> Result<String, AllocError> {
@@ -56,7 +39,7 @@ fn written(alloc: Global, text: &str) -> Result<String, AllocError> {
 }
 
 /// The scripts of a row, written out.
-pub fn scripts_of(alloc: Global, row: &Row) -> Result<Vec<String>, AllocError> {
+fn scripts_of(alloc: Global, row: &Row) -> Result<Vec<String>, AllocError> {
     let mut scripts = Vec::new(alloc);
     for script in row.scripts {
         scripts.push(written(alloc, script)?)?;
@@ -64,108 +47,79 @@ pub fn scripts_of(alloc: Global, row: &Row) -> Result<Vec<String>, AllocError> {
     Ok(scripts)
 }
 
-fn piece_of(bytes: usize, short: u64) -> u64
-    requires { 0 < short }
-    ensures { 0 < result }
-{
-    if bytes <= SHORT { short } else { 4096 }
+/// How many lines each caller has.
+fn lines_for(alloc: Global, row: &Row, scripts: &[&str]) -> Result<Vec<u64>, AllocError> {
+    let mut lines = row.drawn.to_vec(alloc)?;
+    lines.extend_from_slice(&lines_of(alloc, scripts)?)?;
+    Ok(lines)
 }
 
-/// Sources of the scripts, of which these reads fail.
-fn sources_of(
-    alloc: Global,
-    scripts: &[String],
-    failing: &[u64],
-) -> Result<Vec<Bytes>, AllocError> {
-    let mut sources = Vec::new(alloc);
-    for (index, script) in scripts.iter().enumerate() {
-        let piece = piece_of(script.len(), 3);
-        let trip = failing.get(index).copied().unwrap_or(0);
-        let content = script.as_bytes().to_vec(alloc)?;
-        sources.push(Bytes::new(content, piece, vec![in alloc; trip; 1]?))?;
-    }
-    Ok(sources)
-}
-
-pub fn names_of(alloc: Global, words: &[&str]) -> Result<Names, AllocError> {
-    let mut names = Names::new(alloc);
-    for word in words {
-        names.push(alloc, word)?;
-    }
-    Ok(names)
-}
-
-/// How many lines all callers have.
-fn lines_in(row: &Row, scripts: &[String]) -> u64 {
-    let mut lines = 0u64;
-    for drawn in row.drawn {
-        lines = lines.saturating_add(*drawn);
-    }
-    for script in scripts {
-        lines = lines.saturating_add(script.lines().count() as u64);
-    }
-    lines
-}
-
-/// Runs a row on a device of these words, and prints to a sink of this room.
-pub fn ran<R: Threads + Wait + Sync + AllocGlobal>(
+/// Runs a command on a device, with a sink of this room. Of each script the read of its number in `failing`
+/// fails.
+pub fn ran<R: Threads + Wait + Sync + AllocGlobal, G: Gate + Sync>(
     rt: &R,
-    row: &Row,
-    words: Vec<u64>,
-    scripts: &[String],
+    words: &[&str],
+    scripts: &[&str],
+    failing: &[u64],
+    device: Fuse<Memory>,
     room: u64,
+    gate: &G,
 ) -> Result<Found, Fail> {
     let alloc = rt.alloc();
-    let names = names_of(alloc, row.words)?;
-    let sources = sources_of(alloc, scripts, row.failing)?;
-    if files_of(alloc, &names)?.scripts.len() != sources.len() as u64 {
+    let Handed {
+        names,
+        scripts,
+        device,
+        mut out,
+    } = hand(alloc, words, scripts, failing, device, room)?;
+    if files_of(alloc, &names)?.scripts.len() != scripts.len() as u64 {
         return Err("another number of scripts".into());
     }
-    // A heap is written once, or read less than four times.
-    let lines = lines_in(row, scripts).min(MOST_LINES);
-    let made = ROOM.saturating_add((words.len() as u64).saturating_mul(4));
-    let calls = made.saturating_add(lines.saturating_mul(MOST_CALLS));
+    let ended = run(rt, alloc, &names, device, scripts, &mut out, gate);
+    Ok(Found {
+        status: ended.status,
+        bytes: out.bytes().to_vec(alloc)?,
+        has_session: ended.session.is_some(),
+        device: ended.device.inner(),
+    })
+}
+
+/// The device of a row with these words, with room for the calls of that many lines.
+fn device_for(
+    alloc: Global,
+    row: &Row,
+    words: Vec<u64>,
+    lines: u64,
+) -> Result<Fuse<Memory>, AllocError> {
     let mut trips = Vec::new(alloc);
     if let Some(trip) = row.trip {
         trips.push(trip)?;
     }
-    let memory = Memory::new(alloc, words, calls, trips)?;
-    let device = Fuse::new(memory, row.calls);
-    let callers = scripts.len().max(row.drawn.len());
-    let roll = Roll::new(alloc, callers, row.gate)?;
-    let mut out = Collect::with_room(alloc, room, piece_of(lines as usize, 5))?;
-    let ended = run(rt, alloc, &names, device, sources, &mut out, &roll);
-    Ok(Found {
-        status: ended.status,
-        text: str::from_utf8(out.bytes())?.to_string(alloc)?,
-        has_session: ended.session.is_some(),
-        device: ended.device.inner(),
-        roll,
-    })
+    device_of(alloc, words, lines, trips, row.calls)
+}
+
+/// Runs a row on a device of these words, where nobody is told of its lines.
+pub fn run_row<R: Threads + Wait + Sync + AllocGlobal>(
+    rt: &R,
+    row: &Row,
+    words: Vec<u64>,
+) -> Result<Found, Fail> {
+    let device = device_for(rt.alloc(), row, words, 0)?;
+    ran(rt, row.words, row.scripts, &[], device, ROOM, &NoGate)
 }
 
 /// What `stat` prints of these words.
 pub fn shown<R: Threads + Wait + Sync + AllocGlobal>(
     rt: &R,
     words: Vec<u64>,
-) -> Result<String, Fail> {
-    let stat = Row {
-        words: &["stat", "file"],
-        gate: Holding::Nobody,
-        ..PLAIN
-    };
-    Ok(ran(rt, &stat, words, &[], ROOM)?.text)
+) -> Result<Found, Fail> {
+    let device = device_for(rt.alloc(), &PLAIN, words, 0)?;
+    ran(rt, &["stat", "file"], &[], &[], device, ROOM, &NoGate)
 }
 
 /// Whether scripts were run, by the whole text.
 fn has_run(whole: &str) -> bool {
     whole.starts_with("caller ") || whole.starts_with("drill ")
-}
-
-/// The count at the end of a whole text.
-fn count_in(whole: &str) -> Option<u64> {
-    let (_, count) = whole.rsplit_once("count ")?;
-    count.strip_suffix("\n")?.parse::<u64>().ok()
 }
 
 /// The count of a heap that is shown so.
@@ -177,30 +131,9 @@ fn count_shown(shown: &str) -> Option<u64> {
 /// How many updates were done, by the whole text.
 fn done_in(whole: &str) -> u64 {
     if whole.starts_with("drill ") {
-        return count_in(whole).unwrap_or(0);
+        return count_of(whole).unwrap_or(0);
     }
-    whole
-        .as_bytes()
-        .iter()
-        .filter(|byte| **byte == b'@')
-        .count() as u64
-}
-
-/// How many lines each caller begins.
-fn lines_of(
-    alloc: Global,
-    row: &Row,
-    scripts: &[String],
-    whole: &str,
-) -> Result<Vec<u64>, AllocError> {
-    let mut lines = row.drawn.to_vec(alloc)?;
-    for script in scripts {
-        lines.push(script.lines().count() as u64)?;
-    }
-    if !has_run(whole) {
-        lines.fill(0);
-    }
-    Ok(lines)
+    places(whole)
 }
 
 /// Whether the text is the front that the sink had room for of the whole one, which is that of one
@@ -208,16 +141,18 @@ fn lines_of(
 fn is_told(
     alloc: Global,
     row: &Row,
-    scripts: &[String],
+    scripts: &[&str],
     whole: &str,
     found: &Found,
     room: u64,
 ) -> Result<bool, AllocError> {
-    let text = found.text.as_str();
+    let text = found.text();
     let is_front = whole.starts_with(text) && text.len() as u64 == room.min(whole.len() as u64);
     match row.text {
         Text::Is(_) => Ok(is_front),
-        Text::OneHistory(from) => is_lawful(alloc, scripts, text, from),
+        Text::OneHistory(from) => {
+            is_lawful(alloc, &mut Elements::new(alloc)?, from, scripts, text)
+        }
     }
 }
 
@@ -248,9 +183,10 @@ fn device_differs(
 fn differs(
     alloc: Global,
     row: &Row,
-    scripts: &[String],
+    scripts: &[&str],
     whole: &str,
     found: &Found,
+    roll: &Roll,
     room: u64,
 ) -> Result<Option<&'static str>, AllocError> {
     let status = if has_run(whole) && room < whole.len() as u64 {
@@ -267,8 +203,7 @@ fn differs(
     if found.has_session != (has_run(whole) || whole.starts_with("order ")) {
         return Ok(Some("the session differs"));
     }
-    let lines = lines_of(alloc, row, scripts, whole)?;
-    Ok(found.roll.differs(lines.as_slice(), done_in(whole)))
+    Ok(roll.differs(has_run(whole), done_in(whole)))
 }
 
 /// Whether `stat` shows what the row says, or else the count that was told.
@@ -279,45 +214,47 @@ fn is_shown<R: Threads + Wait + Sync + AllocGlobal>(
     words: Vec<u64>,
 ) -> Result<bool, Fail> {
     if !row.shown.is_empty() {
-        return Ok(shown(rt, words)?.as_str() == row.shown);
+        return Ok(shown(rt, words)?.text() == row.shown);
     }
-    let told = count_in(whole);
+    let told = count_of(whole);
     if told.is_none() || row.faults > 0 || row.calls < NEVER {
         return Ok(true);
     }
-    Ok(count_shown(shown(rt, words)?.as_str()) == told)
+    Ok(count_shown(shown(rt, words)?.text()) == told)
 }
 
 /// Runs a row with a sink of this room, asserts that it does not differ, and gives the device's words.
 fn try_once<R: Threads + Wait + Sync + AllocGlobal + Abort>(
     rt: &R,
     row: &Row,
-    scripts: &[String],
+    scripts: &[&str],
     before: &[u64],
     room: u64,
 ) -> Result<Vec<u64>, Fail> {
     let alloc = rt.alloc();
-    let found = ran(rt, row, before.to_vec(alloc)?, scripts, room)?;
+    let lines = lines_for(alloc, row, scripts)?;
+    let roll = Roll::new(alloc, &lines, row.gate)?;
+    let device = device_for(alloc, row, before.to_vec(alloc)?, lines_in(&lines))?;
+    let found = ran(rt, row.words, scripts, row.failing, device, room, &roll)?;
     let whole = match row.text {
         Text::Is(text) => written(alloc, text)?,
-        Text::OneHistory(_) => found.text.clone()?,
+        Text::OneHistory(_) => found.text().to_string(alloc)?,
     };
+    let whole = whole.as_str();
     let words = found.device.words().to_vec(alloc)?;
-    let wrong = match differs(alloc, row, scripts, whole.as_str(), &found, room)? {
+    let wrong = match differs(alloc, row, scripts, whole, &found, &roll, room)? {
         None => device_differs(alloc, row, before, &found)?,
         wrong => wrong,
     };
     let wrong = match wrong {
-        None if !is_shown(rt, row, whole.as_str(), words.clone()?)? => {
-            Some("another heap is opened again")
-        }
+        None if !is_shown(rt, row, whole, words.clone()?)? => Some("another heap is opened again"),
         wrong => wrong,
     };
     assert!(rt;
         wrong.is_none(),
         "{wrong:?} with room for {room} bytes: status {}, text {:?}, of {row:?}",
         found.status,
-        found.text.as_str()
+        found.text()
     );
     Ok(words)
 }
@@ -332,7 +269,7 @@ pub fn try_rows<R: Threads + Wait + Sync + AllocGlobal + Abort>(
     for row in rows {
         let scripts = scripts_of(alloc, row)?;
         let before = words_of(alloc, &row.device, kept.as_slice())?;
-        kept = try_row(rt, row, scripts.as_slice(), before.as_slice())?;
+        kept = try_row(rt, row, &texts_of(alloc, &scripts)?, before.as_slice())?;
     }
     Ok(())
 }
@@ -341,7 +278,7 @@ pub fn try_rows<R: Threads + Wait + Sync + AllocGlobal + Abort>(
 pub fn try_row<R: Threads + Wait + Sync + AllocGlobal + Abort>(
     rt: &R,
     row: &Row,
-    scripts: &[String],
+    scripts: &[&str],
     before: &[u64],
 ) -> Result<Vec<u64>, Fail> {
     if let (Sink::Each, Text::Is(text)) = (row.sink, row.text) {
@@ -350,10 +287,10 @@ pub fn try_row<R: Threads + Wait + Sync + AllocGlobal + Abort>(
         }
         try_once(rt, row, scripts, before, text.len() as u64)?;
     }
-    let ample = ROOM.saturating_add(lines_in(row, scripts).saturating_mul(MOST_TOLD));
+    let lines = lines_in(&lines_for(rt.alloc(), row, scripts)?);
     let room = match row.sink {
         Sink::Only(room) => room,
-        Sink::Ample | Sink::Each => ample,
+        Sink::Ample | Sink::Each => ROOM.saturating_add(lines.saturating_mul(MOST_TOLD)),
     };
     try_once(rt, row, scripts, before, room)
 }

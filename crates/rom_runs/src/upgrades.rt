@@ -1,16 +1,14 @@
 //! Heaps of version 1: what refuses them, and what an upgrade makes of them, wherever it is stopped.
 
-use crate::hindered::{BEYOND, WORDS, run_row};
+use crate::hindered::{BEYOND, run_new};
 use crate::rows::{PLAIN, Row, Sink, Text, Words};
-use crate::runner::{Found, ran, shown, try_rows};
+use crate::runner::{run_row, shown, try_rows};
 use rom_device::{CallKind, Device, Trip, every_trip};
+use rom_test::{Found, SMALL};
 use std::process::Abort;
 use std::sync::Wait;
 use std::test::Fail;
 use std::thread::Threads;
-
-/// Room for each text.
-const ROOM: u64 = 1024;
 
 /// A heap of version 1 after `put 0 1` and `put 5 2`, both of bucket 0: the key that came last is the first.
 const OLD: Words = Words::Regions(&[
@@ -219,15 +217,15 @@ fn ends_upgraded<R: Threads + Wait + Sync + AllocGlobal>(
     is_done: bool,
 ) -> Result<bool, Fail> {
     let before = shown(rt, words.clone()?)?;
-    let again = ran(rt, &UPGRADE, words, &[], ROOM)?;
+    let again = run_row(rt, &UPGRADE, words)?;
     let after = shown(rt, again.device.words().to_vec(rt.alloc())?)?;
-    let told = (before.as_str(), again.status, again.text.as_str());
+    let told = (before.text(), again.status, again.text());
     let is_whole = match told {
         ("refused: region version 1\n", 0, "upgraded order 4\n") => !is_done,
         (SHOWN, 3, "refused: region version 2\n") => true,
         _ => false,
     };
-    Ok(is_whole && after.as_str() == SHOWN)
+    Ok(is_whole && after.text() == SHOWN)
 }
 
 /// Whether an upgrade that was stopped, or of which a call failed, told so or was done, and its device, as it
@@ -238,11 +236,11 @@ fn leaves_a_heap<R: Threads + Wait + Sync + AllocGlobal>(
     choice: u64,
 ) -> Result<bool, Fail> {
     let is_told = matches!(
-        (found.status, found.text.as_str()),
+        (found.status, found.text()),
         (7, "device failed\n") | (0, "upgraded order 4\n")
     );
     let is_done = found.status == 0;
-    let choices = vec![in rt.alloc(); choice; WORDS]?;
+    let choices = vec![in rt.alloc(); choice; SMALL]?;
     let as_read = found.device.words().to_vec(rt.alloc())?;
     let left = found.device.crash(&choices);
     Ok(is_told && ends_upgraded(rt, as_read, is_done)? && ends_upgraded(rt, left, is_done)?)
@@ -250,11 +248,11 @@ fn leaves_a_heap<R: Threads + Wait + Sync + AllocGlobal>(
 
 #[test]
 fn every_stop_of_an_upgrade_leaves_one_version_whole(rt: HostRuntime) -> Result<(), Fail> {
-    let whole = run_row(&rt, &UPGRADE)?;
+    let whole = run_new(&rt, &UPGRADE)?;
     for calls in 0..whole.device.calls_made() {
         let stopped = Row { calls, ..UPGRADE };
         for choice in [0, 1] {
-            let fits = leaves_a_heap(&rt, run_row(&rt, &stopped)?, choice)?;
+            let fits = leaves_a_heap(&rt, run_new(&rt, &stopped)?, choice)?;
             assert!(rt; fits, "after {calls} calls, {choice}");
         }
     }
@@ -276,7 +274,7 @@ fn try_faults<R: Threads + Wait + Sync + AllocGlobal + Abort>(
             trip: Some(trip),
             ..UPGRADE
         };
-        let found = run_row(rt, &failing)?;
+        let found = run_new(rt, &failing)?;
         if found.device.fault_count() == 0 {
             return Ok(());
         }

@@ -1,8 +1,9 @@
 //! Words that are a command, with the device and the scripts that they name, and words that are none.
 
 use crate::rows::{PLAIN, Row, Sink, Text, Words};
-use crate::runner::{names_of, try_rows};
+use crate::runner::try_rows;
 use rom_shell::{DeviceWant, Wanted, files_of};
+use rom_test::names_of;
 use std::process::Abort;
 use std::sync::Wait;
 use std::test::Fail;

@@ -1,5 +1,0 @@
-use Rattle.std.proofs.Common.{◌≡◌, ◌*◌, vec_len}
-use Rattle.rom_rows.proofs.played.putting.Given as goal
-
-abbrev pub invariant-loop-round : goal.invariant-loop-round
-invariant-loop-round l = vec_len l.lines ≡ 2 * l.round
