@@ -170,6 +170,7 @@ fn follow_heap<D: Device + Send, S: Source, O: Sink, R: Wait, G: Gate>(
 }
 
 // So on the one stream of these inputs.
+#[inline(never)]
 fn follow_only<D: Device + Send, S: Source, O: Sink, R: Wait, G: Gate>(
     rt: &R,
     alloc: Global,

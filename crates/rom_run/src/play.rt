@@ -125,6 +125,7 @@ where
 
 /// Opens or makes the heap and runs the scripts on it, one caller each, or prints why there is
 /// none. Memory for them is taken before the device is called; where a heap is made, all memory is.
+#[inline(never)]
 pub fn play_heap<
     O: Object + Send + Sync,
     D: Device + Send,
