@@ -4,8 +4,8 @@ use crate::devices::{Step, takes};
 use crate::files::{path, zeroed};
 use rom_device::{Device, FileDevice};
 use rom_header::MAGIC;
-use rom_host::{HostDevice, Program, Reading, device_of, file_of, reader_of, sources_of};
-use rom_text::{DeviceWant, Name, Names, Source};
+use rom_host::{HostDevice, Program, Reading, Script, device_of, file_of, reader_of, sources_of};
+use rom_text::{Adapted, DeviceWant, Name, Names, Source};
 use std::fs;
 use std::os::unix::fs::{MetadataExt, symlink};
 use std::path::PathBuf;
@@ -231,13 +231,18 @@ fn a_file_is_made_for_its_owner_kept_and_opened_by_one_alone(rt: HostRuntime) ->
     Ok(())
 }
 
+/// Opens a file of this name, which is not there, in each of these ways.
+fn opens_new(rt: &HostRuntime, name: &str, rows: &[Row]) -> Result<(), Fail> {
+    let file = path(rt, name)?;
+    opens(rt, &file, rows)?;
+    fs::remove_file(rt, file.as_path())?;
+    Ok(())
+}
+
 #[test]
 fn only_a_file_without_a_heap_is_begun_anew(rt: HostRuntime) -> Result<(), Fail> {
-    for (name, rows) in [("host_anew", ANEW.as_slice()), ("host_heap", &HEAP)] {
-        let file = path(&rt, name)?;
-        opens(&rt, &file, rows)?;
-        fs::remove_file(&rt, file.as_path())?;
-    }
+    opens_new(&rt, "host_anew", &ANEW)?;
+    opens_new(&rt, "host_heap", &HEAP)?;
     let short = path(&rt, "host_short")?;
     fs::write(&rt, short.as_path(), b"hello".as_slice())?;
     opens(&rt, &short, &SHORT)?;
@@ -262,9 +267,18 @@ fn given<'a, S: Source>(source: &mut S, buf: &'a mut [u8; 8]) -> Option<&'a [u8]
     }
 }
 
+/// The scripts of these names.
+fn sources(
+    rt: &HostRuntime,
+    names: &Names,
+    reading: Reading,
+) -> Result<Vec<Adapted<Script>>, Fail> {
+    let program = Program::new(rt, "rom_units");
+    Ok(sources_of(&program, names, reading)?)
+}
+
 #[test]
 fn scripts_come_in_their_order(rt: HostRuntime) -> Result<(), Fail> {
-    let program = Program::new(&rt, "rom_units");
     let first = path(&rt, "host_first")?;
     let second = path(&rt, "host_second")?;
     fs::write(&rt, first.as_path(), b"len\n".as_slice())?;
@@ -272,10 +286,11 @@ fn scripts_come_in_their_order(rt: HostRuntime) -> Result<(), Fail> {
     // What cannot be read ends it: a name that is none, or a folder.
     for stop in ["/nowhere/script", "/"] {
         let mut names = Names::new(rt.alloc());
-        for name in [second.as_str(), first.as_str(), stop, first.as_str()] {
-            names.push(rt.alloc(), name)?;
-        }
-        let mut sources = sources_of(&program, &names, Reading::First)?;
+        names.push(rt.alloc(), second.as_str())?;
+        names.push(rt.alloc(), first.as_str())?;
+        names.push(rt.alloc(), stop)?;
+        names.push(rt.alloc(), first.as_str())?;
+        let mut sources = sources(&rt, &names, Reading::First)?;
         assert_eq!(rt; sources.len(), 4);
         let texts = [Some(b"total\n".as_slice()), Some(b"len\n"), None, None];
         for (source, text) in sources.iter_mut().zip(texts) {
@@ -286,7 +301,7 @@ fn scripts_come_in_their_order(rt: HostRuntime) -> Result<(), Fail> {
     // One that is read as it comes is not read before that.
     let mut names = Names::new(rt.alloc());
     names.push(rt.alloc(), first.as_str())?;
-    let mut sources = sources_of(&program, &names, Reading::Beside)?;
+    let mut sources = sources(&rt, &names, Reading::Beside)?;
     fs::write(&rt, first.as_path(), b"peek\n".as_slice())?;
     for source in sources.iter_mut() {
         let mut buf = [0u8; 8];
