@@ -32,6 +32,8 @@ chmod 400 heap
 told 0 "counts back: a batch is under way" "$program" check heap
 told 0 "put 0 1" "$program" script heap
 told 0 "" "$program" script heap --part 3
+told 0 "put 0 1" "$program" script heap --from back
+told 3 "refused: malformed at 4, rule ends" "$program" script heap --from main
 told 0 "put 0 1" flock -s heap "$program" script heap
 told 7 "device failed" flock -x heap "$program" script heap
 told 7 "device failed" "$program" check nothing
