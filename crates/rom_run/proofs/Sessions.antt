@@ -1,15 +1,16 @@
--- The session of scripts that were played on a heap, by what the players of it say.
+-- The session of scripts that were played on a heap, and what the device of one that was to be made keeps, by what the players say.
 use Rattle.std.specs.Prelude.{◌≡◌, ◌≤◌, ℕ, List, map, IsTrue, Ok}
 use Rattle.std.specs.Global.{Vec}
-use Rattle.std.proofs.Common.{ap, arith, subst, sym, ◌∙◌}
+use Rattle.std.proofs.Common.{ap, arith, inl, inr, subst, sym, ◌∙◌}
 use Rattle.rom_model.specs.Lawful.{IsLawful}
 use Rattle.rom_model.specs.Machine.{Machine, on_words}
 use Rattle.rom_model.specs.Passes.{faults_after}
+use Rattle.rom_model.specs.Space.{ChangesOnly}
 use Rattle.rom_model.specs.Story.{Story}
 use Rattle.rom_model.specs.declared.line.LineResult.{LineResult}
 use Rattle.rom_model.specs.declared.line.Step.{Step}
-use Rattle.rom_device.specs.Device.{Leaves, ShownDevice}
-use Rattle.rom_header.specs.Fresh.{IsFormatAnswer}
+use Rattle.rom_device.specs.Device.{Does, Leaves, ShownDevice, Stays}
+use Rattle.rom_header.specs.Fresh.{IsFormatAnswer, IsRefused}
 use Rattle.rom_header.specs.Held.{Holds}
 use Rattle.rom_header.specs.Layout.{words_needed}
 use Rattle.rom_open.specs.Within.{HasMadeHeap, HasOpened}
@@ -18,8 +19,18 @@ use Rattle.rom_store.specs.Closing.{ClosedSeen}
 use Rattle.rom_store.specs.Playing.{IsSession}
 use Rattle.rom_store.specs.Sessions.{EachStory, IsStoryOf}
 use Rattle.rom_run.proofs.Told.{if_told}
-use Rattle.rom_run.specs.Working.{HasSession}
+use Rattle.rom_run.specs.Working.{HasSession, IsDeviceKept}
 use Rattle.rom_run.specs.declared.heap.Heap.TheVariants.{New, Standing}
+
+-- where a heap can be made, none stands, and there are words enough
+pub unrefused : (order : ℕ) (words : List ℕ) → IsFormatAnswer order words (Ok tt) → IsRefused order words → ⊥
+unrefused order words can (inl stands) = can.0 stands
+unrefused order words can (inr short) = let long = can.1 in omega (arith, long, short)
+
+-- the device of a heap that was to be made
+pub kept_made : {D : Type 0} (shown : ShownDevice D) (order : ℕ) (was now : D) → shown.size now ≡ shown.size was → (IsTrue shown.tells_words → ChangesOnly 0 (words_needed order) (shown.words was) (shown.words now))
+    → (IsTrue shown.tells_words → IsRefused order (shown.words was) → Does shown Stays was now) → IsDeviceKept shown (New order) was now
+kept_made shown order was now size outside spared = record { size = size; outside = outside; spared = spared }
 
 module _ {D S C Q R A : Type 0} (shown : ShownDevice D) (machine : Machine S C Q R A) (Contents : ℕ → List ℕ → S → ℕ → Type 0) (scripts : List (Vec (Step C Q))) (results : List (Vec (LineResult R A))) (was : D) (closed : ClosedSeen D) (faults : closed.session.faults ≡ shown.faults was) where
   abbrev Lawful : Story S → Type 0

@@ -1,6 +1,6 @@
 use Rattle.std.proofs.Common.{rules}
 use Rattle.rom_store.specs.Openings.{HasBeenRefused}
-use Rattle.rom_run.proofs.Sessions.{made_session, standing_session}
+use Rattle.rom_run.proofs.Sessions.{kept_made, made_session, standing_session, unrefused}
 use Rattle.rom_run.proofs.Showing.{none_made, none_opened, refusal_ends, unmade_ends}
 use Rattle.rom_run.proofs.play.play_heap.Goals as goal
 
@@ -11,6 +11,18 @@ returns-in-Ok-clause-session g c =
     let is = c.in-Ok.ensures in
     rw c.in-New.is
     (made_session g.D.Device.shown o.machine o.Contents c.args.scripts.now played.results.items c.args.device played.closed is.faults c.in-New.order is.session is.order is.empty is.accepted is.fits)
+
+pub returns-in-Ok-clause-kept : goal.returns-in-Ok-clause-kept
+returns-in-Ok-clause-kept g c =
+    let is = c.in-Ok.ensures in
+    rw c.in-New.is
+    (kept_made g.D.Device.shown c.in-New.order c.args.device c.in-Ok.played.closed.device is.size is.outside (λ told refused. absurd (unrefused c.in-New.order (g.D.Device.shown.words c.args.device) (is.accepted told) refused)))
+
+pub returns-in-Err-clause-none_kept : goal.returns-in-Err-clause-none_kept
+returns-in-Err-clause-none_kept g c =
+    let failed = c.in-Err.ensures in
+    rw (c.in-New.is, c.end_unmade.ensures.worked)
+    (kept_made g.D.Device.shown c.in-New.order c.args.device c.in-Err.unmade.device failed.unmade_size failed.unmade_outside failed.spared)
 
 pub returns-in-Ok-play-clause-session : goal.returns-in-Ok-play-clause-session
 returns-in-Ok-play-clause-session g c =
