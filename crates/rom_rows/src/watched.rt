@@ -1,5 +1,7 @@
 //! A device of which others can see how far it is while a pass runs on it.
 
+ghost use Rattle.std.specs.Prelude.{false};
+
 use rom_combine::Gate;
 use rom_device::{Device, Failed};
 use rom_header::{STATE, State};

@@ -259,11 +259,16 @@ fn only_a_file_without_a_heap_is_begun_anew(rt: HostRuntime) -> Result<(), Fail>
     Ok(())
 }
 
-/// What a source gives at one read of at most eight bytes, or nothing where it fails.
-fn given<'a, S: Source>(source: &mut S, buf: &'a mut [u8; 8]) -> Option<&'a [u8]> {
-    match source.read(buf) {
-        Ok(count) => buf.get(..count as usize),
-        Err(_) => None,
+/// Whether this is what a source gives at one read of at most eight bytes, or it fails where nothing is.
+fn gives<S: Source>(source: &mut S, text: Option<&[u8]>) -> bool {
+    let mut buf = [0u8; 8];
+    match (source.read(&mut buf), text) {
+        (Ok(count), Some(text)) => match buf.get(..count as usize) {
+            Some(read) => read == text,
+            None => false,
+        },
+        (Err(_), None) => true,
+        _ => false,
     }
 }
 
@@ -294,8 +299,7 @@ fn scripts_come_in_their_order(rt: HostRuntime) -> Result<(), Fail> {
         assert_eq!(rt; sources.len(), 4);
         let texts = [Some(b"total\n".as_slice()), Some(b"len\n"), None, None];
         for (source, text) in sources.iter_mut().zip(texts) {
-            let mut buf = [0u8; 8];
-            assert_eq!(rt; given(source, &mut buf), text);
+            assert!(rt; gives(source, text));
         }
     }
     // One that is read as it comes is not read before that.
@@ -304,9 +308,8 @@ fn scripts_come_in_their_order(rt: HostRuntime) -> Result<(), Fail> {
     let mut sources = sources(&rt, &names, Reading::Beside)?;
     fs::write(&rt, first.as_path(), b"peek\n".as_slice())?;
     for source in sources.iter_mut() {
-        let mut buf = [0u8; 8];
-        assert_eq!(rt; given(source, &mut buf), Some(b"peek\n".as_slice()));
-        assert_eq!(rt; given(source, &mut buf), Some(b"".as_slice()));
+        assert!(rt; gives(source, Some(b"peek\n")));
+        assert!(rt; gives(source, Some(b"")));
     }
     fs::remove_file(&rt, first.as_path())?;
     fs::remove_file(&rt, second.as_path())?;
