@@ -10,8 +10,10 @@ use std::process::ExitCode;
 /// What standard error tells where the words are no command.
 const USAGE: &str = "\
 usage: romulus_dump script FILE             the script that makes the heap again
-       romulus_dump script FILE --part N    one of its three parts
-       romulus_dump check FILE              which region counts, and the sizes";
+       romulus_dump check FILE              which region counts, and the sizes
+behind FILE, in this order:
+       --from main, --from back             of this copy of a damaged heap alone
+       --part N                             of a script, one of its three parts";
 
 /// Shows what the words ask for, and gives the status.
 fn start(program: &mut Program<'_>, rt: &HostRuntime) -> Result<u8, AllocError> {
