@@ -52,15 +52,14 @@ all_refused() {
     done
 }
 
-# Waits, for ten seconds at most, until some program has locked the file. To try the lock would be to
-# take it for a moment, and so to have a program refused.
-until_locked() {
-    inode=$(stat -c %i "$1")
-    for _ in $(seq 1000); do
-        grep -q "FLOCK.*:$inode 0 EOF" /proc/locks && return 0
+# Waits, for half a minute at most, until the heap's main counts two updates more, of which one is certain then. The
+# count is the eleventh word of the file, which is read here without its lock.
+until_updated() {
+    for _ in $(seq 3000); do
+        [ "$(od -An -j80 -N8 -tu8 "$heap" | tr -d ' ')" -lt $((before + 2)) ] || return 0
         sleep 0.01
     done
-    is_wrong "nobody locked $1"
+    is_wrong "no update was done"
 }
 
 puts "$updates" >"$folder/script"
@@ -137,9 +136,11 @@ echo "  stat: count $(cat "$folder/one")"
 
 echo "a run that is killed among its updates:"
 before=$(counted "$heap")
-"$program" run "$heap" "$folder/long" >/dev/null &
+"$program" run "$heap" "$folder/long" "$folder/long" "$folder/long" >/dev/null &
 holder=$!
-until_locked "$heap"
+until_updated
+# It stands still while another waits for the lock in vain: on a quick disk its updates take less than these seconds.
+kill -STOP "$holder"
 refused stat "$heap" || is_wrong "stat was not refused"
 kill -9 "$holder"
 wait "$holder" 2>/dev/null
