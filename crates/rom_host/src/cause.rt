@@ -34,6 +34,11 @@ impl Cause {
         Cause::from(io::Error::new(ErrorKind::InvalidInput, words))
     }
 
+    /// That another program has locked the file.
+    pub(crate) fn locked() -> Cause {
+        Cause::from(io::Error::new(ErrorKind::WouldBlock, "locked by another program"))
+    }
+
     /// That what stands at the name is neither a file nor a folder.
     pub(crate) fn no_file() -> Cause {
         Cause::from(io::Error::new(ErrorKind::InvalidInput, "is no file"))
@@ -53,7 +58,6 @@ impl Display for Cause {
             ErrorKind::NotFound => f.write_str("no such file"),
             ErrorKind::PermissionDenied => f.write_str("permission denied"),
             ErrorKind::IsADirectory => f.write_str("is a folder"),
-            ErrorKind::WouldBlock => f.write_str("locked by another program"),
             _ => Display::fmt(&self.error, f),
         }
     }

@@ -48,14 +48,17 @@ fn try_lock(file: &File, beside: Beside) -> Result<(), TryLockError> {
 
 /// Locks a heap's file, and tries again for some seconds while another program has it. That the file takes no
 /// lock is an error too. The lock goes with the file, so with the process at the latest, however that ends.
-fn lock(program: &Program<'_>, file: &File, beside: Beside) -> io::Result<()> {
+fn lock(program: &Program<'_>, file: &File, beside: Beside) -> Result<(), Cause> {
     for _ in 0..program.naps {
         match try_lock(file, beside) {
             Err(TryLockError::WouldBlock) => thread::sleep(program.rt, Duration::from_millis(50)),
-            locked => return Ok(locked?),
+            locked => return Ok(locked.map_err(io::Error::from)?),
         }
     }
-    Ok(try_lock(file, beside)?)
+    match try_lock(file, beside) {
+        Err(TryLockError::WouldBlock) => Err(Cause::locked()),
+        locked => Ok(locked.map_err(io::Error::from)?),
+    }
 }
 
 /// The words of a file that is there.
