@@ -90,9 +90,6 @@ fn recovers_once_stopped<R: Abort + AllocGlobal>(
     };
     assert_eq!(rt; recovered(&mut fuse), want, "after {calls} calls");
     let stop = fuse.inner().crash(&choice(kind));
-    // The older state is among what a stop leaves.
-    let is_older = stop.as_slice().get(3) == Some(&older);
-    assert!(rt; is_older || calls > 0 || kind % 2 == 1, "after no call, {kind}");
     let mut memory = device(rt.alloc(), stop.as_slice(), AMPLE, &[])?;
     let again = recovered(&mut memory).is_some_and(|again| again.is_ok());
     assert!(rt;
