@@ -161,7 +161,10 @@ fn loses_nothing<R: Abort + AllocGlobal>(
     let stop = fuse.inner().crash(&choice(kind / 2), &[kind % 2 == 0; 8]);
     // The older state is among what a stop leaves.
     let is_older = stop.as_slice().get(3) == Some(&older);
-    assert!(rt; is_older || calls > 0 || kind % 2 == 1, "after no call, {kind}");
+    assert!(rt;
+        is_older || calls > 0 || kind % 2 == 1,
+        "after no call, {kind}"
+    );
     let mut memory = device(rt.alloc(), stop.as_slice(), AMPLE, &[])?;
     let again = recovered(&mut memory).is_some_and(|again| again.is_ok());
     let same = memory.words() == left.0 || !done && memory.words() == left.1;
