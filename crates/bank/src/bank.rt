@@ -1,4 +1,6 @@
 //! The bank: four tellers, and a manager who opens the accounts. Each of them is a caller of one store.
+//! Each total that a teller reads is the one that was put in. No single call promises that. It follows from
+//! what all callers together did, by what is known of the session once it is closed.
 ghost use Rattle.std.specs.Prelude.{◌≡◌, ◌≢◌, ◌⊎◌, ◌+◌, ◌*◌, ◌/◌, ◌<◌, ◌≤◌, ℕ, [], List, All, IfErr, IfOk, IsErr, IsTrue, OnOk, length, slice_get, slice_index, Some};
 ghost use Rattle.rom_device.specs.Device.{OnlyReads};
 ghost use Rattle.rom_header.specs.Held.{Holds};
@@ -102,6 +104,7 @@ fn pay_in<D: Device, N: Label, R: Wait>(rt: &R, store: &Heap<D, N>, pass: &mut P
             let _ = store.update(rt, pass, &Call::Put(account, 1000), &NoGate);
         }
     }
+    // Read, not added up: no call promises that nobody else wrote the account between look and deposit.
     total_in(store.query(pass, &Query::Total).0)
 }
 
@@ -211,8 +214,12 @@ fn bank<D: Device + Send, N: Label + Send + Sync, R: Threads + Wait + Sync>(
     ensures same { result.total ≡ result.put_in }
 {
     let (store, mut passes) = opening.start::<N>();
+    // The manager is a caller of its own. Its notes tell the tellers what it has seen; after that it asks for
+    // no update, and their updates are moves alone. Without a note a teller's first read might stand before a
+    // deposit.
     let mut manager = passes.take_last();
     let put_in = pay_in(rt, &store, &mut manager);
+    // Each by name: a `Vec` of tellers would take memory, and there may be none once the store is started.
     let fourth = hire(&store, store.note(&mut manager), passes.take_last());
     let third = hire(&store, store.note(&mut manager), passes.take_last());
     let second = hire(&store, store.note(&mut manager), passes.take_last());
@@ -297,6 +304,7 @@ pub fn run_bank<D: Device + Send, R: Threads + Wait + Sync + AllocGlobal>(
     ensures kept { IsTrue D.shown.tells_words → (n : ℕ) (s : State) (k : ℕ) →
         Holds Contents n (D.shown.words device) s k →
         IfErr result (λ refused. (refused.why ≡ Device) ⊎ (refused.why ≡ OutOfMemory)) }
+    // `Device` comes only where the device's count of faults rose, or stands at its last value.
     ensures faults { IfErr result (λ refused. refused.why ≡ Device →
         Rose (D.shown.faults device) (D.shown.faults refused.device)) }
 
@@ -320,20 +328,25 @@ pub fn run_bank<D: Device + Send, R: Threads + Wait + Sync + AllocGlobal>(
 
     // There is a history of five callers, the tellers, numbered from 1, and the manager, and of nobody else.
     ensures story { IfOk result (λ books. HasStory trio Contents books.closed.session) }
+    // The history is that of the session's passes, and these found updates of the five callers alone.
     ensures closed { IfOk result (λ books. EachStory trio Contents books.closed.session (λ story.
         IsClosed trio story 5)) }
 
-    // Behind what the manager has paid in there are moves alone, and the total stays.
+    // Behind what the manager has paid in there are moves alone, and the total stays. Without this clause the
+    // manager might empty the accounts between two reads and fill them again: each other clause would hold.
     ensures balanced { IfOk result (λ books.
         EachStory trio Contents books.closed.session (IsBalanced books.put_in)) }
 
     // Each teller has tried its moves, and tells how many were made and what it read in between.
     ensures tallies { IfOk result (λ books. EachStory trio Contents books.closed.session (λ story.
         Indexed (λ i tally. IsTallyOf story (i + 1) tally) books.tallies)) }
+    // Each total that a teller has read is the one put in.
     ensures reads { IfOk result (λ books.
         All (λ tally. All (λ read. read.0 ≡ books.put_in) tally.reads) books.tallies) }
+    // The total at the end is that of the state after the whole history.
     ensures total { IfOk result (λ books. EachStory trio Contents books.closed.session (λ story.
         books.total ≡ total_after story.order story.opening story.opening_count story.history)) }
+    // The total at the end is what was put in.
     ensures same { IfOk result (λ books. books.total ≡ books.put_in) }
 {
     if let Err(why) = make_where_new(rt.alloc(), &mut device) {

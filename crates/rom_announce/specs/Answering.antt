@@ -24,10 +24,11 @@ undone Published = told.Spent
 undone Failed = told.Failed
 undone Doubt = told.Doubt
 
--- a request for which the words of a reply were stored, and one that is answered
+-- a request for which the words of a reply were stored
 abbrev pub with_reply : List ℕ → Request → Request
 with_reply words f = record f { laid = words }
 
+-- a request that is answered with this place, or code, and these words
 abbrev pub answered_with : ℕ → List ℕ → Request → Request
 answered_with place words f = record f { laid = words; place = place ∷ []; answered = true }
 

@@ -33,10 +33,14 @@ pub fn answer<O: Object>(
 )
     requires of { IsWriterOf shared.now seat.old }
     requires within { (1 ≤ caller) × (caller ≤ shared.now.layout.callers) }
+    // The call was found and is not answered. Place and reply are what the records told it. In a pass without
+    // a record the place is a code, with no reply, and it is true. At `FAILED` and `DOUBT` the count of
+    // faults rose, or stands at 2^64 - 1; at `SPENT` the count of updates is at its limit.
     requires found { let v = writer_view seat.old in
         (f : Request) × IsPending (plan_of v) caller f
         × CanAnswer O.Contents (on_words O.machine) v.base (plan_of v) f
         place reply.now before after }
+    // The pass then has its record, and the call is answered with this place and reply.
     ensures answered { let v = writer_view seat.old in
         (q : Plan) × HasRecord O.Contents (on_words O.machine) v.base (plan_of v) q
         (fate_of place) before after

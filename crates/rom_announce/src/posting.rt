@@ -19,6 +19,8 @@ pub fn post<O: Object>(shared: &Shared<O>, seat: &mut Seat, args: &Args)
     requires few { length (view seat.old).calls < LAST_COUNT }
     requires call { IsCall (on_words O.machine) (view seat.old).base args.now }
     ensures same { IsSameSeat seat.old seat.new }
+    // The call is posted, behind those that the caller posted before, in two steps more than the call has
+    // words.
     ensures posted { let v = view seat.old in
         view seat.new ≡ record v {
           calls = v.calls ++ args.now ∷ [];

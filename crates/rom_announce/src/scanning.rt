@@ -20,7 +20,11 @@ use rom_rule::{BeginsPass, CALL, LoadsArgument, Scans, TURN};
 pub fn posted<O: Object>(shared: &Shared<O>, seat: &mut WriterSeat, caller: u32) -> bool
     requires of { IsWriterOf shared.now seat.old }
     requires within { (1 ≤ caller) × (caller ≤ shared.now.layout.callers) }
+    // The caller is the first, and each call found before is answered; or the caller follows the one scanned
+    // last, and the pass has no record yet.
     requires next { MayScan (plan seat.old) caller }
+    // The result is whether the turn that was loaded is odd. Where it is, the call is found. Either way the
+    // caller counts as scanned in this pass.
     ensures scanned { (turn : ℕ) × (result ≡ (turn % 2 == 1))
         × Writes seat.old seat.new (found_after caller turn (scanned_from caller (plan seat.old))) }
     ensures step { steps_of seat.new ≡ steps_of seat.old + 1 }
@@ -40,6 +44,7 @@ pub fn arguments<O: Object>(shared: &Shared<O>, seat: &mut WriterSeat, caller: u
     requires of { IsWriterOf shared.now seat.old }
     requires within { (1 ≤ caller) × (caller ≤ shared.now.layout.callers) }
     requires found { (f : Request) × IsPending (plan seat.old) caller f }
+    // The words are those of a call of the object.
     ensures call { IsCall (on_words O.machine) (writer_view seat.old).base result }
     ensures loaded { Writes seat.old seat.new (altered caller (with_words (packed result))
         (plan seat.old)) }
@@ -60,6 +65,7 @@ pub fn arguments_into<O: Object>(
     requires of { IsWriterOf shared.now seat.old }
     requires within { (1 ≤ caller) × (caller ≤ shared.now.layout.callers) }
     requires found { (f : Request) × IsPending (plan seat.old) caller f }
+    // The words are those of a call of the object.
     ensures call { IsCall (on_words O.machine) (writer_view seat.old).base args.new }
     ensures loaded { Writes seat.old seat.new (altered caller (with_words (packed args.new))
         (plan seat.old)) }

@@ -17,8 +17,11 @@ pub fn answered<O: Object>(shared: &Shared<O>, seat: &mut Seat) -> bool
     requires of { IsSeatOf shared.now seat.old }
     requires posted { IsPosted seat.old }
     ensures same { IsSameSeat seat.old seat.new }
+    // At `false` the caller has learnt nothing, and made one step.
     ensures not_yet { let v = view seat.old in
         OnFalse result (view seat.new ≡ record v { steps = v.steps + 1 }) }
+    // At `true` the caller has learnt what one pass told its call, and has seen at least the history up to
+    // that pass's end.
     ensures told { OnTrue result (Learnt O.Contents (on_words O.machine)
         seat.old.token.me seat.new.token.me) }
 {
@@ -37,6 +40,7 @@ pub fn take<O: Object>(shared: &Shared<O>, seat: &mut Seat) -> (u64, Back)
     requires answered { IsAnswered seat.old }
     requires last { (x : Told) × IsLast (view seat.old) x }
     ensures same { IsSameSeat seat.old seat.new }
+    // Place and reply are those of the answer that the caller has learnt last.
     ensures answer { (x : Told) → IsLast (view seat.old) x →
         answer_words x.1 ≡ result.0 ∷ packed result.1 }
     ensures still { let v = view seat.old in
@@ -53,6 +57,7 @@ pub fn take_into<O: Object>(shared: &Shared<O>, seat: &mut Seat, reply: &mut Bac
     requires answered { IsAnswered seat.old }
     requires last { (x : Told) × IsLast (view seat.old) x }
     ensures same { IsSameSeat seat.old seat.new }
+    // Place and reply are those of the answer that the caller has learnt last.
     ensures answer { (x : Told) → IsLast (view seat.old) x →
         answer_words x.1 ≡ result ∷ packed reply.new }
     ensures still { let v = view seat.old in

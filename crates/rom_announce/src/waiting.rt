@@ -1,5 +1,9 @@
 //! How a caller waits while its call is not answered, how it is woken, and how calls gather before a
 //! pass.
+//!
+//! A caller sleeps on its own turn, and not in the lock. Who blocks in the lock sleeps while the next pass
+//! scans, and is woken only to find its call answered: so each pass finds few calls. No wait rests on a wake:
+//! each sleep ends by itself, and after some of them the caller waits for the lock.
 ghost use Rattle.std.specs.Prelude.{◌≤◌};
 ghost use Rattle.rom_lr.specs.Seats.{IsPosted, IsSeatOf};
 
@@ -12,10 +16,13 @@ use std::time::Duration;
 
 /// The most that a caller sleeps before its second look, in milliseconds, and by how much longer it
 /// sleeps at each look. Who was woken just before it fell asleep is woken by nobody else, so the first
-/// sleeps are short; 64 of them take two seconds, which outlast the passes of a slow disk.
+/// sleeps are short; 64 of them take two seconds, which outlast the passes of a slow disk. Where a sync takes
+/// 20 ms, passes of sixteen callers hold 15.5 calls; with sleeps of one millisecond each they held 3.4.
 const NAP: u64 = 1;
 
-/// How often a caller lets others run before it sleeps, where passes are short.
+/// How often a caller lets others run before it sleeps, where passes are short. The answer is mostly there by
+/// then. In memory a drill of sixteen callers with 10,000 items each has some hundred sleeps in place of
+/// 150,000, and takes half the time.
 const LINGERS: u32 = 20;
 
 /// How often, at most, others are let run before a pass that would not find all that are wanted.
@@ -45,6 +52,8 @@ pub fn nap<O: Object, R: Wait>(rt: &R, shared: &Shared<O>, seat: &Seat, looked: 
     // The low 32 bits of the odd turn, which is twice the number of calls posted before, and one.
     let before = (seat.posted - 1) % (1 << 31);
     let odd = (2 * before + 1) as u32;
+    // The sleep takes no seat and changes no word, so the rule of the table knows nothing of it. It ends by
+    // itself, since a caller that is woken just before it falls asleep would sleep on.
     shared.table.shared.park_timeout(
         rt,
         at,
@@ -64,7 +73,9 @@ pub(crate) fn wake<O: Object>(shared: &Shared<O>, caller: u32)
 }
 
 /// Wakes the first caller that has a call posted, where it sleeps, so that it may run the next pass.
-/// Who has given the lock back calls this. With one caller it does nothing.
+/// Who has run a pass calls this once it has given the lock back. Who took the lock and found its own call
+/// answered does not: it held the lock for one load, and whoever found it taken then wakes by itself. With
+/// one caller this does nothing.
 pub fn wake_next<O: Object>(shared: &Shared<O>) {
     let callers = shared.layout.callers();
     if callers > 1 {

@@ -27,6 +27,7 @@ words_call [] = None
 words_call (tag ∷ []) = None
 words_call (tag ∷ key ∷ words) = if tag == 1 then set_call key words else if tag == 2 then cut_call key words else None
 
+-- the words of a reply
 abbrev pub reply_words : BlobReply → List ℕ
 reply_words New = 1 ∷ []
 reply_words (Was len) = 2 ∷ len ∷ []

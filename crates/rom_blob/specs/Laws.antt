@@ -10,11 +10,14 @@ use Rattle.rom_blob_region.proofs.Single as single
 use Rattle.rom_blob.specs.Codes.{words_call, reply_words, words_reply}
 use Rattle.rom_blob.specs.Tags as tags
 
+-- what a call is told is read back from its words
 pub reply_back : (order : ℕ) (s : BlobState) (count : ℕ) (words : List ℕ) (call : BlobCall) → words_call words ≡ Some call → let told : BlobReply = (step order s count call).1 in words_reply (reply_words told) ≡ Some told
 reply_back order s count words call is = tags.reply_back (step order s count call).1
 
+-- a region stands for one state and one count
 pub one_contents : (n : ℕ) (words : List ℕ) (s t : BlobState) (j k : ℕ) → Contents n words s j → Contents n words t k → (s ≡ t) × (j ≡ k)
 one_contents n words s t j k one two = single.one_contents one two
 
+-- a region is as long as its order says; its word 0 is the kind, 2; its word 2 is the count, within the limit
 pub contents_within : (n : ℕ) (words : List ℕ) (s : BlobState) (k : ℕ) → Contents n words s k → (length words ≡ region_len n) × (slice_index words 2 ≡ k) × (k ≤ LAST_COUNT) × (slice_index words 0 ≡ 2)
 contents_within n words s k is = single.contents_within is

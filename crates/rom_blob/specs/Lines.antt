@@ -24,21 +24,24 @@ abbrev pub CallFits : BlobCall → Type 0
 CallFits (call.Set key bytes) = (key < 2 ^ 64) × AreBytes bytes
 CallFits (call.Cut key) = key < 2 ^ 64
 
+-- a query's key has at most 64 bits
 abbrev pub QueryFits : BlobQuery → Type 0
 QueryFits (query.Fetch key) = key < 2 ^ 64
 QueryFits query.Size = Unit {0}
 
--- these words are those of a call, or of none
+-- these words are those of this call, whose key and bytes fit
 abbrev pub IsCall : List (List ℕ) → BlobCall → Type 0
 IsCall words call = CallFits call × (words ≡ call_line call)
 
+-- these words are those of no call whose key and bytes fit
 abbrev pub IsNoCall : List (List ℕ) → Type 0
 IsNoCall words = (call : BlobCall) → CallFits call → words ≡ call_line call → ⊥
 
--- those of a query, or of none
+-- these words are those of this query, whose key fits
 abbrev pub IsQuery : List (List ℕ) → BlobQuery → Type 0
 IsQuery words query = QueryFits query × (words ≡ query_line query)
 
+-- these words are those of no query whose key fits
 abbrev pub IsNoQuery : List (List ℕ) → Type 0
 IsNoQuery words = (query : BlobQuery) → QueryFits query → words ≡ query_line query → ⊥
 

@@ -14,9 +14,11 @@ use Rattle.rom_blob_region.specs.declared.call.BlobReply.TheVariants.{New, Was, 
 pub set_back : (key : ℕ) (bytes : List ℕ) → length bytes ≤ 256 → ((k : ℕ) → slice_index bytes k < 256) → words_call (call_words (Set key bytes)) ≡ Some (Set key bytes)
 set_back key bytes few small = ap (option_map (Set key)) (bytes_again bytes few small)
 
+-- a call that takes a key out is read back from its words
 pub cut_back : (key : ℕ) → words_call (call_words (Cut key)) ≡ Some (Cut key)
 cut_back key = refl
 
+-- words that are read as a call are the words of that call
 pub call_only : (words : List ℕ) (call : BlobCall) → words_call words ≡ Some call → call_words call ≡ words
 call_only [] call is = absurd (let never : None ≡ Some call = is in cc)
 call_only (tag ∷ []) call is = absurd (let never : None ≡ Some call = is in cc)
@@ -46,12 +48,14 @@ call_only (tag ∷ key ∷ rest) call is = by_tag (tag == 1) (tag == 2) refl ref
     by_tag false true x y told = cut rest refl (eqb-true tag 2 y) told
     by_tag false false x y told = absurd (let never : None ≡ Some call = told in cc)
 
+-- a reply is read back from its words
 pub reply_back : (reply : BlobReply) → words_reply (reply_words reply) ≡ Some reply
 reply_back New = refl
 reply_back (Was len) = refl
 reply_back Full = refl
 reply_back NoPrior = refl
 
+-- words that are read as a reply are the words of that reply
 pub reply_only : (words : List ℕ) (reply : BlobReply) → words_reply words ≡ Some reply → reply_words reply ≡ words
 reply_only [] reply is = absurd (let never : None ≡ Some reply = is in cc)
 reply_only (tag ∷ []) reply is = by_tag (tag == 1) (tag == 3) (tag == 4) refl refl refl is

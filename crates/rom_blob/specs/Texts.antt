@@ -4,5 +4,6 @@ use Rattle.rom_blob_region.specs.Texts.{shown_answer, shown_reply}
 use Rattle.rom_blob_region.specs.declared.call.BlobReply.{BlobReply}
 use Rattle.rom_blob_region.specs.declared.call.BlobAnswer.{BlobAnswer}
 
+-- how replies and answers are printed
 abbrev pub blob_texts : Texts BlobReply BlobAnswer
 blob_texts = texts_of shown_reply shown_answer

@@ -34,6 +34,7 @@ fn read_digits(digits: &[u8]) -> Option<Chunk>
     ensures none { IfNone result ((bytes : List ℕ) → AreBytes bytes
         → digits.now ≢ flat_map digits_of bytes) }
 {
+    // A loop of our own: `hex` would take upper-case digits, too.
     let mut bytes = [0; MOST];
     let mut len = 0;
     let mut rest = digits;

@@ -93,10 +93,14 @@ fn inspect_all(alloc: Global, region: &[u64], order: u32) -> Result<(), Unfit>
 pub fn inspect_blobs(alloc: Global, region: &[u64], order: u32) -> Result<(), Unfit>
     requires order { IsOrder order }
     requires sized { length region.now ≡ region_len order }
+    // `Ok` tells that the words are a well-formed region.
     ensures fit { OnOk result ((s : BlobState) × (k : ℕ) × Contents order region.now s k) }
+    // Any error but `OutOfMemory` is true of the words.
     ensures reason { IfErr result (IsReason (Rejects order region.now)) }
+    // Words that are rejected stand for no state.
     ensures refused { (e : Unfit) → Rejects order region.now e → (s : BlobState) (k : ℕ)
         → Contents order region.now s k → ⊥ }
+    // Words are rejected for at most one reason.
     ensures one { (e d : Unfit) → Rejects order region.now e → Rejects order region.now d → e ≡ d }
 {
     inspect_all(alloc, region, order)

@@ -41,7 +41,9 @@ pub fn inspect_key(
     check(!stands, node, Rule::Repeat)
 }
 
-/// Whether in the last word of so many bytes from that offset on those behind them are 0.
+/// Whether the last word of so many bytes from that offset on has zeros behind the last byte. So equal bytes
+/// are equal words. The block's words behind that one are never read, and may be anything: to clear them
+/// would be writes to a device.
 fn ends_bare(region: &[u64], at: u64, len: u64) -> bool
     requires within { len % 8 ≢ 0 → at + len / 8 < length region.now }
     requires small { length region.now < 2 ^ 32 }

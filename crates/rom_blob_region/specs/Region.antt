@@ -1,4 +1,6 @@
 -- The words of a well-formed region of keys with bytes, and the state and the count that they stand for.
+-- Here a key's node is named by the number of its unit, as in `rom_bucket`. The state names each block by its
+-- node in the allocator's tree, as in `rom_block`.
 use Rattle.std.specs.Prelude.{◌≡◌, ◌≢◌, ℕ, ◌+◌, ◌-◌, ◌*◌, ◌/◌, ◌^◌, ◌<◌, ◌≤◌, ◌==◌, List, [], ◌∷◌, ◌++◌, Some, None, if◌then◌else◌, length, slice_index}
 use Rattle.rom_model.specs.Blocks.{IsOrder, IsNode, IsDisjoint, AreWords, block_of, block_at, region_len}
 use Rattle.rom_model.specs.Chains.{times}
@@ -17,10 +19,11 @@ pub record IsBlobRoot (n : ℕ) (words : List ℕ) (count : ℕ) : Type 0 where
   pub low_zeros : (k : ℕ) → 4 ≤ k → k ≤ 7 → slice_index words k ≡ 0
   pub high_zeros : (k : ℕ) → 9 ≤ k → k ≤ 16 → slice_index words k ≡ 0
 
--- how many bytes a node's key has, and where they begin, or 0
+-- how many bytes a node's key has
 abbrev pub len_at : ℕ → List ℕ → ℕ → ℕ
 len_at n words b = slice_index words (block_of n b + 1)
 
+-- where a node's bytes begin, or 0
 abbrev pub data_at : ℕ → List ℕ → ℕ → ℕ
 data_at n words b = slice_index words (block_of n b + 3)
 
@@ -37,7 +40,8 @@ blob_at n words b = record {
 }
 
 -- The second word of a node is the length of its bytes, and the fourth where they begin: 0 where there
--- are none, and else where a block of the least order begins that has room for them.
+-- are none, and else where a block of the least order begins that has room for them. A key without bytes
+-- is a key all the same, and has its node.
 pub record IsBlob (n : ℕ) (words : List ℕ) (b : ℕ) : Type 0 where
   pub few : len_at n words b ≤ 256
   pub bare : len_at n words b ≡ 0 → data_at n words b ≡ 0

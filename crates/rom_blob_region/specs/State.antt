@@ -1,5 +1,6 @@
 -- The object: keys with bytes, and the blocks in which these stand. A block is told by its node in the
--- allocator's tree.
+-- allocator's tree. The state says which blocks each key has. So `step` says exactly when `full` comes,
+-- though that depends on the calls before.
 use Rattle.std.specs.Prelude.{ℕ, zero, suc, ◌+◌, ◌≤◌, ◌-◌, ◌*◌, ◌^◌, ◌==◌, ◌||◌, ◌&&◌, not, Bool, false, nat_le, nat_lt, List, [], ◌∷◌, ◌++◌, map, length, sum, max, ◌/◌, Option, Some, None, option_map, is_some, if◌then◌else◌}
 use Rattle.std.specs.Ordering.{nat_cmp}
 use Rattle.std.specs.FinMap as finite
@@ -21,6 +22,7 @@ pub record Blob : Type 0 where
   pub node : ℕ
   pub body : Option ℕ
 
+-- the keys with what each has
 abbrev pub BlobState : Type 0
 BlobState = finite.FinMap nat_cmp Blob
 
@@ -32,11 +34,12 @@ no_blobs = finite.empty
 abbrev pub order_for : ℕ → ℕ
 order_for len = if nat_le len 32 then 0 else if nat_le len 64 then 1 else if nat_le len 128 then 2 else 3
 
--- the blocks of a key
+-- a block, where there is one
 abbrev pub some_block : Option ℕ → List ℕ
 some_block None = []
 some_block (Some x) = x ∷ []
 
+-- the blocks of a key
 abbrev pub blocks_in : Blob → List ℕ
 blocks_in blob = blob.node ∷ some_block blob.body
 
@@ -121,13 +124,15 @@ abbrev pub step : ℕ → BlobState → ℕ → BlobCall → BlobState × BlobRe
 step n s count (Set key bytes) = set_blob n s key bytes (finite.get s key)
 step n s count (Cut key) = cut_blob s key (finite.get s key)
 
--- how many units the block of so many bytes has, all blocks of a key, and those of all keys
+-- how many units the block of so many bytes has
 abbrev pub body_units : ℕ → ℕ
 body_units len = if len == 0 then 0 else 2 ^ order_for len
 
+-- how many units all blocks of a key have
 abbrev pub units_of : Blob → ℕ
 units_of blob = 1 + body_units (length blob.bytes)
 
+-- how many units the blocks of all keys have
 abbrev pub units_in : BlobState → ℕ
 units_in s = sum (map (λ e. units_of e.1) (finite.entries s))
 
@@ -136,7 +141,9 @@ abbrev pub table_blocks : ℕ → ℕ → ℕ
 table_blocks n order = max 1 (2 ^ (n - 4) / 2 ^ order)
 
 -- The blocks of the keys have so many units that there may be no block for so many bytes, or none for a
--- new key's node.
+-- new key's node. This can be reckoned from the lengths of bytes alone. Each unit is counted as if no other
+-- lay in the same block, so the bound is weak for long bytes: in a heap of order 4 it always holds for more
+-- than 128. A closer bound would have to say where blocks lie, as `step` does.
 abbrev pub IsCrowded : ℕ → BlobState → ℕ → Type 0
 IsCrowded n s len = 2 ^ (n - order_for len) ≤ units_in s + table_blocks n (order_for len) + 1
 

@@ -24,12 +24,14 @@ bytes_text (b ∷ bytes) = flat_map digits_of (b ∷ bytes)
 abbrev pub AreBytes : List ℕ → Type 0
 AreBytes bytes = (length bytes ≤ 256) × ((k : ℕ) → slice_index bytes k < 256)
 
+-- what is printed of a reply
 abbrev pub reply_text : BlobReply → List ℕ
 reply_text reply.New = codes "new"
 reply_text (reply.Was len) = codes "was " ++ decimal len
 reply_text reply.Full = codes "full"
 reply_text reply.NoPrior = codes "none"
 
+-- what is printed of an answer
 abbrev pub answer_text : BlobAnswer → List ℕ
 answer_text (answer.Bytes bytes) = codes "bytes " ++ bytes_text bytes
 answer_text answer.Missing = codes "none"
@@ -48,9 +50,10 @@ AnswerFits (answer.Bytes bytes) = AreBytes bytes
 AnswerFits answer.Missing = Unit {0}
 AnswerFits (answer.Keys count) = count < 2 ^ 64
 
--- how replies and answers are printed
+-- how replies are printed
 abbrev pub shown_reply : ShownTold BlobReply
 shown_reply = record { text = reply_text; Fits = ReplyFits }
 
+-- how answers are printed
 abbrev pub shown_answer : ShownTold BlobAnswer
 shown_answer = record { text = answer_text; Fits = AnswerFits }

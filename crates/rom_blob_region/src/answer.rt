@@ -13,8 +13,10 @@ use rom_model::Look;
 pub fn answer_blob<M: Look>(space: &mut M, order: u32, query: &BlobQuery) -> BlobAnswer
     requires order { IsOrder order }
     requires region { (s : BlobState) × (k : ℕ) × Contents order (M.shown.image space.old) s k }
+    // The answer is what the query is told in the state that the region stands for.
     ensures told { (s : BlobState) (k : ℕ) → Contents order (M.shown.image space.old) s k
         → result ≡ tell s query.now }
+    // No word changes, and at most `cost` loads are made, where they are counted.
     ensures looks { (s : BlobState) (k : ℕ) → Contents order (M.shown.image space.old) s k
         → Looks M.shown (cost order s query.now) space.old space.new }
 {

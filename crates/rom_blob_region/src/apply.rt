@@ -50,9 +50,11 @@ pub fn apply_blob<M: Space>(space: &mut M, order: u32, call: &BlobCall) -> BlobR
     requires region { (s : BlobState) × (k : ℕ) × Contents order (M.shown.image space.old) s k
         × (k < LAST_COUNT) }
     requires room { HasRoom M.shown 128 space.old }
+    // The reply is the step's. The region then stands for the state after it, and counts one update more.
     ensures done { (s : BlobState) (k : ℕ) → Contents order (M.shown.image space.old) s k
         → let after = step order s k call.now in
         (result ≡ after.1) × Contents order (M.shown.image space.new) after.0 (k + 1) }
+    // `Full` comes only where so many units are in use that there may be no block, and never for a `Cut`.
     ensures crowded { (s : BlobState) (k : ℕ) → Contents order (M.shown.image space.old) s k
         → result ≡ Full → MayRefuse order s call.now }
     ensures stores { Stores M.shown 128 space.old space.new }

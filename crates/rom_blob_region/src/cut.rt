@@ -18,6 +18,7 @@ pub fn cut_blob<M: Space>(space: &mut M, order: u32, key: u64) -> BlobReply
     requires order { IsOrder order }
     requires region { (s : BlobState) × (k : ℕ) × Contents order (M.shown.image space.old) s k }
     requires room { HasRoom M.shown 36 space.old }
+    // The reply and the state after it are those that the definition `cut_blob` gives. The count stays.
     ensures done { (s : BlobState) (k : ℕ) → Contents order (M.shown.image space.old) s k
         → let after = cut_blob s key (finite.get s key) in
         (result ≡ after.1) × Contents order (M.shown.image space.new) after.0 k }

@@ -20,8 +20,10 @@ pub const KEYS: u64 = 3;
 pub fn fetch_blob<M: Look>(space: &mut M, order: u32, key: u64) -> BlobAnswer
     requires order { IsOrder order }
     requires region { (s : BlobState) × (k : ℕ) × Contents order (M.shown.image space.old) s k }
+    // The answer is the key's bytes in the state that the region stands for, or that the key is missing.
     ensures told { (s : BlobState) (k : ℕ) → Contents order (M.shown.image space.old) s k
         → result ≡ tell s (Fetch key) }
+    // No word changes. Loads, where counted: at most 36, and 2 more for each key in the bucket of this one.
     ensures looks { (s : BlobState) (k : ℕ) → Contents order (M.shown.image space.old) s k
         → Looks M.shown (4 + 2 * keys_beside order s key + 32) space.old space.new }
 {
@@ -41,6 +43,7 @@ pub fn fetch_blob<M: Look>(space: &mut M, order: u32, key: u64) -> BlobAnswer
 pub fn count_blobs<M: Look>(space: &mut M, order: u32) -> BlobAnswer
     requires order { IsOrder order }
     requires region { (s : BlobState) × (k : ℕ) × Contents order (M.shown.image space.old) s k }
+    // The answer is the number of keys in the state that the region stands for.
     ensures told { (s : BlobState) (k : ℕ) → Contents order (M.shown.image space.old) s k
         → result ≡ tell s Size }
     ensures looks { Looks M.shown 1 space.old space.new }

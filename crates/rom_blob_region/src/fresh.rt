@@ -46,7 +46,9 @@ pub fn format_blobs<M: Space>(space: &mut M, order: u32)
     requires order { IsOrder order }
     requires sized { length (M.shown.image space.old) ≡ region_len order }
     requires free { M.shown.has_limit ≡ false }
+    // The region stands for the state that has no key, and for the count 0.
     ensures made { Contents order (M.shown.image space.new) no_blobs 0 }
+    // The words of the blocks behind the bucket table stay as they were.
     ensures free { (k : ℕ) → block_of order (2 ^ (order - 4)) ≤ k
         → slice_index (M.shown.image space.new) k ≡ slice_index (M.shown.image space.old) k }
     ensures costs { Costs M.shown (3 * order + 1) (20 + order + 2 * 2 ^ order + buckets order)

@@ -31,6 +31,8 @@ fn add_key<M: Space>(space: &mut M, order: u32, key: u64, bytes: &Chunk) -> Blob
     ensures stores { Stores M.shown 72 space.old space.new }
 {
     let len = bytes.len();
+    // The block of the bytes first: a node that is taken first might split the last large block, though a
+    // single unit is free behind that block.
     let Some(body) = take_body(space, order, len) else {
         return BlobReply::Full;
     };
@@ -39,6 +41,7 @@ fn add_key<M: Space>(space: &mut M, order: u32, key: u64, bytes: &Chunk) -> Blob
         return BlobReply::Full;
     };
     bytes.store(space, body);
+    // To the front of its bucket: keys in order would make the walks to absent keys shorter, and no others.
     link_first(
         space,
         order,
@@ -95,10 +98,13 @@ fn replace_bytes<M: Space>(space: &mut M, order: u32, place: Place, bytes: &Chun
     let len = bytes.len();
     let was = space.load(place.node + 1);
     let old = space.load(place.node + 3);
+    // The bytes are written over in place: the device has the old image until the batch commits.
     if stays_there(was, len) {
         fill_key(space, place.node, old, bytes);
         return BlobReply::Was(was);
     }
+    // The old block is still taken, so that `Full` changes nothing. The price: it cannot make room for the
+    // new bytes.
     let Some(body) = take_body(space, order, len) else {
         return BlobReply::Full;
     };
@@ -112,10 +118,12 @@ pub fn set_blob<M: Space>(space: &mut M, order: u32, key: u64, bytes: &Chunk) ->
     requires order { IsOrder order }
     requires region { (s : BlobState) × (k : ℕ) × Contents order (M.shown.image space.old) s k }
     requires room { HasRoom M.shown 72 space.old }
+    // The reply and the state after it are those that the definition `set_blob` gives. The count stays.
     ensures done { (s : BlobState) (k : ℕ) → Contents order (M.shown.image space.old) s k
         → let after = set_blob order s key bytes.now (finite.get s key) in
         (result ≡ after.1) × Contents order (M.shown.image space.new) after.0 k }
     ensures stores { Stores M.shown 72 space.old space.new }
+    // `Full` comes only where so many units are in use that there may be no block for bytes or a new node.
     ensures crowded { (s : BlobState) (k : ℕ) → Contents order (M.shown.image space.old) s k
         → result ≡ Full → IsCrowded order s (length bytes.now) }
 {

@@ -15,6 +15,8 @@ fn write_digits(bytes: &[u8], digits: &mut [u8])
     requires room { length digits.old ≡ 2 * length bytes.now }
     ensures { digits.new ≡ flat_map digits_of bytes.now }
 {
+    // All at once: digit by digit, each one would be printed by itself. `hex` is a library, and proved; a
+    // loop of our own that reckons each digit might take fewer instructions.
     match hex::encode_to_slice(bytes, digits) {
         Ok(()) => (),
         Err(_) => unreachable!(),

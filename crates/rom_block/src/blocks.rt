@@ -26,6 +26,10 @@ pub struct Taken {
 /// calls store to the words 17 to 16 + 2 * 2^order - 1 alone, which are the tree; `format` stores 0
 /// to word 16 too. A block of the order `want` is 2^want neighbouring units, the first of which has
 /// a number that 2^want divides.
+///
+/// In the clauses a set of taken blocks is a test, which says of each node of the tree whether its block is
+/// taken. A clause that begins with `(taken : ℕ → Bool)` speaks of every set of disjoint blocks whose words
+/// the tree holds. There is at most one, so a caller may read the clause for the set that it has in mind.
 pub struct Blocks;
 
 impl Blocks {
@@ -34,8 +38,10 @@ impl Blocks {
         requires order { IsOrder order }
         requires sized { length (M.shown.image space.old) ≡ region_len order }
         requires free { M.shown.has_limit ≡ false }
+        // The tree's words are those of a region in which no block is taken.
         ensures words { AreWords order nothing (M.shown.image space.new) }
         ensures zero { slice_index (M.shown.image space.new) 16 ≡ 0 }
+        // No word differs but those of the tree and the one before them.
         ensures others { ChangesOnly 16 (2 * 2 ^ order) (M.shown.image space.old)
             (M.shown.image space.new) }
         ensures costs { Costs M.shown 0 (2 * 2 ^ order) space.old space.new }
@@ -54,13 +60,18 @@ impl Blocks {
         requires want { want ≤ order }
         requires blocks { IsSomeTree order (M.shown.image space.old) }
         requires room { HasRoom M.shown (order + 1) space.old }
+        // The first free block of the order begins where the answer says, and is taken then. The answer is
+        // `None` exactly where no block of the order is free.
         ensures taken { (taken : ℕ → Bool) → IsDisjoint order taken
             → AreWords order taken (M.shown.image space.old)
             → MatchOption result (NoneFree order taken want)
             (Takes order want taken (M.shown.image space.new)) }
+        // After `None` the words are as they were.
         ensures none { IfNone result (Looks M.shown (order + 1) space.old space.new) }
+        // No word differs but those of the tree.
         ensures others { ChangesTree M.shown order space.old space.new }
         ensures costs { Costs M.shown (3 * order + 1) (order + 1) space.old space.new }
+        // No more stores are counted than words differ afterwards.
         ensures sparing { IsSparing M.shown space.old space.new }
     {
         let node = find(space, order, want)?;
@@ -76,13 +87,16 @@ impl Blocks {
         requires want { want ≤ order }
         requires taken { IsTakenAt order want at (M.shown.image space.old) }
         requires room { HasRoom M.shown (order + 1) space.old }
+        // The tree is then that of all taken blocks but this one.
         ensures given { (taken : ℕ → Bool) (x : ℕ) → IsDisjoint order taken
             → AreWords order taken (M.shown.image space.old)
             → IsNode (order - want) x → at ≡ block_at order want x → taken x ≡ true
             → IsDisjoint order (giving x taken)
             × AreWords order (giving x taken) (M.shown.image space.new) }
+        // No word differs but those of the tree.
         ensures others { ChangesTree M.shown order space.old space.new }
         ensures costs { Costs M.shown (2 * order) (order + 1) space.old space.new }
+        // No more stores are counted than words differ afterwards.
         ensures sparing { IsSparing M.shown space.old space.new }
     {
         let node = node_at(order, at, want);
@@ -94,6 +108,7 @@ impl Blocks {
         requires order { IsOrder order }
         requires sized { length (M.shown.image space.old) ≡ region_len order }
         requires blocks { IsSomeTree order (M.shown.image space.old) }
+        // The answer is the greatest order that has a free block, and `None` exactly where no order has one.
         ensures greatest { (taken : ℕ → Bool) → IsDisjoint order taken
             → AreWords order taken (M.shown.image space.old)
             → MatchOption result ((j : ℕ) → j ≤ order → NoneFree order taken j)
@@ -115,6 +130,8 @@ impl Blocks {
         requires sized { length region.now ≡ region_len order }
         requires blocks { AreBlocks order taken.now }
         requires apart { IsDisjoint order (among order taken.now) }
+        // `Ok`: the tree has the words of these blocks. `Malformed`: the offset of its first word that has
+        // not.
         ensures { IsTreeAnswer order (among order taken.now) region.now result }
     {
         let Ok(marks) = marked(alloc, order, taken) else {

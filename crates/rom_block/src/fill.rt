@@ -16,6 +16,7 @@ pub fn fill_node<M: Space>(space: &mut M, at: u64, words: [u64; 4])
     ensures fourth { slice_index (M.shown.image space.new) (at + 3) ≡ slice_index words 3 }
     ensures others { ChangesOnly at 4 (M.shown.image space.old) (M.shown.image space.new) }
     ensures costs { Costs M.shown 4 4 space.old space.new }
+    // No more stores are counted than words differ afterwards.
     ensures sparing { IsSparing M.shown space.old space.new }
 {
     store_changed(space, at, words[0]);

@@ -4,7 +4,8 @@
 //! the key's bucket, and the two others belong to the structure that keeps its keys so. A walk along the
 //! bucket's chain finds a key's node or tells that there is none; where the keys rise along a chain,
 //! another walk ends where the key stands or would stand. A new node goes to the front of its chain or to
-//! such a place, and one that goes is taken out. The contracts promise the place of the key in whatever
+//! such a place, and one that goes is taken out. The heap's map uses the second walk; the first is for
+//! structures whose keys have no order worth keeping. The contracts promise the place of the key in whatever
 //! blocks are the bucket's nodes, the words that a change leaves, how many loads and stores a call makes
 //! at most, and that it stores no more often than words differ afterwards. What a key has, and which word
 //! of the root counts the keys, is for the structure to say.

@@ -22,6 +22,7 @@ pub fn find_rising<M: Look>(space: &mut M, order: u32, key: u64) -> Sought
     requires order { IsOrder order }
     requires sized { length (M.shown.image space.old) ≡ region_len order }
     requires bucket { HoldsBucket order (bucket_of order key) (M.shown.image space.old) }
+    // The place of the key in whatever blocks are its bucket, and how many loads are counted at most.
     ensures { Seeks M.shown order key result space.old space.new }
 {
     let mut link = head_of(order, key);

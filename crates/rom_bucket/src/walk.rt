@@ -7,7 +7,9 @@ ghost use Rattle.rom_bucket.specs.Walk.{head_of, HoldsBucket, Finds};
 
 use rom_model::{Look, blocks_at, bucket};
 
-/// The place of a key in the chain of its bucket.
+/// The place of a key in the chain of its bucket. Whoever takes the node out needs its link. Whoever reads or
+/// replaces what the key has needs the node. A place has both, and no word is stored to find it: so a call on
+/// two keys can walk to both before it stores anything.
 #[derive(Clone, Copy)]
 pub struct Place {
     /// The offset of the word that links to the key's node, or of the chain's last link.
@@ -29,6 +31,7 @@ pub fn find<M: Look>(space: &mut M, order: u32, key: u64) -> Place
     requires order { IsOrder order }
     requires sized { length (M.shown.image space.old) ≡ region_len order }
     requires bucket { HoldsBucket order (bucket_of order key) (M.shown.image space.old) }
+    // The place of the key in whatever blocks are its bucket, and how many loads are counted at most.
     ensures { Finds M.shown order key result space.old space.new }
 {
     let mut link = head_of(order, key);

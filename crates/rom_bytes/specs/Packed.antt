@@ -12,6 +12,7 @@ pub long_at : (words : List ℕ) (at len : ℕ) → length (bytes_at words at le
 long_at words at zero = refl
 long_at words at (suc len) = let e : len + 1 ≡ suc len = omega arith in length-append (bytes_at words at len) (byte_at words at len ∷ []) ∙ ap (λ m. m + 1) (long_at words at len) ∙ e
 
+-- of the bytes that were asked for, number k is byte k of the words from that offset on
 pub byte_of : (words : List ℕ) (at len k : ℕ) → k < len → slice_index (bytes_at words at len) k ≡ byte_at words at k
 byte_of words at zero k lt = absurd (omega arith)
 byte_of words at (suc len) k lt = elim (cases_lt k len) [
@@ -71,10 +72,12 @@ module _ (len : ℕ) (cells : List ℕ) (is : IsChunk len cells) where
       let seventh = digit i 7 (8 * i + 1 + 1 + 1 + 1 + 1 + 1 + 1) (omega arith) (omega arith) in
       omega (arith, zeroth, first, second, third, fourth, fifth, sixth, seventh, eight (slice_index cells i) (is.small i))
 
+-- as many words as were asked for
 pub words_long : (bytes : List ℕ) (many : ℕ) → length (words_of bytes many) ≡ many
 words_long bytes zero = refl
 words_long bytes (suc many) = let e : many + 1 ≡ suc many = omega arith in length-append (words_of bytes many) (word_of bytes many ∷ []) ∙ ap (λ m. m + 1) (words_long bytes many) ∙ e
 
+-- word i of the words that were asked for is word i of the bytes
 pub word_at : (bytes : List ℕ) (many i : ℕ) → i < many → slice_index (words_of bytes many) i ≡ word_of bytes i
 word_at bytes zero i lt = absurd (omega arith)
 word_at bytes (suc many) i lt = elim (cases_lt i many) [

@@ -8,7 +8,9 @@ use byteorder::{ByteOrder, LittleEndian};
 use rom_model::{Look, Space, store_changed};
 use std::marker::Model;
 
-/// At most 256 bytes. A contract sees their list.
+/// At most 256 bytes. A contract sees their list. It is `Copy`, as an object asks of calls and answers, and
+/// takes no memory of its own. The price: each line and each result has room for 256 bytes, however few it
+/// has.
 #[derive(Clone, Copy, Debug)]
 pub struct Chunk {
     words: [u64; 32],
@@ -118,7 +120,9 @@ impl Chunk {
         requires small { at < 2 ^ 32 }
         requires room { HasRoom M.shown 32 space.old }
         ensures bytes { bytes_at (M.shown.image space.new) at (length self.now) ≡ self.now }
+        // The word of the last byte has zeros behind it.
         ensures ends { EndsInZeros (M.shown.image space.new) at (length self.now) }
+        // No other word changes.
         ensures others { ChangesOnly at (words_for (length self.now)) (M.shown.image space.old)
             (M.shown.image space.new) }
         ensures costs { Costs M.shown 32 32 space.old space.new }
@@ -135,6 +139,7 @@ impl Chunk {
         requires small { at < 2 ^ 32 }
         requires ends { EndsInZeros (M.shown.image space.old) at len }
         ensures bytes { result ≡ bytes_at (M.shown.image space.old) at len }
+        // No word changes. Loads, where counted, are no more than the words that the bytes take.
         ensures looks { Looks M.shown (words_for len) space.old space.new }
     {
         let mut words = [0; 32];

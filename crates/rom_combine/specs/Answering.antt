@@ -21,6 +21,7 @@ refused code t = record { caller = t.caller; place = code; reply = [] }
 abbrev pub SameCalls : Plan → Plan → Type 0
 SameCalls p q = (q.scanned ≡ p.scanned) × (map found_of q.requests ≡ map found_of p.requests)
 
+-- the caller that an answer is for
 abbrev pub caller_of : CallAnswer → ℕ
 caller_of x = x.caller
 

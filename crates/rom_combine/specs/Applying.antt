@@ -11,10 +11,11 @@ use Rattle.rom_rule.specs.Readers.{Held}
 use Rattle.rom_combine.specs.declared.answering.CallAnswer.{CallAnswer}
 use Rattle.rom_combine.specs.declared.scanning.Posted.{Posted}
 
--- an answer, and what is told of a call, by caller and words
+-- an answer, as its caller and the words that the caller's slot gets
 abbrev pub laid_of : CallAnswer → ℕ × List ℕ
 laid_of g = (g.caller, g.place ∷ packed g.reply)
 
+-- what is told of a call, likewise
 abbrev pub laid_told : Told → ℕ × List ℕ
 laid_told x = (x.0.caller, answer_words x.1)
 

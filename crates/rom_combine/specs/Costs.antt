@@ -26,7 +26,8 @@ weights_found weight p = weights weight (map (λ (f : Found). f.args) (map found
 abbrev pub weights_added : (List ℕ → ℕ) → List Entry → List Entry → ℕ
 weights_added weight old new = weights weight (map (λ (e : Entry). e.args) (drop (length old) new))
 
--- Those that lead from a phase at rest to `Clean`: a repair's from those that a fault leaves, and none from `Clean` itself; nor from those of a batch under way, in which no batch begins.
+-- The writes that lead from a phase at rest to `Clean`: a repair's from the phases that a fault leaves, and
+-- none from `Clean` itself; nor from the phases of a batch under way, in which no batch begins.
 abbrev pub mending_writes : Phase → ℕ → ℕ
 mending_writes Clean order = 0
 mending_writes Begun order = 0
@@ -37,6 +38,7 @@ mending_writes Undo order = repair_writes Undo order
 mending_writes Doubt order = repair_writes Doubt order
 mending_writes Redo order = repair_writes Redo order
 
+-- the syncs that lead there, likewise
 abbrev pub mending_syncs : Phase → ℕ
 mending_syncs Clean = 0
 mending_syncs Begun = 0
@@ -47,17 +49,20 @@ mending_syncs Undo = repair_syncs Undo
 mending_syncs Doubt = repair_syncs Doubt
 mending_syncs Redo = repair_syncs Redo
 
--- those of a whole batch that changes so many words: MUTATING, these words of main, COPYING, these words of back, each with a sync, and IDLE with none
+-- the writes of the repair, and then of a whole batch that changes so many words: MUTATING, these words of
+-- main, COPYING, these words of back, each with a sync, and IDLE with none
 abbrev pub batch_writes : Phase → ℕ → ℕ → ℕ
 batch_writes phase order words = mending_writes phase order + (2 * words + 3)
 
+-- the syncs of the repair, and then four of a whole batch
 abbrev pub batch_syncs : Phase → ℕ
 batch_syncs phase = mending_syncs phase + 4
 
--- those before COPYING
+-- the writes before COPYING: those of the repair, MUTATING, and these words of main
 abbrev pub writes_before_commit : Phase → ℕ → ℕ → ℕ
 writes_before_commit phase order words = mending_writes phase order + (words + 1)
 
+-- the syncs before COPYING: those of the repair, and one each after MUTATING and the words of main
 abbrev pub syncs_before_commit : Phase → ℕ
 syncs_before_commit phase = mending_syncs phase + 2
 

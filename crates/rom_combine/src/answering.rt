@@ -14,7 +14,9 @@ use rom_announce::answer;
 use rom_lr::{Shared, WriterSeat};
 use rom_model::{Back, Object};
 
-/// What a found call is to be told: its caller, its place in the history or a code, and its reply.
+/// What a found call is to be told: its caller, its place in the history or a code, and its reply. It is
+/// plain data, as the slot will have it: so one loop answers what was done, what found the count at its limit
+/// and what failed.
 #[derive(Clone, Copy)]
 pub struct CallAnswer {
     pub caller: u32,
@@ -71,6 +73,9 @@ pub(crate) fn answer_all<O: Object>(
         (plan seat.new) before after answers.now }
     ensures answered { Each (λ _ f. f.answered ≡ true) (plan seat.new).requests }
 {
+    // A pass that publishes has its record from the store of `side` on, since history and record must change
+    // in one step. Where nothing is published, no reader could load a change, so the first answer makes the
+    // record.
     for i in 0..answers.len() {
         let one = &answers[i];
         answer(

@@ -162,6 +162,8 @@ pub(crate) fn publish<D: Device, O: Object>(
     }
     put_back(shared, seat, log.list());
     log.clear();
+    // The phase tells whether COPYING was to be written. `failed_cause` and `doubt_cause` say of each outcome
+    // how the device failed, so a body that always ends with `Failed` is refused.
     if twin.phase() == Phase::Doubt {
         refuse(found, DOUBT, answers);
         return Outcome::Doubt;

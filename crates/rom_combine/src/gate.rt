@@ -1,4 +1,7 @@
 //! What is told of passes while they run.
+//!
+//! `Sync` is asked for where threads are started, and not by the trait: this toolchain covers no thread whose
+//! closure calls a function with that bound.
 
 use std::sync::Wait;
 

@@ -6,6 +6,10 @@
 //! what a pass does to the published history, the records and the callers; `specs/Histories.antt` what
 //! a stop leaves, in terms of that history; `specs/AtRest.antt` what holds between passes. A [`Gate`]
 //! is told of passes while they run, and can change no reply.
+//!
+//! What a clause says of a device's words, or of images that a stop leaves, holds where the device tells
+//! them. At an `ensures`, "now" is the end of the call, and "no call failed" means that the device's count of
+//! faults stayed. A device's count at 2^64 - 1 stands still and tells nothing.
 #![tactic(auto)]
 
 mod answering;

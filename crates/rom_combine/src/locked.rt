@@ -75,15 +75,20 @@ impl<D: Device, O: Object> Core<D, O> {
         requires phase { twin.phase ≡ Phase.Clean }
         requires order { twin.order ≡ (writer_view seat).base.order }
         requires order_fits { IsOrder twin.order }
+        // The table was just opened: nothing is published, and no pass was begun.
         requires opening { let v = writer_view seat in
             plan_of v ≡ record (opening_plan v.base) { dealt = (plan_of v).dealt } }
+        // The image that the table was opened with stands for some state and count of the object.
         requires formed { let b = (writer_view seat).base in
             (s : O.State) × (k : ℕ) × O.Contents b.order b.image s k }
+        // That image is the committed one of the device.
         requires committed { IsTrue D.shown.tells_images →
             committed D.shown twin ≡ (writer_view seat).base.image }
         requires faults { (writer_view seat).base.faults ≤ D.shown.faults twin.device }
+        // The log is clear, and has room for the stores of one call of the greatest weight for each caller.
         requires ready { IsReady (O.STORES * O.WEIGHT) (writer_view seat).base.callers log }
         ensures twin { result.twin ≡ twin }
+        // The core has the seat that was handed in, with its table, its number and what the writer knows.
         ensures seat { (result.table_id ≡ seat.token.table_id) × (result.id ≡ seat.token.id)
             × (result.view ≡ writer_view seat) }
     {
@@ -102,8 +107,11 @@ impl<D: Device, O: Object> Core<D, O> {
     /// The twin and the writer's seat as they stand.
     pub fn into_parts(self) -> (Twin<D>, WriterSeat)
         ensures twin { result.0 ≡ self.twin }
+        // The seat comes back with its table, its number and what the writer knows.
         ensures seat { (result.1.token.table_id ≡ self.table_id) × (result.1.token.id ≡ self.id)
             × (writer_view result.1 ≡ self.view) }
+        // No pass is under way: readers are sent to back, nobody reads main, and each call that was found is
+        // answered.
         ensures rest { IsAtRest D.shown O.Contents (on_words O.machine) result.0
             (writer_view result.1) }
     {
@@ -125,9 +133,11 @@ impl<D: Device, O: Object> Core<D, O> {
     /// told once `publish` has returned, when what it is told is certain.
     pub fn pass<R: Wait, G: Gate>(&mut self, rt: &R, shared: &Shared<O>, gate: &G) -> Passed
         requires of { IsCoreOf shared.now self.old }
+        // The core keeps its table and seat, what the table was opened with, and the heap's order.
         ensures same { (self.new.table_id ≡ self.old.table_id) × (self.new.id ≡ self.old.id)
             × (self.new.view.base ≡ self.old.view.base)
             × (self.new.twin.order ≡ self.old.twin.order) }
+        // Of what the writer knows only its plan and the number of its steps change.
         ensures kept { self.new.view ≡ record self.old.view {
           plan = Some (plan_of self.new.view);
           steps = self.new.view.steps;
@@ -156,64 +166,86 @@ impl<D: Device, O: Object> Core<D, O> {
             IsCertainSince O.Contents (on_words O.machine) b s n D.shown
             (plan_of self.old.view).history (plan_of self.new.view).history
             self.old.twin.device mid self.new.twin.device) }
+        // A published pass that did no call, as where the count stands at its limit, leaves the device alone.
         ensures spent { result.outcome ≡ Outcome.Published → result.done ≡ 0 →
             self.new.twin ≡ self.old.twin }
+        // A pass that found no call leaves the device alone.
         ensures untouched { result.outcome ≡ Outcome.Nothing → self.new.twin ≡ self.old.twin }
 
         // A pass that did no call waits for no reader: a wait adds the indicators that it found to be 0.
         ensures unwaited { result.done ≡ 0 →
             (plan_of self.new.view).clear ≡ (plan_of self.old.view).clear }
 
-        // What a stop leaves now.
+        // Each image that a stop leaves now holds the published history, or, in the phase `Doubt` alone, that
+        // followed by the batch in doubt.
         ensures now { IsTrue D.shown.tells_images → let b = self.old.view.base in
             (s : O.State) (n : ℕ) → O.Contents b.order b.image s n →
             (i : List ℕ) → D.shown.leaves self.new.twin.device i →
             ImageAt O.Contents (on_words O.machine) b s n self.new.twin.phase
             (plan_of self.new.view) i }
 
-        // How the device stood, what it needed, and what it needs afterwards.
+        // The pass began in `Clean`, and whatever a stop left had the words of shared main in both regions.
+        // Or it began in `Undo`, `Doubt` or `Redo`, and the device's last call had failed.
         ensures began { BeginsIn D.shown self.old.twin.phase self.old.twin.order
             (plan_of self.old.view).main self.old.twin.device }
+        // The device needed a repair only where its last call had failed.
         ensures needed { NeedsRepair self.old.twin.phase →
             IsTrue (D.shown.failing self.old.twin.device) }
+        // A pass that did a call leaves the phase `Clean`, or `Redo`, which needs a repair.
         ensures repaired { 0 < result.done → (self.new.twin.phase ≡ Phase.Clean)
             ⊎ (self.new.twin.phase ≡ Phase.Redo) }
+        // A pass that did a call leaves `Redo` only where the device failed in it.
         ensures undone { 0 < result.done → self.new.twin.phase ≡ Phase.Redo →
             Rose (D.shown.faults self.old.twin.device) (D.shown.faults self.new.twin.device) }
+        // A pass that failed leaves `Undo`, or the phase that it began in, where that needs a repair.
         ensures failed { result.outcome ≡ Outcome.Failed → (self.new.twin.phase ≡ Phase.Undo)
             ⊎ ((self.new.twin.phase ≡ self.old.twin.phase) × NeedsRepair self.old.twin.phase) }
         ensures doubt { result.outcome ≡ Outcome.Doubt → self.new.twin.phase ≡ Phase.Doubt }
 
-        // Who failed, and how many writes and syncs were made.
+        // Nothing is read, only the state and the two regions may differ, and no fault is taken back.
         ensures device { WritesHeap D.shown self.old.twin.order
             self.old.twin.device self.new.twin.device }
+        // A pass fails or is in doubt only where the device's count of faults rises.
         ensures cause { HasFault (fate_of result.outcome) (D.shown.faults self.old.twin.device)
             (D.shown.faults self.new.twin.device) }
+        // The outcome is `Failed` only where the device failed before COPYING was to be written, at its last
+        // call.
         ensures failed_cause { result.outcome ≡ Outcome.Failed →
             FailsBeforeCommit D.shown self.old.twin.phase self.old.twin.order
             (plan_of self.old.view).main self.old.twin.device self.new.twin.device }
+        // The outcome is `Doubt` only where the write of COPYING or the sync after it failed, and was the
+        // last call.
         ensures doubt_cause { result.outcome ≡ Outcome.Doubt →
             FailsAtCommit D.shown self.old.twin.phase self.old.twin.order
             (plan_of self.old.view).main self.old.twin.device self.new.twin.device }
+        // Where a pass did calls and the device did not fail: four syncs and at most 2 s k + 3 writes, and a
+        // repair's where one was needed. s is `O.STORES`, and k the sum of the weights of the calls done.
         ensures spends { 0 < result.done →
             IsUnfailed D.shown self.old.twin.device self.new.twin.device →
             SpendsWithin D.shown (batch_writes self.old.twin.phase self.old.twin.order
             (O.STORES * weights_added (weight_on_words O.machine)
             (plan_of self.old.view).history (plan_of self.new.view).history))
             (batch_syncs self.old.twin.phase) self.old.twin.device self.new.twin.device }
+        // However a pass ends, it makes no more writes and syncs than `spends` says, where k is the sum of
+        // the weights of all calls that it found.
         ensures most { SpendsAtMost D.shown (batch_writes self.old.twin.phase self.old.twin.order
             (O.STORES * weights_found (weight_on_words O.machine) (plan_of self.new.view)))
             (batch_syncs self.old.twin.phase) self.old.twin.device self.new.twin.device }
+        // A pass that failed makes at most two syncs and s k + 1 writes, and a repair's where one was needed,
+        // with the k of `most`.
         ensures failed_most { result.outcome ≡ Outcome.Failed →
             SpendsAtMost D.shown (writes_before_commit self.old.twin.phase self.old.twin.order
             (O.STORES * weights_found (weight_on_words O.machine) (plan_of self.new.view)))
             (syncs_before_commit self.old.twin.phase)
             self.old.twin.device self.new.twin.device }
 
-        // Nor ever more than a batch that stores to each word of the region.
+        // No pass makes more writes and syncs than a batch that stores to each word of the region, and the
+        // repair where one was needed.
         ensures whole { SpendsAtMost D.shown (batch_writes self.old.twin.phase self.old.twin.order
             (region_len self.old.twin.order))
             (batch_syncs self.old.twin.phase) self.old.twin.device self.new.twin.device }
+        // A pass that failed makes no more writes and syncs than come before COPYING in a batch that stores
+        // to each word of the region, and the repair where one was needed.
         ensures failed_whole { result.outcome ≡ Outcome.Failed →
             SpendsAtMost D.shown (writes_before_commit self.old.twin.phase self.old.twin.order
             (region_len self.old.twin.order))
@@ -224,12 +256,15 @@ impl<D: Device, O: Object> Core<D, O> {
         let _ = self.twin.phase();
         let before = self.twin.fault_count();
         let seat = &mut self.seat;
+        // The functions of a pass take the core's parts, and none is a method of the core: between two of
+        // these calls the core is not at rest, and its invariant does not hold.
         scan(shared, seat, &mut self.found);
         if self.found.is_empty() {
             return Passed::of(0, 0, Outcome::Nothing);
         }
         let many = self.found.len() as u32;
         let place = shared.load_main(seat, COUNT);
+        // Here neither the device nor the batch is needed, and the first answer makes the pass's record.
         if place == LAST_COUNT {
             refuse(self.found.as_slice(), SPENT, &mut self.answers);
             let answers = self.answers.as_slice();
@@ -252,6 +287,7 @@ impl<D: Device, O: Object> Core<D, O> {
             return Passed::of(many, 0, outcome);
         }
         let done = (shared.load_main(seat, COUNT) - place) as u32;
+        // The gate is told here and not in `publish`, since a gate may wait, and `publish` may not.
         gate.published(rt, done);
         answer_all(shared, seat, self.answers.as_slice(), before, now);
         settle(rt, &mut self.twin, shared, seat, &mut self.log, before);

@@ -9,7 +9,8 @@ use rom_lr::{Shared, WriterSeat};
 use rom_model::{Look, Object};
 
 /// Shared main as words that are only loaded, whichever side is named. Each load is one of the
-/// writer's steps.
+/// writer's steps. The steps of a batch on the device take their words from here, and from no space of
+/// another kind: so what each step leaves is said once.
 pub struct MainLook<'a, O: Object> {
     pub(crate) shared: &'a Shared<O>,
     pub(crate) seat: &'a mut WriterSeat,
@@ -50,9 +51,11 @@ impl<'a, O: Object> Look for MainLook<'a, O> {
 /// Answers a query from shared main, whichever side is named. It neither waits nor takes memory.
 pub fn ask_main<O: Object>(shared: &Shared<O>, seat: &mut WriterSeat, query: &O::Query) -> O::Answer
     requires of { IsWriterOf shared.now seat.old }
+    // Shared main stands for some state and count of the object.
     requires region { let v = writer_view seat.old in
         (s : O.State) × (k : ℕ) × O.Contents v.base.order (plan_of v).main s k }
     ensures same { Writes seat.old seat.new (plan seat.old) }
+    // The answer is the object's in the state that shared main stands for.
     ensures told { let v = writer_view seat.old in (s : O.State) (k : ℕ) →
         O.Contents v.base.order (plan_of v).main s k → result ≡ O.machine.tell s query.now }
 {

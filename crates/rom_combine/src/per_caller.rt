@@ -1,4 +1,8 @@
 //! Short lists that stand in the core, and whose room is used again in each pass.
+//!
+//! On the stack each function that has such a list would fill it with zeros: 8,000 bytes for a scan that
+//! finds nothing. `ArrayVec` writes a blank into each place that is cleared: 520 instructions for each call
+//! in a pass of sixteen. These lists are cleared by their count alone.
 ghost use Rattle.std.specs.Prelude.{◌≡◌, ◌+◌, ◌<◌, ◌≤◌, ◌==◌, [], ◌∷◌, ◌++◌, length};
 
 use std::marker::Model;

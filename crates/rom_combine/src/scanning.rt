@@ -46,6 +46,9 @@ pub(crate) fn scan<O: Object>(
         shared.now.layout.callers found.new.items }
     ensures same { Writes seat.old seat.new (plan seat.new) }
 {
+    // In the order of the callers' numbers nothing need be sorted, and no caller can stand twice. Only the
+    // load of caller 1's turn begins a pass, also one that finds nothing. So a body that looks at no turn
+    // cannot keep `scanned`.
     found.clear();
     visit(shared, seat, 1, found);
     for caller in 2..shared.layout.callers() + 1 {

@@ -41,6 +41,7 @@ impl<L: Ledger> Counted<L> {
     /// These words, of which nothing is loaded or stored yet, with so many stores to come at most.
     /// The blank names the ledger in which proofs keep the count of loads.
     pub fn begin(space: VecSpace, limit: u64, blank: Blank) -> Counted<L>
+        // The blank has the ledger's name and as many parts, at least one: so it can keep a count.
         requires blank { Begins L.name L.parts blank.name blank.parts }
         ensures words { result.words ≡ words_of space }
         ensures loads { result.loads ≡ 0 }

@@ -46,5 +46,6 @@ module _ {M : Type 0} {bound : _} where
   abbrev pub has_failed_sync : Cached M bound → Bool
   has_failed_sync words = words.sync_failed
 
+  -- the medium's words with those that wait in their places, and the images of both
   abbrev pub shown_by_cached : ShownDevice M → ShownDevice (Cached M bound)
   shown_by_cached shown = shown_over shown (λ c. c.len) (λ c. c.medium) (λ c. c.pending)

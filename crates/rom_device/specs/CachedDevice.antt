@@ -11,16 +11,19 @@ module _ {M : Type 0} {bound : _} where
   abbrev pub length_of : CachedDevice M bound → ℕ
   length_of device = device.words.len
 
-  -- how many reads, writes and syncs were called, and how many of these calls failed
+  -- how many reads were called
   abbrev pub read_count : CachedDevice M bound → ℕ
   read_count device = device.reads
 
+  -- how many writes were called
   abbrev pub write_count : CachedDevice M bound → ℕ
   write_count device = device.writes
 
+  -- how many syncs were called
   abbrev pub sync_count : CachedDevice M bound → ℕ
   sync_count device = device.syncs
 
+  -- how many of these reads, writes and syncs failed
   abbrev pub fault_count_of : CachedDevice M bound → ℕ
   fault_count_of device = device.failed
 

@@ -4,8 +4,8 @@ use Rattle.rom_device.specs.Log.{words_after}
 use Rattle.rom_device.specs.declared.call.LoggedCall.{LoggedCall}
 use Rattle.rom_device.specs.declared.call.LoggedCall.TheVariants.{Read, Write, Sync}
 
--- The last synced value of a word, and then the values written to it since, in order. The log has
--- the newest call first.
+-- The last synced value of a word, and then the values written to it since, in order. The value of a write
+-- that failed is one of them: the device may have written it. The log has the newest call first.
 abbrev pub possible : List ℕ → List LoggedCall → ℕ → List ℕ
 possible base [] k = slice_index base k ∷ []
 possible base (Read at ∷ log) k = possible base log k

@@ -55,8 +55,9 @@ pub record After (step : List ℕ → List ℕ → Type 0) (old : List ℕ → T
   pub was : old from
   pub by : step from image
 
--- A run of calls: each image that a stop during or after it may leave is one from before it after
--- a step, and none that might have been left is forgotten.
+-- A run of calls: each image that a stop during or after it may leave is one from before it after a step,
+-- and none that might have been left is forgotten. It compares the device before and after, whatever calls
+-- came between. So a loop's invariant has the form of a single call's clause.
 pub record Runs {D : Type 0} (shown : ShownDevice D) (step : List ℕ → List ℕ → Type 0) (old new : D) : Type 0 where
   pub later : shown.clock old ≤ shown.clock new
   pub now : (i : List ℕ) → shown.leaves new i → After step (shown.leaves old) i
@@ -95,10 +96,11 @@ module _ {D : Type 0} (shown : ShownDevice D) where
   abbrev pub DoubtsNoMore : D → D → Type 0
   DoubtsNoMore old new = (b : ℕ) → shown.doubted new b → shown.doubted old b
 
-  -- that place is not in doubt, and none of so many from that one on
+  -- that place is not in doubt
   abbrev pub IsRenewed : ℕ → D → Type 0
   IsRenewed at device = shown.doubted device at → ⊥
 
+  -- none of so many places from that one on is in doubt
   abbrev pub AreRenewed : ℕ → ℕ → D → Type 0
   AreRenewed at count device = (k : ℕ) → k < count → shown.doubted device (at + k) → ⊥
 
@@ -117,6 +119,7 @@ module _ {D : Type 0} (shown : ShownDevice D) where
     pub images : IsTrue shown.tells_images → Runs shown Stays old new
     pub doubts : IsTrue shown.tells_doubts → Runs shown Stays old new
     pub fewer : DoubtsNoMore old new
+    -- No image is forgotten: a read that made words certain would be a sync.
     pub still : IsTrue shown.tells_images → (i : List ℕ) → shown.leaves old i → shown.leaves new i
     pub writes : shown.writes new ≡ shown.writes old
     pub syncs : shown.syncs new ≡ shown.syncs old

@@ -4,6 +4,7 @@ use Rattle.rom_model.specs.Faults.{Adds, FailedLast, LAST, counted}
 use Rattle.rom_device.specs.Device.{ShownDevice, Counts, Does, OnlyReads, WritesMany}
 use Rattle.rom_device.specs.declared.fuse.Fuse.{Fuse}
 
+-- the device within
 abbrev pub inner_of : {D : Type 0} → Fuse D → D
 inner_of fuse = fuse.inner
 

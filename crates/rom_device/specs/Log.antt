@@ -7,12 +7,13 @@ use Rattle.rom_device.specs.declared.call.CallKind as kind
 use Rattle.rom_device.specs.declared.call.LoggedCall.{LoggedCall}
 use Rattle.rom_device.specs.declared.call.LoggedCall.TheVariants.{Read, Write, Sync}
 
--- what a call did, and to which word; a sync is of no word
+-- whether a call is a read, a write or a sync
 abbrev pub kind_of : LoggedCall → CallKind
 kind_of (Read at) = kind.TheVariants.Read
 kind_of (Write at value lands) = kind.TheVariants.Write
 kind_of (Sync done) = kind.TheVariants.Sync
 
+-- the place of the word that a call reads or writes; a sync is of no word, and has 0
 abbrev pub place_of : LoggedCall → ℕ
 place_of (Read at) = at
 place_of (Write at value lands) = at

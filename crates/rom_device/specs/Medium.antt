@@ -17,9 +17,11 @@ pub record HandsOver {M : Type 0} (shown : ShownDevice M) (at : ℕ) (value : �
   pub written : IsTrue shown.tells_words → OnTrue done (shown.words new ≡ laid at value count (shown.words old))
   -- and none of these is in doubt
   pub renewed : OnTrue done (AreRenewed shown at count new)
-  -- none is made certain: what a stop might leave, it may leave still
+  -- None is made certain: what a stop might have left, it may leave still. A device over the medium
+  -- promises to forget no image that might have been left. It can do so only where the medium forgets none.
   pub keeps : IsTrue shown.tells_images → (i : List ℕ) → shown.leaves old i → shown.leaves new i
-  -- and where all were handed over, that with any of them in their places
+  -- And where all were handed over, that with any of them in their places. Of a file these lower bounds ask
+  -- for no more trust. What a stop may leave of it can be taken as widely as they ask.
   pub each : IsTrue shown.tells_images → OnTrue done ((i : List ℕ) → After (WritesMany at (firsts value count)) (shown.leaves old) i → shown.leaves new i)
 
 -- a count of faults stays where a call was done, and else rises by one

@@ -22,6 +22,7 @@ calls_of m = m.made.items
 abbrev pub room_of : Memory → ℕ
 room_of m = m.room
 
+-- the trips: each names one call that is to fail
 abbrev pub trips_of : Memory → List Trip
 trips_of m = m.trips.items
 
@@ -82,20 +83,23 @@ module _ (room : ℕ) (trips : List Trip) where
   abbrev pub calls_with : List LoggedCall → LoggedCall → List LoggedCall
   calls_with calls call = if nat_le room (length calls) then calls else calls ++ as_listed calls call ∷ []
 
-  -- Calls made one after another, up to the first that fails: how many go well, and the calls after them.
+  -- of calls that are made one after another, how many go well before the first that fails
   abbrev pub made_well : List LoggedCall → List LoggedCall → ℕ
   made_well calls [] = 0
   made_well calls (call ∷ more) = if fails calls call then 0 else made_well (calls_with calls call) more + 1
 
+  -- The list once more calls were made one after another, up to the first that fails. That one is listed
+  -- too where there is room.
   abbrev pub calls_through : List LoggedCall → List LoggedCall → List LoggedCall
   calls_through calls [] = calls
   calls_through calls (call ∷ more) = if fails calls call then calls_with calls call else calls_through (calls_with calls call) more
 
--- the calls that read so many words from that place on, and those that write these there
+-- the calls that read so many words from that place on
 abbrev pub reads_from : ℕ → ℕ → List LoggedCall
 reads_from at zero = []
 reads_from at (suc len) = Read at ∷ reads_from (at + 1) len
 
+-- the calls that write these words from that place on
 abbrev pub writes_from : ℕ → List ℕ → List LoggedCall
 writes_from at [] = []
 writes_from at (value ∷ values) = Write at value true ∷ writes_from (at + 1) values

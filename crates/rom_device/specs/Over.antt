@@ -8,11 +8,13 @@ use Rattle.rom_device.specs.Cached.{may_leave}
 use Rattle.rom_device.specs.Run.{nth_of, with_run}
 use Rattle.rom_device.specs.declared.run.Run.{Run}
 
+-- the first n values are n
 pub length-firsts : (f : ℕ → ℕ) (n : ℕ) → length (firsts f n) ≡ n
 unfolding firsts
 length-firsts f zero = refl
 length-firsts f (suc n) = omega (arith, length-append (firsts f n) (f n ∷ []), length-firsts f n)
 
+-- value k of the first n values of f is f k
 pub at-firsts : (f : ℕ → ℕ) (n k : ℕ) → k < n → slice_index (firsts f n) k ≡ f k
 unfolding firsts
 at-firsts f zero k lt = absurd (omega (arith, lt))
@@ -21,11 +23,13 @@ at-firsts f (suc n) k lt = elim (cases_eq k n) [
   | inr other ↦ get_or_append_left (firsts f n) (f n ∷ []) 0 k (omega (arith, length-firsts f n, lt, other)) ∙ at-firsts f n k (omega (arith, lt, other))
 ]
 
+-- laying values over words does not change how many there are
 pub length-laid : (at : ℕ) (f : ℕ → ℕ) (n : ℕ) (x : List ℕ) → length (laid at f n x) ≡ length x
 unfolding laid
 length-laid at f zero x = refl
 length-laid at f (suc n) x = length-set (laid at f n x) (at + n) (f n) ∙ length-laid at f n x
 
+-- a word outside of the places that are laid over stays
 pub laid_other : (at : ℕ) (f : ℕ → ℕ) (n b : ℕ) (x : List ℕ) → (b < at) ⊎ (at + n ≤ b) → slice_index (laid at f n x) b ≡ slice_index x b
 unfolding laid
 laid_other at f zero b x apart = refl
@@ -35,6 +39,7 @@ laid_other at f (suc n) b x apart =
     let other : slice_index (set (laid at f n x) (at + n) (f n)) b ≡ slice_index (laid at f n x) b = rw get_or-set_other refl in
     other ∙ rest
 
+-- a word inside of them is the value that is laid there
 pub laid_here : (at : ℕ) (f : ℕ → ℕ) (n k : ℕ) (x : List ℕ) → k < n → at + n ≤ length x → slice_index (laid at f n x) (at + k) ≡ f k
 unfolding laid
 laid_here at f zero k x lt fits = absurd (omega (arith, lt))
@@ -49,6 +54,7 @@ laid_here at f (suc n) k x lt fits = elim (cases_eq k n) [
       stays ∙ laid_here at f n k x (omega (arith, lt, other)) (omega (arith, fits))
 ]
 
+-- laying values over words that have room for them is writing them
 pub laid_many : (at : ℕ) (f : ℕ → ℕ) (n : ℕ) (x : List ℕ) → at + n ≤ length x → WritesMany at (firsts f n) x (laid at f n x)
 laid_many at f n x fits = record {
   only = record {
@@ -59,6 +65,7 @@ laid_many at f n x fits = record {
   either = λ k lt. let less : k < n = omega (arith, lt, length-firsts f n) in inr (laid_here at f n k x less fits ∙ sym (at-firsts f n k less));
 }
 
+-- laying the words of a run over others does not change how many there are
 pub length_over : (run : Run) (x : List ℕ) {n : ℕ} → length x ≡ n → length (with_run run x) ≡ n
 length_over run x long = length-laid run.first (nth_of run) run.count x ∙ long
 

@@ -15,6 +15,7 @@ memory_of r = r.memory
 abbrev pub older_of : Resumed → List ℕ
 older_of r = r.older.items
 
+-- the calls made since, the newest first
 abbrev pub log_of : Resumed → List LoggedCall
 log_of r = reverse (calls_of r.memory)
 

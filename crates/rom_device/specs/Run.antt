@@ -17,6 +17,7 @@ word_of run at = if nat_le run.first at && nat_lt (at - run.first) run.count the
 abbrev pub Follows : Run → ℕ → Type 0
 Follows run at = (run.count ≡ 0) ⊎ ((run.count < 512) × (run.first + run.count ≡ at) × (at % 512 ≢ 0))
 
+-- the word, or 0 where there is none
 abbrev pub or_zero : Option ℕ → ℕ
 or_zero None = 0
 or_zero (Some word) = word

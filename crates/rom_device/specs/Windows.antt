@@ -4,6 +4,7 @@ use Rattle.rom_device.specs.Run.{word_of}
 use Rattle.rom_device.specs.declared.run.Run.{Run}
 use Rattle.rom_device.specs.declared.windows.Windows.{Windows}
 
+-- the first word, or the other where there is none
 abbrev pub first_some : Option ℕ → Option ℕ → Option ℕ
 first_some None other = other
 first_some (Some word) other = Some word
@@ -24,6 +25,7 @@ IsRead windows at word = (word_of windows.left at ≡ Some word) ⊎ (word_of wi
 abbrev pub HasSame : Run → Run → Type 0
 HasSame waiting window = (b word seen : ℕ) → word_of waiting b ≡ Some word → word_of window b ≡ Some seen → seen ≡ word
 
+-- whatever word either window has is the word that waits, where one waits
 abbrev pub Agrees : Run → Windows → Type 0
 Agrees waiting windows = HasSame waiting windows.left × HasSame waiting windows.right
 

@@ -56,6 +56,7 @@ impl<M: Medium> CachedDevice<M> {
     /// of it has failed, a device over it can be made anew.
     pub fn into_medium(self) -> M
         ensures medium { result ≡ medium_of self }
+        // Where no sync of it has failed, it is not `doubtful`, as `Medium` defines that.
         ensures sure { IsFalse (has_failed_sync self) → IsFalse (M.doubtful result) }
     {
         let CachedDevice {
@@ -111,7 +112,11 @@ impl<M: Medium> Device for CachedDevice<M> {
             word ≡ slice_index ((shown_by_device M.lasting M.shown).words self.old) at) }
         ensures only { OnlyReads (shown_by_device M.lasting M.shown) self.old self.new }
         ensures counts { Counts (shown_by_device M.lasting M.shown) 1 0 0 self.old self.new result }
+        // Without a medium it fails. The size stays, and so does whether there is a medium and whether a
+        // sync of it has failed.
         ensures keeps { Keeps M.missing (IsErr result) self.old self.new }
+        // With a medium: where it fails the medium's count of faults rises by one, and else that count
+        // stays.
         ensures cause { IsFalse (M.missing (medium_of self.old)) → Blames (is_ok result)
             (medium_faults M.shown self.old) (medium_faults M.shown self.new) }
     {
@@ -135,9 +140,13 @@ impl<M: Medium> Device for CachedDevice<M> {
         ensures failing { 0 < length into.old →
             is_failing self.new ≡ nat_lt result (length into.old) }
         ensures none { length into.old ≡ 0 → self.new ≡ self.old }
+        // Without a medium no word is read. The size stays, and so does whether there is a medium and
+        // whether a sync of it has failed.
         ensures keeps { Keeps M.missing (result ≡ 0) self.old self.new }
+        // With a medium: where all words are read, the medium's count of faults stays.
         ensures all { IsFalse (M.missing (medium_of self.old)) → result ≡ length into.old →
             medium_faults M.shown self.new ≡ medium_faults M.shown self.old }
+        // With a medium: where fewer are read, the medium's count of faults rises by one.
         ensures fewer { IsFalse (M.missing (medium_of self.old)) → result < length into.old →
             medium_faults M.shown self.new ≡ counted (medium_faults M.shown self.old) }
     {
@@ -164,7 +173,11 @@ impl<M: Medium> Device for CachedDevice<M> {
         ensures does { Does (shown_by_device M.lasting M.shown) (Writes at value) self.old self.new }
         ensures renews { OnOk result (IsRenewed (shown_by_device M.lasting M.shown) at self.new) }
         ensures counts { Counts (shown_by_device M.lasting M.shown) 0 1 0 self.old self.new result }
+        // Without a medium it fails. The size stays, and so does whether there is a medium and whether a
+        // sync of it has failed.
         ensures keeps { Keeps M.missing (IsErr result) self.old self.new }
+        // With a medium: where it fails the medium's count of faults rises by one, and else that count
+        // stays.
         ensures cause { IsFalse (M.missing (medium_of self.old)) → Blames (is_ok result)
             (medium_faults M.shown self.old) (medium_faults M.shown self.new) }
     {
@@ -191,7 +204,11 @@ impl<M: Medium> Device for CachedDevice<M> {
             self.old self.new result }
         ensures failing { 0 < length values.now → is_failing self.new ≡ is_err result }
         ensures none { length values.now ≡ 0 → self.new ≡ self.old }
+        // Without a medium it fails, unless it is given no words. The size stays, and so does whether there
+        // is a medium and whether a sync of it has failed.
         ensures keeps { Keeps M.missing (0 < length values.now → IsErr result) self.old self.new }
+        // With a medium: where it fails the medium's count of faults rises by one, and else that count
+        // stays.
         ensures cause { IsFalse (M.missing (medium_of self.old)) → Blames (is_ok result)
             (medium_faults M.shown self.old) (medium_faults M.shown self.new) }
     {
@@ -216,11 +233,15 @@ impl<M: Medium> Device for CachedDevice<M> {
         ensures counts { Counts (shown_by_device M.lasting M.shown) 0 0 1 self.old self.new result }
         ensures medium { M.missing (medium_of self.new) ≡ M.missing (medium_of self.old) }
         ensures missing { IsTrue (M.missing (medium_of self.old)) → IsErr result }
+        // Where a sync of the medium failed before, this one fails.
         ensures failed_sync { IsTrue (has_failed_sync self.old) → IsErr result }
         ensures stays_failed { IsTrue (has_failed_sync self.old) →
             IsTrue (has_failed_sync self.new) }
         ensures synced { OnOk result (IsFalse (has_failed_sync self.new)) }
+        // After a failure a word still waits, or a sync of the medium has failed.
         ensures noted { OnErr result (IsUncertain self.new) }
+        // Where no sync of the medium failed before: if this sync fails the medium's count of faults rises
+        // by one, and else that count stays.
         ensures cause { IsFalse (has_failed_sync self.old) → Blames (is_ok result)
             (medium_faults M.shown self.old) (medium_faults M.shown self.new) }
     {

@@ -34,20 +34,30 @@ pub trait Device {
     /// The word at that place. A read changes no word, and a stop may leave what it might before.
     fn read(&mut self, at: u64) -> Result<u64, Failed>
         requires { at < shown.size self.old }
+        // Where words are told, after `Ok` it is the word that stands there.
         ensures word { IsTrue shown.tells_words
             → IfOk result (λ word. word ≡ slice_index (shown.words self.old) at) }
+        // Where words and images are told, no word changes, and a stop may leave the same images. No word
+        // comes into doubt.
         ensures only { OnlyReads shown self.old self.new }
+        // One read is counted, and a fault exactly where it fails.
         ensures counts { Counts shown 1 0 0 self.old self.new result };
 
-    /// Reads words one after another, from that place on, until it has as many as there is room for
-    /// or a read fails. It says how many it read: fewer say that the device failed, and what stands
-    /// behind them in `into` may be anything.
+    /// Reads words one after another, from that place on, until it has as many as there is room for or a
+    /// read fails. It says how many it read, so that these can be used. Where they are fewer, the device
+    /// failed, and what stands behind them in `into` may be anything.
+    ///
+    /// A file device reads words ahead, and takes all of them that are asked for at once: that costs less
+    /// than a search for each. A region of order 16 has 393,232 words.
     fn read_words(&mut self, at: u64, into: &mut [u64]) -> usize
         requires { at + length into.old ≤ shown.size self.old }
         ensures len { length into.new ≡ length into.old }
+        // Where words are told, those that it says it read are the words that stand there.
         ensures read { IsTrue shown.tells_words → (k : ℕ) → k < result
             → slice_index into.new k ≡ slice_index (shown.words self.old) (at + k) }
         ensures only { OnlyReads shown self.old self.new }
+        // Each word counts as a read. Where they are fewer than asked for, one read more was made, and
+        // failed.
         ensures counts { ReadsUpTo shown result (length into.old) self.old self.new }
     {
         for index in 0..into.len() {
@@ -63,21 +73,32 @@ pub trait Device {
     /// in doubt: a sync that succeeds makes it certain.
     fn write(&mut self, at: u64, value: u64) -> Result<(), Failed>
         requires { at < shown.size self.old }
+        // Where words are told, after `Ok` the word is the value, and no other has changed.
         ensures written { IsTrue shown.tells_words
             → OnOk result (shown.words self.new ≡ slice_set (shown.words self.old) at value) }
+        // Whatever it answers: where words and images are told, they change by this write or not at all.
         ensures does { Does shown (Writes at value) self.old self.new }
+        // After `Ok` the word is not in doubt.
         ensures renews { OnOk result (IsRenewed shown at self.new) }
         ensures counts { Counts shown 0 1 0 self.old self.new result };
 
-    /// Writes words one after another, from that place on, up to the first that fails. After `Failed`
-    /// those before it are written, it is the old or the new one, and those behind it are as before.
+    /// Writes words one after another, from that place on, up to the first that fails. After `Failed` those
+    /// before it are written, it is the old or the new one, and those behind it are as before. A file
+    /// device counts the writes of one call all at once, which saves work for each word.
     fn write_words(&mut self, at: u64, values: &[u64]) -> Result<(), Failed>
         requires { at + length values.now ≤ shown.size self.old }
+        // Where words are told, after `Ok` each of these words stands in its place.
         ensures written { IsTrue shown.tells_words → OnOk result ((k : ℕ) → k < length values.now
             → slice_index (shown.words self.new) (at + k) ≡ slice_index values.now k) }
+        // After `Failed`, where words are told: those before some word are written, that word is as before
+        // or written, and no other differs.
         ensures failed { OnErr result (WritingFailed shown at values.now self.old self.new) }
+        // Whatever it answers, each of these words is as before or written, as it reads and in each image.
+        // No other changes.
         ensures does { Does shown (WritesMany at values.now) self.old self.new }
         ensures renews { OnOk result (AreRenewed shown at (length values.now) self.new) }
+        // Each word counts as a write: after `Ok` all were made, after `Failed` at most so many, of which
+        // the last failed.
         ensures makes { Makes shown 0 (length values.now) 0 self.old self.new result }
     {
         for index in 0..values.len() {
@@ -90,12 +111,16 @@ pub trait Device {
     /// promised of none, and a stop leaves nothing that it might not have left before. Words in doubt stay
     /// so.
     fn sync(&mut self) -> Result<(), Failed>
+        // After `Ok` a stop leaves the words as they read, where images are told without doubts.
         ensures certain { OnOk result (IsSynced shown self.new) }
+        // Where images are told with words in doubt, after `Ok` a stop leaves each word as it reads, but
+        // for those in doubt.
         ensures settles { IsTrue shown.tells_doubts → OnOk result (AreSettled shown self.new) }
         ensures does { Does shown Stays self.old self.new }
         ensures counts { Counts shown 0 0 1 self.old self.new result };
 
-    /// A device that tells what a stop may leave tells its words.
+    /// A device that tells what a stop may leave tells its words. Without the laws from here on nothing
+    /// would follow from "a stop since then might have left this".
     ghost tells_both: { IsTrue shown.tells_images → IsTrue shown.tells_words };
 
     /// A stop may leave the words as they read.

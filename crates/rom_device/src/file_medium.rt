@@ -6,7 +6,8 @@ use crate::medium::Medium;
 use std::fs::File;
 use std::os::unix::fs::FileExt;
 
-/// A file, or none where it could not be opened, and how many calls of it failed.
+/// A file, or none where it could not be opened, and how many calls of it failed. Over a medium without a
+/// file, a device fails a write at once. The write does not wait in the device's cache until the next sync.
 ///
 /// No contract can say what a file holds, so it tells nothing of that, and of the clauses of `Medium`
 /// those that speak of words and images say nothing of it. That they would hold if it told both is what is

@@ -102,6 +102,8 @@ impl<D: Device> Device for Fuse<D> {
             → IfOk result (λ word. word ≡ slice_index (D.shown.words (inner_of self.old)) at) }
         ensures only { OnlyReads (shown_by_fuse D.shown) self.old self.new }
         ensures counts { Counts (shown_by_fuse D.shown) 1 0 0 self.old self.new result }
+        // While the fuse has a call left, the read is passed on. Once it has none, the read fails and is
+        // not passed on.
         ensures passes { Passes D.shown 1 0 0 self.old self.new result }
     {
         self.reads = self.reads.saturating_add(1);
@@ -121,6 +123,8 @@ impl<D: Device> Device for Fuse<D> {
         ensures only { OnlyReads (shown_by_fuse D.shown) self.old self.new }
         ensures counts { ReadsUpTo (shown_by_fuse D.shown) result
             (length into.old) self.old self.new }
+        // Each word is one call. Calls are passed on while the fuse has some left, up to the first that
+        // fails.
         ensures passes { PassesUpTo (MadeReads D.shown) result (length into.old) self.old self.new }
     {
         for index in 0..into.len() {

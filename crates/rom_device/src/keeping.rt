@@ -15,6 +15,12 @@ impl<M: Medium> Cached<M> {
 
     // Hands over what waits, unless the word at that place is the next. `false` says that it still
     // waits.
+    //
+    // Once a 5 waits, a stop may leave the 5, and no image that might have been left is to be forgotten. If
+    // a 6 took its place here, nothing would have the 5 any more. On a file the cost is one `pwrite64` of 8
+    // bytes for each batch of updates. The heap's state IDLE is handed over before MUTATING takes its
+    // place. A further call of `Medium` that tells of replaced values would save that, and be one more to
+    // trust.
     fn make_room(&mut self, at: u64) -> bool
         ensures follows { OnTrue result (Follows self.new.pending at) }
         ensures others { (b : ℕ) → word_of self.old.pending b ≡ None →

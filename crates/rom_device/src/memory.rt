@@ -105,12 +105,14 @@ impl Memory {
         self.made.len() as u64
     }
 
-    /// What a stop now may leave, by a choice of a number for each word. The possible values of a
-    /// word are its last synced value and then those written to it since, in order. The word gets
-    /// the one of that number, counted from 0, modulo how many there are. A missing number is 0.
-    /// It takes no memory.
+    /// What a stop now may leave, by a choice of a number for each word. The possible values of a word are
+    /// its last synced value and then those written to it since, in order. The word gets the one of that
+    /// number, counted from 0, modulo how many there are. A missing number is 0. It takes no memory. It
+    /// goes through the list of calls for each word, which is slow: it serves tests on small heaps.
     pub fn crash(self, choice: &[u64]) -> Vec<u64>
+        // Each word has the one of its possible values that was chosen.
         ensures picked { Picks self choice.now result.items }
+        // The words are an image that a stop may leave.
         ensures left { shown_by_memory.leaves self result.items }
 
         // No image is left out: each that a stop may leave is that of some choice.
@@ -169,6 +171,7 @@ impl Device for Memory {
         ensures word { IfOk result (λ word. word ≡ slice_index (words_of self.old) at) }
         ensures only { OnlyReads shown_by_memory self.old self.new }
         ensures counts { Counts shown_by_memory 1 0 0 self.old self.new result }
+        // The read is listed where there is room. It fails exactly where there is none or a trip says so.
         ensures lists { Lists (Read at) self.old self.new result }
     {
         self.reads = self.reads.saturating_add(1);
@@ -188,6 +191,7 @@ impl Device for Memory {
             → slice_index into.new k ≡ slice_index (words_of self.old) (at + k) }
         ensures only { OnlyReads shown_by_memory self.old self.new }
         ensures counts { ReadsUpTo shown_by_memory result (length into.old) self.old self.new }
+        // Each word is one call, up to the first that fails. Each is listed where there is room.
         ensures lists { ListsMany (reads_from at (length into.old)) result self.old self.new }
     {
         for index in 0..into.len() {

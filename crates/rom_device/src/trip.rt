@@ -47,6 +47,7 @@ impl Trip {
 pub fn every_trip(kind: CallKind, number: u64) -> Trip
     ensures kind { result.call ≡ kind }
     ensures number { result.nth ≡ number }
+    // It counts each call of that kind at a place below 2^64 - 1.
     ensures words { (at : ℕ) → at < 18446744073709551615 → covers result kind at ≡ true }
     ensures keeps_new { result.keeps_new ≡ true }
 {

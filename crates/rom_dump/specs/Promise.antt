@@ -16,9 +16,12 @@ IsStatus None status = status ≡ 2
 pub record Promise {D K : Type 0} (shown : ShownDevice D) (sink : ShownSink K) (asked : Option Command) (was now : D) (old new : K) (status : ℕ) : Type 0 where
   pub only_reads : OnlyReads shown was now
   pub statuses : IsStatus asked status
+  -- what is asked for is shown, or a refusal is told; a fault and want of memory are refusals, too
   pub answered : IfSome asked (λ does. IsAnswered shown sink does was now old new status)
+  -- the status is 2 exactly where the words are no command; a line says so, and the device is not called
   pub not_a_command : (status ≡ 2) ↔ (asked ≡ None)
   pub not_a_command_told : status ≡ 2 → IsTold sink old new (codes "not a command")
   pub uncalled : status ≡ 2 → now ≡ was
+  -- no write of the sink is made after one that failed, and what the sink has beside its bytes stays
   pub writing : StopsWriting sink old new
   pub rest : sink.rest new ≡ sink.rest old

@@ -130,5 +130,6 @@ module _ {D K : Type 0} (shown : ShownDevice D) (sink : ShownSink K) where
   IsAnsweredBy None asked was now old new status = IsShown asked was now old new status ⊎ IsRefused was now old new status
   IsAnsweredBy (Some name) asked was now old new status = IsShownFrom name asked was now old new status ⊎ IsRefusedFrom name was now old new status
 
+  -- a command is answered by the region that it names, or by the one that counts
   abbrev pub IsAnswered : Command → D → D → K → K → ℕ → Type 0
   IsAnswered asked was now old new status = IsAnsweredBy (region_asked asked) asked was now old new status

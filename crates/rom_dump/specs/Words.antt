@@ -49,12 +49,13 @@ abbrev pub script_words : List (List ℕ) → Option Command
 script_words [] = None
 script_words (file ∷ options) = if is_name file then option_map (λ asked. Script file asked.0 asked.1) (options_of options) else None
 
--- behind `check`, which has no parts
+-- the command `check` of this file, where its options were read and name no part of a script
 abbrev pub check_of : List ℕ → Option (Option Region × Option ℕ) → Option Command
 check_of file (Some (from, None)) = Some (Check file from)
 check_of file (Some (from, Some part)) = None
 check_of file None = None
 
+-- what the words behind `check` ask for
 abbrev pub check_words : List (List ℕ) → Option Command
 check_words [] = None
 check_words (file ∷ options) = if is_name file then check_of file (options_of options) else None

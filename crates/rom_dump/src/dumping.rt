@@ -16,6 +16,7 @@ use std::alloc::Global;
 ///
 /// Words that are no command make no call of the device.
 pub fn dump<D: Device, O: Sink>(alloc: Global, words: &Names, device: &mut D, out: &mut O) -> u8
+    // All that is promised of the command that the words are; the record's fields say it one by one.
     ensures promise { Promise D.shown O.shown (command words.now) device.old device.new
         out.old out.new result }
 {

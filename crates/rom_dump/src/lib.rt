@@ -8,6 +8,9 @@
 //! stands for, and a refusal is of the header or of that region. Of a script it promises what it is for: its
 //! lines, read as scripts are read and taken from the empty state in a heap of at least that order, give the
 //! state again, and none of them is told that the heap is full.
+//!
+//! `main` opens the file for reading alone, with a lock that other dumps may share and a writer may not. That
+//! no write is made is proved. So a device that refuses writes is not needed: the usual one serves.
 #![tactic(auto)]
 
 mod check;

@@ -10,6 +10,10 @@ use std::alloc::{AllocError, Global};
 
 /// The elements of a region: those of the queue, first to last, then the numbers of the set, which
 /// rise, and then the map's keys, which rise, with their values.
+///
+/// The numbers of the set rise, so that people can compare two scripts. The price: each `add` of the script
+/// passes all numbers before its own. So n of them take some n^2 / 2 steps, where falling numbers would take
+/// some n. What the greatest set takes is told in `crates/romulus_dump/README.md`.
 #[derive(Drop)]
 pub struct Elements {
     queue: Vec<u64>,
@@ -31,11 +35,17 @@ impl Elements {
 
     /// Those of a region. Each list gets the room that the region's counts name, and no more; the words
     /// stay.
+    ///
+    /// They are taken before the first line is printed, since the keys must be sorted, and the script's
+    /// length must be known. At order 16 this takes at most 983,040 bytes. An inspection takes 1,179,648
+    /// bytes, and gives them back before it answers.
     pub fn of(alloc: Global, space: &mut VecSpace, order: u32) -> Result<Elements, AllocError>
         requires order { IsOrder order }
         requires region { IsWellFormed order (words_of space.old) }
+        // The elements are those of the state that the region stands for, in the order of a script.
         ensures are { IfOk result (λ elements. (s : State) (k : ℕ) →
             Contents order (words_of space.old) s k → AreElements s (elements_in elements)) }
+        // The numbers of the elements have at most 64 bits.
         ensures fit { IfOk result (λ elements. AllByRecursion ElementFits (elements_in elements)) }
         ensures words { words_of space.new ≡ words_of space.old }
     {

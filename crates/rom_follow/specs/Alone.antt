@@ -35,11 +35,12 @@ IsOutcome order s k call old Spent new = (new.seen ≡ old.seen) × (LAST_COUNT 
 IsOutcome order s k call old Failed new = new.seen ≡ old.seen
 IsOutcome order s k call old Doubt new = new.seen ≡ old.seen
 
--- what the one caller in a list has seen, and what became of its updates
+-- what the one caller in a list has seen
 abbrev pub seen_by : List Caller → List Entry
 seen_by [] = []
 seen_by (p ∷ ps) = p.view.seen
 
+-- what became of the updates of the one caller in a list
 abbrev pub tried_by : List Caller → List Told
 tried_by [] = []
 tried_by (p ∷ ps) = p.view.outcomes

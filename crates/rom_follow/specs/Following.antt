@@ -19,7 +19,8 @@ use Rattle.rom_follow.specs.Taking.{IsNoFrame}
 use Rattle.rom_follow.specs.declared.taken.Taken.{Taken}
 use Rattle.rom_follow.specs.declared.taken.Taken.TheVariants.{Applied, Known, Diverged}
 
--- the words of an entry's update and reply, without whose it was
+-- The words of an entry's update and reply, without whose it was: all entries of a follower are of caller 1,
+-- and a state depends on the calls alone.
 abbrev pub update_of : Entry → List ℕ × List ℕ
 update_of e = (e.args, e.reply)
 
@@ -70,6 +71,7 @@ module _ (order : ℕ) (s0 : State) (n0 : ℕ) (history : List Entry) where
     pub holds : Holds Contents order image (state_after len) (n0 + len)
 
 -- The follower follows this history, which begins at a state and a count. It was opened at the state and the count after the first entries, so many; its own are those behind them, but for whose they are; each update that it tried was that of the entry which came next; and it has not diverged.
+-- Clauses speak of every history at once, so a follower need not know whose it follows.
 pub record Follows (base : Base) (s0 : State) (n0 : ℕ) (history : List Entry) (first : ℕ) (f : Followed) : Type 0 where
   pub within : first ≤ length history
   pub opening : Contents base.order base.image (state_after base.order s0 n0 history first) (n0 + first)

@@ -41,6 +41,7 @@ pub struct Follower<D: Device, N: Label> {
     store: Store<D, Trio, N>,
     // The one pass, in a list since the store takes it back so.
     passes: Vec<Pass>,
+    // The store tells it only to a read: `start` reads once, and `take` adds what it has done.
     count: u64,
     diverged: Option<Divergence>,
 }
@@ -63,6 +64,8 @@ impl<D: Device, N: Label> Follower<D, N> {
         requires table { N.table ≡ opening.table_id }
         requires base { N.base ≡ base_of opening.key }
         requires started { N.start ≡ start_of D.shown opening.device }
+        // Where images are told, the label tells of each moment exactly what a stop since then might have
+        // left of this device.
         requires since { IsTrue D.shown.tells_images → (t : ℕ) (i : List ℕ) →
             (N.since t i → D.shown.left_since opening.device t i)
             × (D.shown.left_since opening.device t i → N.since t i) }
@@ -70,12 +73,13 @@ impl<D: Device, N: Label> Follower<D, N> {
         requires passes { Indexed (IsNewCaller Contents N.table N.base) opening.passes }
         requires formed { (s : State) × (k : ℕ) × Contents N.base.order N.base.image s k }
 
-        // It has done nothing yet, and its count is that of the heap.
+        // The follower has done nothing yet.
         ensures none { (result.history ≡ []) × (result.tried ≡ []) × (result.diverged ≡ None) }
+        // The follower's count is that of the heap as it was opened, since nothing was done.
         ensures done { (s : State) (k : ℕ) → Contents N.base.order N.base.image s k →
             HasDone N.base.order s k result }
 
-        // It follows each history of which the heap holds the state and the count after a prefix.
+        // The follower follows each history of which the heap holds the state and the count after a prefix.
         ensures follows { (s0 : State) (n0 : ℕ) (history : List Entry) (first : ℕ) →
             first ≤ length history → Contents N.base.order N.base.image
             (state_after N.base.order s0 n0 history first) (n0 + first) →
@@ -94,6 +98,7 @@ impl<D: Device, N: Label> Follower<D, N> {
     /// The count of updates in the heap, which is the place of the frame that it takes next.
     pub fn count(&self) -> u64
         ensures count { result ≡ self.now.count }
+        // What the follower has done is legal from the opening's state and count on, and ends at its count.
         ensures done { (s : State) (k : ℕ) → Contents N.base.order N.base.image s k →
             HasDone N.base.order s k self.now }
     {
@@ -104,26 +109,36 @@ impl<D: Device, N: Label> Follower<D, N> {
     /// is no frame, leaves the follower as it was, as does each message once the heaps have parted. It
     /// takes no memory.
     pub fn take<R: Wait, G: Gate>(&mut self, rt: &R, message: &[u8], gate: &G) -> Taken
+        // Once the heaps have parted, each message gets the same `Diverged`, and nothing is done.
         ensures parted { IfSome self.old.diverged (λ d.
             (result ≡ taken.Diverged d.place d.ours d.theirs) × (self.new ≡ self.old)) }
+        // While they have not parted, a message that is no frame gets `NotAFrame`, and nothing is done.
         ensures no_frame { self.old.diverged ≡ None → IsNoFrame message.now →
             (result ≡ taken.NotAFrame) × (self.new ≡ self.old) }
+        // While they have not parted, a frame whose place is below the count gets `Known`, one above it gets
+        // `Early`, and nothing is done. The update of a frame at the count is tried, or the answer is
+        // `Spent`.
         ensures frame { self.old.diverged ≡ None → (f : Frame) → IsFrame f message.now →
             Gives f self.old result self.new }
+        // While they have not parted, each message is a frame or none: one of the two clauses above speaks of
+        // it.
         ensures either { self.old.diverged ≡ None →
             ((f : Frame) × IsFrame f message.now) ⊎ IsNoFrame message.now }
 
-        // What one pass told of an update that was tried, in whose record the device's counts of
-        // faults stand; and what it has done is legal.
+        // If an update was tried, one pass told what became of it. The record of that pass has the device's
+        // count of faults before and after it.
         ensures told { (x : Told) → self.new.tried ≡ self.old.tried ++ x ∷ [] →
             IsTold Contents (on_words trio) N.base x (length self.old.history) self.old.history
             self.new.history }
+        // What the follower has done is legal from the opening's state and count on, and ends at its count.
         ensures done { (s : State) (k : ℕ) → Contents N.base.order N.base.image s k →
             HasDone N.base.order s k self.new }
 
+        // The count never falls.
         ensures rises { self.old.count ≤ self.new.count }
 
-        // Of a legal history it keeps following it, whatever of its frames may arrive.
+        // A follower of a legal history of 64-bit words stays one, and answers no `Diverged`. The message may
+        // be a frame of that history, whole or torn, or be no frame at all.
         ensures follows { (s0 : State) (n0 : ℕ) (history : List Entry) (first : ℕ) →
             IsLegal (on_words trio) N.base.order s0 n0 history → HasWords n0 history →
             Follows N.base s0 n0 history first self.old → MayArrive n0 history message.now →
@@ -201,7 +216,10 @@ impl<D: Device, N: Label> Follower<D, N> {
     )
         requires as_many { length answers.old ≡ length messages.now }
         ensures as_many { length answers.new ≡ length messages.now }
+        // The messages are taken one after another, each as `take` says.
         ensures taken { AreTaken messages.now self.old answers.new self.new }
+        // A follower of a legal history of 64-bit words stays one, and answers no `Diverged`. Each message
+        // may be a frame of that history, whole or torn, or be no frame at all.
         ensures follows { (s0 : State) (n0 : ℕ) (history : List Entry) (first : ℕ) →
             IsLegal (on_words trio) N.base.order s0 n0 history → HasWords n0 history →
             Follows N.base s0 n0 history first self.old →
@@ -221,28 +239,37 @@ impl<D: Device, N: Label> Follower<D, N> {
         ensures opening_faults { result.session.faults ≡ N.base.faults }
         ensures story { HasStory trio Contents result.session }
 
-        // The session's history is the follower's, and there is one pass for each update that it tried.
+        // What the follower has done is legal from the opening's state and count on, and ends at its count.
         ensures done { (s : State) (k : ℕ) → Contents N.base.order N.base.image s k →
             HasDone N.base.order s k self }
+        // The session's history is the follower's.
         ensures history { result.session.history ≡ self.history }
+        // There is one pass for each update that was tried. It found that update alone, and ended as the
+        // update was told.
         ensures passes { ArePassesOf result.session.records self.tried }
+        // The session's history is that of its passes, and each update that they found is of caller 1.
         ensures closed { EachStory trio Contents result.session (λ story. IsClosed trio story 1) }
 
-        // What a stop leaves now, and what it might have left since the start.
+        // Where images are told, what a stop leaves now holds the history, or the history and the batch in
+        // doubt.
         ensures now { IsTrue D.shown.tells_images → EachStory trio Contents result.session
             (λ story. (i : List ℕ) → D.shown.leaves result.device i →
             ImageNow Contents (on_words trio) story i) }
+        // Where images are told, what a stop since the start might have left could be left before, or is an
+        // image of the session.
         ensures since { IsTrue D.shown.tells_images → EachStory trio Contents result.session
             (λ story. HasLeftSince D.shown N.start N.since
             (SessionImage Contents (on_words trio) story) result.device) }
 
-        // Of a history that it follows: what a stop leaves now, and what a stop at any moment since the
-        // start might have left, holds a prefix no shorter than the one at the start.
+        // Where images are told, what a stop leaves now holds a prefix of each history that is followed. That
+        // prefix is no shorter than the one at the start.
         ensures follows_now { IsTrue D.shown.tells_images →
             (s0 : State) (n0 : ℕ) (history : List Entry) (first : ℕ) →
             Follows N.base s0 n0 history first self → (i : List ℕ) →
             D.shown.leaves result.device i →
             HoldsPrefix N.base.order s0 n0 history first i }
+        // Where images are told, what a stop since the start might have left could be left before, or holds a
+        // prefix of each history that is followed. That prefix is no shorter than the one at the start.
         ensures follows_since { IsTrue D.shown.tells_images →
             (s0 : State) (n0 : ℕ) (history : List Entry) (first : ℕ) →
             Follows N.base s0 n0 history first self →
@@ -254,6 +281,7 @@ impl<D: Device, N: Label> Follower<D, N> {
             Contents (on_words trio) story
             (HasStarted D.shown N.base.faults N.start N.since) result.device) }
         ensures size { D.shown.size result.device ≡ N.start.size }
+        // Where words are told, none differs from the start's but the heap's state and its two regions.
         ensures outside { IsTrue D.shown.tells_words →
             WithinHeap N.base.order N.start.words (D.shown.words result.device) }
         ensures faults { faults_after result.session.faults result.session.records

@@ -48,7 +48,7 @@ pub enum Taken {
     Doubt,
 }
 
-/// Whether two replies are one, which their words tell.
+/// Whether two replies are the same. Their words tell: equal words are equal replies, and a frame has words.
 fn is_reply(ours: &Reply, theirs: &Reply) -> bool
     ensures same { OnTrue result (ours.now ≡ theirs.now) }
     ensures other { OnFalse result (codes.reply_words ours.now ≢ codes.reply_words theirs.now) }

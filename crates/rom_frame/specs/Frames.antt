@@ -26,6 +26,7 @@ frame f = bytes_of (words_of f)
 
 -- Its numbers are 64-bit words, its call is an update alone or a group of two to eight, and its reply tells
 -- at most eight: so it is of each frame that a program can have.
+-- Words of 64 bits are a premise: numbers of a definition have any size, and 2^64 would have the bytes of 0.
 pub record IsOfWords (f : Frame) : Type 0 where
   pub words : All (λ w. w < 2 ^ 64) (words_of f)
   pub members : HasSize (kind_of f.call)

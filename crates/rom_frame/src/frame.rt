@@ -101,6 +101,7 @@ pub fn write_frame(
     reply: &Reply,
     out: &mut Vec<u8>,
 ) -> Result<(), AllocError>
+    // After `Ok` the frame stands behind the bytes that were there.
     ensures written { OnOk result (out.new.items ≡ out.old.items ++ frame record { place = place; call = call.now; reply = reply.now }) }
     ensures unchanged { OnErr result (out.new.items ≡ out.old.items) }
 {
@@ -117,10 +118,14 @@ pub fn write_frame(
 /// The update whose frame the message is, from its first byte to its last. The first word of a frame
 /// says how many words it has.
 pub fn read_frame(message: &[u8]) -> Option<Frame>
+    // A message is read only as the frame whose bytes it has, all of them.
     ensures frame { IfSome result (λ f. message.now ≡ frame f) }
+    // Each frame that a program can have (`IsOfWords`) is read, as itself.
     ensures whole { (f : Frame) → IsOfWords f → message.now ≡ frame f → result ≡ Some f }
+    // The first bytes of such a frame, without its end, are read as none.
     ensures torn { (f : Frame) (rest : List ℕ) → IsOfWords f → message.now ++ rest ≡ frame f → IsSome result → rest ≡ [] }
     ensures of_words { IfSome result IsOfWords }
+    // A message that is read has as many words as its first one says.
     ensures first { IfSome result (λ f. length message.now ≡ 8 * little_number 8 message.now) }
     ensures within { IfSome result (λ f. length message.now ≤ 512) }
 {

@@ -15,6 +15,7 @@ abbrev is_header_fault : HeaderRefused → Bool
 is_header_fault header.Device = true
 is_header_fault other = false
 
+-- of the answer to the reading of a header: an error where it is `Device`, and else none
 abbrev pub header_fault : {T : Type 0} → Result T HeaderRefused → Result (Unit {0}) (Unit {0})
 header_fault result = fault_of is_header_fault result
 
@@ -36,6 +37,7 @@ abbrev is_format_fault : FormatRefused → Bool
 is_format_fault Device = true
 is_format_fault other = false
 
+-- of the answer to the making of a heap: an error where it is `Device`, and else none
 abbrev pub format_fault : Result (Unit {0}) FormatRefused → Result (Unit {0}) (Unit {0})
 format_fault result = fault_of is_format_fault result
 

@@ -10,10 +10,11 @@ MAGIC = 0x524F4D554C555331
 abbrev pub STATE : ℕ
 STATE = 3
 
--- where main begins, and where back does
+-- where main begins
 abbrev pub MAIN : ℕ
 MAIN = 8
 
+-- where back begins, in a heap of order n
 abbrev pub back_at : ℕ → ℕ
 back_at n = 8 + region_len n
 
@@ -25,8 +26,10 @@ words_needed n = 8 + 2 * region_len n
 abbrev pub part : ℕ → ℕ → List ℕ → List ℕ
 part at len words = take len (drop at words)
 
+-- the words of main
 abbrev pub main_of : ℕ → List ℕ → List ℕ
 main_of n words = part MAIN (region_len n) words
 
+-- the words of back
 abbrev pub back_of : ℕ → List ℕ → List ℕ
 back_of n words = part (back_at n) (region_len n) words

@@ -22,7 +22,8 @@ IsCounted order words region =
     ((slice_index words STATE ≡ 0) × (main_of order words ≡ region) × (back_of order words ≡ region))
     ⊎ (((slice_index words STATE ≡ 1) × (back_of order words ≡ region)) ⊎ ((slice_index words STATE ≡ 2) × (main_of order words ≡ region)))
 
--- In a heap of this order, this region counts.
+-- In a heap of this order, this region counts. No region counts where words are no heap, nor under IDLE where
+-- the two regions differ. So this is a relation, and not a function that may give none.
 pub record IsCurrentRegion (order : ℕ) (words region : List ℕ) : Type 0 where
   pub heap : IsHeap order words
   pub counts : IsCounted order words region

@@ -94,19 +94,28 @@ pub fn write_new<D: Device>(device: &mut D, order: u32, image: &[u64]) -> Result
     requires order { IsOrder order }
     requires image { length image.now ≡ region_len order }
 
+    // Where the device tells its words: with `AlreadyAHeap` word 0 was the magic. With `TooSmall` it was not,
+    // and the words were too few. With `Ok` neither was so.
     ensures answer { IsTrue D.shown.tells_words →
         IsFormatAnswer order (D.shown.words device.old) result }
     ensures fits { OnOk result (words_needed order ≤ D.shown.size device.old) }
+    // `TooSmall` names how many words a heap of this order needs, and how many the device has.
     ensures sizes { IfErr result (HasTooFewFor order (D.shown.size device.old)) }
 
+    // Where the device tells its words: after `Ok` a heap whose state is IDLE stands there, with the image in
+    // both regions.
     ensures made { IsTrue D.shown.tells_words →
         OnOk result (IsNew order image.now (D.shown.words device.new)) }
+    // Where images are told, a stop after `Ok` leaves the words as they read.
     ensures certain { OnOk result (IsSynced D.shown device.new) }
+    // The size stays. Where the device tells its words, none behind those of the heap differs.
     ensures alters { Alters D.shown (ChangesOnly 0 (words_needed order)) device.old device.new }
 
-    // What a stop may leave since the call began.
+    // Where images are told, what a stop since the call began leaves could be left before, or has no heap, or
+    // has the whole new one.
     ensures images { IsTrue D.shown.tells_images →
         Leaves D.shown (NoneOrNew order image.now) device.old device.new }
+    // Where the device tells its words, and has a heap already or too few words for one, no word changes.
     ensures refused { IsTrue D.shown.tells_words →
         IsRefused order (D.shown.words device.old) → Does D.shown Stays device.old device.new }
 

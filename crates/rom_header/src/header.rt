@@ -121,10 +121,15 @@ pub fn read_header<D: Device>(device: &mut D) -> Result<Header, HeaderRefused>
     // Where the device tells its words, the answer is exactly theirs.
     ensures answer { IsTrue D.shown.tells_words → IsAnswer (D.shown.words device.old) result }
     ensures fits { IfOk result (λ header. words_needed header.geometry ≤ D.shown.size device.old) }
+    // A device of fewer than 8 words is too small for a header, whether or not it tells its words.
     ensures too_small { D.shown.size device.old < 8 →
         result ≡ Err (HeaderRefused.TooSmall 8 (D.shown.size device.old)) }
+    // `TooSmall` names how many words are needed, and how many the device has.
     ensures sizes { IfErr result (HasTooFew (D.shown.size device.old)) }
+    // The words stay as far as they are told, and no write and no sync is counted.
     ensures only { OnlyReads D.shown device.old device.new }
+    // `Device` comes exactly where a read failed, which is the last. Any other answer says how many were
+    // made.
     ensures makes { Makes D.shown (header_reads 4 result) 0 0 device.old device.new
         (header_fault result) }
 {

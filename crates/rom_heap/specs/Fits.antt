@@ -41,10 +41,11 @@ is_there s (Put k v) = is_some (map.get s.pairs k)
 is_there s (Del k) = is_some (map.get s.pairs k)
 is_there s other = false
 
--- the room with one element more, where there is room for it, and with one fewer
+-- the room with one element more, where there is room for it
 abbrev pub taken : Room → Option Room
 taken room = if room.free == 0 then None else Some (record { free = room.free - 1; queue = room.queue })
 
+-- the room with one element fewer
 abbrev pub given : Room → Room
 given room = record { free = room.free + 1; queue = room.queue }
 

@@ -3,6 +3,10 @@
 //! Nothing is done here of what the members do. Of each it is known how much room those before it
 //! leave, and whether its number or its key is there then: the last one before it that puts this
 //! number or key in, or takes it out, tells that, and where there is none, the region does.
+//!
+//! So it is known before a group's first store whether the group fits, and to find it out takes no memory. A
+//! group of eight makes at most 28 comparisons of members, and a walk for each member whose number or key no
+//! earlier one touched.
 ghost use Rattle.std.specs.Prelude.{◌≡◌, ℕ, ◌^◌, ◌<◌, not, is_some, None, false};
 ghost use Rattle.std.specs.FinSet as set;
 ghost use Rattle.std.specs.FinMap as map;

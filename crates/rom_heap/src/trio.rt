@@ -27,6 +27,7 @@ impl Object for Trio {
 
     const KIND: u64 = 1;
 
+    // Above the most of an update of one structure: 25 at order 16, `most_stores` and one for the count.
     ghost STORES = { 32 };
 
     const STORES: u64 = 32;

@@ -16,6 +16,8 @@ pub record IsOldWellFormed (n : ℕ) (words : List ℕ) : Type 0 where
   pub contents : OldContents n words state count
 
 -- The words are not a well-formed region of this version: they say that they are of version 1, or they do not and this is the first break.
+-- One relation has both reasons, so a caller that hands them on has one name to cite. Of an object without an
+-- older version the relation says that `Old` is never a reason.
 abbrev pub Rejects : ℕ → List ℕ → Unfit → Type 0
 Rejects n words (Malformed offset rule) = (is_old words ≡ false) × FirstBreak version.Now n words (record { offset = offset; rule = rule })
 Rejects n words Old = is_old words ≡ true

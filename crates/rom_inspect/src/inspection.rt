@@ -68,12 +68,17 @@ fn inspect_as(version: Version, alloc: Global, region: &[u64], order: u32) -> Re
 pub fn inspect(alloc: Global, region: &[u64], order: u32) -> Result<(), Unfit>
     requires order { IsOrder order }
     requires sized { length region.now ≡ region_len order }
+    // `Old` comes exactly where the words 0 and 1 are both 1, whether or not memory is short.
     ensures old { (result ≡ Err Old)
         ↔ ((slice_index region.now 0 ≡ 1) × (slice_index region.now 1 ≡ 1)) }
+    // `Ok` comes of a well-formed region alone.
     ensures fit { OnOk result (IsWellFormed order region.now) }
+    // A refusal but `OutOfMemory` is the reason why the words are rejected.
     ensures reason { IfErr result (IsReason (Rejects order region.now)) }
+    // Words for whose rejection there is a reason are no well-formed region.
     ensures refused { (e : Unfit) → Rejects order region.now e → IsWellFormed order region.now
         → ⊥ }
+    // There is at most one reason to reject the words.
     ensures one { (e d : Unfit) → Rejects order region.now e → Rejects order region.now d → e ≡ d }
 {
     if region[KIND as usize] == 1 && region[VERSION as usize] == 1 {
@@ -88,10 +93,14 @@ pub fn inspect(alloc: Global, region: &[u64], order: u32) -> Result<(), Unfit>
 pub fn inspect_old(alloc: Global, region: &[u64], order: u32) -> Result<(), Unfit>
     requires order { IsOrder order }
     requires sized { length region.now ≡ region_len order }
+    // `Ok` comes of a well-formed region of version 1 alone.
     ensures fit { OnOk result (IsOldWellFormed order region.now) }
+    // A refusal but `OutOfMemory` is the reason why the words are rejected. `Old` never is one.
     ensures reason { IfErr result (IsReason (OldRejects order region.now)) }
+    // Words for whose rejection there is a reason are no well-formed region of version 1.
     ensures refused { (e : Unfit) → OldRejects order region.now e
         → IsOldWellFormed order region.now → ⊥ }
+    // There is at most one reason to reject the words.
     ensures one { (e d : Unfit) → OldRejects order region.now e → OldRejects order region.now d
         → e ≡ d }
 {

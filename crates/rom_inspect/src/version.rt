@@ -1,4 +1,5 @@
-//! Versions of the region.
+//! Versions of the region. One walk inspects both versions, and is told which chain it goes along. So there
+//! is one text of what a link may lead to, and one proof.
 ghost use Rattle.std.specs.Prelude.{◌≡◌};
 ghost use Rattle.rom_inspect.specs.Tests.{number_of};
 ghost use Rattle.rom_inspect.specs.Walks.{bucket_walk};

@@ -1,4 +1,5 @@
-//! Walks along the chains of a region: which nodes they reach, and where they break.
+//! Walks along the chains of a region: which nodes they reach, and where they break. What was reached is kept
+//! as one mark for each node of the allocator's tree, so the test of that tree takes the marks as they are.
 ghost use Rattle.std.specs.Prelude.{◌≡◌, ◌≢◌, ℕ, ◌^◌, ◌<◌, ◌∷◌, [], List, length, MatchResult, Err, slice_index};
 ghost use Rattle.rom_model.specs.Blocks.{IsOrder, block_of, region_len};
 ghost use Rattle.rom_model.specs.Tests.{checked};
@@ -96,6 +97,7 @@ impl Walk {
                 check_zeros(region, node + 3, 1, Rule::Pad)?;
                 let key = region[node as usize];
                 check(bucket(order, key) == number, node, Rule::Bucket)?;
+                // The bucket is walked again from its head: no memory, but the square of its length in steps.
                 let stands = has_key(region, order, number, reached.count, key);
                 check(!stands, node, Rule::Repeat)
             }

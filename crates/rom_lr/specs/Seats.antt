@@ -13,10 +13,11 @@ use Rattle.rom_rule.specs.declared.views.View.{View}
 abbrev pub view : Seat → View
 view s = s.token.me.0
 
--- what the writer knows, and its plan
+-- what the writer knows
 abbrev pub writer_view : WriterSeat → View
 writer_view s = s.token.me.0
 
+-- the writer's plan, which has the published history, the records, both sides, and this pass's found calls
 abbrev pub plan : WriterSeat → Plan
 plan s = plan_of (writer_view s)
 
@@ -28,10 +29,11 @@ steps_of s = (writer_view s).steps
 abbrev pub noted : Note → View
 noted n = n.token.me.0
 
--- each call of the caller is answered, and all but the last one
+-- the caller was told what became of each of its calls
 abbrev pub IsAnswered : Seat → Type 0
 IsAnswered s = length (view s).calls ≡ length (view s).outcomes
 
+-- the caller was told what became of each of its calls but the last one
 abbrev pub IsPosted : Seat → Type 0
 IsPosted s = length (view s).calls ≡ length (view s).outcomes + 1
 
@@ -53,6 +55,7 @@ module _ {Object Call Query Reply Answer : Type 0} where
   abbrev pub IsSeatOf : Shared Object Call Query Reply Answer → Seat → Type 0
   IsSeatOf shared s = (s.token.table_id ≡ shared.table.shared.table_id) × ((view s).base ≡ opened_with shared)
 
+  -- the writer's seat is of this table, and knows what it was opened with
   abbrev pub IsWriterOf : Shared Object Call Query Reply Answer → WriterSeat → Type 0
   IsWriterOf shared s = (s.token.table_id ≡ shared.table.shared.table_id) × ((writer_view s).base ≡ opened_with shared)
 

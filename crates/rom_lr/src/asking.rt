@@ -71,15 +71,19 @@ pub fn ask<O: Object, L: Ledger>(
 ) -> O::Answer
     requires of { IsSeatOf shared.now seat.old }
     requires entered { IsTrue (is_reading (view seat.old).position) }
+    // The image that the seat reads stands for some state and count of the object.
     requires region { let v = view seat.old in
         (s : O.State) × (k : ℕ) × O.Contents v.base.order (image_of v.position) s k }
     ensures same { IsSameSeat seat.old seat.new }
     ensures still { view seat.new ≡ record (view seat.old) { steps = (view seat.new).steps } }
+    // The answer is the object's in the state that this image stands for.
     ensures told { let v = view seat.old in
         (s : O.State) (k : ℕ) → O.Contents v.base.order (image_of v.position) s k →
         result ≡ O.machine.tell s query.now }
+    // The counter rises by the steps that the seat makes.
     ensures counted { steps.new + (view seat.old).steps ≡ steps.old + (view seat.new).steps }
     ensures least { steps.old ≤ steps.new }
+    // The steps are at most as many as the query costs in that state.
     ensures most { let v = view seat.old in
         (s : O.State) (k : ℕ) → O.Contents v.base.order (image_of v.position) s k →
         steps.new ≤ steps.old + O.machine.cost v.base.order s query.now }

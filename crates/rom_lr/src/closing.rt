@@ -24,6 +24,7 @@ impl<O: Object> Shared<O> {
         requires out { (view seat).position ≡ Out }
         requires none_posted { IsAnswered seat }
         ensures same { IsSameWriter writer.old writer.new }
+        // The writer keeps what the caller knew, and what that caller had learnt of others.
         ensures joined { writer_view writer.new ≡ informed (writer_view writer.old) (view seat) }
     {
         self.take_in_as::<Brand>(writer, seat);
@@ -52,12 +53,16 @@ impl<O: Object> Shared<O> {
         ensures same { IsSameWriter writer.old writer.new }
         ensures still { let v = writer_view writer.old in
             writer_view writer.new ≡ planned v (plan_of v) }
+        // Each caller that was taken in was told of its calls what the records tell.
         ensures told { let v = writer_view writer.new in
             AllByRecursion (λ k. 0 < k.number → told_to (plan_of v).told k.number ≡ k.told)
             v.joined }
+        // The records tell of calls of the table's callers alone.
         ensures known { let v = writer_view writer.new in
             AllByRecursion (λ x. (0 < x.0.caller) × (x.0.caller ≤ v.base.callers))
             (plan_of v).told }
+        // The published history is the one that the records make. What each caller that was taken in had seen
+        // begins it, and each of its fronts is the count at the opening or after a pass.
         ensures kept { let v = writer_view writer.new in
             (s : O.State) (n : ℕ) → O.Contents v.base.order v.base.image s n →
             Recorded (on_words O.machine) v.base s n (book_in (plan_of v))

@@ -34,6 +34,7 @@ impl<O: Object> Shared<O> {
         requires out { (view seat.old).position ≡ Out }
         requires note { IsNoteOf self.now note }
         ensures same { IsSameSeat seat.old seat.new }
+        // What the seat has now seen begins with what it had seen, and with what the note's caller had.
         ensures learnt { HasLearnt (view seat.old) (noted note) (view seat.new) }
     {
         self.learn_as::<Brand>(seat, note);

@@ -50,12 +50,15 @@ impl<O: Object> Shared<O> {
         ensures of { IfOk result (λ opened. IsWriterOf opened.0 opened.1) }
         ensures layout { IfOk result (λ opened. (opened.0.layout.order ≡ order)
             × (opened.0.layout.callers ≡ callers)) }
+        // The table is opened with this order, number of callers, image and count of faults.
         ensures base { IfOk result (λ opened. opened_with opened.0
             ≡ record { order = order; callers = callers; image = image.now; faults = faults }) }
         ensures writer { IfOk result (λ opened. writer_view opened.1
             ≡ dealt_view (opened_with opened.0) callers) }
+        // Readers are sent to back, and nobody reads main.
         ensures unread { IfOk result (λ opened. NobodyReads opened.1 Main) }
         ensures many { IfOk result (λ opened. length opened.2.items ≡ callers) }
+        // The seats are those of the callers from 1 on, in order, which have seen and done nothing.
         ensures seats { IfOk result (λ opened. AreNew opened.0 opened.2.items) }
     {
         let (shared, mut writer) = Shared::open(alloc, order, callers, image, faults)?;
@@ -84,6 +87,8 @@ impl<O: Object> Shared<O> {
             ≡ opening_view (opened_with opened.0)) }
     {
         let layout = Layout::new(order, callers);
+        // Both sides are made of the one image: the device has both regions equal then, and to read the other
+        // one too would tell nothing new.
         let words = opening_words(alloc, layout, image)?;
         let key = Key {
             layout,

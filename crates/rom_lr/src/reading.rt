@@ -22,6 +22,8 @@ impl<O: Object> Shared<O> {
         requires of { IsSeatOf self.now seat.old }
         requires out { (view seat.old).position ≡ Out }
         ensures same { IsSameSeat seat.old seat.new }
+        // The image that the seat now reads stands for the state after all that it has now seen, which begins
+        // with what it had seen. The front is the count there.
         ensures entered { HasEntered O.Contents (on_words O.machine) seat.old seat.new }
         ensures reads { IsTrue (is_reading (view seat.new).position) }
         ensures side { (result ≡ seat.new.side)
@@ -48,6 +50,7 @@ impl<O: Object> Shared<O> {
         requires inside { at < region_len self.now.layout.order }
         ensures same { IsSameSeat seat.old seat.new }
         ensures still { HasStepped seat.old seat.new 1 }
+        // The word is that of the image, whatever the writer does meanwhile.
         ensures word { result ≡ slice_index (image_of (view seat.old).position) at }
     {
         let word = (seat.first + at) as usize;

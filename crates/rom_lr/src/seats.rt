@@ -19,7 +19,8 @@ pub struct Seat {
     // indicator of a version follows it by that version.
     pub(crate) home: u64,
     /// While it reads, the version at whose indicator it arrived, the side that it reads, and where
-    /// that side's words begin in the table.
+    /// that side's words begin in the table. So `leave` and `load` look nothing up: a word costs a sum and a
+    /// load.
     pub version: u64,
     pub side: Side,
     pub first: u64,

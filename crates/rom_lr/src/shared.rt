@@ -1,4 +1,9 @@
 //! The shared words.
+//!
+//! The crates above make steps of their own on the table. The prover refuses a step that breaks the table's
+//! rule. But what a step tells its seat is chosen by the step's kind, which a reader has to believe. So all
+//! kinds stand in one file, `crates/rom_rule/src/kinds.rt`, as `.ci/steps` sees to. A private table would
+//! need a contract here for each kind.
 ghost use Rattle.std.specs.Prelude.{◌≡◌, ◌^◌, ◌<◌};
 ghost use Rattle.rom_rule.specs.Places.{back_at, main_at, table_len};
 

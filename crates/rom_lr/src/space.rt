@@ -1,4 +1,7 @@
 //! Shared main as a space, to which an update can be applied.
+//!
+//! It stands here and not with the pass in `rom_combine`, since what it keeps are facts on the writer's seat.
+//! An update comes to shared words by [`apply_words_main`] alone; only tests call `apply_main`.
 ghost use Rattle.std.specs.Prelude.{◌≡◌, ℕ, ◌+◌, ◌*◌, ◌<◌, ◌≤◌, Some, IsSome};
 ghost use Rattle.rom_model.specs.History.{LAST_COUNT};
 ghost use Rattle.rom_model.specs.Machine.{on_words, weight_on_words};
@@ -77,17 +80,22 @@ pub fn apply_main<O: Object>(
 ) -> O::Reply
     requires of { IsWriterOf shared.now seat.old }
     requires unread { NobodyReads seat.old Main }
+    // Shared main stands for some state and count of the object, and the count is below its limit.
     requires region { let v = writer_view seat.old in
         (s : O.State) × (k : ℕ) × O.Contents v.base.order (plan_of v).main s k × (k < LAST_COUNT) }
+    // The log holds each place where main differs from back.
     requires logged { let p = plan seat.old in IsLogOf p.back p.main log.old }
     requires room { log.old.added + O.STORES * O.machine.weight call.now ≤ log.old.room }
+    // The reply is the object's, and main then stands for the state after the call, and the count one higher.
     ensures done { let v = writer_view seat.old in
         (s : O.State) (k : ℕ) → O.Contents v.base.order (plan_of v).main s k →
         let after = O.machine.step v.base.order s k call.now in
         (result ≡ after.1) × O.Contents v.base.order (plan seat.new).main after.0 (k + 1) }
+    // Of what the writer knows only main and the number of its steps change.
     ensures still { let p = plan seat.old in
         Writes seat.old seat.new (record p { main = (plan seat.new).main }) }
     ensures logged { IsLogOf (plan seat.old).back (plan seat.new).main log.new }
+    // The log grows by no more than the stores that a call of this weight may make.
     ensures added { log.new.added ≤ log.old.added + O.STORES * O.machine.weight call.now }
     ensures room { log.new.room ≡ log.old.room }
 {
@@ -114,18 +122,25 @@ pub fn apply_words_main<O: Object>(
     requires of { IsWriterOf shared.now seat.old }
     requires unread { NobodyReads seat.old Main }
     requires call { IsSome (O.machine.words_call words.now) }
+    // Shared main stands for some state and count of the object, and the count is below its limit.
     requires region { let v = writer_view seat.old in
         (s : O.State) × (k : ℕ) × O.Contents v.base.order (plan_of v).main s k × (k < LAST_COUNT) }
+    // The log holds each place where main differs from back.
     requires logged { let p = plan seat.old in IsLogOf p.back p.main log.old }
+    // The log has room for the stores of a call of the greatest weight.
     requires room { log.old.added + O.STORES * O.WEIGHT ≤ log.old.room }
+    // `told` has the words of the object's reply. Main then stands for the state after the call, and the
+    // count one higher.
     ensures done { let v = writer_view seat.old in
         (s : O.State) (k : ℕ) → O.Contents v.base.order (plan_of v).main s k →
         (after : O.State)
         × (on_words O.machine v.base.order s k words.now ≡ Some (after, told.new))
         × O.Contents v.base.order (plan seat.new).main after (k + 1) }
+    // Of what the writer knows only main and the number of its steps change.
     ensures still { let p = plan seat.old in
         Writes seat.old seat.new (record p { main = (plan seat.new).main }) }
     ensures logged { IsLogOf (plan seat.old).back (plan seat.new).main log.new }
+    // The log grows by no more than the stores that a call of this weight may make.
     ensures added { log.new.added
         ≤ log.old.added + O.STORES * weight_on_words O.machine words.now }
     ensures weight { weight_on_words O.machine words.now ≤ O.WEIGHT }

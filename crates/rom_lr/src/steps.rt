@@ -1,4 +1,7 @@
 //! How many steps were made on shared words.
+//!
+//! An object's `answer` knows the loads of its words, and no seats. A caller's steps stand in what its seat
+//! knows. The count joins the two, since each load adds one to both.
 ghost use Rattle.std.specs.Prelude.{◌≡◌, ℕ, ◌+◌, ◌<◌};
 
 use std::marker::Model;

@@ -42,6 +42,7 @@ impl<O: Object> Shared<O> {
     pub fn store_main(&self, seat: &mut WriterSeat, at: u64, value: u64)
         requires of { IsWriterOf self.now seat.old }
         requires inside { at < region_len self.now.layout.order }
+        // Nobody reads main.
         requires unread { NobodyReads seat.old Main }
         ensures stored { let p = plan seat.old in
             Writes seat.old seat.new (record p { main = slice_set p.main at value }) }
@@ -58,6 +59,7 @@ impl<O: Object> Shared<O> {
     pub fn store_back(&self, seat: &mut WriterSeat, at: u64, value: u64)
         requires of { IsWriterOf self.now seat.old }
         requires inside { at < region_len self.now.layout.order }
+        // Nobody reads back.
         requires unread { NobodyReads seat.old Back }
         ensures stored { let p = plan seat.old in
             Writes seat.old seat.new (record p { back = slice_set p.back at value }) }

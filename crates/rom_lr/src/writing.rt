@@ -24,8 +24,12 @@ impl<O: Object> Shared<O> {
     /// `after` are the device's counts of faults at the pass's start and now; they go into the record.
     pub fn switch(&self, seat: &mut WriterSeat, side: Side, before: u64, after: u64)
         requires of { IsWriterOf self.now seat.old }
+        // That side stands for the history as the call leaves it, and the counts of faults do not fall. To
+        // main: the pass has no record yet, and all words of the calls that it found are loaded.
         requires can { CanSwitch O.Contents (on_words O.machine) (writer_view seat.old).base
             (plan seat.old) side before after }
+        // To main: the batch is published, and the pass has its record where calls were found. To back: where
+        // it has one, the count after it is the one of now. No indicator counts as loaded any more.
         ensures switched { HasSwitched O.Contents (on_words O.machine) seat.old seat.new side before
             after }
         ensures step { steps_of seat.new ≡ steps_of seat.old + 1 }
@@ -73,8 +77,11 @@ impl<O: Object> Shared<O> {
     /// arrives at its other indicator.
     pub fn settle<R: Wait>(&self, rt: &R, seat: &mut WriterSeat)
         requires of { IsWriterOf self.now seat.old }
+        // Of the writer's plan only `version` and which indicators count as loaded may change.
         ensures waited { HasWaited seat.old seat.new }
+        // For who asks how it waits: the list of all its loads, with what `version` was at each.
         ensures loads { plan seat.new ≡ settled self.now.layout.callers (plan seat.old) }
+        // For the crates above, which do not know how many indicators there are: both waits are over.
         ensures settled { Settled (writer_view seat.new).base (plan seat.new) }
     {
         let former = seat.version;
@@ -123,6 +130,7 @@ impl<O: Object> Shared<O> {
         ensures waited { Writes seat.old seat.new (observed (indicator_of caller version) 0
             (plan seat.old)) }
     {
+        // The wait pauses a little longer each time. No clause rests on that.
         let backoff = Backoff::new();
         for _ in rt.forever() {
             backoff.snooze();

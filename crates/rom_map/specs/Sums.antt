@@ -7,11 +7,12 @@ use Rattle.rom_model.specs.Chains.{stamped_at}
 use Rattle.rom_map.specs.declared.sums.Measure.{Measure}
 use Rattle.rom_map.specs.declared.sums.Measure.TheVariants.{Value, Fresh}
 
--- which word of a key's node it is taken from, and which of the key's two numbers that is
+-- which word of a key's node a measure is taken from
 abbrev pub word_of : Measure → ℕ
 word_of Value = 1
 word_of (Fresh place) = 3
 
+-- which of a key's two numbers a measure is taken from, the value or the stamp
 abbrev pub taken_from : Measure → Stamped → ℕ
 taken_from Value kept = kept.value
 taken_from (Fresh place) kept = kept.stamp

@@ -29,18 +29,25 @@ pub fn map_put<M: Space>(space: &mut M, order: u32, key: u64, value: u64, stamp:
     requires region { IsWellFormed order (M.shown.image space.old) }
     requires stamp { stamp ≤ slice_index (M.shown.image space.old) 2 }
     requires room { HasRoom M.shown 31 space.old }
+    // `Full` comes exactly where the key is absent and the heap is full. Else the key has the value and the
+    // stamp then, and all else of the state and the count stay. `Was` tells the value before.
     ensures contents { (s : State) (k : ℕ) → Contents order (M.shown.image space.old) s k
         → IsPut order s k key value stamp result (M.shown.image space.new) }
+    // Unless the answer is `Full`, each other element keeps its block, and a new key takes the first free
+    // one. No word differs but those of the map and of the allocator.
     ensures others { (p : Chains) (s : State) (k : ℕ) →
         IsRegion order (M.shown.image space.old) p s k
         → PutLeaves order (M.shown.image space.old) p s k key value stamp result
         (M.shown.image space.new) }
     ensures region { IsWellFormed order (M.shown.image space.new) }
+    // At most `order` + 7 stores are counted for `New`, and two for `Was`. After `Full` the words stay.
     ensures each { (s : State) (k : ℕ) → Contents order (M.shown.image space.old) s k
         → PutCosts M.shown order (get_loads order s.pairs key) result space.old space.new }
+    // Beside the loads that find the key at most 3 * order + 6 are counted, and at most order + 7 stores.
     ensures costs { (s : State) (k : ℕ) → Contents order (M.shown.image space.old) s k
         → Costs M.shown (3 * order + 6 + get_loads order s.pairs key) (order + 7)
         space.old space.new }
+    // No more stores are counted than words differ afterwards.
     ensures sparing { IsSparing M.shown space.old space.new }
 {
     let sought = find_rising(space, order, key);
@@ -65,20 +72,27 @@ pub fn map_del<M: Space>(space: &mut M, order: u32, key: u64) -> Option<u64>
     requires order { IsOrder order }
     requires region { IsWellFormed order (M.shown.image space.old) }
     requires room { HasRoom M.shown 31 space.old }
+    // The answer is the value that the key had, and `None` exactly where the key was absent.
     ensures was { (s : State) (k : ℕ) → Contents order (M.shown.image space.old) s k
         → result ≡ value_of s key }
+    // Afterwards the map does not have the key. All else of the state and the count stay.
     ensures contents { (s : State) (k : ℕ) → Contents order (M.shown.image space.old) s k
         → Contents order (M.shown.image space.new) (with_pairs s (map.remove s.pairs key)) k }
+    // A key that was there leaves its chain, and the words of its block stay. Each other element keeps its
+    // block. No word differs but those of the map and of the allocator.
     ensures others { (p : Chains) (s : State) (k : ℕ) →
         IsRegion order (M.shown.image space.old) p s k
         → IfSome result (λ value. IsDeleted order (M.shown.image space.old) p s k key
         (M.shown.image space.new)) }
     ensures region { IsWellFormed order (M.shown.image space.new) }
+    // Where the key was absent the words stay, and only the loads that look for it are counted.
     ensures none { (s : State) (k : ℕ) → Contents order (M.shown.image space.old) s k
         → IfNone result (Looks M.shown (get_loads order s.pairs key) space.old space.new) }
+    // Beside the loads that find the key at most 2 * order + 2 are counted, and at most order + 3 stores.
     ensures costs { (s : State) (k : ℕ) → Contents order (M.shown.image space.old) s k
         → Costs M.shown (2 * order + 2 + get_loads order s.pairs key) (order + 3)
         space.old space.new }
+    // No more stores are counted than words differ afterwards.
     ensures sparing { IsSparing M.shown space.old space.new }
 {
     let sought = find_rising(space, order, key);
@@ -96,8 +110,10 @@ pub fn map_del<M: Space>(space: &mut M, order: u32, key: u64) -> Option<u64>
 pub fn map_get<M: Look>(space: &mut M, order: u32, key: u64) -> Option<u64>
     requires order { IsOrder order }
     requires region { IsWellFormed order (M.shown.image space.old) }
+    // The answer is the value of the key, and `None` exactly where the map does not have the key.
     ensures is { (s : State) (k : ℕ) → Contents order (M.shown.image space.old) s k
         → result ≡ value_of s key }
+    // The words stay. At most 3 loads, and 2 for each lesser key of the bucket, are counted.
     ensures looks { (s : State) (k : ℕ) → Contents order (M.shown.image space.old) s k
         → Looks M.shown (get_loads order s.pairs key) space.old space.new }
 {

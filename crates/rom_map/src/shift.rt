@@ -94,6 +94,10 @@ fn replace_both<M: Space>(space: &mut M, source: Entry, target: Entry, stamp: u6
 /// Moves an amount from one key's value to another's. It looks for each key once, and stores nothing
 /// unless the move is done between two keys. Then both get the stamp, which is no more than the
 /// region's count; of their words one that stays is not stored either.
+///
+/// An amount of 0 is moved like any other: if the move is done between two keys, both get the stamp, so they
+/// count as written. A move of a key to itself asks whether the key has the amount, and changes nothing. No
+/// move needs a free block.
 pub fn map_move<M: Space>(
     space: &mut M,
     order: u32,
@@ -106,23 +110,31 @@ pub fn map_move<M: Space>(
     requires region { IsWellFormed order (M.shown.image space.old) }
     requires stamp { stamp ≤ slice_index (M.shown.image space.old) 2 }
     requires room { HasRoom M.shown 4 space.old }
+    // The answer is the one that fits the two values. The map is then as that answer says, and all
+    // else of the state and the count stay.
     ensures contents { (s : State) (k : ℕ) → Contents order (M.shown.image space.old) s k
         → IsMoved order s k from to amount stamp result (M.shown.image space.new) }
     ensures region { IsWellFormed order (M.shown.image space.new) }
+    // Each element keeps its block. No word differs but, if the move is done, two values and two stamps.
     ensures others { (p : Chains) (s : State) (k : ℕ) →
         IsRegion order (M.shown.image space.old) p s k
         → MoveLeaves order (M.shown.image space.old) p s k from to amount stamp result
         (M.shown.image space.new) }
+    // Beside the loads that find the two keys at most 4 are counted, and at most 4 stores.
     ensures costs { (s : State) (k : ℕ) → Contents order (M.shown.image space.old) s k
         → Costs M.shown (4 + get_loads order s.pairs from + get_loads order s.pairs to) 4
         space.old space.new }
+    // With one key on both sides the words stay, and only the loads that look for it once are counted.
     ensures alone { from ≡ to → (s : State) (k : ℕ) → Contents order (M.shown.image space.old) s k
         → Looks M.shown (get_loads order s.pairs from) space.old space.new }
+    // Unless the move is done the words stay, and only the loads that look for the two keys are counted.
     ensures kept { (s : State) (k : ℕ) → Contents order (M.shown.image space.old) s k
         → KeepsUnlessMoved M.shown (get_loads order s.pairs from + get_loads order s.pairs to)
         result space.old space.new }
+    // No more stores are counted than words differ afterwards.
     ensures sparing { IsSparing M.shown space.old space.new }
 {
+    // All is decided by loads, before the first store: so no refusal is found half way.
     match plan_move(space, order, from, to, amount) {
         Plan::Stays(told) => told,
         Plan::Changes(source, target) => {

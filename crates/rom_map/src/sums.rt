@@ -89,18 +89,21 @@ pub fn map_total<M: Look>(space: &mut M, order: u32) -> u128
     ensures total { (s : State) (k : ℕ) → Contents order (M.shown.image space.old) s k
         → result ≡ total_of s }
     ensures fits { result < 2 ^ 80 }
+    // The words stay. One load for each bucket and two for each key of the map are counted at most.
     ensures looks { (s : State) (k : ℕ) → Contents order (M.shown.image space.old) s k
         → Looks M.shown (buckets order + 2 * map.len s.pairs) space.old space.new }
 {
     map_sum(space, order, Measure::Value)
 }
 
-/// How many keys of the map have a stamp above a place.
+/// How many keys of the map have a stamp above a place. A key that was taken out is not counted: to keep its
+/// stamp would take a block that nobody gives back.
 pub fn map_fresh<M: Look>(space: &mut M, order: u32, place: u64) -> u64
     requires order { IsOrder order }
     requires region { IsWellFormed order (M.shown.image space.old) }
     ensures fresh { (s : State) (k : ℕ) → Contents order (M.shown.image space.old) s k
         → result ≡ fresh_after s place }
+    // The words stay. One load for each bucket and two for each key of the map are counted at most.
     ensures looks { (s : State) (k : ℕ) → Contents order (M.shown.image space.old) s k
         → Looks M.shown (buckets order + 2 * map.len s.pairs) space.old space.new }
 {

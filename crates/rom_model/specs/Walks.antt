@@ -1,4 +1,6 @@
--- How many keys a walk to a key passes, and so how many loads a query makes.
+-- How many keys a walk to a key passes, and so how many loads a query makes. A caller can know the number
+-- from the state. Where keys rise, as many stand before the key in its chain: a walk that goes on behind the
+-- key, or goes back, would make more loads than the bound.
 use Rattle.std.specs.Prelude.{ℕ, ◌+◌, ◌*◌, ◌==◌, ◌&&◌, nat_lt, length, filter, is_some, if◌then◌else◌}
 use Rattle.std.specs.Ordering.{nat_cmp}
 use Rattle.std.specs.FinSet as set

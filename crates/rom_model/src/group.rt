@@ -12,7 +12,8 @@ pub const MIN_MEMBERS: usize = 2;
 /// The greatest number of members of a group.
 pub const MAX_MEMBERS: usize = 8;
 
-/// Two to eight updates. A contract sees their list.
+/// Two to eight updates. A contract sees a list, which may have any length: `HasSize` says which lists a
+/// program can have. Eight nested options would bound the length, but then no clause could say "list".
 #[derive(Clone, Copy, Debug)]
 pub struct Group {
     cells: [Single; MAX_MEMBERS],

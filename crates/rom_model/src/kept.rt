@@ -1,4 +1,6 @@
-//! What a caller keeps of its session. It stands in contracts alone.
+//! What a caller keeps of its session. It stands in contracts alone. With it, the proof that results are
+//! lawful has two parts. What a caller was told is what it keeps (`HasHeard`), and what it keeps is what the
+//! session has of it (`IsKept`). Each part is proved where it happens.
 
 use crate::call::Updated;
 use crate::entry::Entry;

@@ -18,7 +18,7 @@ use crate::words::{Args, Back};
 use std::alloc::{AllocError, Global};
 
 /// An object that is kept in a region of words. What runs it and keeps it safe over a stop knows no
-/// more of it than this.
+/// more of it than this. It need not be `Send` or `Sync`: that is asked for where threads are started.
 ///
 /// A region of an order from 4 to 16 stands for a state and a count of updates. An update changes the
 /// words through any space, and a query looks at them through any view; neither takes memory.
@@ -30,13 +30,14 @@ pub trait Object {
 
     ghost STORES: { ℕ };
 
-    /// The greatest number of stores of one update of weight 1, and for each unit of its weight of
-    /// any other.
+    /// The most stores that one update of weight 1 may make, and any other for each unit of its weight.
+    /// A writer reserves room by this and `WEIGHT` alone.
     const STORES: u64;
 
     ghost WEIGHT: { ℕ };
 
-    /// The greatest weight of an update.
+    /// The greatest weight of an update. The log of a writer has room for updates of this weight. What a pass
+    /// writes is bounded by the weights of the calls that it found.
     const WEIGHT: u64;
 
     /// Its states.
@@ -65,9 +66,12 @@ pub trait Object {
     /// that word breaks that rule and each test before holds. Want of memory is no reason of words.
     ghost Rejects: { ℕ → List ℕ → Unfit → Type 0 };
 
-    /// The version that its regions had before this one, or `no_earlier`.
+    /// The version that its regions had before this one, or `no_earlier`. It stands here and not at `Renew`,
+    /// since a command's promise speaks of it, and one promise serves the programs of all objects.
     ghost earlier: { Earlier State };
 
+    // It is not named `weight`: names that differ only in case, as `WEIGHT` does, cannot stand in one trait.
+    // `most` is a clause of this function and no law of each call: contracts see groups of any length.
     /// The weight of a call. It bounds the stores that the call makes.
     fn weight_of(call: &Self::Call) -> u64
         ensures is { result ≡ machine.weight call.now }
@@ -90,6 +94,7 @@ pub trait Object {
     /// The call that the words are those of. It is `None` exactly where there is none.
     fn words_call(words: &Args) -> Option<Self::Call>
         ensures call { result ≡ machine.words_call words.now }
+        // So a writer that has room for the greatest weight has room for each call that it reads from words.
         ensures weight { IfSome result (λ call.
             (1 ≤ machine.weight call) × (machine.weight call ≤ WEIGHT)) };
 
@@ -116,9 +121,11 @@ pub trait Object {
         requires region { (s : State) × (k : ℕ)
             × Contents order (M.shown.image space.old) s k × (k < LAST_COUNT) }
         requires room { HasRoom M.shown (STORES * machine.weight call.now) space.old }
+        // The reply is the step's. The region then stands for the state after it, and counts one update more.
         ensures done { (s : State) (k : ℕ) → Contents order (M.shown.image space.old) s k
             → let after = machine.step order s k call.now in
             (result ≡ after.1) × Contents order (M.shown.image space.new) after.0 (k + 1) }
+        // It makes at most `STORES` stores for each unit of the call's weight, where they are counted.
         ensures stores { Stores M.shown (STORES * machine.weight call.now) space.old space.new };
 
     /// Does the update whose words these are, and counts it, as `apply` does. Makes `told` the words of
@@ -128,10 +135,14 @@ pub trait Object {
         requires call { IsSome (machine.words_call words.now) }
         requires region { (s : State) × (k : ℕ)
             × Contents order (M.shown.image space.old) s k × (k < LAST_COUNT) }
+        // There is room for the greatest weight, so that a writer need not ask for the weight of these words.
         requires room { HasRoom M.shown (STORES * WEIGHT) space.old }
+        // The step on these words gives the words in `told` and the state that the region then stands for.
+        // The region counts one update more.
         ensures done { (s : State) (k : ℕ) → Contents order (M.shown.image space.old) s k
             → (after : State) × (on_words machine order s k words.now ≡ Some (after, told.new))
             × Contents order (M.shown.image space.new) after (k + 1) }
+        // At most `STORES` stores are made for each unit of the weight of these words, where counted.
         ensures stores { Stores M.shown (STORES * weight_on_words machine words.now)
             space.old space.new }
         ensures weight { weight_on_words machine words.now ≤ WEIGHT }
@@ -145,8 +156,10 @@ pub trait Object {
     fn answer<M: Look>(space: &mut M, order: u32, query: &Self::Query) -> Self::Answer
         requires order { IsOrder order }
         requires region { (s : State) × (k : ℕ) × Contents order (M.shown.image space.old) s k }
+        // The answer is what the query is told in the state that the region stands for.
         ensures told { (s : State) (k : ℕ) → Contents order (M.shown.image space.old) s k
             → result ≡ machine.tell s query.now }
+        // No word changes, and at most `cost` loads are made, where they are counted.
         ensures looks { (s : State) (k : ℕ) → Contents order (M.shown.image space.old) s k
             → Looks M.shown (machine.cost order s query.now) space.old space.new };
 
@@ -157,11 +170,16 @@ pub trait Object {
     fn inspect(alloc: Global, region: &[u64], order: u32) -> Result<(), Unfit>
         requires order { IsOrder order }
         requires sized { length region.now ≡ region_len order }
+        // `Ok` tells that the words are a well-formed region.
         ensures fit { OnOk result ((s : State) × (k : ℕ) × Contents order region.now s k) }
+        // Any error but `OutOfMemory` is true of the words.
         ensures reason { IfErr result (IsReason (Rejects order region.now)) }
+        // Words of an older version get `Old`, and no other answer.
         ensures old { Rejects order region.now Old → result ≡ Err Old }
+        // Words that are rejected stand for no state.
         ensures refused { (e : Unfit) → Rejects order region.now e → (s : State) (k : ℕ) →
             Contents order region.now s k → ⊥ }
+        // Words are rejected for at most one reason.
         ensures one { (e d : Unfit) → Rejects order region.now e → Rejects order region.now d →
             e ≡ d };
 
@@ -169,7 +187,8 @@ pub trait Object {
     ghost call_only: { (words : List ℕ) (call : Self.Call) → machine.words_call words ≡ Some call →
         machine.call_words call ≡ words };
 
-    /// What a call is told that has words is read back from its own words.
+    /// What a call is told that has words is read back from its own words. Histories need no more. Of any
+    /// reply at all it would be false: a contract sees lists of more than eight replies.
     ghost reply_back: { (order : ℕ) (s : State) (count : ℕ) (words : List ℕ) (call : Self.Call) →
         machine.words_call words ≡ Some call →
         let told = (machine.step order s count call).1 in

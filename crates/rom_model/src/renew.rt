@@ -20,12 +20,16 @@ pub trait Renew: Object {
     fn inspect_old(alloc: Global, region: &[u64], order: u32) -> Result<(), Unfit>
         requires order { IsOrder order }
         requires sized { length region.now ≡ region_len order }
+        // `Ok` tells that the words are a well-formed region of version 1.
         ensures fit { OnOk result ((s : Self.State) × (k : ℕ)
             × Self.earlier.Contents order region.now s k) }
+        // Any error but `OutOfMemory` is true of the words.
         ensures reason { IfErr result (IsReason (Self.earlier.Rejects order region.now)) }
         ensures never_old { result ≢ Err Old }
+        // Words that are rejected as version 1 stand for no state in that version.
         ensures refused { (e : Unfit) → Self.earlier.Rejects order region.now e → (s : Self.State)
             (k : ℕ) → Self.earlier.Contents order region.now s k → ⊥ }
+        // Words are rejected as version 1 for at most one reason.
         ensures one { (e d : Unfit) → Self.earlier.Rejects order region.now e →
             Self.earlier.Rejects order region.now d → e ≡ d };
 
@@ -35,6 +39,7 @@ pub trait Renew: Object {
         requires order { IsOrder order }
         requires region { (s : Self.State) × (k : ℕ)
             × Self.earlier.Contents order (words_of space.old) s k }
+        // After `Ok` the words stand for the state and the count that those of version 1 stood for.
         ensures renewed { OnOk result ((s : Self.State) (k : ℕ) →
             Self.earlier.Contents order (words_of space.old) s k →
             Self.Contents order (words_of space.new) s k) };

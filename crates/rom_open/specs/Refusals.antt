@@ -12,7 +12,7 @@ use Rattle.rom_recover.specs.declared.recovery.RecoverRefused.TheVariants as rec
 use Rattle.rom_open.specs.declared.reasons.Why.{Why}
 use Rattle.rom_open.specs.declared.reasons.Why.TheVariants.{NotAHeap, BadVersion, BadOrder, BadState, TooSmall, Twins, OldRegion, NewRegion, Malformed, Device, OutOfMemory}
 
--- the refusal of a header, of a recovery and of an inspection
+-- the refusal of a header, as a reason why a device is not opened
 abbrev pub of_header : HeaderRefused → Why
 of_header (header.TooSmall need have) = TooSmall need have
 of_header header.NotAHeap = NotAHeap
@@ -21,10 +21,12 @@ of_header (header.BadOrder order) = BadOrder order
 of_header (header.BadState state) = BadState state
 of_header header.Device = Device
 
+-- that of a recovery, likewise
 abbrev pub of_recovery : RecoverRefused → Why
 of_recovery (recovery.Twins offset main back) = Twins offset main back
 of_recovery recovery.Device = Device
 
+-- that of an inspection, likewise
 abbrev pub of_inspection : Unfit → Why
 of_inspection (unfit.Malformed offset rule) = Malformed offset rule
 of_inspection unfit.Old = OldRegion

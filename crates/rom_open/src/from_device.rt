@@ -35,8 +35,9 @@ pub struct Opened<D> {
     pub image: Vec<u64>,
 }
 
-/// A device that was not opened. Its words are as they were where the header or the regions were
-/// refused. It has been recovered where the region that counts was refused, or there was no memory.
+/// A device that was not opened. It is handed back, since [`open_device`] takes it by value: what is opened
+/// owns it. Its words are as they were where the header or the regions were refused. It has been recovered
+/// where the region that counts was refused, or there was no memory.
 /// Where it failed either may hold, or it is recovered in part; then it can be opened again.
 #[derive(Drop)]
 pub struct Refused<D> {
@@ -106,57 +107,80 @@ pub fn open_device<D: Device, O: Object>(alloc: Global, device: D) -> Result<Ope
     // Where the device tells its words, the answer is exactly theirs.
     ensures answer { IsTrue D.shown.tells_words →
         IsOpeningAnswer O.Contents O.Rejects (D.shown.words device) result }
+    // A device of fewer than eight words, which a header takes, is refused as `TooSmall`, whatever its words
+    // are.
     ensures too_small { D.shown.size device < 8 →
         refusal_of result ≡ Err (TooSmall 8 (D.shown.size device)) }
+    // `TooSmall` names how many words are needed and how many there are, also where words are not told.
     ensures sizes { IfErr result (λ refused. NamesTooFew (D.shown.size device) refused.why) }
 
-    // The image is well-formed, and what it stands for is what the device held, and holds.
+    // The image is well-formed: it stands for some state and count.
     ensures fit { IfOk result (λ opened.
         (s : O.State) × (k : ℕ) × O.Contents opened.geometry opened.image.items s k) }
     ensures sized { IfOk result (λ opened. length opened.image.items ≡ region_len opened.geometry) }
+    // What the image stands for is what the device's words held at the call.
     ensures held { IsTrue D.shown.tells_words → IfOk result (λ opened.
         (s : O.State) (k : ℕ) → O.Contents opened.geometry opened.image.items s k →
         Holds O.Contents opened.geometry (D.shown.words device) s k) }
+    // The device's words now hold what the image stands for.
     ensures holds { IsTrue D.shown.tells_words → IfOk result (λ opened.
         (s : O.State) (k : ℕ) → O.Contents opened.geometry opened.image.items s k →
         Holds O.Contents opened.geometry (D.shown.words opened.device) s k) }
+    // Words hold at most one order, one state and one count.
     ensures one { HoldsOne O.Contents }
 
-    // The device is recovered, and after `Ok` it is that of the image.
+    // After `Ok` the device has room for the heap.
     ensures fits { IfOk result (λ opened.
         words_needed opened.geometry ≤ D.shown.size opened.device) }
+    // After `Ok` the device is at rest: its state is IDLE, and both regions are the image.
     ensures rest { IsTrue D.shown.tells_words → IfOk result (λ opened.
         IsAtRest opened.geometry opened.image.items (D.shown.words opened.device)) }
+    // After `Ok`, and where the region that counts was refused or there was no memory, the heap is recovered:
+    // its state is IDLE, and both regions are the one that counted.
     ensures recovered { IsTrue D.shown.tells_words → IsTrue (is_recovered (refusal_of result)) →
         IsDone (named_order (D.shown.words device)) (D.shown.words device)
         (D.shown.words (device_of result)) }
+    // Where the heap is recovered no write is unsynced: a stop leaves the words as they read.
     ensures certain { IsTrue (is_recovered (refusal_of result)) →
         IsSynced D.shown (device_of result) }
 
-    // Whatever the answer, the region that counts stays, and under IDLE every word does. So what the
-    // device held stays wherever a stop is.
+    // Whatever the answer, the words stay, or the region that counted counts and only the state and the two
+    // regions may differ.
     ensures left { Alters D.shown MendsNamed device (device_of result) }
+    // Each image that a stop might have left by now could be left before the call, or the region that counted
+    // counts there.
     ensures images { IsTrue D.shown.tells_images →
         Leaves D.shown (Mended (named_order (D.shown.words device)) (D.shown.words device))
         device (device_of result) }
 
-    // So also where an earlier program left words in doubt.
+    // An earlier program left at most the state and the region that does not count in doubt; and under IDLE a
+    // stop left one of the three states. Then each image that a stop might have left by now could be left
+    // before the call, or the region that counted counts there.
     ensures doubts { IsTrue D.shown.tells_doubts →
         IsLeftInDoubt D.shown (named_order (D.shown.words device)) device →
         Leaves D.shown (SameRegion (D.shown.words device)) device (device_of result) }
+    // Each image that a stop might have left by now could be left before the call, or holds what the image
+    // stands for.
     ensures held_images { IsTrue D.shown.tells_images → IfOk result (λ opened.
         (s : O.State) (k : ℕ) → O.Contents opened.geometry opened.image.items s k →
         Leaves D.shown (λ i. Holds O.Contents opened.geometry i s k) device opened.device) }
+    // Under IDLE every word stays, and a stop leaves no other image than before.
     ensures idle { IsTrue D.shown.tells_words →
         IsIdle (D.shown.words device) → Does D.shown Stays device (device_of result) }
 
-    // No call follows one that failed.
+    // No call of the device follows one that failed: after `Device` the last one did, after `Twins` it may
+    // have, and after any other answer none did.
     ensures faults { HasFaults (refusal_of result)
         (D.shown.faults device) (D.shown.faults (device_of result))
         (D.shown.failing (device_of result)) }
+    // The device was called exactly as an opening of these words that answers so calls it: after `Device`,
+    // and in the reads of `Twins`, no more than that.
     ensures calls { IsTrue D.shown.tells_words →
         Calls D.shown (D.shown.words device) device (device_of result) (refusal_of result) }
+    // The device was called no more than one opening calls it, and not after a call that failed.
     ensures within { WithinOpening D.shown device (device_of result) }
+    // Also where words are not told, the device was called no more than the longest opening of a heap of this
+    // order calls it.
     ensures by_order { IfOk result (λ opened.
         CallsOfOrder D.shown opened.geometry device opened.device) }
 {

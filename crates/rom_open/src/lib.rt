@@ -5,7 +5,12 @@
 //! [`open_device`] opens the heap that stands there: it reads the header, recovers, keeps in memory the
 //! region that a recovery reads anyway, and has the object inspect it; [`make_ready`] is all of this but
 //! the inspection. [`format_device`] makes a new heap, with the object's empty state. Their contracts say
-//! what each refusal comes from, what is counted, and what a stop at any moment leaves.
+//! what each refusal comes from, what is counted, and what a stop at any moment leaves. This crate stands
+//! below the store, for programs that open or make a heap and share no words.
+//!
+//! What a clause says of a device's words, of words in doubt, or of images that a stop leaves, holds where
+//! the device tells them. At an `ensures`, "now" is the end of the call, and "no call failed" means that the
+//! device's count of faults stayed. A device's count at 2^64 - 1 stands still and tells nothing.
 #![tactic(auto)]
 
 mod from_device;

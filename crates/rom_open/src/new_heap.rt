@@ -66,21 +66,29 @@ pub fn write_heap<D: Device, O: Object>(
     ensures answer { IsTrue D.shown.tells_words →
         IsFormatAnswer order (D.shown.words device.old) result }
     ensures fits { OnOk result (words_needed order ≤ D.shown.size device.old) }
+    // `TooSmall` names how many words are needed and how many there are, also where words are not told.
     ensures sizes { IfErr result (HasTooFewFor order (D.shown.size device.old)) }
 
-    // The device then has the region twice, and so does whatever a stop leaves of it.
+    // After `Ok` the device's words are the new heap, with the region twice.
     ensures made { IsTrue D.shown.tells_words →
         OnOk result (IsNew order (words_of region.now) (D.shown.words device.new)) }
+    // After `Ok` the device's words hold the empty state and the count 0.
     ensures held { IsTrue D.shown.tells_words →
         OnOk result (Holds O.Contents order (D.shown.words device.new) O.machine.empty 0) }
+    // After `Ok` no write is unsynced: a stop leaves the words as they read.
     ensures certain { OnOk result (IsSynced D.shown device.new) }
+    // After `Ok` each image that a stop leaves holds the empty state and the count 0.
     ensures held_images { IsTrue D.shown.tells_images → OnOk result ((i : List ℕ) →
         D.shown.leaves device.new i → Holds O.Contents order i O.machine.empty 0) }
+    // Whatever the answer, only words that the heap has, or would have, may differ.
     ensures alters { Alters D.shown (ChangesOnly 0 (words_needed order)) device.old device.new }
 
-    // What a stop may leave since the call began.
+    // Each image that a stop might have left by now could be left before the call, or has no heap, or holds
+    // the empty state and the count 0.
     ensures images { IsTrue D.shown.tells_images →
         Leaves D.shown (NoneOrHolds O.Contents order O.machine.empty) device.old device.new }
+    // Where a heap stood, or there are too few words, every word stays, and a stop leaves no other image than
+    // before.
     ensures refused { IsTrue D.shown.tells_words →
         IsRefused order (D.shown.words device.old) → Does D.shown Stays device.old device.new }
 
@@ -88,6 +96,7 @@ pub fn write_heap<D: Device, O: Object>(
     ensures makes { Makes D.shown (format_reads result) (format_writes order result)
         (format_syncs result)
         device.old device.new (format_fault result) }
+    // The device was called no more than one making calls it, and not after a call that failed.
     ensures within { WithinMaking D.shown order device.old device.new }
 {
     write_new(device, order, region.words())
@@ -105,27 +114,35 @@ pub fn format_device<D: Device, O: Object>(
 ) -> Result<(), NotFormatted>
     requires order { IsOrder order }
 
-    // Want of memory comes before any call of the device, and else the answer is exactly that of
-    // its words, where it tells them.
+    // For want of memory the device was not called.
     ensures memory { result ≡ Err OutOfMemory → device.new ≡ device.old }
+    // Else the answer is exactly that of the device's words, where it tells them.
     ensures answer { IsTrue D.shown.tells_words →
         IfMade result (IsFormatAnswer order (D.shown.words device.old)) }
     ensures fits { OnOk result (words_needed order ≤ D.shown.size device.old) }
+    // `TooSmall` names how many words are needed and how many there are, also where words are not told.
     ensures sizes { IfMade result (NamesTooFewFor order (D.shown.size device.old)) }
 
-    // The device then holds the empty state, and so does whatever a stop leaves of it.
+    // After `Ok` the device's words are a new heap with the empty state.
     ensures made { IsTrue D.shown.tells_words →
         OnOk result (IsNewWith O.Contents order O.machine.empty (D.shown.words device.new)) }
+    // After `Ok` the device's words hold the empty state and the count 0.
     ensures held { IsTrue D.shown.tells_words →
         OnOk result (Holds O.Contents order (D.shown.words device.new) O.machine.empty 0) }
+    // After `Ok` no write is unsynced: a stop leaves the words as they read.
     ensures certain { OnOk result (IsSynced D.shown device.new) }
+    // After `Ok` each image that a stop leaves holds the empty state and the count 0.
     ensures held_images { IsTrue D.shown.tells_images → OnOk result ((i : List ℕ) →
         D.shown.leaves device.new i → Holds O.Contents order i O.machine.empty 0) }
+    // Whatever the answer, only words that the heap has, or would have, may differ.
     ensures alters { Alters D.shown (ChangesOnly 0 (words_needed order)) device.old device.new }
 
-    // What a stop may leave since the call began.
+    // Each image that a stop might have left by now could be left before the call, or has no heap, or holds
+    // the empty state and the count 0.
     ensures images { IsTrue D.shown.tells_images →
         Leaves D.shown (NoneOrHolds O.Contents order O.machine.empty) device.old device.new }
+    // Where a heap stood, or there are too few words, every word stays, and a stop leaves no other image than
+    // before.
     ensures refused { IsTrue D.shown.tells_words →
         IsRefused order (D.shown.words device.old) → Does D.shown Stays device.old device.new }
 
@@ -133,8 +150,11 @@ pub fn format_device<D: Device, O: Object>(
     ensures makes { IfMade result (λ made.
         Makes D.shown (format_reads made) (format_writes order made) (format_syncs made)
         device.old device.new (format_fault made)) }
+    // The device was called no more than one making calls it, and not after a call that failed.
     ensures within { WithinMaking D.shown order device.old device.new }
 {
+    // The region is made in memory first, so that want of memory comes before any call of the device. Who
+    // goes on with the region makes it itself, and calls `write_heap`.
     let region = new_region::<O>(alloc, order)?;
     write_heap::<D, O>(device, order, &region)?;
     Ok(())

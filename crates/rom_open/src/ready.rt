@@ -36,35 +36,59 @@ pub struct Ready {
 /// regions leaves every word; where the device failed it may be recovered in part.
 pub fn make_ready<D: Device>(alloc: Global, device: &mut D) -> Result<Ready, Why>
     ensures fits { IfOk result (λ ready. words_needed ready.geometry ≤ D.shown.size device.old) }
+    // After `Ok` the heap is recovered: its state is IDLE, and both regions are the one that counted.
     ensures done { IsTrue D.shown.tells_words →
         IfOk result (λ ready. IsDone ready.geometry (D.shown.words device.old)
         (D.shown.words device.new)) }
+    // The header was accepted: a heap of that order stood there.
     ensures heap { IsTrue D.shown.tells_words →
         IfOk result (λ ready. IsHeap ready.geometry (D.shown.words device.old)) }
     ensures sized { IfOk result (λ ready. IfSome ready.image (λ image.
         length image.items ≡ region_len ready.geometry)) }
+    // The image, where there was memory for one, has the words of main.
     ensures image { IsTrue D.shown.tells_words → IfOk result (λ ready. IfSome ready.image (λ image.
         image.items ≡ main_of ready.geometry (D.shown.words device.new))) }
+    // After `Ok` no write is unsynced: a stop leaves the words as they read.
     ensures certain { OnOk result (IsSynced D.shown device.new) }
+    // The words are refused by their header, or else by the first difference of the regions under IDLE.
+    // `Device` may stand in place of either.
     ensures refused { IsTrue D.shown.tells_words →
         IfErr result (IsUnready (D.shown.words device.old)) }
+    // A device of fewer than eight words, which a header takes, is refused as `TooSmall`, whatever its words
+    // are.
     ensures too_small { D.shown.size device.old < 8 →
         result ≡ Err (TooSmall 8 (D.shown.size device.old)) }
+    // `TooSmall` names how many words are needed and how many there are, also where words are not told.
     ensures sizes { IfErr result (NamesTooFew (D.shown.size device.old)) }
+    // Whatever the answer, the words stay, or the region that counted counts and only the state and the two
+    // regions may differ.
     ensures left { Alters D.shown MendsNamed device.old device.new }
+    // Each image that a stop might have left by now could be left before the call, or the region that counted
+    // counts there.
     ensures images { IsTrue D.shown.tells_images →
         Leaves D.shown (Mended (named_order (D.shown.words device.old)) (D.shown.words device.old))
         device.old device.new }
+    // An earlier program left at most the state and the region that does not count in doubt; and under IDLE a
+    // stop left one of the three states. Then each image that a stop might have left by now could be left
+    // before the call, or the region that counted counts there.
     ensures doubts { IsTrue D.shown.tells_doubts →
         IsLeftInDoubt D.shown (named_order (D.shown.words device.old)) device.old →
         Leaves D.shown (SameRegion (D.shown.words device.old)) device.old device.new }
+    // Under IDLE every word stays, and a stop leaves no other image than before.
     ensures idle { IsTrue D.shown.tells_words →
         IsIdle (D.shown.words device.old) → Does D.shown Stays device.old device.new }
+    // No call of the device follows one that failed: after `Device` the last one did, after `Twins` it may
+    // have, and after any other answer none did.
     ensures faults { HasFaults result
         (D.shown.faults device.old) (D.shown.faults device.new) (D.shown.failing device.new) }
+    // The device was called exactly as an opening of these words that answers so calls it: after `Device`,
+    // and in the reads of `Twins`, no more than that.
     ensures calls { IsTrue D.shown.tells_words →
         Calls D.shown (D.shown.words device.old) device.old device.new result }
+    // Also where words are not told, the device was called no more than the longest opening of some heap that
+    // it has room for calls it, or for no more than the four reads of a header.
     ensures by_some_order { CallsOfSomeOrder D.shown device.old device.new }
+    // After `Ok`, the device was called no more than the longest opening of a heap of this order calls it.
     ensures by_order { IfOk result (λ ready.
         CallsOfOrder D.shown ready.geometry device.old device.new) }
 {

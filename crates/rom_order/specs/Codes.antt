@@ -5,6 +5,7 @@ use Rattle.rom_order.specs.declared.call.OrderCall.TheVariants.{Put, Del}
 use Rattle.rom_order.specs.declared.call.OrderReply.{OrderReply}
 use Rattle.rom_order.specs.declared.call.OrderReply.TheVariants.{Was, NoPrior, Full}
 
+-- the words that stand for a call: a tag, then its numbers
 abbrev pub call_words : OrderCall → List ℕ
 call_words (Put k v) = 1 ∷ k ∷ v ∷ []
 call_words (Del k) = 2 ∷ k ∷ []
@@ -15,6 +16,7 @@ words_call (tag ∷ k ∷ []) = if tag == 2 then Some (Del k) else None
 words_call (tag ∷ k ∷ v ∷ []) = if tag == 1 then Some (Put k v) else None
 words_call words = None
 
+-- the words that stand for a reply: a tag, then its number if it has one
 abbrev pub reply_words : OrderReply → List ℕ
 reply_words (Was v) = 1 ∷ v ∷ []
 reply_words NoPrior = 2 ∷ []

@@ -31,11 +31,12 @@ abbrev pub Follows : ℕ → List ℕ → List ℕ → ℕ → Result ℕ Break 
 Follows n words seen link (Ok b) = LeadsTo n words seen link b
 Follows n words seen link (Err e) = ((b : ℕ) → LeadsTo n words seen link b → ⊥) × (e ≡ record { offset = link; rule = rule.Link })
 
--- above the one key and below the other, where there are such
+-- above that key, if there is one
 abbrev pub is_over : Option ℕ → ℕ → Bool
 is_over None key = true
 is_over (Some low) key = nat_lt low key
 
+-- below that key, if there is one
 abbrev pub is_under : Option ℕ → ℕ → Bool
 is_under None key = true
 is_under (Some high) key = nat_lt key high
@@ -70,6 +71,7 @@ Subtree (suc d) n words seen link low high r =
 abbrev pub root_tests : List ℕ → List Test
 root_tests words = is_word words 0 rule.Root 3 ∷ is_word words 1 rule.Root 1 ∷ test 2 rule.Root (nat_le (slice_index words 2) LAST_COUNT) ∷ are_zero words 5 12 rule.Root
 
+-- what the tests of the root words come to
 abbrev pub Root : List ℕ → Result (Unit {0}) Break → Type 0
 Root words r = r ≡ tested {A = Unit {0}} (root_tests words) tt
 

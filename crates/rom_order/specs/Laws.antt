@@ -33,17 +33,23 @@ same_contents {n} {w} {s} {t} one two =
     let tree = one_tree n w one.0 two.0 (sym one.1.top.at_is ∙ two.1.top.at_is) one.1.top.stands two.1.top.stands in
     (map.same_entries_map s t (one.1.entries_are ∙ ap (λ x. entries x) tree ∙ sym two.1.entries_are), sym one.1.count_is ∙ two.1.count_is)
 
+-- the same, as the trait of an object asks for it
 pub one_contents : (n : ℕ) (words : List ℕ) (s t : Pairs) (j k : ℕ) → Contents n words s j → Contents n words t k → (s ≡ t) × (j ≡ k)
 one_contents n words s t j k one two = same_contents one two
 
+-- A well-formed region has its order's length. Its word 0, the kind, is 3. Its word 2 is the count, which is
+-- at most LAST_COUNT.
 pub contents_within : (n : ℕ) (words : List ℕ) (s : Pairs) (k : ℕ) → Contents n words s k → (length words ≡ region_len n) × (slice_index words 2 ≡ k) × (k ≤ LAST_COUNT) × (slice_index words 0 ≡ 3)
 contents_within n words s k is = (is.1.as_long, is.1.count_is, is.1.count_fits, is.1.kind)
 
+-- words that are read as a call are the words of that call
 pub call_only : (words : List ℕ) (call : OrderCall) → codes.words_call words ≡ Some call → codes.call_words call ≡ words
 call_only words call is = tagged.call_only words call is
 
+-- the words of the reply to a call are read as that reply
 pub reply_back : (n : ℕ) (s : Pairs) (count : ℕ) (words : List ℕ) (call : OrderCall) → codes.words_call words ≡ Some call → let told = (step n s count call).1 in codes.words_reply (codes.reply_words told) ≡ Some told
 reply_back n s count words call is = tagged.reply_back (step n s count call).1
 
+-- words that are read as a reply are the words of that reply
 pub reply_only : (words : List ℕ) (reply : OrderReply) → codes.words_reply words ≡ Some reply → codes.reply_words reply ≡ words
 reply_only words reply is = tagged.reply_only words reply is

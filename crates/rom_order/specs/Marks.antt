@@ -37,6 +37,7 @@ pub record HasWalked (d n : ℕ) (words seen : List ℕ) (link : ℕ) (low high 
   pub count_is : reached.count ≡ length (blocks sub.tree)
   pub marked : AreMarks n sub.seen marks
 
+-- what code answers of a subtree: what it walked with the marks that it left, or the first break
 abbrev pub AnswersSub : ℕ → ℕ → List ℕ → List ℕ → ℕ → Option ℕ → Option ℕ → Result Reached Break → List Bool → Type 0
 AnswersSub d n words seen link low high result marks = MatchResult result (λ reached. HasWalked d n words seen link low high reached marks) (λ e. Subtree d n words seen link low high (Err e))
 

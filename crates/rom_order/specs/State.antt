@@ -14,6 +14,8 @@ use Rattle.rom_order.specs.declared.call.OrderAnswer.{OrderAnswer}
 use Rattle.rom_order.specs.declared.call.OrderAnswer.TheVariants as answer
 use Rattle.rom_order.specs.Region.{room_for}
 
+-- The state: the keys, and a value for each. All taken blocks have one order, so the number of keys decides
+-- whether there is room. So `step` needs no blocks, and no reply depends on which balanced tree stands there.
 abbrev pub Pairs : Type 0
 Pairs = map.FinMap nat_cmp ℕ
 
@@ -48,7 +50,8 @@ tell s (Get k) = value_at (map.get s k)
 tell s (From k) = pair_at (first_from k (map.entries s))
 tell s (Range a b) = answer.Range (length (inside a b (map.entries s))) (total (inside a b (map.entries s)))
 
--- How many loads a query makes at most.
+-- How many loads a query makes at most. The clause `looks` of the object's trait promises it, so a tree that
+-- may grow higher than a balanced one would break that clause.
 abbrev pub cost : ℕ → Pairs → OrderQuery → ℕ
 cost n s (Get k) = 1 + 2 * high (map.len s)
 cost n s (From k) = 2 + 2 * high (map.len s)

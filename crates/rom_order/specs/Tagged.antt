@@ -8,10 +8,12 @@ use Rattle.rom_order.specs.declared.call.OrderReply.{OrderReply}
 use Rattle.rom_order.specs.declared.call.OrderReply.TheVariants.{Was, NoPrior, Full}
 use Rattle.rom_order.specs.Codes.{call_words, words_call, reply_words, words_reply}
 
+-- the words of a call are read as that call
 pub call_back : (call : OrderCall) → words_call (call_words call) ≡ Some call
 call_back (Put k v) = refl
 call_back (Del k) = refl
 
+-- the words of a reply are read as that reply
 pub reply_back : (reply : OrderReply) → words_reply (reply_words reply) ≡ Some reply
 reply_back (Was v) = refl
 reply_back NoPrior = refl
@@ -28,6 +30,7 @@ by_tag words tag own x c behind its is same = ap words (sym same) ∙ its ∙ ap
 chosen : {X : Type 0} (words : X → List ℕ) (tag own : ℕ) (x c : X) (behind : List ℕ) (rest : Option X) → words x ≡ own ∷ behind → (rest ≡ Some c → words c ≡ tag ∷ behind) → (if tag == own then Some x else rest) ≡ Some c → words c ≡ tag ∷ behind
 chosen words tag own x c behind rest its there = choose (tag == own) x c rest (words c ≡ tag ∷ behind) (by_tag words tag own x c behind its) there
 
+-- words that are read as a call are the words of that call
 pub call_only : (words : List ℕ) (call : OrderCall) → words_call words ≡ Some call → call_words call ≡ words
 call_only [] call is = cc
 call_only (tag ∷ []) call is = cc
@@ -35,6 +38,7 @@ call_only (tag ∷ k ∷ []) call is = chosen call_words tag 2 (Del k) call (k �
 call_only (tag ∷ k ∷ v ∷ []) call is = chosen call_words tag 1 (Put k v) call (k ∷ v ∷ []) None refl (λ e. cc) is
 call_only (tag ∷ k ∷ v ∷ x ∷ more) call is = cc
 
+-- words that are read as a reply are the words of that reply
 pub reply_only : (words : List ℕ) (reply : OrderReply) → words_reply words ≡ Some reply → reply_words reply ≡ words
 reply_only [] reply is = cc
 reply_only (tag ∷ []) reply is = chosen reply_words tag 2 NoPrior reply [] (if tag == 3 then Some Full else None) refl (chosen reply_words tag 3 Full reply [] None refl (λ e. cc)) is

@@ -6,11 +6,13 @@ use Rattle.rom_order.specs.declared.call.OrderReply.TheVariants as reply
 use Rattle.rom_order.specs.declared.call.OrderAnswer.{OrderAnswer}
 use Rattle.rom_order.specs.declared.call.OrderAnswer.TheVariants as answer
 
+-- how a reply is printed
 abbrev pub reply_text : OrderReply → List ℕ
 reply_text (reply.Was v) = codes "was " ++ decimal v
 reply_text reply.NoPrior = codes "none"
 reply_text reply.Full = codes "full"
 
+-- how the answer to a query is printed
 abbrev pub answer_text : OrderAnswer → List ℕ
 answer_text (answer.Value v) = codes "value " ++ decimal v
 answer_text answer.Missing = codes "none"
@@ -30,12 +32,14 @@ AnswerFits answer.Missing = Unit {0}
 AnswerFits (answer.Pair k v) = (k < 2 ^ 64) × (v < 2 ^ 64)
 AnswerFits (answer.Range count sum) = (count < 2 ^ 64) × (sum < 2 ^ 128)
 
--- how replies and answers are printed
+-- the text of a reply, and which numbers it may have
 abbrev pub shown_reply : ShownTold OrderReply
 shown_reply = record { text = reply_text; Fits = ReplyFits }
 
+-- the text of an answer, and which numbers it may have
 abbrev pub shown_answer : ShownTold OrderAnswer
 shown_answer = record { text = answer_text; Fits = AnswerFits }
 
+-- the texts of a run whose replies and answers are printed so
 abbrev pub order_texts : Texts OrderReply OrderAnswer
 order_texts = texts_of shown_reply shown_answer

@@ -177,7 +177,8 @@ fn inspect_subtree(
     })
 }
 
-/// Above so many levels no node may stand.
+/// The most levels of nodes that an inspection follows: on the last of them each link must be 0. It may trust
+/// no height, so it counts levels. A balanced tree has at most 21 levels, at order 16.
 #[tactic(auto, unfolding(crate::specs::Inspection::most_levels))]
 fn levels() -> u32
     ensures { result ≡ most_levels }

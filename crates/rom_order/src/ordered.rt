@@ -17,8 +17,11 @@ use rom_tree::{VALUE, attach, detach, fill_single, find_from, find_node, sum_bet
 pub fn order_get<M: Look>(space: &mut M, order: u32, key: u64) -> OrderAnswer
     requires order { IsOrder order }
     requires region { IsWellFormed order (M.shown.image space.old) }
+    // The answer is the value of the key, and `Missing` exactly where the map does not have it.
     ensures told { (s : Pairs) (k : ℕ) → Contents order (M.shown.image space.old) s k
         → result ≡ tell s (query.Get key) }
+    // The words stay, and at most 1 + 2h loads are counted. Here h is the greatest height that a balanced
+    // tree of so many keys can have (`high`).
     ensures looks { (s : Pairs) (k : ℕ) → Contents order (M.shown.image space.old) s k
         → Looks M.shown (cost order s (query.Get key)) space.old space.new }
 {
@@ -35,8 +38,11 @@ pub fn order_get<M: Look>(space: &mut M, order: u32, key: u64) -> OrderAnswer
 pub fn order_from<M: Look>(space: &mut M, order: u32, key: u64) -> OrderAnswer
     requires order { IsOrder order }
     requires region { IsWellFormed order (M.shown.image space.old) }
+    // The answer is the least key that is not below this one, and `Missing` exactly where there is none.
     ensures told { (s : Pairs) (k : ℕ) → Contents order (M.shown.image space.old) s k
         → result ≡ tell s (query.From key) }
+    // The words stay, and at most 2 + 2h loads are counted. Here h is the greatest height that a balanced
+    // tree of so many keys can have (`high`).
     ensures looks { (s : Pairs) (k : ℕ) → Contents order (M.shown.image space.old) s k
         → Looks M.shown (cost order s (query.From key)) space.old space.new }
 {
@@ -54,8 +60,11 @@ pub fn order_from<M: Look>(space: &mut M, order: u32, key: u64) -> OrderAnswer
 pub fn order_range<M: Look>(space: &mut M, order: u32, low: u64, high: u64) -> OrderAnswer
     requires order { IsOrder order }
     requires region { IsWellFormed order (M.shown.image space.old) }
+    // The answer counts all keys of the map from `low` to `high`, and sums up their values.
     ensures told { (s : Pairs) (k : ℕ) → Contents order (M.shown.image space.old) s k
         → result ≡ tell s (query.Range low high) }
+    // The words stay. With c keys in the range, at most (c + 1)(2 + 2h) loads are counted. Here h is the
+    // greatest height that a balanced tree of all keys can have (`high`).
     ensures looks { (s : Pairs) (k : ℕ) → Contents order (M.shown.image space.old) s k
         → Looks M.shown (cost order s (query.Range low high)) space.old space.new }
 {
@@ -72,9 +81,13 @@ pub fn order_put<M: Space>(space: &mut M, order: u32, key: u64, value: u64) -> O
     requires order { IsOrder order }
     requires region { IsWellFormed order (M.shown.image space.old) }
     requires room { HasRoom M.shown 255 space.old }
+    // `Full` comes exactly where the key is new and the map has no fewer than 2^(order - 1) keys. Then the
+    // map stays. Else the key has the value, and the answer is the value before, or `NoPrior`. The count
+    // stays.
     ensures done { (s : Pairs) (k : ℕ) → Contents order (M.shown.image space.old) s k
         → let after = put order s key value (map.get s key) in
         (result ≡ after.1) × Contents order (M.shown.image space.new) after.0 k }
+    // At most 255 stores are counted, and any number of loads.
     ensures stores { Stores M.shown 255 space.old space.new }
 {
     let top = space.load(TOP);
@@ -99,9 +112,12 @@ pub fn order_del<M: Space>(space: &mut M, order: u32, key: u64) -> OrderReply
     requires order { IsOrder order }
     requires region { IsWellFormed order (M.shown.image space.old) }
     requires room { HasRoom M.shown 255 space.old }
+    // Afterwards the map does not have the key. The answer is the value that the key had. If the key was
+    // absent, the answer is `NoPrior`, and the map stays. The count stays.
     ensures done { (s : Pairs) (k : ℕ) → Contents order (M.shown.image space.old) s k
         → let after = del s key (map.get s key) in
         (result ≡ after.1) × Contents order (M.shown.image space.new) after.0 k }
+    // At most 255 stores are counted, and any number of loads.
     ensures stores { Stores M.shown 255 space.old space.new }
 {
     let top = space.load(TOP);

@@ -22,5 +22,6 @@ within-prop : (len : ℕ) (ranges : List Range) → IsProp (AreWithin len ranges
 within-prop len [] = Unit-prop
 within-prop len (range ∷ ranges) = hlevel (props, within-prop len ranges)
 
+-- `IsLogOf` is a fact, which has one proof at most
 pub IsLogOf-prop : (old image : List ℕ) (log : Logged) → IsProp (IsLogOf old image log)
 IsLogOf-prop old image log = hlevel (props, within-prop)

@@ -42,16 +42,23 @@ impl RangeLog {
         })
     }
 
-    /// Holds an offset from now on, whether it did before or not.
+    /// Holds an offset from now on, whether it did before or not. Words that follow each other are stored
+    /// one after another, so the last range is looked at first. An offset in it or behind it is found by a
+    /// comparison or two. Any other costs a binary search, and a shift of the ranges behind it where it
+    /// makes a range or joins two.
     pub fn add(&mut self, at: u64)
         requires room { length self.old.ranges < self.old.room }
         requires small { at < 2 ^ 63 }
+        // It holds this offset and those that it held, and no other.
         ensures held { (k : ℕ) → IsHeld self.new.ranges k ↔ (IsHeld self.old.ranges k ⊎ (k ≡ at)) }
         ensures apart { AreApart self.new.ranges }
+        // Where the offset is below a length within which all ranges ended, they end within it still.
         ensures within { (len : ℕ) → at < len → AreWithin len self.old.ranges →
             AreWithin len self.new.ranges }
         ensures longer { length self.new.ranges ≤ length self.old.ranges + 1 }
+        // At most one offset more is held than before.
         ensures count { held_count self.new.ranges ≤ held_count self.old.ranges + 1 }
+        // The call is counted where the count is below the room.
         ensures added { self.old.added < self.old.room → self.new.added ≡ self.old.added + 1 }
         ensures room { self.new.room ≡ self.old.room }
     {
@@ -62,7 +69,9 @@ impl RangeLog {
     /// The ranges in rising order.
     pub fn list(&self) -> &[Range]
         ensures ranges { result.now ≡ self.now.ranges }
+        // They are rising and disjoint, and do not touch.
         ensures apart { AreApart self.now.ranges }
+        // Ranges that end within a length hold no more offsets than that.
         ensures few { (len : ℕ) → AreWithin len self.now.ranges → held_count self.now.ranges ≤ len }
     {
         self.ranges.as_slice()

@@ -6,7 +6,9 @@ use crate::lines::{lines_len, print_lines};
 use rom_elements::Elements;
 use rom_text::{IoFailed, Report, Sink};
 
-/// How many lines a part has at most. The longest line has 46 bytes.
+/// How many lines a part has at most. The longest line has 46 bytes, so a part is within a script's limit.
+/// A heap has at most 61,440 elements, which are three parts. Parts measured in bytes might be fewer, but
+/// where one ends would depend on all lines before it.
 const PART: u64 = 20480;
 
 /// The most bytes that a script may have.
@@ -61,6 +63,7 @@ impl<'a> Part<'a> {
 
     /// Whether a script may have as many bytes.
     pub fn fits(&self) -> bool
+        // `true` comes exactly where the script of these lines has no more bytes than a script may have.
         ensures { MatchBool result (IsWithinLimit (script_of (lines_in self.now)))
             (IsTooLong (script_of (lines_in self.now))) }
     {

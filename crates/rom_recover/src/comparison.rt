@@ -94,12 +94,17 @@ pub fn compare<D: Device>(
     requires idle { IsTrue D.shown.tells_words → IsIdle (D.shown.words device.old) }
     requires room { IsEmptyOrFull (region_len geometry) image.old }
     ensures as_long { length image.new ≡ length image.old }
+    // Where words are told: after `Ok` the words of the image, if it has any, are those of main.
     ensures kept { IsTrue D.shown.tells_words →
         OnOk result (IsReadFrom MAIN (region_len geometry) (D.shown.words device.old) image.new) }
+    // Where words are told: after `Ok` both regions have the same words.
     ensures same { IsTrue D.shown.tells_words →
         OnOk result (AreTwins geometry (region_len geometry) (D.shown.words device.old)) }
+    // Where words are told: a difference that is answered is the first one.
     ensures twins { IsTrue D.shown.tells_words →
         IfErr result (IsFirst geometry (D.shown.words device.old)) }
+    // It only reads: after `Ok` as many words as both regions have. Where they differ it reads at most up
+    // to the end of the piece, of 64 words, with the difference.
     ensures compares { Compares D.shown (2 * region_len geometry) device.old device.new result }
 {
     let len = geometry.region();

@@ -80,12 +80,16 @@ pub fn recover_into<D: Device>(
     ensures as_long { length image.new ≡ length image.old }
     ensures kept { IsTrue D.shown.tells_words →
         OnOk result (KeepsMain geometry (D.shown.words device.new) image.new) }
+    // Where words are told, it makes at most as many reads as the state and one region have words. Under
+    // IDLE the other region is added.
     ensures most { IsTrue D.shown.tells_words →
         AtMost (reads_at_most geometry (slice_index (D.shown.words device.old) STATE))
         (D.shown.reads device.old) (D.shown.reads device.new) }
 
+    // Where words are told: the state that is answered after `Ok` is the one that stood there.
     ensures found { IsTrue D.shown.tells_words →
         IfOk result (λ done. slice_index (D.shown.words device.old) STATE ≡ state_word done.found) }
+    // Where words are told: after `Ok` the state is IDLE, and both regions are the one that counted.
     ensures done { IsTrue D.shown.tells_words →
         OnOk result (IsDone geometry (D.shown.words device.old) (D.shown.words device.new)) }
     ensures certain { OnOk result (IsSynced D.shown device.new) }
@@ -93,6 +97,8 @@ pub fn recover_into<D: Device>(
     // Refused only at the first difference of the regions, or where the device failed.
     ensures twins { IsTrue D.shown.tells_words →
         IfErr result (IsFirst geometry (D.shown.words device.old)) }
+    // After `Ok`, where it found IDLE it made no write and one sync. In another state it made four syncs,
+    // and two writes more than a region has words. No call follows one that failed.
     ensures calls { Calls D.shown geometry device.old device.new result }
 
     // Whatever the words are, it calls the device no more often than the longest recovery of a heap
@@ -102,6 +108,8 @@ pub fn recover_into<D: Device>(
     // Whatever the answer, only the state and the regions change, each word of a region to its
     // twin's at most, the region that counts stays, and under IDLE nothing changes.
     ensures left { Alters D.shown (Mends geometry) device.old device.new }
+    // Where images are told, a stop leaves what it might have left before, or a heap in which the same
+    // region counts. There each word of a region is as it was, or the other region's at that offset.
     ensures images { IsTrue D.shown.tells_images →
         Leaves D.shown (Mended geometry (D.shown.words device.old)) device.old device.new }
 
@@ -110,10 +118,13 @@ pub fn recover_into<D: Device>(
     ensures doubts { IsTrue D.shown.tells_doubts →
         IsLeftInDoubt D.shown geometry device.old →
         Leaves D.shown (SameRegion (D.shown.words device.old)) device.old device.new }
+    // With words in doubt as `IsLeftInDoubt` allows: after `Ok` a stop leaves a heap in which the same
+    // region counts. It leaves each word as it reads, but for the state where that read IDLE at the start.
     ensures recovers { IsTrue D.shown.tells_doubts →
         IsLeftInDoubt D.shown geometry device.old →
         OnOk result ((i : List ℕ) → D.shown.leaves device.new i →
         IsImageRecovered (D.shown.words device.old) (D.shown.words device.new) i) }
+    // Where words are told: under IDLE nothing changes, and it makes one sync and no write.
     ensures idle { IsTrue D.shown.tells_words →
         IsIdle (D.shown.words device.old) → SyncsOnce D.shown device.old device.new }
 {
@@ -135,8 +146,10 @@ pub fn recover<D: Device>(device: &mut D, geometry: Geometry) -> Result<Recovere
     requires fits { words_needed geometry ≤ D.shown.size device.old }
     requires heap { IsTrue D.shown.tells_words → IsHeap geometry (D.shown.words device.old) }
 
+    // Where words are told: the state that is answered after `Ok` is the one that stood there.
     ensures found { IsTrue D.shown.tells_words →
         IfOk result (λ done. slice_index (D.shown.words device.old) STATE ≡ state_word done.found) }
+    // Where words are told: after `Ok` the state is IDLE, and both regions are the one that counted.
     ensures done { IsTrue D.shown.tells_words →
         OnOk result (IsDone geometry (D.shown.words device.old) (D.shown.words device.new)) }
     ensures certain { OnOk result (IsSynced D.shown device.new) }
@@ -144,6 +157,8 @@ pub fn recover<D: Device>(device: &mut D, geometry: Geometry) -> Result<Recovere
     // Refused only at the first difference of the regions, or where the device failed.
     ensures twins { IsTrue D.shown.tells_words →
         IfErr result (IsFirst geometry (D.shown.words device.old)) }
+    // After `Ok`, where it found IDLE it made no write and one sync. In another state it made four syncs,
+    // and two writes more than a region has words. No call follows one that failed.
     ensures calls { Calls D.shown geometry device.old device.new result }
 
     // Whatever the words are, it calls the device no more often than the longest recovery of a heap
@@ -153,6 +168,8 @@ pub fn recover<D: Device>(device: &mut D, geometry: Geometry) -> Result<Recovere
     // Whatever the answer, only the state and the regions change, each word of a region to its
     // twin's at most, the region that counts stays, and under IDLE nothing changes.
     ensures left { Alters D.shown (Mends geometry) device.old device.new }
+    // Where images are told, a stop leaves what it might have left before, or a heap in which the same
+    // region counts. There each word of a region is as it was, or the other region's at that offset.
     ensures images { IsTrue D.shown.tells_images →
         Leaves D.shown (Mended geometry (D.shown.words device.old)) device.old device.new }
 
@@ -161,10 +178,13 @@ pub fn recover<D: Device>(device: &mut D, geometry: Geometry) -> Result<Recovere
     ensures doubts { IsTrue D.shown.tells_doubts →
         IsLeftInDoubt D.shown geometry device.old →
         Leaves D.shown (SameRegion (D.shown.words device.old)) device.old device.new }
+    // With words in doubt as `IsLeftInDoubt` allows: after `Ok` a stop leaves a heap in which the same
+    // region counts. It leaves each word as it reads, but for the state where that read IDLE at the start.
     ensures recovers { IsTrue D.shown.tells_doubts →
         IsLeftInDoubt D.shown geometry device.old →
         OnOk result ((i : List ℕ) → D.shown.leaves device.new i →
         IsImageRecovered (D.shown.words device.old) (D.shown.words device.new) i) }
+    // Where words are told: under IDLE nothing changes, and it makes one sync and no write.
     ensures idle { IsTrue D.shown.tells_words →
         IsIdle (D.shown.words device.old) → SyncsOnce D.shown device.old device.new }
 {

@@ -21,9 +21,14 @@ const VERSION: u64 = 2;
 /// `AllocError` the words may be any.
 pub fn renew_region(alloc: Global, space: &mut VecSpace, order: u32) -> Result<(), AllocError>
     requires order { IsOrder order }
+    // In version 1 the words stand for some state and count.
     requires region { (s : State) × (k : ℕ) × OldContents order (words_of space.old) s k }
+    // After `Ok` they stand for the same state and count in version 2, for each state and count that they
+    // stood for.
     ensures renewed { OnOk result ((s : State) (k : ℕ) → OldContents order (words_of space.old) s k
         → Contents order (words_of space.new) s k) }
+    // After `Ok` no word differs but the version, the words of the bucket table, and the links of the map's
+    // nodes.
     ensures kept { OnOk result ((p : Chains) (s : State) (k : ℕ) →
         IsOldRegion order (words_of space.old) p s k →
         KeepsElements order p (words_of space.old) (words_of space.new)) }

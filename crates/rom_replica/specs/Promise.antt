@@ -42,7 +42,9 @@ abbrev pub EndsUnfailed : ℕ → Type 0
 EndsUnfailed status = (status ≡ 0) ⊎ (status ≡ 1) ⊎ (status ≡ 6) ⊎ (status ≡ 8) ⊎ (status ≡ 9) ⊎ (status ≡ 10)
 
 module _ {D X K : Type 0} (shown : ShownDevice D) (source : ShownSource X) (sink : ShownSink K) where
-  -- `follow`: whatever becomes of it, it ends so and prints so.
+  -- `follow`: whatever becomes of it, it ends so and prints so. It has a record beside `Promise`, since no
+  -- scripts are played: its statuses are others, it reads while it works, and frames tell what it did. Of the
+  -- device, of refusals and of sessions both records cite the same definitions.
   pub record FollowPromise (was now : D) (inputs left : Vec X) (old new : K) (status : ℕ) (session : Option SessionSeen) : Type 0 where
     -- the status, and where a session is left
     pub statuses : HasTaken status ⊎ HasNotTaken status ⊎ (status ≡ 7)

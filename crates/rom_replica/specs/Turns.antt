@@ -1,4 +1,5 @@
--- What becomes of frames that are taken one after another, by their places and the count.
+-- What becomes of frames that are taken one after another, by their places and the count. So the record of
+-- `follow` needs none of the follower's answers, and an equation in it says what the history is.
 use Rattle.std.specs.Prelude.{ℕ, ◌+◌, ◌==◌, nat_lt, List, [], ◌∷◌, ◌++◌, flat_map, if◌then◌else◌}
 use Rattle.rom_model.specs.Codes.{reply_words}
 use Rattle.rom_model.specs.declared.call.Updated.TheVariants as updated

@@ -12,6 +12,7 @@ impl Tally {
     pub fn add(&mut self, taken: Taken, len: usize) -> Option<Stop>
         requires some { 0 < len }
         requires room { self.old.bytes + len ≤ MAX_STREAM }
+        // A frame that was applied, known or early is counted. Any other answer is a stop, and not counted.
         ensures adds { Adds taken len self.old self.new result }
     {
         let Tally {

@@ -247,8 +247,8 @@ fn end_followed<D: Device, S, O: Sink>(
 }
 
 /// Opens the heap on the device for one caller, has it take the frames of the one stream, and prints what
-/// came of them; or prints why the heap is refused. The stream is not read before the heap is opened. All
-/// memory is taken by the opening.
+/// came of them; or prints why the heap is refused. The stream is not read before the heap is opened, since a
+/// follower must know its count. All memory is taken by the opening.
 pub(crate) fn follow<D: Device + Send, S: Source, O: Sink, R: Wait, G: Gate>(
     rt: &R,
     alloc: Global,

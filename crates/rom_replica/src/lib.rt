@@ -7,6 +7,10 @@
 //! became entries of the heap's history, which were known and which came early is told by their places and
 //! the count alone, each stop has its cause and its status, and what the device failing or stopping at any
 //! moment leaves is told by that history.
+//!
+//! No clause of this crate says that a follower holds a prefix of its primary's history: the heap's own is
+//! the only history that is known here. `rom_follow` promises it of every legal history that the follower
+//! follows, by clauses of the calls that `follow` makes.
 #![tactic(auto)]
 
 mod counting;

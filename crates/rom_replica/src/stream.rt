@@ -29,6 +29,8 @@ fn take_one<D: Device, N: Label, S: Source, R: Wait, G: Gate>(
     ensures turn { Turn S.shown result stream.old stream.new follower.old follower.new tally.old
         tally.new }
 {
+    // The stop is the first thing in the stream that speaks against a frame. `TooLong` comes only with the
+    // byte behind the greatest length, so an end, or a first word that no frame has, comes first within it.
     let heard = next_message(stream, tally.bytes, block);
     match heard.kind {
         Kind::End => Some(Stop::End),

@@ -12,6 +12,7 @@ pub struct Tally {
     /// Their places were above it.
     pub early: u64,
     pub bytes: u64,
+    // Each frame has a byte or more. So no number here overflows, and the loop over a stream ends.
     ghost some: { applied + known + early ≤ bytes },
     ghost within: { bytes ≤ MAX_STREAM },
 }

@@ -66,6 +66,7 @@ fn read_format(words: &[Name]) -> Option<Asked<'_>>
 
 /// The command that the words are. It takes no memory.
 pub fn read_command(words: &Names) -> Option<Asked<'_>>
+    // The answer is the command that the words are, and `None` exactly where they are none.
     ensures named { named result ≡ command words.now }
     ensures within { IfSome result IsWithin }
 {

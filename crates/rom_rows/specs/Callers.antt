@@ -16,6 +16,7 @@ module _ {Object Call Query Reply Answer : Type 0} where
     pub posted_is : length (view s).calls ≡ posted
     pub told_is : length (view s).outcomes ≡ told
 
+  -- by the kind of job: the seat's caller has posted nothing yet, or the core is of this table
   abbrev pub MayWork : Shared Object Call Query Reply Answer → Work → Type 0
   MayWork shared (Posts seat right) = HasCalls shared 0 0 seat
   MayWork shared (Reads seat right) = HasCalls shared 0 0 seat

@@ -9,6 +9,7 @@ use Rattle.rom_rows.specs.declared.stay.Stay.TheVariants.{Holds, Passes}
 use Rattle.rom_rule.specs.Views.{is_reading}
 
 module _ {Object Call Query Reply Answer : Type 0} where
+  -- by the kind of job: a reader has entered and a caller has posted one call, or the core is of this table
   abbrev pub MayStay : Shared Object Call Query Reply Answer → Stay → Type 0
   MayStay shared (Holds reader poster right) = IsSeatOf shared reader × IsTrue (is_reading (view reader).position) × HasCalls shared 1 0 poster
   MayStay shared (Passes core right) = IsCoreOf shared core

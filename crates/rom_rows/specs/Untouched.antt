@@ -23,10 +23,12 @@ pub record IsUntouched (b : Base) (p : Plan) : Type 0 where
   pub main : p.main ≡ b.image
   pub back : p.back ≡ b.image
 
+-- the writer of this view has found no call and published nothing
 abbrev pub AtRest : View → Type 0
 AtRest v = IsUntouched v.base (plan_of v)
 
 module _ {Object Call Query Reply Answer : Type 0} where
+  -- by the kind of job: the reader's seat is out, or the writer of this table is at rest
   abbrev pub MayStart : Shared Object Call Query Reply Answer → Job → Type 0
   MayStart shared (Reads seat wrong) = IsSeatOf shared seat × ((view seat).position ≡ Out)
   MayStart shared (Writes seat) = IsWriterOf shared seat × AtRest (writer_view seat)

@@ -29,12 +29,15 @@ use Rattle.rom_rule.specs.declared.views.View.{View}
 abbrev pub HasNonePosted : View → Type 0
 HasNonePosted v = (0 < v.number) × (length v.calls ≡ length v.outcomes)
 
+-- a caller has one call posted, and hasn't learnt yet what that call was told
 abbrev pub HasPosted : View → Type 0
 HasPosted v = (0 < v.number) × (length v.calls ≡ length v.outcomes + 1)
 
+-- word j may be stored: no call is posted, the words before it are stored, and j is at most 40
 abbrev pub CanStoreArgument : View → ℕ → Type 0
 CanStoreArgument v j = HasNonePosted v × (j ≤ length v.laid) × (j ≤ 40)
 
+-- What a store of word j of a call tells: it stands behind the first j words stored, as the last one.
 abbrev pub stored_argument : Step ℕ → Seated → ℕ → Seated → Type 0
 stored_argument st m found m' = (j : ℕ) → st.word ≡ slot_at m.0.base.callers m.0.number (CALL + j) → m' ≡ (record m.0 { laid = take j m.0.laid ++ st.first ∷ []; steps = m.0.steps + 1 }, m.1)
 
@@ -47,9 +50,12 @@ pub record CanPost {S : Type 0} (step : ℕ → S → ℕ → List ℕ → Optio
   pub call : IsCall step v.base (drop 1 v.laid)
   pub room : length v.calls < LAST_COUNT
 
+-- The view once its call is posted: the call is the words stored, without their number. `since` is the
+-- length of the history that the view had seen.
 abbrev pub posting : View → View
 posting v = record v { calls = v.calls ++ drop 1 v.laid ∷ []; since = length v.seen; steps = v.steps + 1 }
 
+-- What a store of the odd turn tells: the caller has its call posted.
 abbrev pub posted : Step ℕ → Seated → ℕ → Seated → Type 0
 posted st m found m' = m' ≡ (posting m.0, m.1)
 
@@ -61,6 +67,7 @@ found_after c turn p = record p { scanned = c; requests = if turn % 2 == 1 then 
 abbrev pub CanScan : Plan → ℕ → Type 0
 CanScan p c = (c ≡ p.scanned + 1) × (p.mine ≡ [])
 
+-- What a load of a turn tells: its caller is scanned, and an odd turn finds the call.
 abbrev pub scanned : Step ℕ → Seated → ℕ → Seated → Type 0
 scanned st m turn m' = (c : ℕ) → 0 < c → st.word ≡ slot_at m.0.base.callers c TURN → m' ≡ (planned m.0 (found_after c turn (plan_of m.0)), m.1)
 
@@ -68,9 +75,12 @@ scanned st m turn m' = (c : ℕ) → 0 < c → st.word ≡ slot_at m.0.base.call
 abbrev pub CanBegin : Plan → Type 0
 CanBegin p = Each (λ _ f. f.answered ≡ true) p.requests
 
+-- The plan of a new pass. The record of the last pass joins the earlier ones, no caller is scanned yet, and
+-- no call is found.
 abbrev pub beginning : Plan → Plan
 beginning p = record p { records = p.records ++ p.mine; mine = []; requests = []; passes = p.passes + 1; scanned = 0 }
 
+-- What the load of the first caller's turn tells: a new pass has scanned it, and an odd turn finds the call.
 abbrev pub begun : Step ℕ → Seated → ℕ → Seated → Type 0
 begun st m turn m' = (st.word ≡ slot_at m.0.base.callers 1 TURN) × (m' ≡ (planned m.0 (found_after 1 turn (beginning (plan_of m.0))), m.1))
 
@@ -78,6 +88,7 @@ begun st m turn m' = (st.word ≡ slot_at m.0.base.callers 1 TURN) × (m' ≡ (p
 abbrev pub alter : ℕ → (Request → Request) → Request → Request
 alter c g f = if f.caller == c then g f else f
 
+-- the plan with the requests of caller c as g makes them
 abbrev pub altered : ℕ → (Request → Request) → Plan → Plan
 altered c g p = record p { requests = map (alter c g) p.requests }
 
@@ -94,6 +105,7 @@ IsAnswer p f u = get_elem? (told_to p.told f.caller) f.seq ≡ some (found_of f,
 abbrev pub CanLoadArgument : Plan → Request → ℕ → Type 0
 CanLoadArgument p f j = IsPending p f.caller f × (j ≤ length f.words) × (0 < j → j ≤ slice_index f.words 0)
 
+-- a request once word j of its call was loaded: the word stands behind the first j words, as the last one
 abbrev pub loading : ℕ → ℕ → Request → Request
 loading j x f = record f { words = take j f.words ++ x ∷ [] }
 
@@ -108,9 +120,12 @@ module _ {S : Type 0} (Contents : ℕ → List ℕ → S → ℕ → Type 0) (st
 abbrev pub CanStoreReply : Plan → Request → ℕ → Type 0
 CanStoreReply p f j = IsPending p f.caller f × (j ≤ length f.laid) × (j < 21)
 
+-- a request once word j of its reply was stored: the word stands behind the first j words, as the last one
 abbrev pub laying : ℕ → ℕ → Request → Request
 laying j x f = record f { laid = take j f.laid ++ x ∷ [] }
 
+-- What a store of word j of a reply tells: the caller's request has it behind the first j words stored, as
+-- the last one.
 abbrev pub stored_reply : Step ℕ → Seated → ℕ → Seated → Type 0
 stored_reply st m found m' = (c j : ℕ) → 0 < c → j < 21 → st.word ≡ slot_at m.0.base.callers c (REPLY + j) → m' ≡ (planned m.0 (altered c (laying j st.first) (plan_of m.0)), m.1)
 
@@ -128,6 +143,8 @@ module _ {S : Type 0} (Contents : ℕ → List ℕ → S → ℕ → Type 0) (st
     pub opening : Contents b.order b.image start count
     pub full : fate ≡ Published → count + length p.history ≡ LAST_COUNT
 
+  -- What the store that makes the record tells: a pass that found calls has a record of this fate, and the
+  -- request has the word.
   abbrev pub made_record : Fate → ℕ → ℕ → Step ℕ → Seated → ℕ → Seated → Type 0
   made_record fate before after st m found m' = (k : ℕ) × (more : List Entry) × IsBatch Contents step m.0.base (plan_of m.0) k more × TellsEach fate k more (plan_of m.0)
       × ((c j : ℕ) → 0 < c → j < 21 → st.word ≡ slot_at m.0.base.callers c (REPLY + j) → m' ≡ (planned m.0 (altered c (laying j st.first) (making fate before after k more (plan_of m.0))), m.1))
@@ -141,6 +158,7 @@ module _ {S : Type 0} (Contents : ℕ → List ℕ → S → ℕ → Type 0) (st
 abbrev pub placing : ℕ → Request → Request
 placing x f = record f { place = x ∷ [] }
 
+-- What a store of a place or a code tells: the caller's request has it.
 abbrev pub stored_place : Step ℕ → Seated → ℕ → Seated → Type 0
 stored_place st m found m' = (c : ℕ) → 0 < c → st.word ≡ slot_at m.0.base.callers c PLACE → m' ≡ (planned m.0 (altered c (placing st.first) (plan_of m.0)), m.1)
 
@@ -149,9 +167,11 @@ stored_place st m found m' = (c : ℕ) → 0 < c → st.word ≡ slot_at m.0.bas
 abbrev pub CanFinish : Plan → Request → Updated (List ℕ) → ℕ → Type 0
 CanFinish p f u place = IsPending p f.caller f × IsAnswer p f u × (f.place ≡ place ∷ []) × (place ∷ f.laid ≡ answer_words u)
 
+-- a request that is answered
 abbrev pub answering : Request → Request
 answering f = record f { answered = true }
 
+-- What a store of the even turn tells: the caller's request is answered.
 abbrev pub answered : Step ℕ → Seated → ℕ → Seated → Type 0
 answered st m found m' = (c : ℕ) → 0 < c → st.word ≡ slot_at m.0.base.callers c TURN → m' ≡ (planned m.0 (altered c answering (plan_of m.0)), m.1)
 
@@ -190,6 +210,8 @@ module _ {S : Type 0} (Contents : ℕ → List ℕ → S → ℕ → Type 0) (st
     pub view : m' ≡ (record m.0 { outcomes = m.0.outcomes ++ told ∷ []; seen = seen; steps = m.0.steps + 1 }, m.1)
     pub own : (s : S) (n : ℕ) → Contents m.0.base.order m.0.base.image s n → KnowsEntries m.0.base.callers n m'.0
 
+  -- What a load of its turn tells a caller: an odd turn tells nothing, and an even one what its call was
+  -- told.
   abbrev pub loaded_turn : Step ℕ → Seated → ℕ → Seated → Type 0
   loaded_turn st m turn m' = (st.word ≡ slot_at m.0.base.callers m.0.number TURN) × (turn % 2 ≡ 1 → m' ≡ (record m.0 { steps = m.0.steps + 1 }, m.1)) × (turn % 2 ≡ 0 → Learnt m m')
 

@@ -37,6 +37,7 @@ answer_words Doubt = DOUBT ∷ packed []
 abbrev pub told_to : List Told → ℕ → List Told
 told_to told c = filter (λ x. x.0.caller == c) told
 
+-- the found call, without what it is told
 abbrev pub found_in : Told → Found
 found_in x = x.0
 
@@ -49,6 +50,7 @@ numbered c i (args ∷ calls) = record { caller = c; seq = i; args = args } ∷ 
 abbrev pub found_of : Request → Found
 found_of f = record { caller = f.caller; seq = f.seq; args = drop 1 f.words }
 
+-- whose request it is
 abbrev pub caller_in : Request → ℕ
 caller_in f = f.caller
 
@@ -56,10 +58,11 @@ caller_in f = f.caller
 abbrev pub IsWhole : Request → Type 0
 IsWhole f = f.words ≡ packed (drop 1 f.words)
 
--- how many requests of caller c aren't answered yet
+-- whether the request is of caller c and isn't answered yet
 abbrev pub is_owed : ℕ → Request → Bool
 is_owed c f = (f.caller == c) && not f.answered
 
+-- how many requests of caller c aren't answered yet
 abbrev pub owed : ℕ → List Request → ℕ
 owed c requests = length (filter (is_owed c) requests)
 
@@ -89,6 +92,7 @@ pub record IsOpen (slots : List ℕ) (calls : List (List ℕ)) (given : ℕ) (f 
   pub laid : Lies slots f.caller REPLY f.laid
   pub laid_few : length f.laid ≤ 21
 
+-- a request is of one of the callers, and is open until it is answered
 abbrev pub Open : ℕ → List ℕ → (ℕ → List (List ℕ)) → (ℕ → ℕ) → Request → Type 0
 Open callers slots calls given f = (0 < f.caller) × (f.caller ≤ callers) × (f.answered ≡ false → IsOpen slots (calls f.caller) (given f.caller) f)
 

@@ -38,6 +38,7 @@ moved v p = record v { position = p; steps = v.steps + 1 }
 abbrev pub IsOut : View → Type 0
 IsOut v = (v.position ≡ Out) × (0 < v.number)
 
+-- What a load of `version` tells: it is 0 or 1, and the caller holds it.
 abbrev pub loaded_version : Step ℕ → Seated → ℕ → Seated → Type 0
 loaded_version st m found m' = (st.word ≡ version_at) × (found < 2) × (m' ≡ (moved m.0 (Holds found), m.1))
 
@@ -46,6 +47,8 @@ loaded_version st m found m' = (st.word ≡ version_at) × (found < 2) × (m' �
 abbrev pub HoldsVersion : View → ℕ → Type 0
 HoldsVersion v version = (v.position ≡ Holds version) × (version < 2) × (0 < v.number)
 
+-- What the store of 1 tells: it was in the caller's own indicator of the version that it held, and the
+-- caller has arrived there.
 abbrev pub arrived : Step ℕ → Seated → ℕ → Seated → Type 0
 arrived st m found m' = (st.word ≡ indicator_at (indicator_of m.0.number (version_of m.0.position))) × (m' ≡ (moved m.0 (Arrived (indicator_of m.0.number (version_of m.0.position))), m.1))
 
@@ -54,10 +57,13 @@ arrived st m found m' = (st.word ≡ indicator_at (indicator_of m.0.number (vers
 abbrev pub HasArrived : View → ℕ → Type 0
 HasArrived v k = (v.position ≡ Arrived k) × (k < indicator_count v.base.callers) × (0 < v.number)
 
+-- the view as it begins to read a side: it has seen this history, and has one front more
 abbrev pub entering : View → ℕ → ℕ → ℕ → List ℕ → List Entry → View
 entering v k side front image seen = record v { position = Reads k side front image; seen = seen; fronts = v.fronts ++ front ∷ []; steps = v.steps + 1 }
 
 module _ {S : Type 0} (Contents : ℕ → List ℕ → S → ℕ → Type 0) (step : ℕ → S → ℕ → List ℕ → Option (S × List ℕ)) where
+  -- What a load of `side` tells: the caller reads that side, whose words stand for the state after the
+  -- history that it has seen now.
   abbrev pub loaded_side : Step ℕ → Seated → ℕ → Seated → Type 0
   loaded_side st m found m' = (st.word ≡ side_at) × (front : ℕ) × (image : List ℕ) × (seen : List Entry) × (found < 2) × StartsWith seen m.0.seen × Stands Contents step m.0.base image seen front
       × (m' ≡ (entering m.0 (indicator_in m.0.position) found front image seen, m.1))
@@ -68,6 +74,7 @@ module _ {S : Type 0} (Contents : ℕ → List ℕ → S → ℕ → Type 0) (st
 abbrev pub IsReading : View → Type 0
 IsReading v = (is_reading v.position ≡ true) × (0 < v.number)
 
+-- What a load of a word of the side tells: it is the image's at that place, and the caller still reads.
 abbrev pub loaded_image : Step ℕ → Seated → ℕ → Seated → Type 0
 loaded_image st m found m' = (m' ≡ (moved m.0 m.0.position, m.1))
     × ((at : ℕ) → at < region_len m.0.base.order → st.word ≡ word_at m.0.base.order m.0.base.callers (side_read m.0.position) at → found ≡ slice_index (image_of m.0.position) at)
@@ -77,6 +84,7 @@ loaded_image st m found m' = (m' ≡ (moved m.0 m.0.position, m.1))
 abbrev pub StandsAt : View → ℕ → Type 0
 StandsAt v k = (stands k v.position ≡ 1) × (k < indicator_count v.base.callers) × (0 < v.number)
 
+-- What the store of 0 tells: it was in the indicator at which the caller stood, and the caller is out.
 abbrev pub departed : Step ℕ → Seated → ℕ → Seated → Type 0
 departed st m found m' = (st.word ≡ indicator_at (indicator_in m.0.position)) × (m' ≡ (moved m.0 Out, m.1))
 
@@ -110,6 +118,7 @@ TellsEach fate k more p = (i : ℕ) (f : Request) (x : Told) → get_elem? p.req
 abbrev pub raised : ℕ → PassRecord → PassRecord
 raised faults r = record r { faults_after = faults }
 
+-- the plan whose pass has this count of faults after it, where the pass has a record
 abbrev pub raising : ℕ → Plan → Plan
 raising faults p = record p { mine = map (raised faults) p.mine }
 
@@ -136,6 +145,8 @@ module _ {S : Type 0} (Contents : ℕ → List ℕ → S → ℕ → Type 0) (st
     pub opening : Contents b.order b.image start count
     pub stands : (let k = count + length p.history in let more = batch step b.order (after step b.order start count p.history) k (map found_of p.requests) in Held Contents step b start count p.main (p.history ++ more))
 
+  -- What a store of `side` as main tells: the history ends with the batch, and a pass that found calls has
+  -- its record.
   abbrev pub switched_to_main : ℕ → ℕ → Step ℕ → Seated → ℕ → Seated → Type 0
   switched_to_main before after st m found m' = (k : ℕ) × (more : List Entry) × IsBatch m.0.base (plan_of m.0) k more × TellsEach Published k more (plan_of m.0)
       × (m' ≡ (planned m.0 (switched 0 (making Published before after k more (plan_of m.0))), m.1))
@@ -149,6 +160,8 @@ module _ {S : Type 0} (Contents : ℕ → List ℕ → S → ℕ → Type 0) (st
     pub opening : Contents b.order b.image start count
     pub stands : Held Contents step b start count p.back p.history
 
+-- What a store of `side` as back tells: `side` is back. The pass's record, if there is one, has this count
+-- of faults after the pass.
 abbrev pub switched_to_back : ℕ → Step ℕ → Seated → ℕ → Seated → Type 0
 switched_to_back faults st m found m' = m' ≡ (planned m.0 (switched 1 (raising faults (plan_of m.0))), m.1)
 
@@ -157,9 +170,12 @@ switched_to_back faults st m found m' = m' ≡ (planned m.0 (switched 1 (raising
 abbrev pub CanCheck : View → ℕ → Type 0
 CanCheck v k = IsWriter v (plan_of v) × (k < indicator_count v.base.callers) × ((plan_of v).version ≢ version_of_indicator k)
 
+-- the plan after a load of indicator k: that it was 0 is kept, with what `version` was then
 abbrev pub observed : ℕ → ℕ → Plan → Plan
 observed k found p = if found == 0 then record p { clear = (k, p.version) ∷ p.clear } else p
 
+-- What a load of an indicator tells: it is of the version that `version` does not name, and that it was 0
+-- is kept.
 abbrev pub checked_indicator : Step ℕ → Seated → ℕ → Seated → Type 0
 checked_indicator st m found m' = (k : ℕ) → st.word ≡ indicator_at k → ((plan_of m.0).version ≢ version_of_indicator k) × (m' ≡ (planned m.0 (observed k found (plan_of m.0)), m.1))
 
@@ -168,6 +184,7 @@ checked_indicator st m found m' = (k : ℕ) → st.word ≡ indicator_at k → (
 abbrev pub CanStoreVersion : View → ℕ → Type 0
 CanStoreVersion v to = IsWriter v (plan_of v) × (to < 2)
 
+-- What a store of `version` tells: the plan's `version` is the word stored.
 abbrev pub stored_version : Step ℕ → Seated → ℕ → Seated → Type 0
 stored_version st m found m' = m' ≡ (planned m.0 (record (plan_of m.0) { version = st.first }), m.1)
 
@@ -182,9 +199,11 @@ loaded_region st m found m' = (m' ≡ (planned m.0 (plan_of m.0), m.1))
 abbrev pub CanStore : View → ℕ → Type 0
 CanStore v other = IsWriter v (plan_of v) × Settled v.base (plan_of v) × ((plan_of v).side ≡ other)
 
+-- What a store of a word of main tells: the plan's main has the word there.
 abbrev pub stored_main : Step ℕ → Seated → ℕ → Seated → Type 0
 stored_main st m found m' = (at : ℕ) → at < region_len m.0.base.order → st.word ≡ main_at m.0.base.order m.0.base.callers at → m' ≡ (planned m.0 (record (plan_of m.0) { main = slice_set (plan_of m.0).main at st.first }), m.1)
 
+-- What a store of a word of back tells: the plan's back has the word there.
 abbrev pub stored_back : Step ℕ → Seated → ℕ → Seated → Type 0
 stored_back st m found m' = (at : ℕ) → at < region_len m.0.base.order → st.word ≡ back_at m.0.base.order m.0.base.callers at → m' ≡ (planned m.0 (record (plan_of m.0) { back = slice_set (plan_of m.0).back at st.first }), m.1)
 
@@ -193,9 +212,11 @@ stored_back st m found m' = (at : ℕ) → at < region_len m.0.base.order → st
 abbrev pub CanDeal : View → Type 0
 CanDeal v = IsWriter v (plan_of v) × (v.position ≡ Out) × ((plan_of v).dealt < v.base.callers)
 
+-- the writer's view once one more caller has its number
 abbrev pub dealing : View → View
 dealing v = planned v (record (plan_of v) { dealt = (plan_of v).dealt + 1 })
 
+-- the view of a new caller: it has the next number, and has seen and done nothing
 abbrev pub newcomer : View → View
 newcomer v = record (fresh_view v.base) { number = (plan_of v).dealt + 1 }
 
@@ -204,6 +225,7 @@ newcomer v = record (fresh_view v.base) { number = (plan_of v).dealt + 1 }
 abbrev pub noting : View → View
 noting v = record v { steps = v.steps + 1 }
 
+-- the view of a note: it has seen as much as the caller, has no number, and has done nothing
 abbrev pub note_of : View → View
 note_of v = record (fresh_view v.base) { seen = v.seen }
 
@@ -212,12 +234,15 @@ note_of v = record (fresh_view v.base) { seen = v.seen }
 abbrev pub IsIdle : View → Type 0
 IsIdle v = (v.position ≡ Out) × (length v.calls ≡ length v.outcomes)
 
+-- what w knew may be kept by v: both are out, and w has no call posted and isn't the writer's
 abbrev pub CanJoin : View → View → Type 0
 CanJoin v w = (v.position ≡ Out) × IsIdle w × (w.plan ≡ None)
 
+-- view v once it keeps what view w knew, and what w had kept
 abbrev pub informed : View → View → View
 informed v w = record v { joined = v.joined ++ kept_of w ∷ w.joined; steps = v.steps + 1 }
 
+-- the view that is left of a spent one: as if it had seen and done nothing
 abbrev pub spent_as : Base → View
 spent_as b = fresh_view b
 

@@ -7,10 +7,11 @@ use Rattle.rom_rule.specs.declared.views.Base.{Base}
 abbrev pub AreCallers : ℕ → Type 0
 AreCallers callers = (1 ≤ callers) × (callers ≤ 16)
 
--- the word that names the side that readers are sent to, and the one that names the version that they arrive at
+-- the word that names the side that readers are sent to
 abbrev pub side_at : ℕ
 side_at = 0
 
+-- the word that names the version that readers arrive at
 abbrev pub version_at : ℕ
 version_at = 1
 
@@ -18,13 +19,15 @@ version_at = 1
 abbrev pub indicator_count : ℕ → ℕ
 indicator_count callers = 2 * callers
 
--- a caller's indicator of a version, and the caller and the version of an indicator
+-- a caller's indicator of a version
 abbrev pub indicator_of : ℕ → ℕ → ℕ
 indicator_of caller version = 2 * (caller - 1) + version
 
+-- the caller of an indicator
 abbrev pub caller_of_indicator : ℕ → ℕ
 caller_of_indicator k = k / 2 + 1
 
+-- the version of an indicator
 abbrev pub version_of_indicator : ℕ → ℕ
 version_of_indicator k = k % 2
 
@@ -40,16 +43,19 @@ indicator_at k = 14 + offset_of_indicator k
 abbrev pub slots_at : ℕ → ℕ
 slots_at callers = 14 + 8 * callers
 
--- The words of a slot: the turn, the posted call, and of its answer the place or the code, and the reply. A call and a reply begin with the number of their words.
+-- the word of a slot that has the turn
 abbrev pub TURN : ℕ
 TURN = 0
 
+-- where the posted call stands in a slot: the number of its words, then they
 abbrev pub CALL : ℕ
 CALL = 1
 
+-- the word of a slot that has the answer's place, or its code
 abbrev pub PLACE : ℕ
 PLACE = 42
 
+-- where the answer's reply stands in a slot: the number of its words, then they
 abbrev pub REPLY : ℕ
 REPLY = 43
 
@@ -59,9 +65,11 @@ slot_at callers c j = slots_at callers + (64 * (c - 1) + j)
 
 -- Of a heap's order and a number of callers:
 module _ (order callers : ℕ) where
+  -- word i of shared main
   abbrev pub main_at : ℕ → ℕ
   main_at i = slots_at callers + 64 * callers + i
 
+  -- word i of shared back
   abbrev pub back_at : ℕ → ℕ
   back_at i = slots_at callers + 64 * callers + region_len order + i
 
@@ -69,6 +77,7 @@ module _ (order callers : ℕ) where
   abbrev pub word_at : ℕ → ℕ → ℕ
   word_at side i = if side == 0 then main_at i else back_at i
 
+  -- how many words the table has
   abbrev pub table_len : ℕ
   table_len = slots_at callers + 64 * callers + 2 * region_len order
 
@@ -81,9 +90,11 @@ pub record Shown : Type 0 where
   pub main : List ℕ
   pub back : List ℕ
 
+-- the part of the words from that place on, so many of them
 abbrev pub part : ℕ → ℕ → List ℕ → List ℕ
 part from count words = take count (drop from words)
 
+-- a table's words by what they are for
 unfoldable pub shown : Base → List ℕ → Shown
 shown b words = record {
   side = slice_index words 0;

@@ -13,6 +13,7 @@ use Rattle.rom_rule.specs.declared.views.View.{View}
 use Rattle.rom_rule.specs.Places.{Shown, caller_of_indicator, indicator_count, offset_of_indicator}
 use Rattle.rom_rule.specs.Views.{has, side_of}
 
+-- 1 where the two numbers are the same, else 0
 abbrev pub hit : ℕ → ℕ → ℕ
 hit x y = if x == y then 1 else 0
 

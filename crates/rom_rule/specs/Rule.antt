@@ -25,6 +25,7 @@ pub record AreSeats (dealt : ℕ) (views : List View) : Type 0 where
 
 -- Of an object: what a region's words stand for, and its step on words. Of what the table was opened with, and the table as it is between two steps.
 module _ {S : Type 0} (Contents : ℕ → List ℕ → S → ℕ → Type 0) (step : ℕ → S → ℕ → List ℕ → Option (S × List ℕ)) where
+  -- What holds of the table's words and of all views between any two steps.
   pub record IsRuled (b : Base) (s : State ℕ View) : Type 0 where
     -- the writer's plan, and the writer's seat
     pub plan : Plan

@@ -40,25 +40,32 @@ pub record CallerCalls : Type 0 where
   pub since : ℕ
   pub joined : List Kept
 
--- the parts of a view that an invariant reads
+-- What a view's table was opened with. An invariant reads a view by its parts: by this one and by those
+-- below.
 abbrev pub base_in : View → Base
 base_in v = v.base
 
+-- the caller's number, or 0
 abbrev pub number_in : View → ℕ
 number_in v = v.number
 
+-- where it stands as a reader
 abbrev pub position_in : View → Position
 position_in v = v.position
 
+-- where it stands as a reader, and the history that it has seen
 abbrev pub reading_in : View → Position × List Entry
 reading_in v = (v.position, v.seen)
 
+-- what it knows of the published history
 abbrev pub remembered_in : View → Remembered
 remembered_in v = record { seen = v.seen; fronts = v.fronts; joined = v.joined }
 
+-- what it knows of its calls
 abbrev pub calls_in : View → CallerCalls
 calls_in v = record { number = v.number; calls = v.calls; outcomes = v.outcomes; laid = v.laid; since = v.since; joined = v.joined }
 
+-- the plan, which the writer's view alone has
 abbrev pub plan_in : View → Option Plan
 plan_in v = v.plan
 
@@ -66,28 +73,33 @@ plan_in v = v.plan
 abbrev pub kept_of : View → Kept
 kept_of v = record { number = v.number; seen = v.seen; fronts = v.fronts; told = v.outcomes }
 
--- what a position reads
+-- whether a reader at this position reads a side
 abbrev pub is_reading : Position → Bool
 is_reading (Reads k side front image) = true
 is_reading _ = false
 
+-- the version that is held at this position, else 0
 abbrev pub version_of : Position → ℕ
 version_of (Holds version) = version
 version_of _ = 0
 
+-- the indicator at which this position stands, else 0
 abbrev pub indicator_in : Position → ℕ
 indicator_in (Arrived k) = k
 indicator_in (Reads k side front image) = k
 indicator_in _ = 0
 
+-- the side that is read at this position, else 0
 abbrev pub side_read : Position → ℕ
 side_read (Reads k side front image) = side
 side_read _ = 0
 
+-- the front at which this position reads, else 0
 abbrev pub front_of : Position → ℕ
 front_of (Reads k side front image) = front
 front_of _ = 0
 
+-- the words of the side that is read at this position, else none
 abbrev pub image_of : Position → List ℕ
 image_of (Reads k side front image) = image
 image_of _ = []
@@ -98,9 +110,11 @@ pub record Book : Type 0 where
   pub records : List PassRecord
   pub told : List Told
 
+-- the records of all passes, with this one's behind them
 abbrev pub records_of : Plan → List PassRecord
 records_of p = p.records ++ p.mine
 
+-- a plan's history, its records, and what they told
 abbrev pub book_in : Plan → Book
 book_in p = record { history = p.history; records = records_of p; told = p.told }
 
@@ -118,6 +132,7 @@ pub record PlanCalls : Type 0 where
   pub dealt : ℕ
   pub len : ℕ
 
+-- what a plan has of calls
 abbrev pub plan_calls : Plan → PlanCalls
 plan_calls p = record { requests = p.requests; scanned = p.scanned; made = is_made p.mine; told = p.told; dealt = p.dealt; len = length p.history }
 
@@ -170,6 +185,7 @@ fresh_view b = record { base = b; number = 0; seen = []; fronts = []; joined = [
 abbrev pub opening_view : Base → View
 opening_view b = record (fresh_view b) { plan = Some (opening_plan b) }
 
+-- the first plan, or the second where there is none
 abbrev pub plan_or : Option Plan → Plan → Plan
 plan_or (Some p) q = p
 plan_or None q = q
@@ -178,5 +194,6 @@ plan_or None q = q
 abbrev pub plan_of : View → Plan
 plan_of v = plan_or v.plan (opening_plan v.base)
 
+-- the view is the writer's, and this is its plan
 abbrev pub IsWriter : View → Plan → Type 0
 IsWriter v p = v.plan ≡ Some p

@@ -1,6 +1,10 @@
 //! The kinds of step, by what each tells its seat. `specs/Kinds.antt` and `specs/CallKinds.antt` are
 //! their table. No other file has a kind (`.ci/steps` sees to it): of a step the table asks only that
 //! it keeps the rule, and what it tells is said here.
+//!
+//! A load tells the same whichever word it is made of, unless its kind names the word. So each kind by
+//! which a caller reads or takes its answer, or a pass begins, names the word. Otherwise a reader could
+//! take `side` for `version`, and a pass one turn for another.
 ghost use Rattle.std.specs.Prelude.{ℕ};
 ghost use Rattle.rom_rule.specs.CallKinds.{answered, begun, begun_answer, loaded_answer, loaded_argument, loaded_turn, posted, scanned, stored_argument, stored_place, stored_reply};
 ghost use Rattle.rom_rule.specs.Kinds.{arrived, caught_up, checked_indicator, dealing, departed, informed, loaded_image, loaded_region, loaded_side, loaded_version, newcomer, note_of, noting, reviewed, spent_as, stored_back, stored_main, stored_version, switched_to_back, switched_to_main};
@@ -93,14 +97,18 @@ impl<N: PassEnd> Play<u8, View> for SwitchesToBack<N> {
     ghost then = { switched_to_back N.after };
 }
 
-/// The writer loads an indicator of one caller.
+/// The writer loads an indicator of one caller. The step's condition demands one of the version that
+/// `version` does not name. So no code can wait at an indicator at which readers arrive.
 pub struct ChecksIndicator;
 
 impl Play<u8, View> for ChecksIndicator {
     ghost then = { checked_indicator };
 }
 
-/// The writer stores `version`.
+/// The writer stores `version`. Safety does not rest on it. A side may be changed once all indicators were
+/// loaded as 0 since `side` was stored, in whatever order. That is enough because a reader loads `side`
+/// only after it has arrived. `version` serves the wait alone, which readers that arrive one after another
+/// must not keep from ending.
 pub struct StoresVersion;
 
 impl Play<u8, View> for StoresVersion {

@@ -50,7 +50,8 @@ pub struct Plan {
     pub history: LinkedList<Entry>,
     /// The records of earlier passes.
     pub records: LinkedList<PassRecord>,
-    /// The record of this pass: none or one.
+    /// The record of this pass: none or one. It is a list, so that all records are one list put behind
+    /// another.
     pub mine: LinkedList<PassRecord>,
     /// What all these records told each found call.
     pub told: LinkedList<(Found, Updated<Back>)>,
@@ -77,9 +78,10 @@ pub struct View {
     pub base: Base,
     /// The caller's number, or 0.
     pub number: u64,
-    /// The published history, as far as it has seen it.
+    /// The published history, as far as it has seen it: what it reads is the state after some first part of
+    /// that history.
     pub seen: LinkedList<Entry>,
-    /// The fronts that its reads had.
+    /// The fronts that its reads had: each must be a boundary of passes when the session is closed.
     pub fronts: LinkedList<u64>,
     /// What the views knew that were joined into it.
     pub joined: LinkedList<Kept>,

@@ -5,6 +5,7 @@ use Rattle.rom_run.specs.Use.{Use, Plays, Makes, Read, HasOrder}
 use Rattle.rom_run.specs.declared.program.Asked.{Asked}
 use Rattle.rom_run.specs.declared.program.Asked.TheVariants.{Play, Make}
 
+-- the use of a heap that the command asks for
 abbrev pub use_of : Option Asked → Option Use
 use_of (Some (Play heap)) = Some (Plays heap Read)
 use_of (Some (Make order)) = Some (Makes order)

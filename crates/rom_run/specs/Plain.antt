@@ -27,6 +27,7 @@ is_name (b ∷ bs) = not (b == 45)
 abbrev pub MOST_SCRIPTS : ℕ
 MOST_SCRIPTS = 16
 
+-- each of the words is a name
 abbrev pub are_names : List (List ℕ) → Bool
 are_names words = list_all is_name words
 

@@ -29,6 +29,7 @@ IsOutput sink output story results old new status =
 abbrev pub text_output : {R A : Type 0} → Texts R A → ShownOutput R A
 text_output texts = record { text = λ opening history results. text texts results (opening + length history); Fits = λ opening history results. AreOfType texts results }
 
+-- The text of a run is printed: whole, with its results' status, or with 5 cut short, where the sink failed.
 abbrev pub IsText : {S K R A : Type 0} → ShownSink K → Texts R A → Story S → List (List (LineResult R A)) → K → K → ℕ → Type 0
 IsText sink texts story results old new status = IsOutput sink (text_output texts) story results old new status
 

@@ -42,22 +42,33 @@ module _ {S C Q R A D X K : Type 0} (machine : Machine S C Q R A) (Contents : �
     pub lasting : IfSome session (λ s. EachStory machine Contents s (λ story. HasLasted shown Contents (on_words machine) story now))
     -- else what a stop may leave, and why scripts were not run, or a heap not shown or not upgraded
     pub none : IfSome asked (λ does. IsNone session → HasNone machine Contents shown sink Rejects earlier (heap_of does) was now old new status)
+    -- with 0 a heap that was to be made or upgraded is made or upgraded, as far as the device tells
     pub made : status ≡ 0 → HasMade machine Contents earlier shown sink asked was now old new
-    -- the device
+    -- the device keeps its length and, where it tells its words, those outside of the heap, or all of them
+    -- where a heap that is to be made is refused
     pub kept : IfSome asked (λ does. IsDeviceKept shown (heap_of does) was now)
+    -- with no command (2), a source that failed (4) or a script that is too long (8) the device is not called
     pub uncalled : (status ≡ 2) ⊎ (status ≡ 4) ⊎ (status ≡ 8) → now ≡ was
-    -- the sources
+    -- no read of a source is made after one that gave no byte
     pub asked_once : AreAskedOnce source sources.items left.items
+    -- with words that are no command no source is read
     pub unread : status ≡ 2 → left ≡ sources
+    -- with 0, 1, 3, 5 and 7 each source that tells its bytes is within a script's limits, and read to its end
     pub fit : HasRead status → AreWithin source sources.items
     pub read : HasRead status → AreAtEnd source left.items
+    -- with 4 the source of the first script that is refused failed, and the line names that script
     pub source_failed : status ≡ 4 → SourceFailed source sink sources.items left.items old new
+    -- with any other status each source's count of faults is what it was
     pub none_failed : status ≢ 4 → map source.faults left.items ≡ map source.faults sources.items
+    -- with 8 the first script that is refused is too long, and the line names it
     pub too_long : status ≡ 8 → SourceTooLong source sink sources.items left.items old new
-    -- and the sink
+    -- with words that are no command a line says so
     pub not_a_command_told : status ≡ 2 → IsTold sink old new (codes "not a command")
+    -- with 5 the sink's last write failed, and no other
     pub sink_failed : status ≡ 5 → WriteFailed sink old new
+    -- no write of the sink is made after one that failed
     pub writing : StopsWriting sink old new
+    -- what the sink has beside its bytes stays
     pub rest : sink.rest new ≡ sink.rest old
     -- and what follows from all this
     pub corollaries : Corollaries asked was now sources left old new status session

@@ -10,6 +10,7 @@ use Rattle.rom_open.specs.declared.new_heap.NotFormatted.TheVariants as unmade
 use Rattle.rom_run.specs.declared.status.Status.{Status}
 use Rattle.rom_run.specs.declared.status.Status.TheVariants.{HeapRefused, NoMemory, DeviceFailed}
 
+-- the name of a rule, as a refusal's line has it
 abbrev pub rule_name : Rule → List ℕ
 rule_name Root = codes "root"
 rule_name Link = codes "link"
@@ -44,6 +45,7 @@ refusal_line OutOfMemory = codes "no memory"
 abbrev pub HasName : Why → Type 0
 HasName why = (why ≢ Device) × (why ≢ OutOfMemory)
 
+-- the status where a heap is not opened, or not upgraded
 abbrev pub refusal_status : Why → Status
 refusal_status Device = DeviceFailed
 refusal_status OutOfMemory = NoMemory
@@ -64,6 +66,7 @@ unmade_line (unmade.Refused (format.TooSmall need have)) = too_small_line need h
 unmade_line (unmade.Refused format.Device) = codes "device failed"
 unmade_line unmade.OutOfMemory = codes "no memory"
 
+-- the status where a heap is not made
 abbrev pub unmade_status : NotFormatted → Status
 unmade_status (unmade.Refused format.Device) = DeviceFailed
 unmade_status (unmade.Refused format.AlreadyAHeap) = HeapRefused

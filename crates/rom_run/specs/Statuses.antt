@@ -7,6 +7,7 @@ use Rattle.rom_model.specs.declared.line.LineResult.TheVariants as outcome
 use Rattle.rom_run.specs.declared.status.Status.{Status}
 use Rattle.rom_run.specs.declared.status.Status.TheVariants as status
 
+-- the number with which the program exits
 abbrev pub number_of : Status → ℕ
 number_of status.Done = 0
 number_of status.Unread = 1
@@ -18,6 +19,7 @@ number_of status.NoMemory = 6
 number_of status.DeviceFailed = 7
 number_of status.ScriptTooLong = 8
 
+-- the line was no command
 abbrev pub is_unread : {R A : Type 0} → LineResult R A → Bool
 is_unread outcome.Unread = true
 is_unread (outcome.Update updated) = false

@@ -11,6 +11,7 @@ pub data Scripts : Type 0 where
   -- they are drawn
   Drawn : Scripts
 
+-- what a command does with the heap of its device
 pub data Use : Type 0 where
   -- plays scripts on this heap
   Plays : Heap → Scripts → Use
@@ -21,6 +22,7 @@ pub data Use : Type 0 where
   -- makes the heap of version 1 that stands one of version 2
   Upgrades : Use
 
+-- the heap that a use is of
 abbrev pub heap_of : Use → Heap
 heap_of (Plays heap scripts) = heap
 heap_of (Makes order) = New order

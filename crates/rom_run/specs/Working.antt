@@ -58,6 +58,7 @@ pub record IsAsBefore {S D : Type 0} (Contents : ℕ → List ℕ → S → ℕ 
   pub calls : WithinOpening shown was now
   pub images : IsTrue shown.tells_images → Leaves shown (Mended (named_order (shown.words was)) (shown.words was)) was now
 
+-- Of a command that only shows a heap: it is as it was. Of any other this says nothing.
 abbrev pub IsStill : {S D : Type 0} → (ℕ → List ℕ → S → ℕ → Type 0) → ShownDevice D → Option Use → D → D → Story S → Type 0
 IsStill Contents shown (Some (Plays heap scripts)) was now story = Unit {0}
 IsStill Contents shown (Some (Makes order)) was now story = Unit {0}

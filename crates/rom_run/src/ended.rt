@@ -12,14 +12,17 @@ pub struct Ended<D, S> {
     /// The number of a `Status`.
     pub status: u8,
     pub device: D,
-    /// The sources, as far as they were read.
+    /// The sources, as far as they were read. They come back, so that a clause can say by a source's count
+    /// of faults that it failed.
     pub scripts: Vec<S>,
     /// What was done on the heap, where one was opened or made for the command to work on.
     pub session: Option<Session>,
 }
 
 impl<D, S> Ended<D, S> {
+    /// A run that ended with this status, with all that it was handed.
     pub fn of(status: Status, device: D, scripts: Vec<S>, session: Option<Session>) -> Ended<D, S>
+        // Its status is the number of the one handed in; all else is handed on.
         ensures { result ≡ record {
           status = number_of status;
           device = device;
@@ -35,7 +38,9 @@ impl<D, S> Ended<D, S> {
         }
     }
 
+    /// A run that ended as the work on its device did, with its sources.
     pub fn after(worked: Worked<D>, scripts: Vec<S>) -> Ended<D, S>
+        // Its status is the number of the one that the work ended with; all else is handed on.
         ensures { result ≡ record {
           status = number_of worked.status;
           device = worked.device;

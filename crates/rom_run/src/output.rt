@@ -11,7 +11,10 @@ ghost use Rattle.rom_run.specs.Played.{ShownOutput, text_output};
 use rom_model::{LineResult, Object, Step};
 use rom_text::{IoFailed, Sink, Told, print_run};
 
-/// What a program prints of scripts that were played on an object.
+/// What a program prints of scripts that were played on an object. The rest of the promise does not change
+/// with it. Its bytes depend on the count at the opening, the history and the results, and not on the state:
+/// a trait's member cannot name the states of another trait's object. So a drill, whose lines tell of the
+/// state, is no `Output`.
 pub trait Output<O: Object> {
     /// What it shows of itself: its bytes, and that its numbers are of their types.
     ghost shown: { ShownOutput O.Reply O.Answer };
@@ -26,14 +29,18 @@ pub trait Output<O: Object> {
         count: u64,
     ) -> Result<(), IoFailed>
         requires { length scripts.now ≤ 16 }
+        // For each story with this count in which the results are lawful, its bytes are printed; after an
+        // error some of them, from the front. The body knows no story.
         ensures prints { (story : Story O.State) → count ≡ stories.count story →
             IsLawful O.machine story (map (λ v. v.items) scripts.now)
             (map (λ v. v.items) results.now) → Prints K.shown out.old out.new result
             (shown.text story.opening_count story.history (map (λ v. v.items) results.now)) }
+        // After `Ok` the numbers in it are of their types, for each such story.
         ensures of_type { OnOk result ((story : Story O.State) → count ≡ stories.count story →
             IsLawful O.machine story (map (λ v. v.items) scripts.now)
             (map (λ v. v.items) results.now) →
             shown.Fits story.opening_count story.history (map (λ v. v.items) results.now)) }
+        // After `Ok` no write of the sink failed; after an error the last one did, and no other.
         ensures cause { HasCause (K.shown.faults out.old) (K.shown.faults out.new)
             (K.shown.failing out.new) result }
         ensures rest { K.shown.rest out.new ≡ K.shown.rest out.old };

@@ -135,6 +135,8 @@ pub fn copy_of(alloc: Global, names: &[Name]) -> Result<Names, AllocError>
 
 /// What plain words ask `main` to hand to `run_plain`: a device, and the scripts in order.
 pub fn plain_files(alloc: Global, words: &Names) -> Result<Wanted, AllocError>
+    // After `Ok`: `try` wants words in memory, `run` a file that is there, `format` one that is made if need
+    // be and lengthened. Words that are no command want none.
     ensures device { IfOk result (λ wanted. IsWanted (command words.now) wanted.device) }
     ensures scripts { IfOk result (λ wanted. wanted.scripts ≡ scripts_of (command words.now)) }
 {
@@ -209,6 +211,7 @@ where
     O::Reply: Told + Drop + Send + Sync,
     O::Answer: Told + Drop + Send + Sync,
     requires { length scripts.items ≡ length (scripts_of (command words.now)) }
+    // All that is promised of the command that the words are; the record's fields say it one by one.
     ensures promise { Promise O.machine O.Contents O.Rejects O.earlier D.shown S.shown
         K.shown (AreScripts L.Reads S.shown) (IsText K.shown (texts_of O.Reply.shown O.Answer.shown))
         (use_of (command words.now)) device result.device scripts result.scripts out.old out.new

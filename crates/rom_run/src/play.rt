@@ -36,6 +36,7 @@ pub fn end_without_memory<O: Object, D: Device, K: Sink>(device: D, out: &mut K)
       status = Status.NoMemory;
       session = None;
     } }
+    // Whichever heap was asked for, all holds that is promised of a command without a session, with 6.
     ensures none { (heap : Heap) → HasNone O.machine O.Contents D.shown K.shown O.Rejects
         O.earlier heap device device out.old out.new 6 }
     ensures kept { (heap : Heap) → IsDeviceKept D.shown heap device device }
@@ -103,12 +104,16 @@ where
     requires { length scripts.now ≤ 16 }
     ensures device { result.device ≡ played.closed.device }
     ensures session { result.session ≡ Some played.closed.session }
+    // Done (0), a line unread (1), the sink failed (5), or the device under an update (7).
     ensures statuses { (result.status ≡ Status.Done) ⊎ (result.status ≡ Status.Unread)
         ⊎ (result.status ≡ Status.SinkFailed) ⊎ (result.status ≡ Status.DeviceFailed) }
+    // In each story in which the results are lawful, the output of lawful results of the scripts is printed,
+    // with their status; or it is cut short, with 5.
     ensures played { EachStory O.machine O.Contents played.closed.session (λ story.
         IsLawful O.machine story (map (λ v. v.items) scripts.now)
         (map (λ v. v.items) played.results.items) → HavePlayed O.machine (IsOutput K.shown T.shown)
         (map (λ v. v.items) scripts.now) out.old out.new (number_of result.status) story) }
+    // With 5 the sink's last write failed, and no other.
     ensures sink_failed { result.status ≡ Status.SinkFailed → WriteFailed K.shown out.old out.new }
     ensures writing { StopsWriting K.shown out.old out.new }
     ensures rest { K.shown.rest out.new ≡ K.shown.rest out.old }
@@ -149,16 +154,22 @@ where
     requires order { HasOrder heap }
     requires callers { (0 < length scripts.now) × (length scripts.now ≤ 16) }
     requires few { All (λ v. length v.items ≤ LAST_COUNT) scripts.now }
+    // After `Ok` there is a session on this heap, and in each of its stories the results are lawful.
     ensures session { IfOk result (λ played. HasSession O.machine O.Contents D.shown heap device
         played.closed.device (λ story. IsLawful O.machine story (map (λ v. v.items) scripts.now)
         (map (λ v. v.items) played.results.items)) played.closed.session) }
+    // After `Ok` the device has kept its length and, where it tells its words, those outside of the heap.
     ensures kept { IfOk result (λ played.
         IsDeviceKept D.shown heap device played.closed.device) }
+    // After `Ok` nothing is printed yet.
     ensures unprinted { OnOk result (out.new ≡ out.old) }
+    // After an error there is no session: what a stop may leave, the most calls of the device, and the cause.
     ensures none { IfErr result (λ worked. HasNone O.machine O.Contents D.shown K.shown O.Rejects
         O.earlier heap device worked.device out.old out.new (number_of worked.status)) }
+    // After an error the device has kept the same.
     ensures none_kept { IfErr result (λ worked.
         IsDeviceKept D.shown heap device worked.device) }
+    // After an error: the heap is refused by name (3), memory was short (6), or the device failed (7).
     ensures none_statuses { IfErr result (λ worked. (worked.status ≡ Status.HeapRefused)
         ⊎ (worked.status ≡ Status.NoMemory) ⊎ (worked.status ≡ Status.DeviceFailed)) }
     ensures none_ran { IfErr result (λ worked. IsNone worked.session) }
@@ -205,19 +216,27 @@ where
     requires order { HasOrder heap }
     requires callers { (0 < length scripts.now) × (length scripts.now ≤ 16) }
     requires few { All (λ v. length v.items ≤ LAST_COUNT) scripts.now }
+    // The statuses of words and of sources (2, 4, 8) do not come.
     ensures statuses { (number_of result.status ≡ 0) ⊎ (number_of result.status ≡ 1)
         ⊎ (number_of result.status ≡ 3) ⊎ (number_of result.status ≡ 5)
         ⊎ (number_of result.status ≡ 6) ⊎ (number_of result.status ≡ 7) }
+    // With 0, 1 or 5 the scripts were played, and a session is left.
     ensures ran { HasRun (Some (Plays heap Read)) (number_of result.status) →
         IsSome result.session }
+    // With 3 or 6 they were not, and none is left. With 7 either may be.
     ensures not_run { (number_of result.status ≡ 3) ⊎ (number_of result.status ≡ 6) →
         IsNone result.session }
+    // In each story of the session the output of lawful results of the scripts is printed, or with 5 cut
+    // short.
     ensures session { IfSome result.session (HasSession O.machine O.Contents D.shown heap device
         result.device (HavePlayed O.machine (IsOutput K.shown T.shown)
         (map (λ v. v.items) scripts.now) out.old out.new (number_of result.status))) }
+    // Without a session: what a stop may leave, the most calls of the device, and the cause of 3, 6 or 7.
     ensures none { IsNone result.session → HasNone O.machine O.Contents D.shown K.shown O.Rejects
         O.earlier heap device result.device out.old out.new (number_of result.status) }
+    // The device keeps its length and, where it tells its words, those outside of the heap.
     ensures kept { IsDeviceKept D.shown heap device result.device }
+    // With 5 the sink's last write failed, and no other.
     ensures sink_failed { number_of result.status ≡ 5 → WriteFailed K.shown out.old out.new }
     ensures writing { StopsWriting K.shown out.old out.new }
     ensures rest { K.shown.rest out.new ≡ K.shown.rest out.old }

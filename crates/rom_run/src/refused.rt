@@ -17,13 +17,16 @@ use rom_text::Sink;
 /// Prints why the heap of a device was not opened for callers, and hands the device on. Who opened it by
 /// `open_store` knows on which device it was.
 pub fn end_refused<O: Object, D: Device, K: Sink>(refused: Refused<D>, out: &mut K) -> Worked<D>
+    // If it was refused on the device `was`: what a stop may leave, the most calls, and the cause.
     ensures none { (was : D) →
         HasBeenRefused D.shown O.Contents O.Rejects was refused.device refused.why →
         HasNone O.machine O.Contents D.shown K.shown O.Rejects O.earlier Standing was result.device
         out.old out.new (number_of result.status) }
+    // If it was refused on `was`: the length stays and, where words are told, those outside of the heap do.
     ensures none_kept { (was : D) →
         HasBeenRefused D.shown O.Contents O.Rejects was refused.device refused.why →
         IsDeviceKept D.shown Standing was result.device }
+    // It was refused by name (3), memory was short (6), or the device failed (7).
     ensures none_statuses { (result.status ≡ Status.HeapRefused)
         ⊎ (result.status ≡ Status.NoMemory) ⊎ (result.status ≡ Status.DeviceFailed) }
     ensures none_ran { IsNone result.session }

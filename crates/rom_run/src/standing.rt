@@ -37,22 +37,31 @@ pub fn open_heap<O: Object, D: Device, K: Sink>(
     out: &mut K,
 ) -> Result<OpenHeap<D>, Worked<D>>
     ensures order { IfOk result (λ heap. IsOrder heap.order) }
+    // After `Ok` the words in memory are a well-formed region.
     ensures region { IfOk result (λ heap.
         (s : O.State) × (k : ℕ) × O.Contents heap.order (words_of heap.space) s k) }
+    // After `Ok` each story of the session begins with what the region's words stand for.
     ensures story { IfOk result (λ heap. EachStory O.machine O.Contents heap.session (λ story.
         (story.order ≡ heap.order)
         × O.Contents heap.order (words_of heap.space) story.opening story.opening_count)) }
+    // After `Ok` there is a session on the heap that stands. It has no callers.
     ensures session { IfOk result (λ heap. HasSession O.machine O.Contents D.shown Standing device
         heap.device (λ story. AreAnswered O.machine story [] []) heap.session) }
+    // After `Ok` no pass was made. As far as the device tells, it and whatever a stop leaves hold what the
+    // story begins with.
     ensures still { IfOk result (λ heap. EachStory O.machine O.Contents heap.session
         (IsAsBefore O.Contents D.shown device heap.device)) }
+    // After `Ok` the device has kept its length and, where it tells its words, those outside of the heap.
     ensures kept { IfOk result (λ heap. IsDeviceKept D.shown Standing device heap.device) }
+    // After `Ok` the device's count of faults is what it was.
     ensures unfailed { IfOk result (λ heap. D.shown.faults heap.device ≡ D.shown.faults device) }
     ensures unprinted { OnOk result (out.new ≡ out.old) }
+    // After an error there is no session: what a stop may leave, the most calls of the device, and the cause.
     ensures none { IfErr result (λ worked. HasNone O.machine O.Contents D.shown K.shown O.Rejects
         O.earlier Standing device worked.device out.old out.new (number_of worked.status)) }
     ensures none_kept { IfErr result (λ worked.
         IsDeviceKept D.shown Standing device worked.device) }
+    // After an error: the heap is refused by name (3), memory was short (6), or the device failed (7).
     ensures none_statuses { IfErr result (λ worked. (worked.status ≡ Status.HeapRefused)
         ⊎ (worked.status ≡ Status.NoMemory) ⊎ (worked.status ≡ Status.DeviceFailed)) }
     ensures none_ran { IfErr result (λ worked. IsNone worked.session) }

@@ -24,14 +24,20 @@ pub fn upgrade_heap<O: Renew, D: Device, K: Sink>(
     device: D,
     out: &mut K,
 ) -> Worked<D>
+    // It is upgraded (0), refused by name (3), memory is short (6), or the device failed (7).
     ensures statuses { (number_of result.status ≡ 0) ⊎ (number_of result.status ≡ 3)
         ⊎ (number_of result.status ≡ 6) ⊎ (number_of result.status ≡ 7) }
     ensures none_ran { IsNone result.session }
+    // There is no session: what a stop may leave, the most calls of the device, and the cause of 3, 6 or 7.
     ensures none { HasNone O.machine O.Contents D.shown K.shown O.Rejects O.earlier Upgraded device
         result.device out.old out.new (number_of result.status) }
+    // With 0 the device holds in version 2 the state and the count that it held in version 1, and so does
+    // what a stop leaves, as far as it tells.
     ensures made { number_of result.status ≡ 0 → IsUpgraded D.shown K.shown O.Contents O.earlier
         device result.device out.old out.new }
+    // The device keeps its length and, where it tells its words, those outside of the heap.
     ensures kept { IsDeviceKept D.shown Upgraded device result.device }
+    // With 6 the device's count of faults is what it was.
     ensures unfailed { number_of result.status ≡ 6 →
         D.shown.faults result.device ≡ D.shown.faults device }
     ensures writing { StopsWriting K.shown out.old out.new }

@@ -94,10 +94,11 @@ enqueued_of lines results = sum_by (λ p. enqueued_by p.0 p.1) (zip lines result
 abbrev pub dequeued_of : List (LineResult Reply Answer) → ℕ
 dequeued_of results = sum_by dequeued_by results
 
--- the sums of all callers
+-- the sum of what all callers' lines have put into the queue
 abbrev pub enqueued : List (List (Step Call Query)) → List (List (LineResult Reply Answer)) → ℕ
 enqueued scripts results = sum_by (λ p. enqueued_of p.0 p.1) (zip scripts results)
 
+-- the sum of what all callers' lines have taken out of the queue
 abbrev pub dequeued : List (List (LineResult Reply Answer)) → ℕ
 dequeued results = sum_by dequeued_of results
 

@@ -3,5 +3,6 @@ use Rattle.rom_text.specs.Text.{ShownTold}
 use Rattle.rom_script.specs.Drill.{drill_lines}
 use Rattle.rom_script.specs.declared.summary.Summary.{Summary}
 
+-- how a summary is printed: as a drill's five lines
 abbrev pub shown_summary : ShownTold Summary
 shown_summary = record { text = λ s. drill_lines s.start s.callers s.calls s.enqueued s.dequeued s.sizes s.total s.count; Fits = λ s. Unit {0} }

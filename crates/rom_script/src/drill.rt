@@ -113,6 +113,7 @@ pub fn drill_script(
 ) -> Result<Vec<Line>, AllocError>
     requires caller { (1 ≤ caller) × (caller ≤ callers) × (callers ≤ 16) }
     requires calls { calls ≤ 10000 }
+    // After `Ok` the script is the one that the definition makes of these numbers.
     ensures lines { IfOk result (λ script.
         script.items ≡ numbered.drill_script start callers calls caller) }
     ensures few { IfOk result (λ script. length script.items ≤ 4 + 2 * calls) }
@@ -136,6 +137,7 @@ pub fn drill_scripts(
 ) -> Result<Vec<Vec<Line>>, AllocError>
     requires callers { callers ≤ 16 }
     requires calls { calls ≤ 10000 }
+    // After `Ok` the scripts are those that the definition makes of these numbers, one for each caller.
     ensures lines { IfOk result (λ scripts.
         map (λ v. v.items) scripts.items ≡ numbered.drill_scripts start callers calls) }
     ensures many { IfOk result (λ scripts. length scripts.items ≡ callers) }

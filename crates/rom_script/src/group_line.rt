@@ -18,6 +18,7 @@ fn split_first(text: &[u8]) -> (&[u8], Option<&[u8]>)
         → length result.0.now ≤ length front }
     ensures less { IfSome result.1 (λ b. length b.now < length text.now) }
 {
+    // No update's line has a semicolon. So a text is cut into members in one way.
     match memmem::find(text, SEPARATOR) {
         Some(at) => (&text[..at], Some(&text[at + SEPARATOR.len()..])),
         None => (text, None),

@@ -49,8 +49,10 @@ impl Script {
 
 /// Reads a script to the end of its source. What was taken is lost to the source after an `Err`.
 pub fn read_script<S: Source>(alloc: Global, source: &mut S) -> Result<Script, ReadRefused>
+    // After `Ok` the lines are those of the bytes that the source had left, where it tells them.
     ensures lines { IfOk result (λ script. AreStepsOf (S.shown.left source.old) (steps_of script)) }
     ensures few { IfOk result (λ script. length (steps_of script) ≤ MAX_LINES) }
+    // After `Ok` these bytes are within a script's limits.
     ensures fits { OnOk result (IfSome (S.shown.left source.old) FitsScript) }
     ensures ends { EndsReading S.shown source.old source.new result }
 {

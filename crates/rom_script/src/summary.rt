@@ -185,6 +185,7 @@ impl Report for Summary {
 /// Prints the five lines of a drill. They leave in one block, and nothing of them waits after the
 /// call. It takes no memory. After `IoFailed` the sink has taken some of them, from the front.
 pub fn print_drill<O: Sink>(out: &mut O, told: &Summary) -> Result<(), IoFailed>
+    // The five lines are printed; after an error, some of their bytes, from the front.
     ensures prints { Prints O.shown out.old out.new result
         (drill_lines told.now.start told.now.callers told.now.calls
         told.now.enqueued told.now.dequeued

@@ -25,26 +25,29 @@ use Rattle.rom_text.specs.Streams.{ShownSink}
 abbrev pub closing : Story State → State
 closing story = after (on_words trio) story.order story.opening story.opening_count story.history
 
--- what an update of this call and this reply has put into the queue, and out
+-- what an update with this call and this reply has put into the queue
 abbrev pub put_by : Option Call → Option Reply → ℕ
 put_by (Some (Enq v)) (Some Queued) = v
 put_by call reply = 0
 
+-- what an update with this reply has taken out of the queue
 abbrev pub taken_by : Option Reply → ℕ
 taken_by (Some (Head v)) = v
 taken_by reply = 0
 
--- what an entry has
+-- what the update of an entry has put into the queue
 abbrev pub put_in : Entry → ℕ
 put_in e = put_by (words_call e.args) (words_reply e.reply)
 
+-- what the update of an entry has taken out of the queue
 abbrev pub taken_in : Entry → ℕ
 taken_in e = taken_by (words_reply e.reply)
 
--- what all entries have
+-- what all of these updates have put into the queue
 abbrev pub enqueued_in : List Entry → ℕ
 enqueued_in history = sum_by put_in history
 
+-- what all of these updates have taken out of the queue
 abbrev pub dequeued_in : List Entry → ℕ
 dequeued_in history = sum_by taken_in history
 

@@ -1,4 +1,6 @@
-//! Generated scripts on a new heap, of which five lines are told.
+//! Generated scripts on a new heap, of which five lines are told. The sums among them are promised of the
+//! history. The program keeps no list of the history: it sums up what each line was told. Where results are
+//! lawful, these sums are the history's, which is proved (`proofs/Summing.antt`).
 ghost use Rattle.std.specs.Prelude.{◌≡◌, ◌⊎◌, ◌≤◌, ◌^◌, All, length, map, IfSome, IsNone, IsSome, Some};
 ghost use Rattle.rom_heap.specs.Answers.{Rejects, earlier};
 ghost use Rattle.rom_model.specs.Lawful.{IsLawful};

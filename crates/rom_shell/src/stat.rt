@@ -1,4 +1,5 @@
-//! The sizes of the heap on a device.
+//! The sizes of the heap on a device. There is no caller, so no words are shared: they are read off the image
+//! in memory. The session is one in which nothing was done, so the clauses on sessions hold as they stand.
 ghost use Rattle.std.specs.Prelude.{◌≡◌, ◌≢◌, ◌⊎◌, ℕ, IsSome, IsNone, IfSome};
 ghost use Rattle.rom_heap.specs.Answers.{Rejects, earlier};
 ghost use Rattle.rom_model.specs.Blocks.{IsOrder};

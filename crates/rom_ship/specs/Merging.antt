@@ -56,6 +56,7 @@ abbrev pub least_from : ℕ → Option (ℕ × ℕ) → List (List Frame) → Op
 least_from i best [] = best
 least_from i best (queue ∷ queues) = least_from (i + 1) (nearer best i (next_place queue)) queues
 
+-- the index and the next place of the caller whose next place is least of all
 abbrev pub least : List (List Frame) → Option (ℕ × ℕ)
 least queues = least_from 0 None queues
 
@@ -70,6 +71,7 @@ abbrev pub next_by : List (List Frame) → Option (ℕ × ℕ) → Option (Frame
 next_by queues None = None
 next_by queues (Some best) = first_of queues best.0 (slice_get queues best.0)
 
+-- the update with the least place of all callers, and what is left then
 abbrev pub next : List (List Frame) → Option (Frame × List (List Frame))
 next queues = next_by queues (least queues)
 

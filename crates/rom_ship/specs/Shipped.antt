@@ -26,6 +26,8 @@ AreFramed place [] = Unit {0}
 AreFramed place (e ∷ es) = IsFramed place e × AreFramed (place + 1) es
 
 -- The bytes are the frames of the session's history in order, from its opening count on, and no others.
+-- `Fits` says that each entry has the words of a call and a reply, in 64 bits: a follower must know it to
+-- read the frames back.
 abbrev pub frames_output : ShownOutput Reply Answer
 frames_output = record { text = λ opening history results. frames opening history; Fits = λ opening history results. AreFramed opening history }
 

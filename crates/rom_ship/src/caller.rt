@@ -17,7 +17,7 @@ fn is_done(line: &Step<Call, Query>, told: &LineResult<Reply, Answer>) -> bool
 }
 
 /// What is left of a caller's lines and of what they were told. The first line, if one is left, is an
-/// update that was done.
+/// update that was done. All lines before it have been passed, so the search for the least place passes none.
 #[derive(Clone, Copy)]
 pub(crate) struct Caller<'a> {
     pub(crate) lines: &'a [Step<Call, Query>],

@@ -43,6 +43,7 @@ fn print_merged<K: Sink>(
         (merged count (map (λ c. updates c.lines.now c.results.now) callers.old))) }
 {
     let mut bytes = [0; MOST_BYTES];
+    // The loop ends where no caller has an update left. The bound `count` only shows that it ends.
     for _turn in 0..count {
         match next(callers) {
             Some(update) => print_frame(out, &update, &mut bytes)?,

@@ -85,6 +85,7 @@ fn print_before<O: Sink>(out: &mut O, pieces: &[&str], answer: &Answer) -> Resul
 pub fn print_stat<O: Sink>(space: &mut VecSpace, order: u32, out: &mut O) -> Result<(), IoFailed>
     requires order { IsOrder order }
     requires region { (s : State) × (k : ℕ) × Contents order (words_of space.old) s k }
+    // The lines are those of the state and the count that the region stands for.
     ensures prints { (s : State) (k : ℕ) → Contents order (words_of space.old) s k →
         Prints O.shown out.old out.new result (stat_text order s k) }
 {

@@ -24,6 +24,9 @@ IsSameCaller p q = (q.table_id ≡ p.table_id) × (q.view.base ≡ p.view.base) 
 
 module _ {S : Type 0} (Contents : ℕ → List ℕ → S → ℕ → Type 0) where
   -- The caller is one of the store with this table and this opening, and what it has seen of callers' updates is what was done of them: its own are those that it was told are done, and all are of callers that there are.
+  -- It is a condition of each call of the store, so that it need not be found again from the table. What a
+  -- caller has seen grows where it enters, learns an answer, or learns a note. Each of these steps tells
+  -- which entries are the caller's own.
   pub record IsCallerOf (table : TableId) (base : Base) (p : Caller) : Type 0 where
     pub table_is : p.table_id ≡ table
     pub base_is : p.view.base ≡ base

@@ -18,11 +18,12 @@ pub record SessionSeen : Type 0 where
   pub records : List PassRecord
   pub phase : Phase
 
--- what the writer knew, where there was one
+-- the history that the writer knew, which is empty where there was no writer
 abbrev pub history_in : List View → List Entry
 history_in [] = []
 history_in (v ∷ vs) = (plan_of v).history
 
+-- the records that the writer knew, of which there are none where there was no writer
 abbrev pub records_in : List View → List PassRecord
 records_in [] = []
 records_in (v ∷ vs) = records_of (plan_of v)

@@ -1,4 +1,8 @@
 -- The passes of a session, one after another, as its device went through them.
+-- Each record has the devices before and after its pass: by counts of faults alone, a fault could be told to
+-- the callers of another pass. A pass reads nothing and makes no more syncs than one batch and one repair, so
+-- it can hold neither an opening nor two whole batches. No clause says at which moment a caller was told its
+-- reply.
 use Rattle.std.specs.Prelude.{◌≡◌, ◌⊎◌, ℕ, ◌+◌, ◌<◌, ◌≤◌, List, [], ◌∷◌, length, Option, IsTrue}
 use Rattle.rom_model.specs.Blocks.{region_len}
 use Rattle.rom_model.specs.Faults.{Rose}
@@ -36,6 +40,7 @@ module _ {D S : Type 0} (shown : ShownDevice D) (Contents : ℕ → List ℕ →
     pub before : shown.faults was ≡ r.faults_before
     pub after : shown.faults now ≡ r.faults_after
     -- The phase that it began in, and the committed region: the device stood so, and its count of faults had risen since the opening where it needs a repair.
+    -- So a fault of the pass before, in its copy to back, is not told to the callers of this one.
     pub phase : Phase
     pub region : List ℕ
     pub began : BeginsIn shown phase story.order region was
@@ -51,7 +56,8 @@ module _ {D S : Type 0} (shown : ShownDevice D) (Contents : ℕ → List ℕ →
     pub mid : D
     pub images : IsTrue shown.tells_images → Runs shown (Becomes (PassImage len r)) was mid
     pub since : IsTrue shown.tells_images → Runs shown (Becomes (HoldsAfter Contents step story r.len [])) mid now
-    -- what it published is certain from then on: a stop leaves it
+    -- What it published is certain from then on: a stop leaves it.
+    -- Replies go out between the commit and the copy.
     pub certain : IsTrue shown.tells_images → len < r.len → (i : List ℕ) → shown.leaves mid i → HoldsAfter Contents step story r.len [] i
     -- and until then no more is called than a batch of the whole region, with its repair, calls up to the sync of its commit: three of its four syncs
     pub soon : len < r.len → SpendsAtMost shown (writes_before_commit phase story.order (region_len story.order) + 1) (syncs_before_commit phase + 1) was mid
@@ -62,6 +68,8 @@ module _ {D S : Type 0} (shown : ShownDevice D) (Contents : ℕ → List ℕ →
   ArePassesOn len (r ∷ rs) was now = (next : D) × IsPassOn len r was next × ArePassesOn r.len rs next now
 
   -- All passes of the story, since a device of which this held: it went through them, up to now.
+  -- A program that is generic in the device can name no other devices than those that its calls led to. Of a
+  -- program that is written for one device this says nothing.
   pub record WentThrough (First : D → Type 0) (now : D) : Type 0 where
     pub first : D
     pub begun : First first

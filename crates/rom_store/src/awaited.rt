@@ -1,4 +1,8 @@
 //! Whose calls a pass has a short while to wait for.
+//!
+//! A pass waits for certain callers, a set, and not for so many of them. Who had no call posted before either
+//! of the last two passes is not in the set, and who is alone in it waits for nobody. Callers that post in
+//! turn, some before one pass and the others before the next, wait for each other, and so come together.
 use crate::pace::Pace;
 use rom_announce::gather;
 use rom_lr::Shared;

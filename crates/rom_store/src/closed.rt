@@ -59,6 +59,7 @@ impl<D: Device, O: Object> Closed<D, O> {
 
     /// The count of updates at the closing.
     pub fn count(&self) -> u64
+        // The count is that at the opening, and one more for each entry of the session's history.
         ensures { let b = self.now.session in
             (s : O.State) (k : ℕ) → O.Contents b.order b.image s k →
             result ≡ k + length b.history }
@@ -69,6 +70,7 @@ impl<D: Device, O: Object> Closed<D, O> {
     /// Answers a query from the last published state.
     pub fn ask(&mut self, query: &O::Query) -> O::Answer
         ensures still { self.new ≡ self.old }
+        // The answer is the object's in the state after the whole history of the session.
         ensures told { let b = self.old.session in
             (s : O.State) (k : ℕ) → O.Contents b.order b.image s k →
             result ≡ O.machine.tell (after (on_words O.machine) b.order s k b.history) query.now }

@@ -45,25 +45,31 @@ fn take_in_all<O: Object>(shared: &Shared<O>, writer: &mut WriterSeat, passes: V
 
 impl<D: Device, O: Object, N: Label> Store<D, O, N> {
     /// Takes the passes back, which are those of this store in the order of their numbers, and ends the
-    /// session. A note that is still out is of no use afterwards. It takes no memory.
+    /// session. A note that is still out is of no use afterwards. It takes no memory. It does not wait, but
+    /// takes `rt` as a closing that had to wait would.
     pub fn close<R: Wait>(self, _rt: &R, passes: Vec<Pass>) -> Closed<D, O>
         requires passes { Indexed (IsNumbered O.Contents N.table N.base) passes.items }
         requires all { length passes.items ≡ N.base.callers }
         ensures order { result.session.order ≡ N.base.order }
         ensures image { result.session.image ≡ N.base.image }
         ensures opening_faults { result.session.faults ≡ N.base.faults }
+        // The session has a story, so what is said of each of its stories is said of one at least.
         ensures story { HasStory O.machine O.Contents result.session }
 
-        // The history and the records are those of the session, and have of each caller what it keeps.
+        // The history is the one that the records make, and they have no updates but those of the callers.
         ensures closed { EachStory O.machine O.Contents result.session (λ story.
             IsClosed O.machine story (length passes.items)) }
+        // Of each caller: what it has seen begins the history, each of its fronts is the count at the opening
+        // or after a pass, and it was told of its updates what the records tell.
         ensures kept { EachStory O.machine O.Contents result.session (λ story.
             Indexed (λ _ v. IsKept O.machine story v) (map kept_in passes.items)) }
 
-        // What a stop leaves now, and what it might have left since the start.
+        // Each image that a stop leaves now holds the published history, or that followed by the batch in
+        // doubt.
         ensures now { IsTrue D.shown.tells_images → EachStory O.machine O.Contents result.session
             (λ story. (i : List ℕ) → D.shown.leaves result.device i →
             ImageNow O.Contents (on_words O.machine) story i) }
+        // Each image that a stop might have left by now could be left by the start, or is one of the session.
         ensures since { IsTrue D.shown.tells_images → EachStory O.machine O.Contents result.session
             (λ story. HasLeftSince D.shown N.start N.since
             (SessionImage O.Contents (on_words O.machine) story) result.device) }
@@ -73,8 +79,12 @@ impl<D: Device, O: Object, N: Label> Store<D, O, N> {
             O.Contents (on_words O.machine) story
             (HasStarted D.shown N.base.faults N.start N.since) result.device) }
         ensures size { D.shown.size result.device ≡ N.start.size }
+        // Of the device's words only the state and the two regions of the heap may differ from those at the
+        // start.
         ensures outside { IsTrue D.shown.tells_words →
             WithinHeap N.base.order N.start.words (D.shown.words result.device) }
+        // The count of faults after the last record, or at the opening where there is none, is not above the
+        // device's.
         ensures faults { faults_after result.session.faults result.session.records
             ≤ D.shown.faults result.device }
     {
@@ -85,6 +95,8 @@ impl<D: Device, O: Object, N: Label> Store<D, O, N> {
             pace: _,
         } = self;
         let (twin, mut seat) = held.into_inner().into_core().into_parts();
+        // What a caller knew and what the records told it must stand in one view, the writer's. So all
+        // callers are taken in first, and one step reviews them.
         take_in_all(&shared, &mut seat, passes);
         shared.review(&mut seat);
         let count = shared.load_main(&mut seat, COUNT);

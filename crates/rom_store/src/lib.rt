@@ -6,8 +6,16 @@
 //! holds the lock do all that are posted; by a note one caller tells another what it has seen. `close` ends
 //! the session. [`play`] and [`play_new`] do all of that for scripts, one caller each, in threads. Their
 //! contract says that the results are those of one history, and what a stop at any moment leaves of it.
+//!
+//! What a clause says of a device's words, or of images that a stop leaves, holds where the device tells
+//! them. At an `ensures`, "now" is the end of the call, and "no call failed" means that the device's count of
+//! faults stayed. A device's count at 2^64 - 1 stands still and tells nothing.
 #![tactic(auto)]
 
+// `open_store`, `play`, `play_new` and `play_on` are marked `#[inline(never)]`: they move a device by value,
+// and a cached one has 12 KB. Inlined into one function of 179 KB they took LLVM 505 seconds of a processor;
+// apart, the whole program takes LLVM 19. `bench/size.sh` fails where a function of a program has more than
+// 40 KB.
 mod awaited;
 mod begun;
 mod closed;

@@ -19,6 +19,7 @@ impl<D: Device, O: Object, N: Label> Store<D, O, N> {
         ensures same { IsSameCaller pass.old pass.new }
         ensures still { pass.new.view ≡ record pass.old.view { steps = pass.new.view.steps } }
         ensures note { result.token.table_id ≡ N.table }
+        // The note has what the caller has seen.
         ensures seen { (noted result).seen ≡ pass.old.view.seen }
     {
         self.shared.note(&mut pass.seat)
@@ -31,8 +32,12 @@ impl<D: Device, O: Object, N: Label> Store<D, O, N> {
         requires note { note.token.table_id ≡ N.table }
         ensures of { IsCallerOf O.Contents N.table N.base pass.new }
         ensures same { IsSameCaller pass.old pass.new }
+        // What the caller has now seen begins with all that it had seen.
         ensures later { StartsWith pass.new.view.seen pass.old.view.seen }
+        // What the caller has now seen begins with all that the note's caller had seen, too.
         ensures learnt { StartsWith pass.new.view.seen (noted note).seen }
+        // Of what the caller knows only what it has seen, what it keeps of others and the number of its steps
+        // change.
         ensures still { pass.new.view ≡ record pass.old.view {
           seen = pass.new.view.seen;
           joined = pass.new.view.joined;

@@ -117,6 +117,7 @@ impl<D: Device, O: Object> Opening<D, O> {
         requires table { N.table ≡ self.table_id }
         requires base { N.base ≡ base_of self.key }
         requires started { N.start ≡ start_of D.shown self.device }
+        // What a stop might have left by now is the same by the label `N` as by the device.
         requires since { IsTrue D.shown.tells_images → (t : ℕ) (i : List ℕ) →
             (N.since t i → D.shown.left_since self.device t i)
             × (D.shown.left_since self.device t i → N.since t i) }
@@ -152,42 +153,59 @@ pub fn open_store<D: Device + Send, O: Object>(
 ) -> Result<Opening<D, O>, Refused<D>>
     requires callers { AreCallers callers }
 
-    // The callers are new, and what the opening stands for is what the device held, and holds.
+    // After `Ok` there are as many callers as were asked for.
     ensures many { IfOk result (λ o.
         (length o.passes ≡ callers) × ((base_of o.key).callers ≡ callers)) }
+    // The callers are numbered from 1, in this order, and have seen and done nothing.
     ensures passes { IfOk result (λ o.
         Indexed (IsNewCaller O.Contents o.table_id (base_of o.key)) o.passes) }
+    // The image that was opened stands for some state and count.
     ensures formed { IfOk result (λ o. let b = base_of o.key in
         (s : O.State) × (k : ℕ) × O.Contents b.order b.image s k) }
+    // The heap has the order that the device's header names.
     ensures order { IsTrue D.shown.tells_words → IfOk result (λ o.
         (base_of o.key).order ≡ named_order (D.shown.words device)) }
+    // What the image stands for is what the device's words held at the call.
     ensures held { IsTrue D.shown.tells_words → IfOk result (λ o. let b = base_of o.key in
         (s : O.State) (k : ℕ) → O.Contents b.order b.image s k →
         Holds O.Contents b.order (D.shown.words device) s k) }
+    // Each image that a stop might have left by now could be left before the call, or holds what the image
+    // stands for.
     ensures held_images { IsTrue D.shown.tells_images → IfOk result (λ o. let b = base_of o.key in
         (s : O.State) (k : ℕ) → O.Contents b.order b.image s k →
         Leaves D.shown (λ i. Holds O.Contents b.order i s k) device o.device) }
+    // The device's words now hold what the image stands for.
     ensures holds { IsTrue D.shown.tells_words → IfOk result (λ o. let b = base_of o.key in
         (s : O.State) (k : ℕ) → O.Contents b.order b.image s k →
         Holds O.Contents b.order (D.shown.words o.device) s k) }
+    // Each image that a stop might have left by now could be left before the call, or the region that counted
+    // counts there.
     ensures images { IsTrue D.shown.tells_images → IfOk result (λ o.
         Leaves D.shown (Mended (named_order (D.shown.words device)) (D.shown.words device))
         device o.device) }
+    // No write is unsynced: where images are told, a stop leaves the words as they read.
     ensures certain { IfOk result (λ o. IsSynced D.shown o.device) }
     ensures size { IfOk result (λ o. D.shown.size o.device ≡ D.shown.size device) }
+    // The device has room for the heap.
     ensures fits { IfOk result (λ o. words_needed (base_of o.key).order ≤ D.shown.size device) }
+    // Of the device's words only the state and the two regions of the heap may differ.
     ensures outside { IsTrue D.shown.tells_words → IfOk result (λ o.
         WithinHeap (named_order (D.shown.words device)) (D.shown.words device)
         (D.shown.words o.device)) }
+    // No call of the device failed, and its count of faults is the one that the session begins with.
     ensures faults { IfOk result (λ o. (D.shown.faults o.device ≡ D.shown.faults device)
         × ((base_of o.key).faults ≡ D.shown.faults device)) }
 
-    // It is at rest, and was called as often as an opening calls it; under IDLE nothing was written.
+    // The device is at rest: its state is IDLE, and both regions are the image.
     ensures rest { IsTrue D.shown.tells_words → IfOk result (λ o. let b = base_of o.key in
         IsAtRest b.order b.image (D.shown.words o.device)) }
+    // The device was called exactly as an opening of these words calls it: under IDLE, no write and one sync.
     ensures calls { IsTrue D.shown.tells_words → IfOk result (λ o.
         Calls {T = Unit {0}} D.shown (D.shown.words device) device o.device (Ok tt)) }
+    // The device was called no more than one opening calls it, and under IDLE every word stays.
     ensures within { IfOk result (λ o. WithinOpening D.shown device o.device) }
+    // Also where words are not told, the device was called no more than the longest opening of a heap of this
+    // order calls it.
     ensures by_order { IfOk result (λ o.
         CallsOfOrder D.shown (base_of o.key).order device o.device) }
 
@@ -202,6 +220,7 @@ pub fn open_store<D: Device + Send, O: Object>(
     } = open_device::<D, O>(alloc, device)?;
     let image = VecSpace::of(image);
     let faults = device.fault_count();
+    // The last memory that an opening takes: want of it leaves a heap that was recovered.
     match Seated::new(alloc, geometry.order(), callers, &image, faults) {
         Ok(seated) => Ok(Opening::of(device, geometry, seated, Pace::Slow)),
         Err(_) => Err(Refused {

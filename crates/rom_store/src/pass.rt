@@ -19,6 +19,8 @@ pub struct Pass {
     pub(crate) reply: Back,
 }
 
+// Contracts see a pass as a caller, and name no field of its seat. The type's invariant says that the caller
+// is out, with no call posted: so no contract carries that into a thread and back.
 impl Model for Pass {
     ghost use Rattle.rom_rule.specs.Kinds.{IsIdle};
     ghost use Rattle.rom_store.specs.Callers.{Caller, caller_at};

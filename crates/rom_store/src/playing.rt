@@ -52,29 +52,34 @@ where
     O::Reply: Drop + Send + Sync,
     O::Answer: Drop + Send + Sync,
     requires callers { (0 < length scripts.now) × (length scripts.now ≤ 16) }
+    // No script has more lines than 2^62, the most calls that a caller may post.
     requires few { All (λ v. length v.items ≤ LAST_COUNT) scripts.now }
 
     // The results are those of one history, from what the device held, and the device went through
     // its passes, after one opening.
     ensures session { IfOk result (λ played. IsSession D.shown O.machine O.Contents scripts.now
         played.results.items (HasOpened D.shown played.closed.session.order device) played.closed) }
+    // The heap has the order that the device's header names.
     ensures order { IsTrue D.shown.tells_words → IfOk result (λ played.
         played.closed.session.order ≡ named_order (D.shown.words device)) }
+    // The history begins with the state and the count that the device's words held at the call.
     ensures held { IsTrue D.shown.tells_words → IfOk result (λ played.
         EachStory O.machine O.Contents played.closed.session (λ story. Holds O.Contents story.order
         (D.shown.words device) story.opening story.opening_count)) }
 
-    // It has room there, no call of the opening failed, and the device keeps its length and the words
-    // of others; each image that a stop left since the call began is one of the session.
+    // The device has room for the heap.
     ensures fits { IfOk result (λ played.
         words_needed played.closed.session.order ≤ D.shown.size device) }
+    // No call of the opening failed: the session begins with the device's count of faults at the call.
     ensures faults { IfOk result (λ played.
         played.closed.session.faults ≡ D.shown.faults device) }
     ensures size { IfOk result (λ played.
         D.shown.size played.closed.device ≡ D.shown.size device) }
+    // Of the device's words only the state and the two regions of the heap may differ.
     ensures outside { IsTrue D.shown.tells_words → IfOk result (λ played.
         WithinHeap (named_order (D.shown.words device)) (D.shown.words device)
         (D.shown.words played.closed.device)) }
+    // Each image that a stop might have left by now could be left before the call, or is one of the session.
     ensures since { IsTrue D.shown.tells_images → IfOk result (λ played. EachStory O.machine
         O.Contents played.closed.session (λ story. Leaves D.shown
         (SessionImage O.Contents (on_words O.machine) story) device played.closed.device)) }

@@ -115,6 +115,7 @@ where
     O::Answer: Drop + Send + Sync,
     requires order { IsOrder order }
     requires callers { (0 < length scripts.now) × (length scripts.now ≤ 16) }
+    // No script has more lines than 2^62, the most calls that a caller may post.
     requires few { All (λ v. length v.items ≤ LAST_COUNT) scripts.now }
 
     // The results are those of one history, from the empty state, and the device went through its
@@ -124,41 +125,56 @@ where
         played.results.items (HasMadeHeap D.shown O.Contents order O.machine.empty device)
         played.closed) }
     ensures order { IfOk result (λ played. played.closed.session.order ≡ order) }
+    // The history begins with the object's empty state and the count 0.
     ensures empty { IfOk result (λ played. EachStory O.machine O.Contents played.closed.session
         (λ story. (story.opening ≡ O.machine.empty) × (story.opening_count ≡ 0))) }
+    // No heap stood there, and the device has words enough.
     ensures accepted { IsTrue D.shown.tells_words → IfOk result (λ played.
         IsFormatAnswer order (D.shown.words device) (Ok tt)) }
 
-    // It has room there, no call of the making failed, and the device keeps its length and the words
-    // of others.
+    // The device has room for the heap.
     ensures fits { OnOk result (words_needed order ≤ D.shown.size device) }
+    // No call of the making failed: the session begins with the device's count of faults at the call.
     ensures faults { IfOk result (λ played.
         played.closed.session.faults ≡ D.shown.faults device) }
     ensures size { IfOk result (λ played.
         D.shown.size played.closed.device ≡ D.shown.size device) }
+    // Of the device's words only those of the new heap may differ.
     ensures outside { IsTrue D.shown.tells_words → IfOk result (λ played.
         ChangesOnly 0 (words_needed order) (D.shown.words device)
         (D.shown.words played.closed.device)) }
 
-    // Else no heap was made.
+    // After an error for want of memory the device was not called.
     ensures memory { IfErr result (λ failed.
         failed.why ≡ unmade.OutOfMemory → failed.device ≡ device) }
+    // `AlreadyAHeap` comes only where a heap stood, and `TooSmall` only where none did and there are too few
+    // words.
     ensures refused { IsTrue D.shown.tells_words → IfErr result (λ failed. (why : FormatRefused) →
         failed.why ≡ unmade.Refused why → IsFormatAnswer order (D.shown.words device) (Err why)) }
+    // `TooSmall` names how many words are needed and how many there are, also where words are not told.
     ensures unmade_sizes { IfErr result (λ failed. (why : FormatRefused) →
         failed.why ≡ unmade.Refused why → HasTooFewFor order (D.shown.size device) why) }
     ensures unmade_size { IfErr result (λ failed.
         D.shown.size failed.device ≡ D.shown.size device) }
+    // Of the device's words only those that the heap would have may differ.
     ensures unmade_outside { IsTrue D.shown.tells_words → IfErr result (λ failed.
         ChangesOnly 0 (words_needed order) (D.shown.words device) (D.shown.words failed.device)) }
+    // Each image that a stop might have left by now could be left before the call, or has no heap, or holds
+    // the empty state and the count 0.
     ensures unmade_images { IsTrue D.shown.tells_images → IfErr result (λ failed.
         Leaves D.shown (NoneOrHolds O.Contents order O.machine.empty) device failed.device) }
+    // Where a heap stood, or there are too few words, every word stays, and a stop leaves no other image than
+    // before.
     ensures spared { IsTrue D.shown.tells_words → IsRefused order (D.shown.words device) →
         IfErr result (λ failed. Does D.shown Stays device failed.device) }
+    // Where the reason is the device, its last call failed, and no other. Else none did.
     ensures unmade_faults { IfErr result (λ failed. HasFaultsUnmade failed.why
         (D.shown.faults device) (D.shown.faults failed.device) (D.shown.failing failed.device)) }
+    // The device was called exactly as a making that ends for this reason calls it: after `Device` no more
+    // than that, and for want of memory not at all.
     ensures unmade_calls { IfErr result (λ failed.
         MakesNone D.shown order failed.why device failed.device) }
+    // The device was called no more than one making calls it, and not after a call that failed.
     ensures unmade_within { IfErr result (λ failed.
         WithinMaking D.shown order device failed.device) }
 {

@@ -27,6 +27,8 @@ use std::thread::Threads;
 /// What the lines of all scripts were told, in their order, and the store that was closed.
 #[derive(Drop)]
 pub struct Played<D: Device, O: Object, R: Drop, A: Drop> {
+    // The results' types are parameters, since what is dropped with a struct must be `Drop` where it is
+    // declared. That can be asked of a parameter, and not of an object's own types.
     pub results: Vec<Vec<LineResult<R, A>>>,
     pub closed: Closed<D, O>,
 }

@@ -16,7 +16,7 @@ use std::snapshot::Snapshot;
 #[derive(Drop)]
 pub struct Session {
     begun: Begun,
-    // What the writer knew at the closing. There is none where nothing could be done.
+    // What the writer knew at the closing, for contracts alone. There is none where nothing could be done.
     writer: Badge<View>,
     phase: Phase,
 }

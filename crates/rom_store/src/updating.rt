@@ -63,13 +63,17 @@ impl<D: Device, O: Object, N: Label> Store<D, O, N> {
         requires of { IsCallerOf O.Contents N.table N.base pass.old }
         ensures of { IsCallerOf O.Contents N.table N.base pass.new }
         ensures same { IsSameCaller pass.old pass.new }
+        // What the caller has now seen begins with all that it had seen.
         ensures later { StartsWith pass.new.view.seen pass.old.view.seen }
         ensures fronts { pass.new.view.fronts ≡ pass.old.view.fronts }
         ensures joined { pass.new.view.joined ≡ pass.old.view.joined }
+        // A caller that was told of 2^62 calls already is told `Spent`, and what it knows stays as it was.
         ensures unposted { LAST_COUNT ≤ length pass.old.view.outcomes →
             (result ≡ Updated.Spent) × (pass.new ≡ pass.old) }
+        // Else the call is posted: its words follow those of the caller's earlier calls.
         ensures posted { length pass.old.view.outcomes < LAST_COUNT →
             pass.new.view.calls ≡ pass.old.view.calls ++ O.machine.call_words call.now ∷ [] }
+        // Then the caller keeps, behind what it was told before, this call and what is answered here.
         ensures told { length pass.old.view.outcomes < LAST_COUNT →
             pass.new.view.outcomes ≡ pass.old.view.outcomes
             ++ (
@@ -160,7 +164,8 @@ impl<D: Device, O: Object, N: Label> Store<D, O, N> {
     }
 
     // While another caller runs a pass: where that is quick, the answer may come before a sleep, which
-    // is longer the more often the caller has looked.
+    // is longer the more often the caller has looked. Where a pass is slow, to linger would only begin the
+    // next one earlier, with fewer calls.
     fn rest<R: Wait>(&self, rt: &R, seat: &Seat, looked: u64)
         requires of { IsSeatOf self.now.shared seat.now }
         requires posted { IsPosted seat.now }
@@ -196,6 +201,8 @@ impl<D: Device, O: Object, N: Label> Store<D, O, N> {
         held.pass(rt, &self.shared, gate, self.pace);
         drop(held);
         wake_next(&self.shared);
+        // The pass has found the call, but no contract knows that, since a seat knows no other seat's view.
+        // So the turn is loaded once more.
         answered(&self.shared, seat)
     }
 }

@@ -1,4 +1,6 @@
-//! The next message of a stream.
+//! The next message of a stream. It is read in two parts: its first word, then the rest. So no byte behind a
+//! message is read, and nothing is left in a block between two messages. The price is two reads of a file for
+//! each message.
 ghost use Rattle.std.specs.Prelude.{◌≡◌, ◌+◌, ◌-◌, ◌<◌, ◌≤◌, take, drop};
 ghost use Rattle.std.specs.Io.KnownBytes.{Consumes};
 ghost use Rattle.rom_text.specs.Limits.{CameToEnd};
@@ -90,10 +92,13 @@ fn read_part<S: Source>(
 pub fn next_message<S: Source>(source: &mut S, taken: u64, block: &mut [u8; MOST_BYTES]) -> Heard
     requires { taken ≤ MAX_STREAM }
     ensures within { result.len ≤ 512 }
+    // Where a source tells its bytes, those that were read are the first `len` bytes of the block.
     ensures bytes { Consumes (S.shown.left source.old) (S.shown.left source.new)
         (take result.len block.new) }
+    // The kind is true of these bytes, of those taken before, and of what the source did.
     ensures heard { IsHeard S.shown taken (take result.len block.new) source.old source.new
         result.kind }
+    // No read was made after one that gave no byte.
     ensures asked_once { IsAskedOnce S.shown source.old source.new }
 {
     let room = MAX_STREAM + 1 - taken;

@@ -8,10 +8,11 @@ module _ {R : Type 0} where
   abbrev pub is_missing : Adapted R → Bool
   is_missing a = is_none a.inner
 
-  -- nothing is told of the bytes
+  -- an adapted reader as a source: nothing is told of the bytes that are left
   abbrev pub shown_source : ShownSource (Adapted R)
   shown_source = record { left = λ a. None; faults = λ a. a.faults; idle = λ a. a.idle; ended = λ a. a.ended }
 
+  -- an adapted writer as a sink: nothing is told of the bytes that were taken
   abbrev pub shown_sink : ShownSink (Adapted R)
   shown_sink = record { taken = λ a. None; faults = λ a. a.faults; failing = λ a. a.failing; Rest = Unit {0}; rest = λ a. tt }
 

@@ -11,6 +11,7 @@ Grown None now = Unit {0}
 Grown (Some xs) None = ⊥
 Grown (Some xs) (Some ys) = ys ≡ xs ++ drop (length xs) ys
 
+-- `Grown` is a fact, which has one proof at most
 pub Grown-prop : (before now : Option (List ℕ)) → IsProp (Grown before now)
 Grown-prop None now = Unit-prop
 Grown-prop (Some xs) None = λ a b. absurd a

@@ -17,6 +17,7 @@ pieces_of (b ∷ bs) = if b == 10 then [] ∷ pieces_of bs else onto_first b (pi
 abbrev pub without_cr : List ℕ → List ℕ
 without_cr piece = if slice_index piece (length piece - 1) == 13 then take (length piece - 1) piece else piece
 
+-- the lines of the bytes: the pieces between the LFs, each without one CR at its end
 abbrev pub lines_of : List ℕ → List (List ℕ)
 lines_of bytes = map without_cr (pieces_of bytes)
 

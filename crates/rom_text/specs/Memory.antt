@@ -26,6 +26,7 @@ reads_of b = b.reads
 abbrev pub trips_at : Bytes → ℕ → Bool
 trips_at b read = list_any (λ trip. trip == read) (trips_of b)
 
+-- bytes in memory as a source, which tells those that are left
 abbrev pub shown_bytes : ShownSource Bytes
 shown_bytes = record { left = λ b. Some (bytes_left b); faults = λ b. b.faults; idle = λ b. b.idle; ended = λ b. b.ended }
 
@@ -54,6 +55,7 @@ room_of c = c.room
 abbrev pub write_piece_of : Collect → ℕ
 write_piece_of c = c.piece
 
+-- a collecting sink, which tells the bytes that were taken
 abbrev pub shown_collect : ShownSink Collect
 shown_collect = record { taken = λ c. Some (bytes_taken c); faults = λ c. c.faults; failing = λ c. c.failing; Rest = Unit {0}; rest = λ c. tt }
 

@@ -45,6 +45,7 @@ UpdateFits ReplyFits (Done reply place) = ReplyFits reply × (place < 2 ^ 64)
 UpdateFits ReplyFits other = Unit {0}
 
 module _ {R A : Type 0} (texts : Texts R A) where
+  -- the text of what a line was told, without the LF
   abbrev pub result_text : LineResult R A → List ℕ
   result_text outcome.Unread = codes "unread"
   result_text (outcome.Update updated) = update_text texts.reply updated

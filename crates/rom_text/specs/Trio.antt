@@ -27,21 +27,25 @@ single_text reply.Moved = codes "moved"
 single_text (reply.Short v) = codes "short " ++ decimal v
 single_text reply.Over = codes "over"
 
--- the text of a group's reply behind others, and of all of a group's
+-- the text of a reply that stands behind others in a group's, with its separator
 abbrev pub next_text : SingleReply → List ℕ
 next_text r = codes " ; " ++ single_text r
 
+-- the text of a group's replies
 abbrev pub all_text : List SingleReply → List ℕ
 all_text [] = codes "all"
 all_text (r ∷ replies) = codes "all " ++ (single_text r ++ flat_map next_text replies)
 
+-- the text of a reply to an update of one structure, or to a group
 abbrev pub kind_text : Kind SingleReply (List SingleReply) → List ℕ
 kind_text (kind.Single r) = single_text r
 kind_text (kind.Several replies) = all_text replies
 
+-- the text of a reply
 abbrev pub reply_text : Reply → List ℕ
 reply_text r = kind_text (reply_kind r)
 
+-- the text of an answer
 abbrev pub answer_text : Answer → List ℕ
 answer_text answer.Yes = codes "yes"
 answer_text answer.No = codes "no"
@@ -53,17 +57,19 @@ answer_text (answer.Sizes queue set map) = codes "queue " ++ decimal queue ++ co
 answer_text (answer.Total t) = codes "total " ++ decimal t
 answer_text (answer.Fresh c) = codes "fresh " ++ decimal c
 
--- the numbers of a reply are words
+-- the numbers of a reply to an update of one structure are words
 abbrev pub SingleFits : SingleReply → Type 0
 SingleFits (reply.Head v) = v < 2 ^ 64
 SingleFits (reply.Was v) = v < 2 ^ 64
 SingleFits (reply.Short v) = v < 2 ^ 64
 SingleFits other = Unit {0}
 
+-- the numbers of a reply to an update of one structure, or to a group, are words
 abbrev pub KindFits : Kind SingleReply (List SingleReply) → Type 0
 KindFits (kind.Single r) = SingleFits r
 KindFits (kind.Several replies) = AllByRecursion SingleFits replies
 
+-- the numbers of a reply are words
 abbrev pub ReplyFits : Reply → Type 0
 ReplyFits r = KindFits (reply_kind r)
 
@@ -79,12 +85,14 @@ AnswerFits (answer.Sizes queue set map) = (queue < 2 ^ 64) × (set < 2 ^ 64) × 
 AnswerFits (answer.Total t) = t < 2 ^ 128
 AnswerFits (answer.Fresh c) = c < 2 ^ 64
 
--- how replies and answers are printed
+-- how a reply to an update of one structure is printed
 abbrev pub shown_single : ShownTold SingleReply
 shown_single = record { text = single_text; Fits = SingleFits }
 
+-- how a reply is printed
 abbrev pub shown_reply : ShownTold Reply
 shown_reply = record { text = reply_text; Fits = ReplyFits }
 
+-- how an answer is printed
 abbrev pub shown_answer : ShownTold Answer
 shown_answer = record { text = answer_text; Fits = AnswerFits }

@@ -89,7 +89,8 @@ impl<W: Write> Sink for Adapted<W> {
 
     ghost shown = { shown_sink };
 
-    /// A writer that takes nothing has failed.
+    /// A writer that takes nothing has failed, though std lets it answer `Ok(0)`. So a sink takes at least
+    /// one byte at `Ok`, and each loop that prints ends.
     fn write(&mut self, piece: &[u8]) -> Result<u64, IoFailed>
         requires { 0 < length piece.now }
         ensures some { IfOk result (λ n. (0 < n) × (n ≤ length piece.now)) }

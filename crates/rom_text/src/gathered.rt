@@ -12,8 +12,10 @@ use std::snapshot::Snapshot;
 /// How many bytes a block has.
 const BLOCK: usize = 4096;
 
-/// A sink that hands what it takes over to another one in blocks of 4,096 bytes. What it has taken
-/// is what that sink has taken, and then the bytes that wait here.
+/// A sink that hands what it takes over to another one in blocks of 4,096 bytes. What it has taken is what
+/// that sink has taken, and then the bytes that wait here. Standard output has no buffer here, and a write
+/// call for each piece of a line would be several calls a line. The block is on the stack, so printing
+/// takes no memory.
 struct Gathered<'a, O: Sink> {
     out: &'a mut O,
     // The sink as it was lent, for proofs alone.
@@ -24,6 +26,9 @@ struct Gathered<'a, O: Sink> {
     // Whether the last write failed, and then that of the sink behind did.
     failing: bool,
     ghost within: { handed ≤ array_vec_len block },
+    // A sink may fail in the middle of a text. Then the sink has some of the text, and the block, which is
+    // let go, has the bytes behind that. Both together have a first part of the text. Since the sink's own
+    // bytes only grew, it has a first part by itself.
     ghost grown: { Grown (O.shown.taken opened.value) (O.shown.taken out.now) } by { Grown-prop (O.shown.taken opened.value) (O.shown.taken out.now) },
     ghost failed: { IsTrue failing → IsTrue (O.shown.failing out.now) },
 }
@@ -167,6 +172,8 @@ fn print_through<R: Report, O: Sink>(out: &mut Gathered<O>, report: &R) -> Resul
 /// Prints a report. It leaves in blocks of 4,096 bytes, and nothing of it waits after the call. It
 /// takes no memory. After `IoFailed` the sink has taken some of the text, from its front.
 pub fn print_gathered<R: Report, O: Sink>(out: &mut O, report: &R) -> Result<(), IoFailed>
+    // After `Ok` the sink has taken the whole text, as far as it tells. After `IoFailed` it has taken a
+    // first part, and its last write failed and no other.
     ensures prints { Prints O.shown out.old out.new result (R.shown.text report.now) }
     ensures of_type { OnOk result (R.shown.Fits report.now) }
 {

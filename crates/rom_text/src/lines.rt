@@ -37,8 +37,11 @@ fn without_cr(piece: &[u8]) -> &[u8]
 /// next one begins. All are indices of `bytes`.
 pub fn line_end(bytes: &[u8], start: u64) -> (u64, u64)
     requires { start < length bytes.now }
+    // The line that begins at `start` ends at the first number of the result, and the lines behind it begin
+    // at the second.
     ensures line { lines_of (drop start bytes.now)
         ≡ slice_range bytes.now start result.0 ∷ lines_of (drop result.1 bytes.now) }
+    // The next line begins behind an LF, or at the end of the bytes, and then there is none.
     ensures next { (result.1 ≡ length bytes.now) ⊎ (slice_index bytes.now (result.1 - 1) ≡ 10) }
     ensures order { (start ≤ result.0) × (result.0 ≤ result.1) × (start < result.1) }
     ensures within { result.1 ≤ length bytes.now }
@@ -55,6 +58,7 @@ pub fn lines_in<O: Object, L: Lines<O>>(
     alloc: Global,
     bytes: &[u8],
 ) -> Result<Vec<Step<O::Call, O::Query>>, ReadRefused>
+    // After `Ok` each step is what its line asks for, in order.
     ensures read { IfOk result (λ lines. AreRead L.Reads (lines_of bytes.now) lines.items) }
     ensures few { IfOk result (λ lines. length lines.items ≤ MAX_LINES) }
     ensures fits { OnOk result (HasFewLines bytes.now) }

@@ -1,4 +1,5 @@
-//! Sources and sinks in memory, which tell their bytes and fail as they are told to.
+//! Sources and sinks in memory, which tell their bytes. They fail as they are told to and for no other
+//! reason, so that a test knows each cause.
 ghost use Rattle.std.specs.Prelude.{◌≡◌, ℕ, ◌<◌, ◌≤◌, length, take, vec_len, vec_capacity, Some, IfOk};
 
 use crate::streams::{IoFailed, Sink, Source};

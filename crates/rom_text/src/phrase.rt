@@ -1,4 +1,7 @@
-//! The words of a line: its name, and the numbers behind it.
+//! The words of a line: its name, and the numbers behind it. They are cut out first, whatever the name is.
+//! Then a table says which name with how many numbers is which command. That a line is unread then follows
+//! from one lemma, which says that a line determines its words. No case is needed for each pair of
+//! commands.
 ghost use Rattle.std.specs.Prelude.{◌≡◌, ◌≢◌, ◌↔◌, ℕ, ◌^◌, ◌<◌, ◌≤◌, List, ◌∷◌, length, slice_index, decimal, IsTrue, IfSome, IfNone};
 ghost use Rattle.rom_text.specs.Phrases.{NumbersFit, IsPlain, line_words, number_within, phrase_words, words_behind};
 
@@ -36,6 +39,7 @@ fn is_plain(digits: &[u8]) -> bool
 /// The number that the digits spell, without sign and without leading zero.
 pub fn read_number(digits: &[u8]) -> Option<u64>
     ensures found { IfSome result (λ n. digits.now ≡ decimal n) }
+    // Where it is `None`, the digits spell no number below 2^64.
     ensures none { IfNone result ((n : ℕ) → n < 2 ^ 64 → digits.now ≢ decimal n) }
 {
     if digits.is_empty() || !is_plain(digits) {
@@ -80,9 +84,11 @@ fn first_word(line: &[u8]) -> (&[u8], &[u8])
 /// The words of a line, or `None` where one behind the first is no number or there are more than
 /// three of these.
 pub fn read_phrase(line: &[u8]) -> Option<Phrase<'_>>
+    // Where it is `Some`, the words of the line are the name, and then the numbers in digits.
     ensures words { IfSome result (λ p.
         line_words line.now ≡ phrase_words p.name.now p.numbers.items) }
     ensures fit { IfSome result (λ p. NumbersFit p.numbers.items) }
+    // Where it is `None`, the line is not a word with at most three numbers below 2^64 behind it.
     ensures none { IfNone result ((name numbers : List ℕ) →
         length numbers ≤ MAX_NUMBERS → NumbersFit numbers
         → line_words line.now ≢ phrase_words name numbers) }

@@ -9,7 +9,9 @@ use std::alloc::{AllocError, AllocFailed, Global};
 /// The greatest number of bytes in a script.
 pub const MAX_BYTES: usize = 1 << 20;
 
-/// The greatest number of lines in a script.
+/// The greatest number of lines in a script. A line and its result are kept to the end of a run. Each is as
+/// wide as a group's, so the two take some 410 bytes, however short the line is. A limit on bytes alone
+/// would let in a million empty lines.
 pub const MAX_LINES: usize = 1 << 17;
 
 /// How many bytes a read asks for, unless fewer may still come.
@@ -47,9 +49,13 @@ impl<T: Drop> From<AllocFailed<T>> for ReadRefused {
 
 /// Reads all that a source has left. What it has taken is lost to the source after an `Err`.
 pub fn read_bytes<S: Source>(alloc: Global, source: &mut S) -> Result<Vec<u8>, ReadRefused>
+    // After `Ok`, where the source tells its bytes: these are the first that it had left, and it has them
+    // no more. By `ends` none is left behind them.
     ensures all { IfOk result (λ bytes.
         Consumes (S.shown.left source.old) (S.shown.left source.new) bytes.items) }
     ensures within { IfOk result (λ bytes. IsWithinLimit bytes.items) }
+    // After `Ok` the source has come to its end. `Failed` and `TooLong` come only for their cause. At most
+    // one byte too many is taken, and no read follows one that gave none.
     ensures ends { EndsReadingBytes S.shown source.old source.new result }
 {
     let mut bytes = Vec::new(alloc);

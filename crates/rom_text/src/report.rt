@@ -1,4 +1,6 @@
-//! The text of a run: what each line was told, and the count at closing.
+//! The text of a run: what each line was told, and the count at closing. It has a part for each caller, in
+//! the order of the scripts. So each script shows what it was told, even one without lines. The order of
+//! the history is told by places and fronts.
 ghost use Rattle.std.specs.Prelude.{◌≡◌, ◌++◌, codes, decimal, map, OnOk};
 ghost use Rattle.std.specs.List.{AllByRecursion};
 ghost use Rattle.rom_text.specs.Streams.{Prints};
@@ -134,8 +136,12 @@ pub fn print_run<R: Told, A: Told, O: Sink>(
     results: &[Vec<LineResult<R, A>>],
     count: u64,
 ) -> Result<(), IoFailed>
+    // After `Ok` the sink has taken the whole text, as far as it tells. After `IoFailed` it has taken a
+    // first part, and its last write failed and no other.
     ensures prints { Prints O.shown out.old out.new result
         (text (texts_of R.shown A.shown) (map (λ v. v.items) results.now) count) }
+    // After `Ok` all numbers of the results are of their types: without that the text would not determine
+    // the results. A generic `play` knows nothing of replies, so the printing promises it.
     ensures of_type { OnOk result (AreOfType (texts_of R.shown A.shown)
         (map (λ v. v.items) results.now)) }
 {

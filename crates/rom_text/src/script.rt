@@ -10,15 +10,19 @@ use crate::streams::Source;
 use rom_model::{Object, Step};
 use std::alloc::Global;
 
-/// Reads a script to the end of its source. What was taken is lost to the source after an `Err`.
+/// Reads a script to the end of its source, and then its lines: so too many bytes are noticed before too
+/// many lines. What was taken is lost to the source after an `Err`.
 pub fn read_script<O: Object, L: Lines<O>, S: Source>(
     alloc: Global,
     source: &mut S,
 ) -> Result<Vec<Step<O::Call, O::Query>>, ReadRefused>
+    // After `Ok`, where the source tells its bytes: each step is what its line asks for, in order.
     ensures lines { IfOk result (λ lines.
         AreStepsOf L.Reads (S.shown.left source.old) lines.items) }
     ensures few { IfOk result (λ lines. length lines.items ≤ MAX_LINES) }
     ensures fits { OnOk result (IfSome (S.shown.left source.old) FitsScript) }
+    // After `Ok` the source has come to its end. `Failed` and `TooLong` come only for their cause. At most
+    // one byte too many is taken, and no read follows one that gave none.
     ensures ends { EndsReading S.shown source.old source.new result }
 {
     let bytes = read_bytes(alloc, source)?;

@@ -5,7 +5,7 @@ ghost use Rattle.rom_text.specs.Text.{ShownTold};
 
 use crate::streams::{IoFailed, Sink};
 
-/// A reply or an answer, as it is printed.
+/// A reply or an answer, as it is printed. It prints itself, so that what prints results knows no object.
 pub trait Told {
     /// What it shows of itself: its text, and that its numbers are of their types.
     ghost shown: { ShownTold Self };

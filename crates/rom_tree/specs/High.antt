@@ -1,6 +1,7 @@
 -- How high a balanced tree can be.
 use Rattle.std.specs.Prelude.{ℕ, zero, suc, ◌+◌, ◌-◌, nat_le, if◌then◌else◌}
 
+-- the Fibonacci numbers: 0, 1, and then each time the sum of the two before
 unfoldable pub fib : ℕ → ℕ
 fib zero = 0
 fib (suc zero) = 1

@@ -16,6 +16,7 @@ abbrev pub blocks : Tree → List ℕ
 blocks Leaf = []
 blocks (Node b k v l r) = b ∷ (blocks l ++ blocks r)
 
+-- how many nodes stand on the longest way down
 abbrev pub height : Tree → ℕ
 height Leaf = 0
 height (Node b k v l r) = max (height l) (height r) + 1
@@ -35,6 +36,8 @@ abbrev pub from_left : ℕ → ℕ → ℕ → Tree → Tree → Tree
 from_left b k v Leaf r = Node b k v Leaf r
 from_left b k v (Node c j u x y) r = if nat_lt (height x) (height y) then from_left_middle b k v c j u x y r else Node c j u x (Node b k v y r)
 
+-- A node with the left subtree l, whose right subtree has the node in the middle as its left one: that one
+-- comes to the top.
 abbrev pub from_right_middle : ℕ → ℕ → ℕ → Tree → ℕ → ℕ → ℕ → Tree → Tree → Tree
 from_right_middle b k v l c j u Leaf y = Node b k v l (Node c j u Leaf y)
 from_right_middle b k v l c j u (Node d i t x z) y = Node d i t (Node b k v l x) (Node c j u z y)

@@ -17,11 +17,16 @@ pub fn find_node<M: Look>(space: &mut M, order: u32, top: u64, key: u64) -> u64
     requires order { IsOrder order }
     requires sized { length (M.shown.image space.old) ≡ region_len order }
     requires tree { HasTree order (M.shown.image space.old) top }
+    // In a tree whose keys rise the answer is the key's node, and 0 exactly where the tree has no such key.
     ensures found { (t : Tree) → IsTree order (M.shown.image space.old) top t → KeysRise (entries t)
         → IsFound order (M.shown.image space.old) t key result }
+    // All eight words of a node that is found are within the region.
     ensures within { result ≢ 0 → result + 8 ≤ length (M.shown.image space.old) }
+    // Where a node is found the tree has a height of 1 or more.
     ensures level { result ≢ 0 → 1 ≤ level_at (M.shown.image space.old) top }
+    // The words stay. At most two loads for each level are counted.
     ensures looks { Looks M.shown (2 * level_at (M.shown.image space.old) top) space.old space.new }
+    // Where a node is found, the bound is one load less.
     ensures soon { result ≢ 0 → Looks M.shown (2 * level_at (M.shown.image space.old) top - 1) space.old space.new }
 {
     if top == 0 {
@@ -51,9 +56,12 @@ pub fn find_from<M: Look>(space: &mut M, order: u32, top: u64, key: u64) -> Opti
     requires order { IsOrder order }
     requires sized { length (M.shown.image space.old) ≡ region_len order }
     requires tree { HasTree order (M.shown.image space.old) top }
+    // In a tree whose keys rise: the least key from this one on with its node, and `None` if there is none.
     ensures found { (t : Tree) → IsTree order (M.shown.image space.old) top t → KeysRise (entries t)
         → IsNear (M.shown.image space.old) t key result }
+    // All eight words of a node that is found are within the region.
     ensures within { IfSome result (λ near. near.node + 8 ≤ length (M.shown.image space.old)) }
+    // The words stay. At most two loads for each level are counted.
     ensures looks { Looks M.shown (2 * level_at (M.shown.image space.old) top) space.old space.new }
 {
     if top == 0 {
@@ -124,11 +132,15 @@ pub fn sum_between<M: Look>(space: &mut M, order: u32, top: u64, low: u64, high:
     requires order { IsOrder order }
     requires sized { length (M.shown.image space.old) ≡ region_len order }
     requires tree { HasOrdered order (M.shown.image space.old) top }
+    // In a tree whose keys rise: how many keys lie from `low` to `high`, both included.
     ensures count { (t : Tree) → IsTree order (M.shown.image space.old) top t → KeysRise (entries t)
         → result.count ≡ length (inside low high (entries t)) }
+    // In a tree whose keys rise: the sum of the values of the keys from `low` to `high`.
     ensures sum { (t : Tree) → IsTree order (M.shown.image space.old) top t → KeysRise (entries t)
         → result.sum ≡ total (inside low high (entries t)) }
+    // The sum is at most 2^64 - 1 for each key that was counted.
     ensures small { result.sum ≤ result.count * 0xFFFF_FFFF_FFFF_FFFF }
+    // The words stay. With c keys in the range, and a tree of height h, at most 2h(c + 1) loads are counted.
     ensures looks { Looks M.shown ((result.count + 1) * (2 * level_at (M.shown.image space.old) top))
         space.old space.new }
 {

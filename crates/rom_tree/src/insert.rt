@@ -17,11 +17,14 @@ pub fn attach<M: Space>(space: &mut M, order: u32, top: u64, node: u64, key: u64
     requires sized { length (M.shown.image space.old) ≡ region_len order }
     requires may { MayAttach order (M.shown.image space.old) top node key }
     requires room { HasRoom M.shown (9 * level_at (M.shown.image space.old) top) space.old }
+    // The tree has the node then, and its top begins where the answer says. No word differs but those of its
+    // nodes.
     ensures attached { (b v : ℕ) (t : Tree)
         → IsAttach order (M.shown.image space.old) top node b key v t
         → BecomesTree order (b ∷ blocks t) (M.shown.image space.old) (M.shown.image space.new)
         (attached b key v t) result }
     ensures as_long { length (M.shown.image space.new) ≡ length (M.shown.image space.old) }
+    // At most 9 stores for each level of the tree are counted.
     ensures stores { Stores M.shown (9 * level_at (M.shown.image space.old) top) space.old space.new }
 {
     if top == 0 {

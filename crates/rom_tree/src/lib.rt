@@ -6,6 +6,8 @@
 //! contracts promise of every tree that stands in the words which tree stands there after each call,
 //! that no word changes but those of its nodes, how many stores a change makes at most and how many
 //! loads a walk does, by the tree's height; and lemmas bound that height by the number of the nodes.
+//!
+//! Walks recurse, no deeper than the tree is high: at most 21 levels at order 16.
 #![tactic(auto)]
 
 mod find;

@@ -1,5 +1,9 @@
 //! A node of the tree: a block of eight words, which are its key, its value, where its left and its
 //! right subtree begin, its height, and three zeros.
+//!
+//! Five words are needed and a unit has four, so a node takes two units. It keeps a height and no difference
+//! of heights: a height follows from those of the two subtrees by one rule, whatever was done below. The
+//! price is that a change may store the height of each node on its way.
 ghost use Rattle.std.specs.Prelude.{◌≡◌, ◌≢◌, ℕ, ◌+◌, ◌≤◌, ◌∷◌, [], length, slice_index};
 ghost use Rattle.rom_model.specs.Space.{Costs, Looks, HasRoom};
 ghost use Rattle.rom_model.specs.Blocks.{IsOrder, region_len};

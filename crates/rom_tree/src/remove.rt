@@ -46,7 +46,8 @@ fn take_first<M: Space>(space: &mut M, order: u32, top: u64) -> First
     }
 }
 
-/// Makes one tree of the two subtrees of a node that goes.
+/// Makes one tree of the two subtrees of a node that goes. The leftmost node of the right subtree, if it has
+/// one, takes the place of the node that goes by links alone. Nothing is copied from node to node.
 fn merge<M: Space>(space: &mut M, order: u32, left: u64, right: u64) -> u64
     requires order { IsOrder order }
     requires sized { length (M.shown.image space.old) ≡ region_len order }
@@ -72,10 +73,13 @@ pub fn detach<M: Space>(space: &mut M, order: u32, top: u64, key: u64) -> u64
     requires sized { length (M.shown.image space.old) ≡ region_len order }
     requires tree { HasTree order (M.shown.image space.old) top }
     requires room { HasRoom M.shown (9 * level_at (M.shown.image space.old) top) space.old }
+    // The tree does not have the key then, and its top begins where the answer says. No word differs but
+    // those of the nodes that it had.
     ensures detached { (t : Tree) → IsTree order (M.shown.image space.old) top t
         → BecomesTree order (blocks t) (M.shown.image space.old) (M.shown.image space.new)
         (detached key t) result }
     ensures as_long { length (M.shown.image space.new) ≡ length (M.shown.image space.old) }
+    // At most 9 stores for each level of the tree are counted.
     ensures stores { Stores M.shown (9 * level_at (M.shown.image space.old) top) space.old space.new }
 {
     if top == 0 {

@@ -14,6 +14,7 @@ pub fn fill_single<M: Space>(space: &mut M, order: u32, at: u64, key: u64, value
     requires sized { length (M.shown.image space.old) ≡ region_len order }
     requires block { (b : ℕ) × (at ≡ node_at order b) × (b < 2 ^ (order - 1)) }
     requires room { HasRoom M.shown 8 space.old }
+    // The node stands there, with no subtrees, and no word differs but those of its block.
     ensures filled { (b : ℕ) → at ≡ node_at order b → b < 2 ^ (order - 1)
         → Becomes order (b ∷ []) (M.shown.image space.old) (M.shown.image space.new) (Node b key value Leaf Leaf) }
     ensures as_long { length (M.shown.image space.new) ≡ length (M.shown.image space.old) }

@@ -103,6 +103,9 @@ fn turn<M: Space>(space: &mut M, order: u32, side: Side, top: u64, near: u64, fa
 
 /// Puts a node over two trees, and turns it where one is higher than the other by more than one. It
 /// tells where the top node begins then.
+///
+/// It serves after a node was put in and after one was taken out, and stores no word that is as it should be.
+/// The way back up a tree does not stop early where a height stayed: that would save loads alone.
 pub fn balance<M: Space>(space: &mut M, order: u32, top: u64, left: u64, right: u64) -> u64
     requires order { IsOrder order }
     requires sized { length (M.shown.image space.old) ≡ region_len order }

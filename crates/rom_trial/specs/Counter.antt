@@ -15,11 +15,12 @@ use Rattle.rom_trial.specs.declared.counter.Sum.{Sum}
 abbrev pub sum_of : ℕ → ℕ → ℕ
 sum_of s amount = min (s + amount) (2 ^ 64 - 1)
 
--- the one word that a value has
+-- the call that a list of one word stands for; a list of any other length is no call
 abbrev pub words_add : List ℕ → Option Add
 words_add (amount ∷ []) = Some (record { amount = amount })
 words_add words = None
 
+-- the reply that a list of one word stands for; a list of any other length is no reply
 abbrev pub words_sum : List ℕ → Option Sum
 words_sum (value ∷ []) = Some (record { value = value })
 words_sum words = None

@@ -7,21 +7,27 @@ use Rattle.rom_trial.specs.declared.counter.Add.{Add}
 use Rattle.rom_trial.specs.declared.counter.Sum.{Sum}
 use Rattle.std.proofs.Common.{refl, sym, ◌∙◌}
 
+-- words that are read as a call are the words of that call
 pub call_only : (words : List ℕ) (call : Add) → words_add words ≡ Some call → call.amount ∷ [] ≡ words
 call_only [] call is = cc
 call_only (w ∷ []) call is = cc
 call_only (w ∷ v ∷ ws) call is = cc
 
+-- the words of the reply to a call are read as that reply
 pub reply_back : (order s count : ℕ) (words : List ℕ) (call : Add) → words_add words ≡ Some call → let told : Sum = (counter.step order s count call).1 in words_sum (told.value ∷ []) ≡ Some told
 reply_back order s count words call is = refl
 
+-- words that are read as a reply are the words of that reply
 pub reply_only : (words : List ℕ) (reply : Sum) → words_sum words ≡ Some reply → reply.value ∷ [] ≡ words
 reply_only [] reply is = cc
 reply_only (w ∷ []) reply is = cc
 reply_only (w ∷ v ∷ ws) reply is = cc
 
+-- a region stands for one sum and one count
 pub one_contents : (n : ℕ) (words : List ℕ) (s t j k : ℕ) → Contents n words s j → Contents n words t k → (s ≡ t) × (j ≡ k)
 one_contents n words s t j k one two = (sym one.sum_is ∙ two.sum_is, sym one.count_is ∙ two.count_is)
 
+-- A region has its order's length. Its word 0, the kind, is 77. Its word 2 is the count, which is at most
+-- LAST_COUNT.
 pub contents_within : (n : ℕ) (words : List ℕ) (s k : ℕ) → Contents n words s k → (length words ≡ region_len n) × (slice_index words 2 ≡ k) × (k ≤ LAST_COUNT) × (slice_index words 0 ≡ 77)
 contents_within n words s k is = (is.as_long, is.count_is, is.count_fits, is.kind)

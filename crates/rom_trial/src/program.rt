@@ -30,6 +30,7 @@ pub fn run_counter<R: Threads + Wait + Sync, D: Device + Send, S: Source, O: Sin
     gate: &G,
 ) -> Ended<D, S>
     requires { length scripts.items ≡ length (scripts_of (command words.now)) }
+    // What became of the command that the words ask for, of a counter: the fields of `Promise` say it.
     ensures promise { Promise counter Contents Rejects no_earlier D.shown S.shown O.shown
         (AreScripts Reads S.shown) (IsText O.shown (texts_of shown_sum shown_sum))
         (use_of (command words.now)) device result.device scripts result.scripts out.old out.new

@@ -6,6 +6,7 @@ use Rattle.rom_twin.specs.Images.{ImageOf}
 use Rattle.rom_twin.specs.declared.phase.Phase.{Phase}
 use Rattle.rom_twin.specs.declared.phase.Phase.TheVariants.{Clean, Copied, Undo, Doubt, Redo}
 
+-- what a contract sees of a twin: its device, its heap's order, and how far a batch has come
 pub record Seen (D : Type 0) : Type 0 where
   pub device : D
   pub order : ℕ
@@ -17,6 +18,7 @@ committed_in Copied n words = main_of n words
 committed_in Redo n words = main_of n words
 committed_in other n words = back_of n words
 
+-- the committed image, as it is read from the device's words
 abbrev pub committed : {D : Type 0} → ShownDevice D → Seen D → List ℕ
 committed shown twin = committed_in twin.phase twin.order (shown.words twin.device)
 

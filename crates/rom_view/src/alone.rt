@@ -108,24 +108,32 @@ pub fn view_region<D: Device, O: Object>(
     device: &mut D,
     region: Region,
 ) -> Result<Alone, Why>
-    // Where the device tells its words, the answer is exactly theirs.
+    // Where the device tells its words, the image is the region of this name, in a heap of the order that is
+    // answered.
     ensures viewed { IsTrue D.shown.tells_words → IfOk result (λ alone.
         IsNamedRegion region alone.order (D.shown.words device.old) alone.image.items) }
+    // Where the device tells its words, a refusal is one of the header, but for its state, or one of the
+    // region of this name by itself.
     ensures refused { IsTrue D.shown.tells_words →
         IfErr result (IsRefusalOf O.Contents O.Rejects region (D.shown.words device.old)) }
+    // A device of fewer than 8 words is too small for a header, whether or not it tells its words.
     ensures too_small { D.shown.size device.old < 8 →
         result ≡ Err (TooSmall 8 (D.shown.size device.old)) }
+    // `TooSmall` names how many words are needed, and how many the device has.
     ensures sizes { IfErr result (NamesTooFew (D.shown.size device.old)) }
 
-    // The image is well-formed.
+    // The order is 4 to 16.
     ensures order { IfOk result (λ alone. IsOrder alone.order) }
+    // The image is well-formed: it stands for some state and some count.
     ensures fit { IfOk result (λ alone.
         (s : O.State) × (k : ℕ) × O.Contents alone.order alone.image.items s k) }
     ensures sized { IfOk result (λ alone. length alone.image.items ≡ region_len alone.order) }
     ensures fits { IfOk result (λ alone. words_needed alone.order ≤ D.shown.size device.old) }
 
-    // Nothing is written and nothing made certain, and no call follows one that failed.
+    // Nothing is written, nothing is made certain, and the words stay as far as they are told.
     ensures only { OnlyReads D.shown device.old device.new }
+    // No call follows one that failed. After `Device` the last call failed, after `Twins` it may have failed,
+    // and else none did.
     ensures faults { HasFaults result
         (D.shown.faults device.old) (D.shown.faults device.new) (D.shown.failing device.new) }
 {

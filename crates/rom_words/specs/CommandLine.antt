@@ -27,6 +27,7 @@ bare_app = on_top (λ s. record s { no_binary_name = true; disable_help_flag = t
 abbrev pub file_app : Text → App
 file_app name = with_rule (new_app name) (plain_rule (codes "FILE"))
 
+-- the six commands, with the words and options that each takes
 abbrev pub command_line : App
 command_line =
     with_subcommand (with_subcommand (with_subcommand (with_subcommand (with_subcommand (with_subcommand bare_app
@@ -55,6 +56,7 @@ HasWords (Upgrade file) rows = HasValue rows (codes "FILE") file
 HasWords (Drill start callers calls) rows =
     HasNumber rows (codes "START") 0 18446744073709551615 start × HasNumber rows (codes "callers") 1 16 callers × HasNumber rows (codes "calls") 1 10000 calls
 
+-- there are matches, and they have what the command names
 abbrev pub MatchesHave : Command → Option (List Row) → Type 0
 MatchesHave c None = ⊥
 MatchesHave c (Some rows) = HasWords c rows

@@ -34,6 +34,7 @@ pub data Sort : Type 0 where
   -- a longer word that begins with one dash
   Refused : Sort
 
+-- whether a byte is `=` (61)
 abbrev pub is_equals : ℕ → Bool
 is_equals b = b == 61
 
@@ -50,10 +51,12 @@ abbrev pub behind_dash : List ℕ → Sort
 behind_dash [] = Stands
 behind_dash (b ∷ bs) = if b == 45 then behind_dashes bs else Refused
 
+-- what a word is, where no `--` stands before it and no option waits for its value
 abbrev pub sort_of : List ℕ → Sort
 sort_of [] = Stands
 sort_of (b ∷ bs) = if b == 45 then behind_dash bs else Stands
 
+-- whether a word begins with a dash (45)
 abbrev pub begins_with_dash : List ℕ → Bool
 begins_with_dash [] = false
 begins_with_dash (b ∷ bs) = b == 45
@@ -63,9 +66,11 @@ pub record Said : Type 0 where
   pub plain : List (List ℕ)
   pub options : List (List ℕ × List ℕ)
 
+-- what a plain word says with the words behind it, of which is given what they say
 abbrev pub with_plain : List ℕ → Option Said → Option Said
 with_plain word = option_map (λ s. record { plain = word ∷ s.plain; options = s.options })
 
+-- what an option with its value says with the words behind it, of which is given what they say
 abbrev pub with_option : List ℕ → List ℕ → Option Said → Option Said
 with_option name value = option_map (λ s. record { plain = s.plain; options = (name, value) ∷ s.options })
 
@@ -78,6 +83,7 @@ said_by Stands word words behind = with_plain word (behind None)
 said_by Refused word words behind = None
 
 -- what words say, if they are plain words and options, where the option of this name waits for its value or none does
+-- It goes from the first word on: which word is an option's value depends on the one before it.
 abbrev pub said : List (List ℕ) → Option (List ℕ) → Option Said
 said [] None = Some (record { plain = []; options = [] })
 said [] (Some name) = None
@@ -86,6 +92,7 @@ said (word ∷ words) (Some name) = if begins_with_dash word then None else with
 
 -- ---- commands
 
+-- whether a word isn't empty
 abbrev pub is_full : List ℕ → Bool
 is_full word = nat_lt 0 (length word)
 
@@ -126,6 +133,7 @@ stat_of plain options = option_map Stat (file_alone plain options)
 abbrev pub upgrade_of : List (List ℕ) → List (List ℕ × List ℕ) → Option Command
 upgrade_of plain options = option_map Upgrade (file_alone plain options)
 
+-- a drill of this start, so many callers and so many calls, where all three are there
 abbrev pub drill_from : Option ℕ → Option ℕ → Option ℕ → Option Command
 drill_from (Some start) (Some callers) (Some calls) = Some (Drill start callers calls)
 drill_from _ _ _ = None

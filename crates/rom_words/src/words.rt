@@ -294,6 +294,8 @@ fn read_matches(alloc: Global, words: &Names, asked: &Asked<'_>) -> Result<Match
 
 /// What the words ask `main` to hand to `run`: a device, and the scripts in order.
 pub fn files_of(alloc: Global, words: &Names) -> Result<Wanted, AllocError>
+    // After `Ok`: words in memory, a file that is there, or one that is made if need be and lengthened. Words
+    // that are no command want none.
     ensures device { IfOk result (λ wanted. IsWanted (command words.now) wanted.device) }
     ensures scripts { IfOk result (λ wanted. wanted.scripts ≡ scripts_of (command words.now)) }
 {
