@@ -1,6 +1,6 @@
 #!/bin/sh
-# Measures a script of 1,048,576 bytes and 131,072 lines, the most of both: the time of a run, its
-# memory, and its system calls by kind.
+# Measures `try` with a script of 1,048,576 bytes and 131,072 lines, the most of both: the time of a run, its
+# memory, and its system calls by kind; also the memory with 131,072 lines `deq`, and with sixteen such scripts.
 # Usage, from any folder, once the program is built: bench/measure.sh
 built=crates/romulus/out/romulus
 build="./romulus try examples/queue.txt"
