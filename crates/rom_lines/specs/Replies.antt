@@ -1,0 +1,72 @@
+-- What became of lines, by the words that stand for replies.
+use Rattle.std.specs.Prelude.{◌≡◌, ℕ, ◌+◌, ◌≤◌, List, length, Option, Some, None, slice_get}
+use Rattle.rom_model.specs.declared.line.Step.{Step}
+use Rattle.rom_model.specs.declared.line.LineResult.{LineResult}
+use Rattle.rom_model.specs.declared.line.LineResult.TheVariants as result
+use Rattle.rom_model.specs.declared.call.Updated.{Updated}
+use Rattle.rom_model.specs.declared.call.Updated.TheVariants as updated
+use Rattle.rom_lines.specs.Runs.{run_of, IsRun}
+use Rattle.rom_lines.specs.Steps.{REPLY_WORDS, needs}
+use Rattle.rom_lines.specs.declared.results.Cell.{Cell}
+use Rattle.rom_lines.specs.declared.results.Cell.TheVariants as cell
+use Rattle.rom_lines.specs.declared.results.Told.{Told}
+use Rattle.rom_lines.specs.declared.results.Told.TheVariants as told
+use Rattle.rom_lines.specs.declared.results.Undone.{Undone}
+use Rattle.rom_lines.specs.declared.results.Undone.TheVariants as undone
+
+-- what a contract sees of results
+pub record Reserved (T : Type 0) : Type 0 where
+  -- what became of each line so far, in order
+  pub items : List T
+  -- how many more results there is room for, and how many more words of replies
+  pub lines : ℕ
+  pub words : ℕ
+
+-- There is room for a result of each of these lines.
+pub record HasRoomFor {C Q T : Type 0} (asks : List (Step C Q)) (kept : Reserved T) : Type 0 where
+  pub lines : length asks ≤ kept.lines
+  pub words : needs asks ≤ kept.words
+
+-- One result has come. It took the room of one, and for its words no more than so much.
+pub record TookRoom {T : Type 0} (old new : Reserved T) (used : ℕ) : Type 0 where
+  pub lines : old.lines ≤ new.lines + 1
+  pub words : old.words ≤ new.words + used
+
+-- what became of an update that was not done
+abbrev pub undone_as : {R : Type 0} → Undone → Updated R
+undone_as undone.Spent = updated.Spent
+undone_as undone.Failed = updated.Failed
+undone_as undone.Doubt = updated.Doubt
+
+module _ {R A : Type 0} (words_reply : List ℕ → Option R) where
+  -- what became of an update at a place, where its reply is read from words
+  abbrev pub done_with : ℕ → Option R → LineResult R A
+  done_with place (Some reply) = result.Update (updated.Done reply place)
+  done_with place None = result.Unread
+
+  -- what became of a line, by the words of the results
+  abbrev pub result_of : List ℕ → Cell A → LineResult R A
+  result_of words cell.Unread = result.Unread
+  result_of words (cell.Done place from many) = done_with place (words_reply (run_of words from many))
+  result_of words (cell.Undone why) = result.Update (undone_as why)
+  result_of words (cell.Read answer front) = result.Read answer front
+
+  -- the words of a reply stand within those of the results, and are a reply's
+  abbrev pub Fits : List ℕ → Cell A → Type 0
+  Fits words cell.Unread = Unit {0}
+  Fits words (cell.Done place from many) = IsRun words_reply REPLY_WORDS words from many
+  Fits words (cell.Undone why) = Unit {0}
+  Fits words (cell.Read answer front) = Unit {0}
+
+  -- What is handed out says what became of a line: a reply by its words, of which a `Back` has room for all.
+  abbrev pub IsTold : LineResult R A → Told A → Type 0
+  IsTold became told.Unread = became ≡ result.Unread
+  IsTold became (told.Done words place) = (reply : R) × (became ≡ result.Update (updated.Done reply place)) × (words_reply words.now ≡ Some reply) × (length words.now ≤ REPLY_WORDS)
+  IsTold became (told.Undone why) = became ≡ result.Update (undone_as why)
+  IsTold became (told.Read answer front) = became ≡ result.Read answer front
+
+  -- The result at an index says what became of the line there.
+  pub record IsToldAt (items : List (LineResult R A)) (i : ℕ) (handed : Told A) : Type 0 where
+    pub became : LineResult R A
+    pub told : IsTold became handed
+    pub at : slice_get items i ≡ Some became

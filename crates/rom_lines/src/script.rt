@@ -1,0 +1,143 @@
+//! A script that owns its lines.
+ghost use Rattle.std.specs.Prelude.{◌≡◌, ◌<◌, ◌≤◌, [], ◌∷◌, ◌++◌, length, OnOk, OnErr, Some, IsSome, IfSome, slice_get};
+ghost use Rattle.rom_model.specs.declared.line.Step.TheVariants.{Update, Ask, Unread};
+ghost use Rattle.rom_lines.specs.Steps.{IsLineAt, needs};
+
+use rom_model::{Args, Object, Query, Step};
+use std::alloc::{AllocError, Global};
+use std::marker::Model;
+use std::mem::size_of;
+
+// The most words that a `Back` has room for.
+const REPLY_WORDS: usize = 20;
+
+/// What stands for a line: where the words of its call begin and how many they are, or its query.
+#[derive(Clone, Copy, Debug)]
+pub(crate) enum Cell<Q> {
+    Update(u64, u64),
+    Ask(Q),
+    Unread,
+}
+
+// A line of the three structures has no more, and the words of its call.
+const _: () = prove!(size_of::<Cell<Query>>() == 24);
+
+/// A line of a script.
+#[derive(Clone, Copy, Debug)]
+pub enum Line<'a, Q> {
+    /// The words of its call.
+    Update(&'a [u64]),
+    Ask(Q),
+    /// The line is no command; it makes no call.
+    Unread,
+}
+
+/// The lines of a script, in order. A contract sees what each asks for.
+#[derive(Drop)]
+pub struct Script<O: Object> {
+    cells: Vec<Cell<O::Query>>,
+    words: Vec<u64>,
+}
+
+impl<O: Object> Model for Script<O> {
+    ghost use Rattle.std.specs.Prelude.{map, All};
+    ghost use Rattle.rom_model.specs.declared.line.Step.{Step};
+    ghost use Rattle.rom_lines.specs.Steps.{Items, Fits, step_of};
+
+    ghost Value = { Items (Step O.Call O.Query) };
+
+    ghost view = { λ s. record { items = map (step_of O.machine.words_call s.words.items) s.cells.items } };
+
+    ghost invariant = { λ s. All (Fits O.machine.words_call s.words.items) s.cells.items };
+}
+
+impl<O: Object> Script<O> {
+    /// No lines.
+    pub fn new(alloc: Global) -> Self
+        ensures { result.items ≡ [] }
+    {
+        Script {
+            cells: Vec::new(alloc),
+            words: Vec::new(alloc),
+        }
+    }
+
+    /// How many lines there are.
+    pub fn len(&self) -> usize
+        ensures { result ≡ length self.now.items }
+    {
+        self.cells.len()
+    }
+
+    /// How many words the replies to all lines have together at most. `None` says that no `usize`
+    /// tells so many.
+    pub fn reply_words(&self) -> Option<usize>
+        ensures { IfSome result (λ many. needs self.now.items ≤ many) }
+    {
+        let mut many: usize = 0;
+        for cell in &self.cells {
+            if let Cell::Update(_, _) = cell {
+                many = many.checked_add(REPLY_WORDS)?;
+            }
+        }
+        Some(many)
+    }
+
+    /// Adds a line that asks for the call with these words.
+    pub fn push_words(&mut self, words: &Args) -> Result<(), AllocError>
+        requires call { IsSome (O.machine.words_call words.now) }
+        // The words come behind those of the calls before, and are read as the call that they were here.
+        ensures added { OnOk result ((call : O.Call) → O.machine.words_call words.now ≡ Some call →
+            self.new.items ≡ self.old.items ++ Update call ∷ []) }
+        ensures err { OnErr result (self.new.items ≡ self.old.items) }
+    {
+        let from = self.words.len() as u64;
+        self.words.extend_from_slice(words.as_slice())?;
+        self.cells.push(Cell::Update(from, words.len()))?;
+        Ok(())
+    }
+
+    /// Adds a line that asks a query.
+    pub fn push_query(&mut self, query: O::Query) -> Result<(), AllocError>
+        ensures added { OnOk result (self.new.items ≡ self.old.items ++ Ask query ∷ []) }
+        ensures err { OnErr result (self.new.items ≡ self.old.items) }
+    {
+        self.cells.push(Cell::Ask(query))?;
+        Ok(())
+    }
+
+    /// Adds a line that is no command.
+    pub fn push_unread(&mut self) -> Result<(), AllocError>
+        ensures added { OnOk result (self.new.items ≡ self.old.items ++ Unread ∷ []) }
+        ensures err { OnErr result (self.new.items ≡ self.old.items) }
+    {
+        self.cells.push(Cell::Unread)?;
+        Ok(())
+    }
+
+    /// The line at an index, counted from 0.
+    pub fn line(&self, i: usize) -> Line<'_, O::Query>
+        requires { i < length self.now.items }
+        ensures { IsLineAt O.machine.words_call self.now.items i result }
+    {
+        match self.cells[i] {
+            Cell::Update(from, many) => {
+                Line::Update(&self.words[from as usize..(from + many) as usize])
+            }
+            Cell::Ask(query) => Line::Ask(query),
+            Cell::Unread => Line::Unread,
+        }
+    }
+
+    /// What the line at an index asks for, with its call, which is read from its words here.
+    pub fn whole(&self, i: usize) -> Step<O::Call, O::Query>
+        requires { i < length self.now.items }
+        ensures { slice_get self.now.items i ≡ Some result }
+    {
+        match self.line(i) {
+            Line::Update(words) => { Step::Update(O::words_call(&Args::of(words)).unwrap()) }
+            Line::Ask(query) => Step::Ask(query),
+            Line::Unread => Step::Unread,
+        }
+    }
+}
