@@ -58,6 +58,10 @@ impl Object for Blobs {
         codes::call_words(call)
     }
 
+    fn put_call_words(call: &BlobCall, words: &mut Args) {
+        codes::put_call_words(call, words);
+    }
+
     fn words_call(words: &Args) -> Option<BlobCall> {
         codes::words_call(words)
     }
@@ -76,6 +80,11 @@ impl Object for Blobs {
 
     fn apply<M: Space>(space: &mut M, order: u32, call: &BlobCall) -> BlobReply {
         apply_blob(space, order, call)
+    }
+
+    fn apply_words<M: Space>(space: &mut M, order: u32, words: &Args, told: &mut Back) {
+        let call = codes::words_call(words).unwrap();
+        codes::put_reply_words(&apply_blob(space, order, &call), told);
     }
 
     #[inline(always)]

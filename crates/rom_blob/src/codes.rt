@@ -1,6 +1,6 @@
 //! The words that stand for calls and replies. A tag comes first, then the numbers, and of a call that
 //! gives bytes these come last, in as few words as hold them.
-ghost use Rattle.std.specs.Prelude.{◌≡◌, ◌<◌, ◌≤◌, ◌∷◌, ℕ, length, slice_index, Some};
+ghost use Rattle.std.specs.Prelude.{◌≡◌, ◌<◌, ◌≤◌, ◌∷◌, [], ℕ, length, slice_index, Some};
 ghost use Rattle.rom_blob_region.specs.declared.call.BlobCall.TheVariants.{Set};
 ghost use Rattle.rom_blob.specs.Codes as codes;
 
@@ -8,18 +8,30 @@ use rom_blob_region::{BlobCall, BlobReply};
 use rom_bytes::Chunk;
 use rom_model::{Args, Back};
 
-/// The words of a call that gives a key bytes.
-fn set_words(key: u64, bytes: &Chunk) -> Args
-    ensures words { result ≡ codes.call_words (Set key bytes.now) }
+/// Makes no words those of a call that gives a key bytes.
+fn put_set_words(key: u64, bytes: &Chunk, words: &mut Args)
+    requires { words.old ≡ [] }
+    ensures words { words.new ≡ codes.call_words (Set key bytes.now) }
     ensures few { length bytes.now ≤ 256 }
     ensures small { (k : ℕ) → slice_index bytes.now k < 256 }
 {
     let len = bytes.len();
-    let mut words = Args::of(&[1, key, len]);
+    words.extend(&[1, key, len]);
     for i in 0..(len + 7) / 8 {
         words.extend(&[bytes.word(i)]);
     }
-    words
+}
+
+/// Makes the words those of a call, whatever they were.
+pub(crate) fn put_call_words(call: &BlobCall, words: &mut Args)
+    ensures words { words.new ≡ codes.call_words call.now }
+    ensures back { codes.words_call words.new ≡ Some call.now }
+{
+    words.clear();
+    match call {
+        BlobCall::Set(key, bytes) => put_set_words(*key, bytes, words),
+        BlobCall::Cut(key) => words.extend(&[2, *key]),
+    }
 }
 
 /// The words of a call.
@@ -27,10 +39,9 @@ pub fn call_words(call: &BlobCall) -> Args
     ensures words { result ≡ codes.call_words call.now }
     ensures back { codes.words_call result ≡ Some call.now }
 {
-    match call {
-        BlobCall::Set(key, bytes) => set_words(*key, bytes),
-        BlobCall::Cut(key) => Args::of(&[2, *key]),
-    }
+    let mut words = Args::new();
+    put_call_words(call, &mut words);
+    words
 }
 
 /// The call that gives a key the bytes whose number and words these are.
@@ -64,17 +75,28 @@ pub fn words_call(words: &Args) -> Option<BlobCall>
     }
 }
 
+/// Makes the words those of a reply, whatever they were.
+pub(crate) fn put_reply_words(reply: &BlobReply, words: &mut Back)
+    ensures words { words.new ≡ codes.reply_words reply.now }
+    ensures back { codes.words_reply words.new ≡ Some reply.now }
+{
+    words.clear();
+    match reply {
+        BlobReply::New => words.extend(&[1]),
+        BlobReply::Was(len) => words.extend(&[2, *len]),
+        BlobReply::Full => words.extend(&[3]),
+        BlobReply::NoPrior => words.extend(&[4]),
+    }
+}
+
 /// The words of a reply.
 pub fn reply_words(reply: &BlobReply) -> Back
     ensures words { result ≡ codes.reply_words reply.now }
     ensures back { codes.words_reply result ≡ Some reply.now }
 {
-    match reply {
-        BlobReply::New => Back::of(&[1]),
-        BlobReply::Was(len) => Back::of(&[2, *len]),
-        BlobReply::Full => Back::of(&[3]),
-        BlobReply::NoPrior => Back::of(&[4]),
-    }
+    let mut words = Back::new();
+    put_reply_words(reply, &mut words);
+    words
 }
 
 /// The reply that the words are those of. It is `None` exactly where they are no reply's.

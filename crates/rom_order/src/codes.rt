@@ -3,17 +3,28 @@ ghost use Rattle.std.specs.Prelude.{◌≡◌, Some};
 ghost use Rattle.rom_order.specs.Codes as codes;
 
 use crate::call::{OrderCall, OrderReply};
-use rom_model::{Args, Back, Words};
+use rom_model::{Args, Back};
+
+/// Makes the words those of a call, whatever they were.
+pub(crate) fn put_call_words(call: &OrderCall, words: &mut Args)
+    ensures words { words.new ≡ codes.call_words call.now }
+    ensures back { codes.words_call words.new ≡ Some call.now }
+{
+    words.clear();
+    match *call {
+        OrderCall::Put(k, v) => words.extend(&[1, k, v]),
+        OrderCall::Del(k) => words.extend(&[2, k]),
+    }
+}
 
 /// The words of a call.
 pub(crate) fn call_words(call: &OrderCall) -> Args
     ensures words { result ≡ codes.call_words call.now }
     ensures back { codes.words_call result ≡ Some call.now }
 {
-    match *call {
-        OrderCall::Put(k, v) => Words::of(&[1, k, v]),
-        OrderCall::Del(k) => Words::of(&[2, k]),
-    }
+    let mut words = Args::new();
+    put_call_words(call, &mut words);
+    words
 }
 
 /// The call that the words are those of. It is `None` exactly where they are no call's.
@@ -27,16 +38,27 @@ pub(crate) fn words_call(words: &Args) -> Option<OrderCall>
     }
 }
 
+/// Makes the words those of a reply, whatever they were.
+pub(crate) fn put_reply_words(reply: &OrderReply, words: &mut Back)
+    ensures words { words.new ≡ codes.reply_words reply.now }
+    ensures back { codes.words_reply words.new ≡ Some reply.now }
+{
+    words.clear();
+    match *reply {
+        OrderReply::Was(v) => words.extend(&[1, v]),
+        OrderReply::NoPrior => words.extend(&[2]),
+        OrderReply::Full => words.extend(&[3]),
+    }
+}
+
 /// The words of a reply.
 pub(crate) fn reply_words(reply: &OrderReply) -> Back
     ensures words { result ≡ codes.reply_words reply.now }
     ensures back { codes.words_reply result ≡ Some reply.now }
 {
-    match *reply {
-        OrderReply::Was(v) => Words::of(&[1, v]),
-        OrderReply::NoPrior => Words::of(&[2]),
-        OrderReply::Full => Words::of(&[3]),
-    }
+    let mut words = Back::new();
+    put_reply_words(reply, &mut words);
+    words
 }
 
 /// The reply that the words are those of. It is `None` exactly where they are no reply's.

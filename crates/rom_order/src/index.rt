@@ -8,7 +8,9 @@ ghost use Rattle.rom_order.specs.Laws.{one_contents, contents_within, call_only,
 
 use crate::apply::{answer, apply};
 use crate::call::{OrderAnswer, OrderCall, OrderQuery, OrderReply};
-use crate::codes::{call_words, reply_words, words_call, words_reply};
+use crate::codes::{
+    call_words, put_call_words, put_reply_words, reply_words, words_call, words_reply,
+};
 use crate::fresh::format_region;
 use crate::inspection::inspect;
 use rom_model::{Args, Back, Look, Object, Space, Unfit};
@@ -57,6 +59,10 @@ impl Object for Ordered {
         call_words(call)
     }
 
+    fn put_call_words(call: &OrderCall, words: &mut Args) {
+        put_call_words(call, words);
+    }
+
     fn words_call(words: &Args) -> Option<OrderCall> {
         words_call(words)
     }
@@ -75,6 +81,11 @@ impl Object for Ordered {
 
     fn apply<M: Space>(space: &mut M, order: u32, call: &OrderCall) -> OrderReply {
         apply(space, order, call)
+    }
+
+    fn apply_words<M: Space>(space: &mut M, order: u32, words: &Args, told: &mut Back) {
+        let call = words_call(words).unwrap();
+        put_reply_words(&apply(space, order, &call), told);
     }
 
     fn answer<M: Look>(space: &mut M, order: u32, query: &OrderQuery) -> OrderAnswer {

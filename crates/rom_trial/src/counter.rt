@@ -75,6 +75,11 @@ impl Object for Counter {
         Args::of(&[call.amount])
     }
 
+    fn put_call_words(call: &Add, words: &mut Args) {
+        words.clear();
+        words.extend(&[call.amount]);
+    }
+
     fn words_call(words: &Args) -> Option<Add> {
         match words.as_slice() {
             [amount] => Some(Add { amount: *amount }),
@@ -105,6 +110,13 @@ impl Object for Counter {
         space.store(SUM, value);
         space.store(COUNT, count + 1);
         Sum { value }
+    }
+
+    fn apply_words<M: Space>(space: &mut M, order: u32, words: &Args, told: &mut Back) {
+        let call = Self::words_call(words).unwrap();
+        let sum = Self::apply(space, order, &call);
+        told.clear();
+        told.extend(&[sum.value]);
     }
 
     fn answer<M: Look>(space: &mut M, order: u32, query: &Query) -> Sum {

@@ -1,6 +1,6 @@
 use Rattle.std.proofs.Common.{◌≡◌, ◌∷◌, ℕ, ◌<◌, ◌≤◌, length, slice_index}
 use Rattle.rom_bytes.specs.Bytes.{words_of}
-use Rattle.rom_blob.proofs.codes.set_words.Given as goal
+use Rattle.rom_blob.proofs.codes.put_set_words.Given as goal
 
 -- the words of the bytes so far are there
 abbrev pub invariant-loop-i : goal.invariant-loop-i
