@@ -1,11 +1,13 @@
 -- The laws of the object, which its trait asks for.
-use Rattle.std.specs.Prelude.{◌≡◌, ℕ, ◌≤◌, List, length, slice_index, Some}
+use Rattle.std.specs.Prelude.{◌≡◌, ℕ, ◌*◌, ◌≤◌, List, [], ◌∷◌, length, slice_index, Some}
+use Rattle.std.proofs.Common.{arith}
 use Rattle.rom_model.specs.History.{LAST_COUNT}
 use Rattle.rom_model.specs.Blocks.{region_len}
 use Rattle.rom_blob_region.specs.State.{BlobState, step}
 use Rattle.rom_blob_region.specs.Region.{Contents}
 use Rattle.rom_blob_region.specs.declared.call.BlobCall.{BlobCall}
 use Rattle.rom_blob_region.specs.declared.call.BlobReply.{BlobReply}
+use Rattle.rom_blob_region.specs.declared.call.BlobReply.TheVariants.{New, Was, Full, NoPrior}
 use Rattle.rom_blob_region.proofs.Single as single
 use Rattle.rom_blob.specs.Codes.{words_call, reply_words, words_reply}
 use Rattle.rom_blob.specs.Tags as tags
@@ -13,6 +15,17 @@ use Rattle.rom_blob.specs.Tags as tags
 -- what a call is told is read back from its words
 pub reply_back : (order : ℕ) (s : BlobState) (count : ℕ) (words : List ℕ) (call : BlobCall) → words_call words ≡ Some call → let told : BlobReply = (step order s count call).1 in words_reply (reply_words told) ≡ Some told
 reply_back order s count words call is = tags.reply_back (step order s count call).1
+
+-- the words of the reply to a call are at most twice as many as those of the call
+pub reply_few : (order : ℕ) (s : BlobState) (count : ℕ) (words : List ℕ) (call : BlobCall) → words_call words ≡ Some call → length (reply_words (step order s count call).1) ≤ 2 * length words
+reply_few order s count [] call is = cc
+reply_few order s count (tag ∷ words) call is = omega (arith, few (step order s count call).1)
+  where
+    few : (told : BlobReply) → length (reply_words told) ≤ 2
+    few New = omega arith
+    few (Was len) = omega arith
+    few Full = omega arith
+    few NoPrior = omega arith
 
 -- a region stands for one state and one count
 pub one_contents : (n : ℕ) (words : List ℕ) (s t : BlobState) (j k : ℕ) → Contents n words s j → Contents n words t k → (s ≡ t) × (j ≡ k)

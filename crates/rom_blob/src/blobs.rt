@@ -4,7 +4,7 @@ ghost use Rattle.rom_blob_region.specs.State.{BlobState};
 ghost use Rattle.rom_blob_region.specs.Region.{Contents};
 ghost use Rattle.rom_blob_inspect.specs.Answers.{Rejects};
 ghost use Rattle.rom_blob.specs.Blobs.{blobs};
-ghost use Rattle.rom_blob.specs.Laws.{contents_within, one_contents, reply_back};
+ghost use Rattle.rom_blob.specs.Laws.{contents_within, one_contents, reply_back, reply_few};
 ghost use Rattle.rom_blob.specs.Tags.{call_only, reply_only};
 
 use crate::codes;
@@ -101,6 +101,8 @@ impl Object for Blobs {
     ghost reply_back = { reply_back };
 
     ghost reply_only = { reply_only };
+
+    ghost reply_few = { reply_few };
 
     ghost one_contents = { one_contents };
 

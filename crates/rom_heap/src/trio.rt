@@ -5,7 +5,7 @@ ghost use Rattle.rom_model.specs.Region.{Contents};
 ghost use Rattle.rom_model.specs.Trio.{trio};
 ghost use Rattle.rom_inspect.specs.Answers as told;
 ghost use Rattle.rom_heap.specs.Laws as laws;
-ghost use Rattle.rom_model.proofs.Tags.{call_only, reply_back, reply_only};
+ghost use Rattle.rom_model.proofs.Tags.{call_only, reply_back, reply_few, reply_only};
 
 use crate::answer::answer;
 use crate::apply::{apply, apply_words};
@@ -107,6 +107,8 @@ impl Object for Trio {
     ghost reply_back = { reply_back };
 
     ghost reply_only = { reply_only };
+
+    ghost reply_few = { reply_few };
 
     ghost one_contents = { laws.one_contents };
 

@@ -1,8 +1,9 @@
 -- The words of calls and replies stand for them alone.
-use Rattle.std.proofs.Common.{◌≡◌, ℕ, zero, suc, List, [], ◌∷◌, ◌++◌, length, Bool, true, false, refl, sym, ap, subst, ◌∙◌, Some, None, append_assoc, append-nil}
+use Rattle.std.proofs.Common.{◌≡◌, ℕ, zero, suc, List, [], ◌∷◌, ◌++◌, length, Bool, true, false, refl, sym, ap, subst, ◌∙◌, Some, None, append_assoc, append-nil, ◌+◌, ◌*◌, ◌≤◌, arith}
 use Rattle.std.specs.Prelude.{Option, option_map, ◌==◌, nat_le, ◌&&◌, if◌then◌else◌}
 use Rattle.std.specs.Option.{option_and_then}
 use Rattle.std.proofs.lemmas.Bool.{eqb-true}
+use Rattle.std.proofs.lemmas.List.{length-append}
 use Rattle.std.proofs.lemmas.Option.{option_and_then_some}
 use Rattle.rom_model.specs.State.{State, one, replies_to, state_after, any_full, step_of, step}
 use Rattle.rom_model.specs.Groups.{is_size, HasSize, HasFewReplies}
@@ -327,3 +328,72 @@ replied n s count (kind.Several calls) size = in_group (any_full (replies_to n s
 
 pub reply_back : (n : ℕ) (s : State) (count : ℕ) (words : List ℕ) (call : Call) → words_call words ≡ Some call → let told = (step n s count call).1 in words_reply (reply_words told) ≡ Some told
 reply_back n s count words call is = coded_reply (step n s count call).1 (replied n s count (kind_of call) (has_size words call is))
+
+-- an update of one structure has a word at least, and the reply to it two at most
+some_words : (c : Single) → 1 ≤ length (single_words c)
+some_words (Enq v) = omega arith
+some_words Deq = omega arith
+some_words (Add k) = omega arith
+some_words (Rem k) = omega arith
+some_words (Put k v) = omega arith
+some_words (Del k) = omega arith
+some_words (Move a b d) = omega arith
+
+two_words : (r : SingleReply) → length (single_reply_words r) ≤ 2
+two_words Queued = omega arith
+two_words Full = omega arith
+two_words (Head v) = omega arith
+two_words Empty = omega arith
+two_words Added = omega arith
+two_words Present = omega arith
+two_words Removed = omega arith
+two_words Absent = omega arith
+two_words NoPrior = omega arith
+two_words (Was v) = omega arith
+two_words Moved = omega arith
+two_words (Short v) = omega arith
+two_words Over = omega arith
+
+all_few : (n : ℕ) (s : State) (count : ℕ) (calls : List Single) → length (all_words single_reply_words (replies_to n s count calls)) ≤ 2 * length (all_words single_words calls)
+all_few n s count [] = omega arith
+all_few n s count (c ∷ calls) =
+    let first = (one n s count c).1 in
+    let state = (one n s count c).0 in
+    omega (arith, length-append (single_reply_words first) (all_words single_reply_words (replies_to n state count calls)), length-append (single_words c) (all_words single_words calls), two_words first, some_words c, all_few n state count calls)
+
+few_told : (n : ℕ) (s : State) (count : ℕ) (call : Kind Single (List Single)) → length (reply_words (step_of n s count call).1) ≤ 2 * length (kind_words call)
+few_told n s count (kind.Single c) = alone (one n s count c).1
+  where
+    alone : (r : SingleReply) → length (reply_words (reply_of r)) ≤ 2 * length (single_words c)
+    alone r = omega (arith, ap length (plain_reply_words r), two_words r, some_words c)
+few_told n s count (kind.Several calls) = in_group (any_full (replies_to n s count calls))
+  where
+    in_group : (b : Bool) → length (reply_words (let done : State × Reply = if b then (s, reply.Full) else (state_after n s count calls, reply.All (replies_to n s count calls)) in done.1)) ≤ 2 * length (kind_words (kind.Several calls))
+    in_group true = omega arith
+    in_group false = omega (arith, all_few n s count calls)
+
+pub reply_few : (n : ℕ) (s : State) (count : ℕ) (words : List ℕ) (call : Call) → words_call words ≡ Some call → length (reply_words (step n s count call).1) ≤ 2 * length words
+reply_few n s count words call is = subst (λ (ws : List ℕ). length (reply_words (step n s count call).1) ≤ 2 * length ws) (call_only words call is) (few_told n s count (kind_of call))
+
+-- the words of an update of one structure are read as that update
+pub plain_back : (c : Single) → words_call (single_words c) ≡ Some (call_of c)
+plain_back c = ap words_call (sym (plain_words c)) ∙ call_back (call_of c) (plain_size c)
+
+plain_reply_back : (r : SingleReply) → words_reply (single_reply_words r) ≡ Some (reply_of r)
+plain_reply_back Queued = refl
+plain_reply_back Full = refl
+plain_reply_back (Head v) = refl
+plain_reply_back Empty = refl
+plain_reply_back Added = refl
+plain_reply_back Present = refl
+plain_reply_back Removed = refl
+plain_reply_back Absent = refl
+plain_reply_back NoPrior = refl
+plain_reply_back (Was v) = refl
+plain_reply_back Moved = refl
+plain_reply_back (Short v) = refl
+plain_reply_back Over = refl
+
+-- words that are those of a reply to one update, with none behind them, are read as that reply
+pub plain_reply_read : (words : List ℕ) (r : SingleReply) → read_single_reply words ≡ Some (r, []) → words_reply words ≡ Some (reply_of r)
+plain_reply_read words r read = ap words_reply (sym (single_reply_only words r [] read) ∙ append-nil (single_reply_words r)) ∙ plain_reply_back r

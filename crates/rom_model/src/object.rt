@@ -198,6 +198,12 @@ pub trait Object {
     ghost reply_only: { (words : List ℕ) (reply : Self.Reply) →
         machine.words_reply words ≡ Some reply → machine.reply_words reply ≡ words };
 
+    /// What a call is told has at most twice as many words as the call. Whoever keeps the words of replies
+    /// reserves room by this before the calls are made.
+    ghost reply_few: { (order : ℕ) (s : State) (count : ℕ) (words : List ℕ) (call : Self.Call) →
+        machine.words_call words ≡ Some call →
+        length (machine.reply_words (machine.step order s count call).1) ≤ 2 * length words };
+
     /// A region stands for one state and one count.
     ghost one_contents: { (order : ℕ) (words : List ℕ) (s t : State) (j k : ℕ) →
         Contents order words s j → Contents order words t k → (s ≡ t) × (j ≡ k) };

@@ -1,5 +1,5 @@
 -- The laws of the object, which its trait asks for.
-use Rattle.std.specs.Prelude.{◌≡◌, ℕ, ◌+◌, ◌≤◌, List, length, Some, slice_index}
+use Rattle.std.specs.Prelude.{◌≡◌, ℕ, ◌+◌, ◌*◌, ◌≤◌, List, [], ◌∷◌, length, Some, slice_index}
 use Rattle.std.proofs.Common.{refl, sym, ap, ◌∙◌, arith}
 use Rattle.std.specs.FinMap as map
 use Rattle.rom_model.specs.History.{LAST_COUNT}
@@ -8,6 +8,7 @@ use Rattle.rom_tree.specs.Tree.{Tree, Leaf, Node, entries}
 use Rattle.rom_tree.specs.Nodes.{Stands, node_at, root}
 use Rattle.rom_order.specs.declared.call.OrderCall.{OrderCall}
 use Rattle.rom_order.specs.declared.call.OrderReply.{OrderReply}
+use Rattle.rom_order.specs.declared.call.OrderReply.TheVariants.{Was, NoPrior, Full}
 use Rattle.rom_order.specs.Codes as codes
 use Rattle.rom_order.specs.State.{Pairs, step}
 use Rattle.rom_order.specs.Region.{Contents}
@@ -49,6 +50,16 @@ call_only words call is = tagged.call_only words call is
 -- the words of the reply to a call are read as that reply
 pub reply_back : (n : ℕ) (s : Pairs) (count : ℕ) (words : List ℕ) (call : OrderCall) → codes.words_call words ≡ Some call → let told = (step n s count call).1 in codes.words_reply (codes.reply_words told) ≡ Some told
 reply_back n s count words call is = tagged.reply_back (step n s count call).1
+
+-- the words of the reply to a call are at most twice as many as those of the call
+pub reply_few : (n : ℕ) (s : Pairs) (count : ℕ) (words : List ℕ) (call : OrderCall) → codes.words_call words ≡ Some call → length (codes.reply_words (step n s count call).1) ≤ 2 * length words
+reply_few n s count [] call is = cc
+reply_few n s count (tag ∷ words) call is = omega (arith, few (step n s count call).1)
+  where
+    few : (told : OrderReply) → length (codes.reply_words told) ≤ 2
+    few (Was v) = omega arith
+    few NoPrior = omega arith
+    few Full = omega arith
 
 -- words that are read as a reply are the words of that reply
 pub reply_only : (words : List ℕ) (reply : OrderReply) → codes.words_reply words ≡ Some reply → codes.reply_words reply ≡ words

@@ -4,7 +4,7 @@ ghost use Rattle.rom_order.specs.State.{Pairs};
 ghost use Rattle.rom_order.specs.Region.{Contents};
 ghost use Rattle.rom_order.specs.Index.{index};
 ghost use Rattle.rom_order.specs.Inspection.{Rejects};
-ghost use Rattle.rom_order.specs.Laws.{one_contents, contents_within, call_only, reply_back, reply_only};
+ghost use Rattle.rom_order.specs.Laws.{one_contents, contents_within, call_only, reply_back, reply_few, reply_only};
 
 use crate::apply::{answer, apply};
 use crate::call::{OrderAnswer, OrderCall, OrderQuery, OrderReply};
@@ -101,6 +101,8 @@ impl Object for Ordered {
     ghost reply_back = { reply_back };
 
     ghost reply_only = { reply_only };
+
+    ghost reply_few = { reply_few };
 
     ghost one_contents = { one_contents };
 

@@ -1,11 +1,11 @@
 -- The laws of a counter.
-use Rattle.std.specs.Prelude.{◌≡◌, ℕ, ◌≤◌, List, [], ◌∷◌, length, slice_index, Some}
+use Rattle.std.specs.Prelude.{◌≡◌, ℕ, ◌*◌, ◌≤◌, List, [], ◌∷◌, length, slice_index, Some}
 use Rattle.rom_model.specs.Blocks.{region_len}
 use Rattle.rom_model.specs.History.{LAST_COUNT}
 use Rattle.rom_trial.specs.Counter.{Contents, counter, words_add, words_sum}
 use Rattle.rom_trial.specs.declared.counter.Add.{Add}
 use Rattle.rom_trial.specs.declared.counter.Sum.{Sum}
-use Rattle.std.proofs.Common.{refl, sym, ◌∙◌}
+use Rattle.std.proofs.Common.{refl, sym, ◌∙◌, arith}
 
 -- words that are read as a call are the words of that call
 pub call_only : (words : List ℕ) (call : Add) → words_add words ≡ Some call → call.amount ∷ [] ≡ words
@@ -22,6 +22,12 @@ pub reply_only : (words : List ℕ) (reply : Sum) → words_sum words ≡ Some r
 reply_only [] reply is = cc
 reply_only (w ∷ []) reply is = cc
 reply_only (w ∷ v ∷ ws) reply is = cc
+
+-- the words of the reply to a call are at most twice as many as those of the call
+pub reply_few : (order s count : ℕ) (words : List ℕ) (call : Add) → words_add words ≡ Some call → let told : Sum = (counter.step order s count call).1 in length (counter.reply_words told) ≤ 2 * length words
+reply_few order s count [] call is = cc
+reply_few order s count (w ∷ []) call is = omega arith
+reply_few order s count (w ∷ v ∷ ws) call is = cc
 
 -- a region stands for one sum and one count
 pub one_contents : (n : ℕ) (words : List ℕ) (s t j k : ℕ) → Contents n words s j → Contents n words t k → (s ≡ t) × (j ≡ k)

@@ -3,7 +3,7 @@ ghost use Rattle.std.specs.Prelude.{◌≡◌, ℕ, ◌<◌, Option, Some};
 ghost use Rattle.rom_model.specs.Blocks.{region_len};
 ghost use Rattle.rom_model.specs.Earlier.{no_earlier};
 ghost use Rattle.rom_trial.specs.Counter.{Contents, Rejects, counter};
-ghost use Rattle.rom_trial.specs.Laws.{call_only, contents_within, one_contents, reply_back, reply_only};
+ghost use Rattle.rom_trial.specs.Laws.{call_only, contents_within, one_contents, reply_back, reply_few, reply_only};
 
 use rom_model::{Args, Back, COUNT, KIND, LAST_COUNT, Look, Object, Rule, Space, Unfit};
 use std::alloc::Global;
@@ -148,6 +148,8 @@ impl Object for Counter {
     ghost reply_back = { reply_back };
 
     ghost reply_only = { reply_only };
+
+    ghost reply_few = { reply_few };
 
     ghost one_contents = { one_contents };
 

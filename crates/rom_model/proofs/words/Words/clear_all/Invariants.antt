@@ -1,6 +1,6 @@
 use Rattle.std.proofs.Common.{◌≡◌, ℕ, ◌<◌, slice_index}
 use Rattle.rom_model.specs.Padded.{IsPadded}
-use Rattle.rom_model.proofs.words.Words.clear.Given as goal
+use Rattle.rom_model.proofs.words.Words.clear_all.Given as goal
 
 -- the first cells are 0, as are those past the words
 abbrev pub invariant-loop-i : goal.invariant-loop-i
