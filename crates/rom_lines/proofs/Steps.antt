@@ -1,12 +1,12 @@
 -- What the lines of a script ask for, where its words grow at their end.
-use Rattle.std.proofs.Common.{◌≡◌, ℕ, ◌+◌, ◌≤◌, ◌<◌, List, [], ◌∷◌, ◌++◌, length, get_or, take, refl, ap, sym, ◌∙◌, arith}
+use Rattle.std.proofs.Common.{◌≡◌, ℕ, suc, ◌+◌, ◌*◌, ◌≤◌, List, [], ◌∷◌, ◌++◌, length, get_or, refl, ap, ◌∙◌, arith}
 use Rattle.std.specs.Prelude.{Option, Some, None, IsSome, All, map, slice_get}
-use Rattle.std.proofs.lemmas.List.{map-append, take_more}
+use Rattle.std.proofs.lemmas.List.{length-append, map-append}
 use Rattle.std.proofs.lemmas.List.Elements.{All-push}
 use Rattle.rom_model.specs.declared.line.Step.{Step}
 use Rattle.rom_model.specs.declared.line.Step.TheVariants as step
 use Rattle.rom_lines.specs.Runs.{run_of, IsRun}
-use Rattle.rom_lines.specs.Steps.{asked, step_of, Fits, IsLine, IsLineAt, CALL_WORDS, REPLY_WORDS, need, needs}
+use Rattle.rom_lines.specs.Steps.{asked, step_of, Fits, IsLine, IsLineAt, CALL_WORDS, need, needs, total_words}
 use Rattle.rom_lines.specs.declared.script.Cell.{Cell}
 use Rattle.rom_lines.specs.declared.script.Cell.TheVariants as cell
 use Rattle.rom_lines.specs.declared.script.Line.{Line}
@@ -59,37 +59,31 @@ module _ {C Q : Type 0} (words_call : List ℕ → Option C) where
     left = at_left items i asks e;
   }
 
--- how many words the replies to these lines have at most
-abbrev pub cells_need : {Q : Type 0} → List (Cell Q) → ℕ
-cells_need [] = 0
-cells_need (cell.Update from many ∷ more) = REPLY_WORDS + cells_need more
-cells_need (cell.Ask query ∷ more) = cells_need more
-cells_need (cell.Unread ∷ more) = cells_need more
+pub total_words-push : {Q : Type 0} (cells : List (Cell Q)) (c : Cell Q) → total_words (cells ++ c ∷ []) ≡ total_words cells + total_words (c ∷ [])
+total_words-push [] c = omega arith
+total_words-push (cell.Update from many ∷ more) c = omega (arith, total_words-push more c)
+total_words-push (cell.Ask query ∷ more) c = total_words-push more c
+total_words-push (cell.Unread ∷ more) c = total_words-push more c
 
-pub cells_need-push : {Q : Type 0} (cells : List (Cell Q)) (c : Cell Q) → cells_need (cells ++ c ∷ []) ≡ cells_need cells + cells_need (c ∷ [])
-cells_need-push [] c = omega arith
-cells_need-push (cell.Update from many ∷ more) c = omega (arith, cells_need-push more c)
-cells_need-push (cell.Ask query ∷ more) c = cells_need-push more c
-cells_need-push (cell.Unread ∷ more) c = cells_need-push more c
+-- a line whose words come behind makes as many words
+pub own_words : {C Q : Type 0} (words_call : List ℕ → Option C) (words more : List ℕ) (cells : List (Cell Q)) → All (Fits words_call words) cells × (total_words cells ≤ length words) → length more ≤ CALL_WORDS → IsSome (words_call more) → All (Fits words_call (words ++ more)) (cells ++ cell.Update (length words) (length more) ∷ []) × (total_words (cells ++ cell.Update (length words) (length more) ∷ []) ≤ length (words ++ more))
+own_words words_call words more cells h few some = (fit_behind words_call words more cells h.0 few some, omega (arith, h.1, length-append words more, total_words-push cells (cell.Update (length words) (length more))))
 
-asked_needs : {C : Type 0} (Q : Type 0) (words_call : List ℕ → Option C) (o : Option C) → need (asked {Q = Q} words_call o) ≤ REPLY_WORDS
-asked_needs Q words_call (Some call) = omega arith
-asked_needs Q words_call None = omega arith
+-- a line that is no update makes no words
+pub no_words : {C Q : Type 0} (words_call : List ℕ → Option C) (words : List ℕ) (cells : List (Cell Q)) (c : Cell Q) → All (Fits words_call words) cells × (total_words cells ≤ length words) → Fits words_call words c → total_words (c ∷ []) ≡ 0 → All (Fits words_call words) (cells ++ c ∷ []) × (total_words (cells ++ c ∷ []) ≤ length words)
+no_words words_call words cells c h fits none = (All-push (Fits words_call words) cells c h.0 fits, omega (arith, h.1, none, total_words-push cells c))
 
-pub cells_need_enough : {C Q : Type 0} (words_call : List ℕ → Option C) (words : List ℕ) (cells : List (Cell Q)) → needs (map (step_of words_call words) cells) ≤ cells_need cells
-cells_need_enough words_call words [] = omega arith
-cells_need_enough {Q = Q} words_call words (cell.Update from many ∷ more) = omega (arith, cells_need_enough words_call words more, asked_needs Q words_call (words_call (run_of words from many)))
-cells_need_enough words_call words (cell.Ask query ∷ more) = omega (arith, cells_need_enough words_call words more)
-cells_need_enough words_call words (cell.Unread ∷ more) = omega (arith, cells_need_enough words_call words more)
+-- what a reply needs, whose call has these words
+module _ {C : Type 0} (Q : Type 0) (words_call : List ℕ → Option C) (call_words : C → List ℕ) (only : (words : List ℕ) (call : C) → words_call words ≡ Some call → call_words call ≡ words) where
+  asked_needs : (words : List ℕ) (o : Option C) → words_call words ≡ o → need call_words (asked {Q = Q} words_call o) ≤ 2 * length words
+  asked_needs words (Some call) e = omega (arith, ap length (only words call e))
+  asked_needs words None e = omega arith
 
-pub cells_need_next : {Q : Type 0} (cells : List (Cell Q)) (i : ℕ) (found : Cell Q) → i < length cells → found ≡ get_or cells i found → cells_need (take (i + 1) cells) ≡ cells_need (take i cells) + cells_need (found ∷ [])
-cells_need_next cells i found lt is =
-    ap cells_need (take_more cells i found lt) ∙ ap (λ c. cells_need (take i cells ++ c ∷ [])) (sym is) ∙ cells_need-push (take i cells) found
-
-pub one_update : {Q : Type 0} (found : Cell Q) (from many : ℕ) → found ≡ cell.Update from many → cells_need (found ∷ []) ≡ REPLY_WORDS
-one_update found from many e = ap (λ c. cells_need (c ∷ [])) e
-
-pub no_update : {Q : Type 0} (found : Cell Q) → ((from many : ℕ) → found ≡ cell.Update from many → ⊥) → cells_need (found ∷ []) ≡ 0
-no_update (cell.Update from many) h = absurd (h from many refl)
-no_update (cell.Ask query) h = refl
-no_update cell.Unread h = refl
+  -- Room for twice the words of the calls is room for all replies.
+  pub room_enough : (words : List ℕ) (cells : List (Cell Q)) → All (Fits words_call words) cells → needs call_words (map (step_of words_call words) cells) ≤ 2 * total_words cells
+  room_enough words [] h = omega arith
+  room_enough words (cell.Update from many ∷ more) h =
+      let first : Fits {Q = Q} words_call words (cell.Update from many) = h 0 (cell.Update from many) (omega arith) in
+      omega (arith, room_enough words more (λ k d lt. h (suc k) d (omega arith)), asked_needs (run_of words from many) (words_call (run_of words from many)) refl, length_run words from many first.within)
+  room_enough words (cell.Ask query ∷ more) h = omega (arith, room_enough words more (λ k d lt. h (suc k) d (omega arith)))
+  room_enough words (cell.Unread ∷ more) h = omega (arith, room_enough words more (λ k d lt. h (suc k) d (omega arith)))

@@ -1,5 +1,5 @@
 -- What the lines of a script ask for, by the words that stand for them.
-use Rattle.std.specs.Prelude.{◌≡◌, ℕ, ◌+◌, ◌≤◌, List, ◌∷◌, ◌++◌, [], length, take, drop, Option, Some, None, slice_get}
+use Rattle.std.specs.Prelude.{◌≡◌, ℕ, ◌+◌, ◌*◌, ◌≤◌, List, ◌∷◌, ◌++◌, [], length, take, drop, Option, Some, None, slice_get}
 use Rattle.rom_model.specs.declared.line.Step.{Step}
 use Rattle.rom_model.specs.declared.line.Step.TheVariants as step
 use Rattle.rom_lines.specs.Runs.{run_of, IsRun}
@@ -21,16 +21,24 @@ CALL_WORDS = 40
 abbrev pub REPLY_WORDS : ℕ
 REPLY_WORDS = 20
 
--- how many words the reply to a line has at most
-abbrev pub need : {C Q : Type 0} → Step C Q → ℕ
-need (step.Update call) = REPLY_WORDS
-need (step.Ask query) = 0
-need step.Unread = 0
+module _ {C Q : Type 0} (call_words : C → List ℕ) where
+  -- how many words the reply to a line has at most: twice those of its call
+  abbrev pub need : Step C Q → ℕ
+  need (step.Update call) = 2 * length (call_words call)
+  need (step.Ask query) = 0
+  need step.Unread = 0
 
--- how many words the replies to all of these lines have at most, together
-abbrev pub needs : {C Q : Type 0} → List (Step C Q) → ℕ
-needs [] = 0
-needs (asks ∷ more) = need asks + needs more
+  -- how many words the replies to all of these lines have at most, together
+  abbrev pub needs : List (Step C Q) → ℕ
+  needs [] = 0
+  needs (asks ∷ more) = need asks + needs more
+
+-- how many words the calls of all of these lines have, together
+abbrev pub total_words : {Q : Type 0} → List (Cell Q) → ℕ
+total_words [] = 0
+total_words (cell.Update from many ∷ more) = many + total_words more
+total_words (cell.Ask query ∷ more) = total_words more
+total_words (cell.Unread ∷ more) = total_words more
 
 module _ {C Q : Type 0} (words_call : List ℕ → Option C) where
   -- what words ask for, which are those of a call

@@ -2,10 +2,10 @@
 ghost use Rattle.std.specs.Prelude.{◌≡◌, ◌<◌, ◌≤◌, [], ◌∷◌, ◌++◌, length, IfOk, IsSome, Some, slice_get};
 ghost use Rattle.rom_model.specs.declared.line.LineResult.TheVariants.{Unread, Read, Update};
 ghost use Rattle.rom_model.specs.declared.call.Updated.TheVariants.{Done};
-ghost use Rattle.rom_lines.specs.Replies.{TookRoom, HasRoomFor, IsToldAt, undone_as};
+ghost use Rattle.rom_lines.specs.Replies.{TookRoom, HasRoomFor, IsReplied, IsToldAt, undone_as, updated_as};
 
 use crate::script::Script;
-use rom_model::{Answer, Back, LineResult, Object, Updated};
+use rom_model::{Back, LineResult, Object, Updated};
 use std::alloc::{AllocError, Global};
 use std::marker::Model;
 use std::mem::size_of;
@@ -22,20 +22,27 @@ pub enum Undone {
     Doubt,
 }
 
+/// What became of an update. The words of its reply stand elsewhere.
+#[derive(Clone, Copy, Debug, PartialEq, Eq)]
+pub enum Became {
+    /// It was done: its place in the history.
+    Done(u64),
+    Undone(Undone),
+}
+
 /// What stands for a result.
 #[derive(Clone, Copy, Debug)]
-pub(crate) enum Cell<A> {
+pub(crate) enum Cell {
     Unread,
     /// The place of the update, where the words of its reply begin, and how many they are.
     Done(u64, u64, u64),
     Undone(Undone),
-    /// An answer and its front.
-    Read(A, u64),
+    /// A front, and where the answer stands.
+    Read(u64, u64),
 }
 
-// A result of the three structures has no more, and the words of its reply. `Total` of `Answer` makes it a
-// multiple of 16; without that it would have 48.
-const _: () = prove!(size_of::<Cell<Answer>>() == 64);
+// A result has no more, and the words of its reply, or its answer.
+const _: () = prove!(size_of::<Cell>() == 32);
 
 /// What became of a line.
 #[derive(Clone, Copy, Debug)]
@@ -52,24 +59,27 @@ pub enum Told<'a, A> {
 /// Nothing but `with_room` and `for_script` takes memory.
 #[derive(Drop)]
 pub struct Results<O: Object> {
-    cells: Vec<Cell<O::Answer>>,
+    cells: Vec<Cell>,
     words: Vec<u64>,
+    answers: Vec<O::Answer>,
 }
 
 impl<O: Object> Model for Results<O> {
-    ghost use Rattle.std.specs.Prelude.{◌-◌, map, All, vec_len, vec_capacity};
+    ghost use Rattle.std.specs.Prelude.{◌+◌, ◌-◌, ◌≤◌, map, All, vec_len, vec_capacity};
     ghost use Rattle.rom_model.specs.declared.line.LineResult.{LineResult};
     ghost use Rattle.rom_lines.specs.Replies.{Reserved, Fits, result_of};
 
     ghost Value = { Reserved (LineResult O.Reply O.Answer) };
 
     ghost view = { λ s. record {
-      items = map (result_of O.machine.words_reply s.words.items) s.cells.items;
+      items = map (result_of O.machine.words_reply s.words.items s.answers.items) s.cells.items;
       lines = vec_capacity s.cells - vec_len s.cells;
       words = vec_capacity s.words - vec_len s.words;
     } };
 
-    ghost invariant = { λ s. All (Fits O.machine.words_reply s.words.items) s.cells.items };
+    // There is room for an answer wherever there is room for a result. It costs no page before it is used.
+    ghost invariant = { λ s. All (Fits O.machine.words_reply s.words.items s.answers.items) s.cells.items
+        × (vec_capacity s.cells + vec_len s.answers ≤ vec_capacity s.answers + vec_len s.cells) };
 }
 
 impl<O: Object> Results<O> {
@@ -80,13 +90,18 @@ impl<O: Object> Results<O> {
     {
         let cells = Vec::with_capacity(alloc, lines)?;
         let words = Vec::with_capacity(alloc, words)?;
-        Ok(Results { cells, words })
+        let answers = Vec::with_capacity(alloc, lines)?;
+        Ok(Results {
+            cells,
+            words,
+            answers,
+        })
     }
 
     /// No results, and room for one of each line of a script.
     pub fn for_script(alloc: Global, script: &Script<O>) -> Result<Self, AllocError>
         ensures none { IfOk result (λ made. made.items ≡ []) }
-        ensures room { IfOk result (HasRoomFor script.now.items) }
+        ensures room { IfOk result (HasRoomFor O.machine.call_words script.now.items) }
     {
         match script.reply_words() {
             None => Err(AllocError),
@@ -116,11 +131,28 @@ impl<O: Object> Results<O> {
         ensures added { self.new.items ≡ self.old.items ++ Read answer front ∷ [] }
         ensures room { TookRoom self.old self.new 0 }
     {
-        self.cells.push_reserved(Cell::Read(answer, front));
+        let at = self.answers.len() as u64;
+        self.answers.push_reserved(answer);
+        self.cells.push_reserved(Cell::Read(front, at));
+    }
+
+    /// Adds what became of an update: these are the words of its reply, where it was done.
+    pub fn push_update(&mut self, became: Became, words: &Back)
+        requires reply { IsReplied O.machine.words_reply became words.now }
+        requires line { 0 < self.old.lines }
+        requires room { length words.now ≤ self.old.words }
+        ensures added { self.new.items ≡ self.old.items
+            ++ Update (updated_as O.machine.words_reply became words.now) ∷ [] }
+        ensures room { TookRoom self.old self.new (length words.now) }
+    {
+        match became {
+            Became::Done(place) => self.push_done(words, place),
+            Became::Undone(why) => self.push_undone(why),
+        }
     }
 
     /// Adds that an update was done, by the words of its reply, at a place.
-    pub fn push_done(&mut self, words: &Back, place: u64)
+    fn push_done(&mut self, words: &Back, place: u64)
         requires reply { IsSome (O.machine.words_reply words.now) }
         requires line { 0 < self.old.lines }
         requires room { length words.now ≤ self.old.words }
@@ -136,7 +168,7 @@ impl<O: Object> Results<O> {
     }
 
     /// Adds that an update was not done.
-    pub fn push_undone(&mut self, why: Undone)
+    fn push_undone(&mut self, why: Undone)
         requires { 0 < self.old.lines }
         ensures added { self.new.items ≡ self.old.items ++ Update (undone_as why) ∷ [] }
         ensures room { TookRoom self.old self.new 0 }
@@ -156,7 +188,7 @@ impl<O: Object> Results<O> {
                 place,
             ),
             Cell::Undone(why) => Told::Undone(why),
-            Cell::Read(answer, front) => Told::Read(answer, front),
+            Cell::Read(front, at) => Told::Read(self.answers[at as usize], front),
         }
     }
 

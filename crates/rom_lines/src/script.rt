@@ -8,9 +8,6 @@ use std::alloc::{AllocError, Global};
 use std::marker::Model;
 use std::mem::size_of;
 
-// The most words that a `Back` has room for.
-const REPLY_WORDS: usize = 20;
-
 /// What stands for a line: where the words of its call begin and how many they are, or its query.
 #[derive(Clone, Copy, Debug)]
 pub(crate) enum Cell<Q> {
@@ -40,15 +37,16 @@ pub struct Script<O: Object> {
 }
 
 impl<O: Object> Model for Script<O> {
-    ghost use Rattle.std.specs.Prelude.{map, All};
+    ghost use Rattle.std.specs.Prelude.{◌≤◌, length, map, All};
     ghost use Rattle.rom_model.specs.declared.line.Step.{Step};
-    ghost use Rattle.rom_lines.specs.Steps.{Items, Fits, step_of};
+    ghost use Rattle.rom_lines.specs.Steps.{Items, Fits, step_of, total_words};
 
     ghost Value = { Items (Step O.Call O.Query) };
 
     ghost view = { λ s. record { items = map (step_of O.machine.words_call s.words.items) s.cells.items } };
 
-    ghost invariant = { λ s. All (Fits O.machine.words_call s.words.items) s.cells.items };
+    ghost invariant = { λ s. All (Fits O.machine.words_call s.words.items) s.cells.items
+        × (total_words s.cells.items ≤ length s.words.items) };
 }
 
 impl<O: Object> Script<O> {
@@ -69,18 +67,12 @@ impl<O: Object> Script<O> {
         self.cells.len()
     }
 
-    /// How many words the replies to all lines have together at most. `None` says that no `usize`
-    /// tells so many.
-    pub fn reply_words(&self) -> Option<usize>
-        ensures { IfSome result (λ many. needs self.now.items ≤ many) }
+    /// Room for the words of the replies to all lines, in words: twice those of the calls. `None` says that
+    /// no `usize` tells so many.
+    pub(crate) fn reply_words(&self) -> Option<usize>
+        ensures { IfSome result (λ many. needs O.machine.call_words self.now.items ≤ many) }
     {
-        let mut many: usize = 0;
-        for cell in &self.cells {
-            if let Cell::Update(_, _) = cell {
-                many = many.checked_add(REPLY_WORDS)?;
-            }
-        }
-        Some(many)
+        self.words.len().checked_mul(2)
     }
 
     /// Adds a line that asks for the call with these words.
@@ -113,6 +105,19 @@ impl<O: Object> Script<O> {
     {
         self.cells.push(Cell::Unread)?;
         Ok(())
+    }
+
+    /// Adds a line that asks for what a step does, for who has it as one. Who has the words of a call
+    /// adds them by `push_words`.
+    pub fn push_step(&mut self, step: &Step<O::Call, O::Query>) -> Result<(), AllocError>
+        ensures added { OnOk result (self.new.items ≡ self.old.items ++ step.now ∷ []) }
+        ensures err { OnErr result (self.new.items ≡ self.old.items) }
+    {
+        match step {
+            Step::Update(call) => self.push_words(&O::call_words(call)),
+            Step::Ask(query) => self.push_query(*query),
+            Step::Unread => self.push_unread(),
+        }
     }
 
     /// The line at an index, counted from 0.

@@ -16,7 +16,7 @@ returns-in-Update g c =
     (at_image (step_of wc words) cells c.args.self.now.items c.args.i c.index.result.now x e c.requires c.index.ensures c.in-Update.is)
     (update_line wc words c.in-Update.from c.in-Update.many _
     (run_cut c.deref.result.now c.in-Update.from c.in-Update.many ∙ ap (λ w. take c.in-Update.many (drop c.in-Update.from w)) c.deref.ensures.value)
-    (at_holds (Fits wc words) (step_of wc words) cells c.args.self.now.items c.args.i c.index.result.now x c.self.invariant e c.requires c.index.ensures c.in-Update.is))
+    (at_holds (Fits wc words) (step_of wc words) cells c.args.self.now.items c.args.i c.index.result.now x c.self.invariant.0 e c.requires c.index.ensures c.in-Update.is))
 
 pub returns-in-Ask : goal.returns-in-Ask
 returns-in-Ask g c =

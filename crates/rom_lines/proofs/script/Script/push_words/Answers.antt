@@ -1,7 +1,7 @@
 use Rattle.std.proofs.Common.{◌≡◌, ◌∙◌, length, ◌≤◌, arith}
 use Rattle.std.proofs.lemmas.Result.{MatchResult-from_err}
 use Rattle.rom_lines.specs.Steps.{CALL_WORDS}
-use Rattle.rom_lines.proofs.Steps.{steps_stay, fit_behind, steps_behind}
+use Rattle.rom_lines.proofs.Steps.{steps_stay, own_words, steps_behind}
 use Rattle.rom_lines.proofs.script.Script.push_words.Goals as goal
 
 pub returns-in_err-push-clause-err : goal.returns-in_err-push-clause-err
@@ -9,7 +9,7 @@ returns-in_err-push-clause-err g c =
     let wc = g.O.Object.machine.words_call in
     MatchResult-from_err c.from_residual-in_err-push.result _ _ c.from_residual-in_err-push.ensures.0
     (λ _. rw (← c.self.view_is, c.in_ok-extend_from_slice.ensures.items, c.in_err-push.ensures.items)
-    (steps_stay wc c.self.inside.words.items c.as_slice.result.now c.self.inside.cells.items c.self.invariant))
+    (steps_stay wc c.self.inside.words.items c.as_slice.result.now c.self.inside.cells.items c.self.invariant.0))
 
 pub invariant_of-self-2 : goal.invariant_of-self-2
 invariant_of-self-2 g c =
@@ -18,7 +18,7 @@ invariant_of-self-2 g c =
     let e1 : c.len.result ≡ length c.args.words.now = c.len.ensures.many in
     let e2 : c.len-from.result ≡ length c.self.inside.words.items = c.len-from.ensures ∙ c.self.inside.words.ok.0 in
     rw (c.in_ok-extend_from_slice.ensures.items, c.in_ok-push.ensures.items, c.as_slice.ensures, e1, e2)
-    (fit_behind wc c.self.inside.words.items c.args.words.now c.self.inside.cells.items c.self.invariant few c.requires.call)
+    (own_words wc c.self.inside.words.items c.args.words.now c.self.inside.cells.items c.self.invariant few c.requires.call)
 
 pub returns-clause-added : goal.returns-clause-added
 returns-clause-added g c call e =
@@ -26,4 +26,4 @@ returns-clause-added g c call e =
     let e1 : c.len.result ≡ length c.args.words.now = c.len.ensures.many in
     let e2 : c.len-from.result ≡ length c.self.inside.words.items = c.len-from.ensures ∙ c.self.inside.words.ok.0 in
     rw (← c.self.view_is, c.in_ok-extend_from_slice.ensures.items, c.in_ok-push.ensures.items, c.as_slice.ensures, e1, e2)
-    (steps_behind wc c.self.inside.words.items c.args.words.now c.self.inside.cells.items call c.self.invariant e)
+    (steps_behind wc c.self.inside.words.items c.args.words.now c.self.inside.cells.items call c.self.invariant.0 e)
