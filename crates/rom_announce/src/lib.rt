@@ -1,7 +1,7 @@
 //! Announced calls: a caller posts a call in its slot, the writer finds and answers it there, and the
 //! caller takes the answer.
 //!
-//! [`post`], [`answered`] and [`take`] are a caller's, [`posted`], [`arguments`], [`arguments_into`]
+//! [`post`], [`post_words`], [`answered`] and [`take`] are a caller's, [`posted`], [`arguments`], [`arguments_into`]
 //! and [`answer`] the writer's. None waits, takes memory or can be refused, and each makes a number of
 //! steps that its contract tells, each of one word. A caller whose call is not answered yet may
 //! [`linger`] or [`nap`]: the answer wakes it, and so does [`wake_next`]. Before a pass calls may
@@ -22,7 +22,7 @@ mod taking;
 mod waiting;
 
 pub use answering::answer;
-pub use posting::post;
+pub use posting::{post, post_words};
 pub use scanning::{arguments, arguments_into, posted};
 pub use taking::{answered, take, take_into};
 pub use waiting::{gather, linger, nap, wake_next};

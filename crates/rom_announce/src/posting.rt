@@ -30,7 +30,29 @@ pub fn post<O: Object>(shared: &Shared<O>, seat: &mut Seat, args: &Args)
         } }
 {
     store_argument(shared, seat, 0, args.len());
-    store_arguments(shared, seat, args);
+    store_arguments(shared, seat, args.as_slice());
+    store_turn(shared, seat);
+}
+
+/// As [`post`], for words that stand anywhere, such as in a list of calls. They are at most 40.
+pub fn post_words<O: Object>(shared: &Shared<O>, seat: &mut Seat, words: &[u64])
+    requires of { IsSeatOf shared.now seat.old }
+    requires none_posted { IsAnswered seat.old }
+    requires few { length (view seat.old).calls < LAST_COUNT }
+    requires room { length words.now ≤ 40 }
+    requires call { IsCall (on_words O.machine) (view seat.old).base words.now }
+    ensures same { IsSameSeat seat.old seat.new }
+    // The call with these words is posted, as by `post`.
+    ensures posted { let v = view seat.old in
+        view seat.new ≡ record v {
+          calls = v.calls ++ words.now ∷ [];
+          laid = packed words.now;
+          since = length v.seen;
+          steps = v.steps + length words.now + 2;
+        } }
+{
+    store_argument(shared, seat, 0, words.len() as u64);
+    store_arguments(shared, seat, words);
     store_turn(shared, seat);
 }
 
@@ -50,17 +72,17 @@ fn store_argument<O: Object>(shared: &Shared<O>, seat: &mut Seat, j: u64, word: 
         .store::<StoresArgument>(&mut seat.token, at, word);
 }
 
-fn store_arguments<O: Object>(shared: &Shared<O>, seat: &mut Seat, args: &Args)
+fn store_arguments<O: Object>(shared: &Shared<O>, seat: &mut Seat, words: &[u64])
     requires of { IsSeatOf shared.now seat.old }
     requires none_posted { IsAnswered seat.old }
-    requires few { length args.now ≤ 40 }
-    requires number { (view seat.old).laid ≡ length args.now ∷ [] }
+    requires few { length words.now ≤ 40 }
+    requires number { (view seat.old).laid ≡ length words.now ∷ [] }
     ensures same { IsSameSeat seat.old seat.new }
     ensures stored { let v = view seat.old in
-        view seat.new ≡ record v { laid = packed args.now; steps = v.steps + length args.now } }
+        view seat.new ≡ record v { laid = packed words.now; steps = v.steps + length words.now } }
 {
-    for i in 0..args.len() {
-        store_argument(shared, seat, 1 + i, args.at(i).unwrap());
+    for (i, word) in words.iter().enumerate() {
+        store_argument(shared, seat, 1 + i as u64, *word);
     }
 }
 

@@ -10,7 +10,7 @@ use rom_model::Look;
 use rom_ranges::Range;
 
 /// How many words are handed to the device by one call at most.
-const PIECE: usize = 64;
+const PIECE: usize = 16;
 
 /// Loads words of the image, from an offset on, as many as there is room for.
 fn load_piece<M: Look>(image: &mut M, from: u64, piece: &mut [u64])
@@ -37,7 +37,7 @@ fn write_piece<D: Device, M: Look>(
 ) -> Result<(), Failed>
     requires fits { base + length (M.shown.image image.old) ≤ D.shown.size device.old }
     requires within { from + count ≤ length (M.shown.image image.old) }
-    requires room { count ≤ 64 }
+    requires room { count ≤ 16 }
     ensures looks { Looks M.shown count image.old image.new }
     ensures written { IsTrue D.shown.tells_words → OnOk result ((k : ℕ) → k < count →
         slice_index (D.shown.words device.new) (base + from + k)
