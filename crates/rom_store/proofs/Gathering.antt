@@ -9,6 +9,7 @@ use Rattle.rom_model.specs.Machine.{Machine}
 use Rattle.rom_model.specs.Story.{Story}
 use Rattle.rom_model.specs.Heard.{HasHeard}
 use Rattle.rom_model.specs.Leaving.{IsKept, HasLeft, HaveLeft}
+use Rattle.rom_lines.specs.Replies.{Reserved}
 use Rattle.rom_rule.specs.declared.views.Base.{Base}
 use Rattle.rom_store.specs.Indexed.{Indexed, Both}
 use Rattle.rom_store.specs.Callers.{Caller, IsCallerOf, IsNumbered}
@@ -17,20 +18,20 @@ use Rattle.rom_store.specs.Working.{IsNext, IsPast, HasDone, script_of}
 
 module _ {S C Q R A : Type 0} (m : Machine S C Q R A) (Contents : ℕ → List ℕ → S → ℕ → Type 0) (table : TableId) (base : Base) (scripts : List (List (Step C Q))) where
   -- the jobs after their work, from the jobs before it
-  pub all_past : {J : Type 0} (pass : J → Caller) (results : J → List (LineResult R A)) (room : J → ℕ) (olds news : List J) → length news ≡ length olds →
-      Indexed (λ j job. IsNext Contents table base scripts j (pass job) (results job) (room job)) olds →
+  pub all_past : {J : Type 0} (pass : J → Caller) (results : J → Reserved (LineResult R A)) (olds news : List J) → length news ≡ length olds →
+      Indexed (λ j job. IsNext Contents m.call_words table base scripts j (pass job) (results job)) olds →
       ((i : ℕ) (b : J) → slice_get news i ≡ Some b → IsCallerOf Contents table base (pass b)) →
       ((i : ℕ) (a b : J) → slice_get olds i ≡ Some a → slice_get news i ≡ Some b → (pass b).view.number ≡ (pass a).view.number) →
-      ((i : ℕ) (a b : J) → slice_get olds i ≡ Some a → slice_get news i ≡ Some b → HasDone m Contents base (pass b) (script_of scripts (pass a).view.number) (results b)) →
-      Indexed (λ j job. IsPast m Contents base table scripts j (pass job) (results job)) news
-  all_past {J} pass results room olds news many next of number done = record {
+      ((i : ℕ) (a b : J) → slice_get olds i ≡ Some a → slice_get news i ≡ Some b → HasDone m Contents base (pass b) (script_of scripts (pass a).view.number) (results b).items) →
+      Indexed (λ j job. IsPast m Contents base table scripts j (pass job) (results job).items) news
+  all_past {J} pass results olds news many next of number done = record {
     at = λ i b now.
         let lt : i < length olds = omega (arith, slice_get_within news i b now, many) in
         let a : J = get_or olds i b in
         let was : slice_get olds i ≡ Some a = slice_get-get_or olds i b lt in
         let same : (pass b).view.number ≡ (pass a).view.number = number i a b was now in
         let place : (pass a).view.number + i ≡ length scripts = (next.at i a was).place in
-        record { of = of i b now; place = omega arith; done = subst (λ n. HasDone m Contents base (pass b) (script_of scripts n) (results b)) (sym same) (done i a b was now) };
+        record { of = of i b now; place = omega arith; done = subst (λ n. HasDone m Contents base (pass b) (script_of scripts n) (results b).items) (sym same) (done i a b was now) };
   }
 
   script_at : (i : ℕ) (ls : List (Step C Q)) → slice_get scripts i ≡ Some ls → script_of scripts (i + 1) ≡ ls

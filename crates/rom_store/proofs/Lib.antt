@@ -6,12 +6,14 @@ pub mod Tracing
 pub mod Lasting
 pub mod Moments
 pub mod Passed
+pub mod Becoming
 pub mod Telling
 pub mod Stories
 pub mod Ending
 pub mod Closings
 pub mod Each
 pub mod Places
+pub mod Taking
 pub mod Placing
 pub mod Dealing
 pub mod Gathering

@@ -9,7 +9,7 @@ use denote.Struct.Tuple.{TupleAt}
 use denote.Param.Send.{IsSend, IsSync, recorded_sync, sendable, struct_sync}
 use Rattle.rom_device.specs.declared.device.Device
 use Rattle.rom_model.specs.declared.object.Object
-use Rattle.rom_model.proofs.line.Step.TheSendSync as line
+use Rattle.rom_lines.proofs.script.Script.TheSendSync as script
 use Rattle.rom_lr.proofs.shared.Shared.TheSendSync as shared
 use Rattle.std.specs.declared.clone.Clone
 use Rattle.std.specs.contracts.sync.Mutex
@@ -52,4 +52,4 @@ module _ (D O N C Q R A : RattleType) (g : Device.Ghosts D.Denot) (g' : Label.Gh
       recorded_sync (Struct (shape t)) t.D t.to t.to_one (struct_sync (shape t) (words_sync, (lock_sync, (begun_sync, (pace_sync, tt)))))
 
   pub room_sync : (ℓ : NamedLft) (G : RattleType) → IsSync G → IsSync (Room.the_row ℓ D O N G C Q R A g g' g'' c a a' e)
-  room_sync ℓ G s = search (sendable, crosses, store_sync, line.the_sync) depth 20
+  room_sync ℓ G s = search (sendable, crosses, store_sync, script.the_sync) depth 20

@@ -1,6 +1,5 @@
 -- What was called of a device before the first pass of a session.
 use Rattle.std.specs.Prelude.{◌≡◌, ℕ, ◌≤◌, IsTrue, List}
-use Rattle.std.specs.Global.{Vec}
 use Rattle.std.proofs.Common.{arith, sym, ◌∙◌, subst}
 use Rattle.rom_model.specs.Faults.{AtMost}
 use Rattle.rom_model.specs.Machine.{Machine}
@@ -12,6 +11,8 @@ use Rattle.rom_recover.specs.Calls.{CallsWithin}
 use Rattle.rom_open.specs.AtRest.{IsAtRest}
 use Rattle.rom_open.specs.Making.{NoneOrHolds}
 use Rattle.rom_open.specs.Within.{CallsOfOrder, HasMadeHeap, HasOpened, LiesAtRest, WithinMaking, WithinOpening}
+use Rattle.rom_lines.specs.Replies.{Reserved}
+use Rattle.rom_lines.specs.Steps.{Items}
 use Rattle.rom_store.specs.Closing.{ClosedSeen}
 use Rattle.rom_store.specs.Playing.{IsSession}
 use Rattle.rom_store.specs.Start.{HasStarted, start_of}
@@ -58,7 +59,7 @@ module _ {D : Type 0} (shown : ShownDevice D) where
   }
 
 -- what is known of the device before the passes of a session
-pub session_since : {D S C Q R A : Type 0} (shown : ShownDevice D) (machine : Machine S C Q R A) (Contents : ℕ → List ℕ → S → ℕ → Type 0) (scripts : List (Vec (Step C Q))) (results : List (Vec (LineResult R A)))
+pub session_since : {D S C Q R A : Type 0} (shown : ShownDevice D) (machine : Machine S C Q R A) (Contents : ℕ → List ℕ → S → ℕ → Type 0) (scripts : List (Items (Step C Q))) (results : List (Reserved (LineResult R A)))
     (First Second : D → Type 0) (closed : ClosedSeen D) → ((d : D) → First d → Second d) → IsSession shown machine Contents scripts results First closed → IsSession shown machine Contents scripts results Second closed
 session_since shown machine Contents scripts results First Second closed weaker of = record {
   story = of.story;

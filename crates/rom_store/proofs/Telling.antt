@@ -1,5 +1,5 @@
 -- What an update was told: the words of a reply with a place below the last count, or a code.
-use Rattle.std.specs.Prelude.{◌≡◌, ℕ, zero, suc, ◌+◌, ◌-◌, ◌^◌, ◌≤◌, List, [], ◌∷◌, ◌++◌, length, map, nat_lt, cond, Bool, true, false, Option, Some, None, option_map, slice_get, slice_index_or}
+use Rattle.std.specs.Prelude.{◌≡◌, ℕ, zero, suc, ◌+◌, ◌-◌, ◌^◌, ◌*◌, ◌≤◌, List, [], ◌∷◌, ◌++◌, length, map, nat_lt, cond, Bool, true, false, Option, Some, None, option_map, slice_get, slice_index_or}
 use Rattle.std.specs.List.{AllByRecursion}
 use Rattle.std.proofs.Common.{refl, sym, ap, ◌∙◌, subst, arith}
 use mathlib.Core.Option.{some, some-injective, some-ne-none}
@@ -22,7 +22,8 @@ use Rattle.rom_rule.specs.Views.{Told, kept_of}
 use Rattle.rom_rule.specs.declared.views.Base.{Base}
 use Rattle.rom_rule.specs.declared.views.View.{View}
 use Rattle.rom_rule.proofs.Told.{at_low}
-use Rattle.rom_store.specs.Updating.{HasBeenTold, IsDoneIn, IsReadBack, IsWithinPlaces}
+use Rattle.rom_store.specs.Updating.{HasBeenTold, IsDoneIn}
+use Rattle.rom_store.proofs.Becoming.{IsReadBack, IsWithinPlaces, legal_few}
 
 -- an answer's words stand for it alone
 one_told : (a b : Updated (List ℕ)) → IsWithinPlaces a → IsWithinPlaces b → answer_words a ≡ answer_words b → a ≡ b
@@ -264,3 +265,10 @@ module _ {S C Q R A : Type 0} (m : Machine S C Q R A) (Contents : ℕ → List �
     pub told_done : ((s t : S) (j k : ℕ) → Contents b.order b.image s j → Contents b.order b.image t k → (s ≡ t) × (j ≡ k)) → (s : S) (k : ℕ) → Contents b.order b.image s k → (reply : R) (place : ℕ) → u ≡ told.Done reply place
         → IsDoneIn (on_words m) b.order s k (next_call (kept_of old) args) (m.reply_words reply) place old.seen new.seen
     told_done one s k at reply place done = is_done Contents (on_words m) b told_call old.seen new.seen told_once (m.reply_words reply) place (ap (as_words m) done) one s k at
+
+    -- and where it is done, its reply has at most twice the words of the call
+    pub told_few : ((order : ℕ) (s : S) (count : ℕ) (words : List ℕ) (call : C) → m.words_call words ≡ Some call → length (m.reply_words (m.step order s count call).1) ≤ 2 * length words) → (reply : R) (place : ℕ) → u ≡ told.Done reply place → length (m.reply_words reply) ≤ 2 * length args
+    told_few few reply place done =
+        let once = told_once in
+        let is = done_since Contents (on_words m) b told_call old.seen new.seen once (m.reply_words reply) place (ap (as_words m) done) in
+        legal_few m few b.order once.start once.count new.seen (place - once.count) _ is.legal is.entry

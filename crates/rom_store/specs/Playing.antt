@@ -13,6 +13,8 @@ use Rattle.rom_model.specs.declared.line.Step.{Step}
 use Rattle.rom_device.specs.Device.{Leaves, ShownDevice}
 use Rattle.rom_combine.specs.Costs.{WithinHeap}
 use Rattle.rom_combine.specs.Session.{ImageNow, SessionImage}
+use Rattle.rom_lines.specs.Replies.{Reserved}
+use Rattle.rom_lines.specs.Steps.{Items}
 use Rattle.rom_rule.specs.declared.views.Base.{Base}
 use Rattle.rom_store.specs.Callers.{Caller, IsNewCaller}
 use Rattle.rom_store.specs.Closing.{ClosedSeen}
@@ -24,20 +26,19 @@ use Rattle.rom_store.specs.Traced.{WentThrough}
 use Rattle.rom_store.specs.Working.{IsRoom}
 use Rattle.rom_store.specs.declared.playing.Unplayed.{Unplayed}
 use Rattle.rom_store.specs.declared.playing.Unplayed.TheVariants.{NoRoom, Unopened}
-use Rattle.rom_store.specs.declared.rooms.Rooms.{Rooms}
 
--- For each script there is an empty list with room for a result of each of its lines, and room for a job.
-pub record HasRooms {X R A : Type 0} (scripts : List (Vec X)) (rooms : Rooms R A) : Type 0 where
-  pub many : vec_len rooms.results ≡ length scripts
-  pub fits : Indexed (λ i room. IsRoom (map (λ v. v.items) scripts) i room.items (vec_capacity room)) rooms.results.items
-  pub jobs : (rooms.jobs.items ≡ []) × (length scripts ≤ vec_capacity rooms.jobs)
+-- For each script there are no results yet and room for one of each of its lines, and room for a job.
+pub record HasRooms {C Q T J : Type 0} (call_words : C → List ℕ) (scripts : List (Items (Step C Q))) (results : Vec (Reserved T)) (jobs : Vec J) : Type 0 where
+  pub many : vec_len results ≡ length scripts
+  pub fits : Indexed (IsRoom call_words (map (λ v. v.items) scripts)) results.items
+  pub none : (jobs.items ≡ []) × (length scripts ≤ vec_capacity jobs)
 
 -- What is asked before scripts are played: the heap of this table is opened for as many callers as there are scripts, the callers are new, there is room for all results, and no script has more lines than a caller may post updates.
-pub record CanPlay {S X R A : Type 0} (Contents : ℕ → List ℕ → S → ℕ → Type 0) (table : TableId) (base : Base) (passes : List Caller) (scripts : List (Vec X)) (rooms : Rooms R A) : Type 0 where
+pub record CanPlay {S C Q T J : Type 0} (Contents : ℕ → List ℕ → S → ℕ → Type 0) (call_words : C → List ℕ) (table : TableId) (base : Base) (passes : List Caller) (scripts : List (Items (Step C Q))) (results : Vec (Reserved T)) (jobs : Vec J) : Type 0 where
   pub opened : (s : S) × (k : ℕ) × Contents base.order base.image s k
   pub fresh : Indexed (IsNewCaller Contents table base) passes
   pub as_many : (length passes ≡ length scripts) × (length scripts ≡ base.callers)
-  pub room : HasRooms scripts rooms
+  pub room : HasRooms call_words scripts results jobs
   pub few : All (λ v. length v.items ≤ LAST_COUNT) scripts
 
 -- Why scripts were not played: there was no memory for what they are told, and the device was not called; or the heap was not opened.
@@ -45,7 +46,7 @@ abbrev pub IsUnplayed : {D S : Type 0} → ShownDevice D → (ℕ → List ℕ �
 IsUnplayed shown Contents Rejects was (NoRoom device) = device ≡ was
 IsUnplayed shown Contents Rejects was (Unopened refused) = HasBeenRefused shown Contents Rejects was refused.device refused.why
 
-module _ {D S C Q R A : Type 0} (shown : ShownDevice D) (machine : Machine S C Q R A) (Contents : ℕ → List ℕ → S → ℕ → Type 0) (scripts : List (Vec (Step C Q))) (results : List (Vec (LineResult R A))) where
+module _ {D S C Q R A : Type 0} (shown : ShownDevice D) (machine : Machine S C Q R A) (Contents : ℕ → List ℕ → S → ℕ → Type 0) (scripts : List (Items (Step C Q))) (results : List (Reserved (LineResult R A))) where
   -- What every session of scripts is. It has a story, and of each: what the lines were told is lawful; each image that a stop leaves now holds the published history, or that with the batch in doubt; the device went through the passes of the records, from one on of which First holds, since which each image is one of the session; and the passes have no more faults than it counts.
   pub record IsSession (First : D → Type 0) (closed : ClosedSeen D) : Type 0 where
     pub story : HasStory machine Contents closed.session

@@ -1,27 +1,23 @@
 -- What an update leaves.
-use Rattle.std.specs.Prelude.{◌≡◌, ℕ, ◌+◌, ◌-◌, ◌<◌, ◌≤◌, List, [], ◌∷◌, ◌++◌, length, slice_get, slice_index_or, Option, Some}
-use Rattle.rom_model.specs.History.{IsLegal, LAST_COUNT, after, batch}
-use Rattle.rom_model.specs.Machine.{Machine}
-use Rattle.rom_model.specs.declared.call.Updated.{Updated}
-use Rattle.rom_model.specs.declared.call.Updated.TheVariants as told
+use Rattle.std.specs.Prelude.{◌≡◌, ◌≢◌, ℕ, ◌+◌, ◌-◌, ◌≤◌, List, [], ◌∷◌, ◌++◌, length, slice_get, slice_index_or, Option, Some}
+use Rattle.rom_model.specs.History.{IsLegal, after, batch}
+use Rattle.rom_model.specs.Undone.{SPENT, FAILED, DOUBT}
 use Rattle.rom_model.specs.declared.entry.Entry.{Entry}
 use Rattle.rom_model.specs.declared.record.Found.{Found}
+use Rattle.rom_lines.specs.declared.results.Became.{Became}
+use Rattle.rom_lines.specs.declared.results.Became.TheVariants as became
+use Rattle.rom_lines.specs.declared.results.Undone.TheVariants as undone
 use Rattle.rom_rule.specs.CallKinds.{IsTold}
 use Rattle.rom_rule.specs.Records.{KnowsEntries}
 use Rattle.rom_rule.specs.Views.{Told}
 use Rattle.rom_rule.specs.declared.views.View.{View}
 
--- a place is below the last count, so that no code stands for one
-abbrev pub IsWithinPlaces : {R : Type 0} → Updated R → Type 0
-IsWithinPlaces (told.Done reply place) = place < LAST_COUNT
-IsWithinPlaces told.Spent = Unit {0}
-IsWithinPlaces told.Failed = Unit {0}
-IsWithinPlaces told.Doubt = Unit {0}
-
--- the words of a reply are read as that reply
-abbrev pub IsReadBack : {S C Q R A : Type 0} → Machine S C Q R A → Updated R → Type 0
-IsReadBack m (told.Done reply place) = m.words_reply (m.reply_words reply) ≡ Some reply
-IsReadBack m other = Unit {0}
+-- what became of an update, and the word that it is told by: its place, which is none of the codes, or the code
+abbrev pub Says : Became → ℕ → Type 0
+Says (became.Done place) word = (place ≡ word) × (word ≢ SPENT) × (word ≢ FAILED) × (word ≢ DOUBT)
+Says (became.Undone undone.Spent) word = word ≡ SPENT
+Says (became.Undone undone.Failed) word = word ≡ FAILED
+Says (became.Undone undone.Doubt) word = word ≡ DOUBT
 
 -- After some steps the caller was told what became of the call that it has posted, and nothing else of its view has changed but what it has seen.
 pub record HasBeenTold {S : Type 0} (Contents : ℕ → List ℕ → S → ℕ → Type 0) (step : ℕ → S → ℕ → List ℕ → Option (S × List ℕ)) (v w : View) : Type 0 where

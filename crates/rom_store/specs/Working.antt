@@ -1,11 +1,13 @@
 -- A caller's work on its script.
-use Rattle.std.specs.Prelude.{◌≡◌, ℕ, ◌+◌, ◌-◌, ◌<◌, ◌≤◌, List, [], length, unwrap_or, slice_get}
+use Rattle.std.specs.Prelude.{◌≡◌, ℕ, ◌+◌, ◌-◌, ◌<◌, ◌≤◌, List, [], ◌∷◌, ◌++◌, length, unwrap_or, slice_get}
 use Rattle.atomic_table.specs.Seated.{TableId}
 use Rattle.rom_model.specs.declared.kept.Kept.{Kept}
 use Rattle.rom_model.specs.declared.line.Step.{Step}
 use Rattle.rom_model.specs.declared.line.LineResult.{LineResult}
 use Rattle.rom_model.specs.Heard.{HasHeard}
 use Rattle.rom_model.specs.Machine.{Machine}
+use Rattle.rom_lines.specs.Replies.{HasRoomFor, Reserved, TookRoom}
+use Rattle.rom_lines.specs.Steps.{need}
 use Rattle.rom_rule.specs.declared.views.Base.{Base}
 use Rattle.rom_store.specs.Callers.{Caller, IsCallerOf}
 use Rattle.rom_store.specs.Closing.{kept_in}
@@ -20,23 +22,23 @@ pub record IsFirst (v : Kept) : Type 0 where
   pub fronts : v.fronts ≡ []
   pub told : v.told ≡ []
 
--- The list at this place is empty, and has room for a result of each line of its script.
-pub record IsRoom {X Y : Type 0} (scripts : List (List X)) (i : ℕ) (results : List Y) (room : ℕ) : Type 0 where
-  pub none : results ≡ []
-  pub fits : length (script_of scripts (i + 1)) ≤ room
+-- No results stand at this place, and there is room for one of each line of its script.
+pub record IsRoom {C Q T : Type 0} (call_words : C → List ℕ) (scripts : List (List (Step C Q))) (i : ℕ) (results : Reserved T) : Type 0 where
+  pub none : results.items ≡ []
+  pub fits : HasRoomFor call_words (script_of scripts (i + 1)) results
 
--- A pass and a list of results are those of a caller that hasn't begun, and the list has room for each of its lines.
-pub record HasNotBegun {S X Y : Type 0} (Contents : ℕ → List ℕ → S → ℕ → Type 0) (table : TableId) (base : Base) (scripts : List (List X)) (pass : Caller) (results : List Y) (room : ℕ) : Type 0 where
+-- A pass and results are those of a caller that hasn't begun, and there is room for a result of each of its lines.
+pub record HasNotBegun {S C Q T : Type 0} (Contents : ℕ → List ℕ → S → ℕ → Type 0) (call_words : C → List ℕ) (table : TableId) (base : Base) (scripts : List (List (Step C Q))) (pass : Caller) (results : Reserved T) : Type 0 where
   pub of : IsCallerOf Contents table base pass
   pub from_one : 0 < pass.view.number
   pub known : pass.view.number ≤ length scripts
   pub first : IsFirst (kept_in pass)
-  pub none : results ≡ []
-  pub fits : length (script_of scripts pass.view.number) ≤ room
+  pub none : results.items ≡ []
+  pub fits : HasRoomFor call_words (script_of scripts pass.view.number) results
 
 -- The job at this place of a list that has the last caller first: of so many callers, one that hasn't begun.
-pub record IsNext {S X Y : Type 0} (Contents : ℕ → List ℕ → S → ℕ → Type 0) (table : TableId) (base : Base) (scripts : List (List X)) (j : ℕ) (pass : Caller) (results : List Y) (room : ℕ) : Type 0 where
-  pub ready : HasNotBegun Contents table base scripts pass results room
+pub record IsNext {S C Q T : Type 0} (Contents : ℕ → List ℕ → S → ℕ → Type 0) (call_words : C → List ℕ) (table : TableId) (base : Base) (scripts : List (List (Step C Q))) (j : ℕ) (pass : Caller) (results : Reserved T) : Type 0 where
+  pub ready : HasNotBegun Contents call_words table base scripts pass results
   pub place : pass.view.number + j ≡ length scripts
 
 -- Of an object, and of a heap's order and image at opening:
@@ -44,6 +46,13 @@ module _ {S C Q R A : Type 0} (m : Machine S C Q R A) (Contents : ℕ → List �
   -- what the caller of this pass was told of these lines is what it keeps
   pub record HasDone (pass : Caller) (lines : List (Step C Q)) (results : List (LineResult R A)) : Type 0 where
     pub heard : (s : S) (k : ℕ) → Contents base.order base.image s k → HasHeard m base.order s k (kept_in pass) lines results
+
+  -- One line more was taken, which asks for this: its result stands behind those of the lines before, and took no more room than was reserved for it.
+  pub record HasTaken (asks : Step C Q) (was pass : Caller) (before results : Reserved (LineResult R A)) : Type 0 where
+    pub used : ℕ
+    pub few : used ≤ need m.call_words asks
+    pub room : TookRoom before results used
+    pub done : (lines : List (Step C Q)) → HasDone was lines before.items → HasDone pass (lines ++ asks ∷ []) results.items
 
   -- the job at this place, once its caller is done
   pub record IsPast (table : TableId) (scripts : List (List (Step C Q))) (j : ℕ) (pass : Caller) (results : List (LineResult R A)) : Type 0 where

@@ -34,11 +34,7 @@ fn take_in_all<O: Object>(shared: &Shared<O>, writer: &mut WriterSeat, passes: V
     } }
 {
     for pass in passes {
-        let Pass {
-            seat,
-            args: _,
-            reply: _,
-        } = pass;
+        let Pass { seat } = pass;
         shared.take_in(writer, seat);
     }
 }

@@ -5,7 +5,6 @@ ghost use Rattle.rom_rule.specs.Kinds.{IsIdle};
 ghost use Rattle.rom_store.specs.Callers.{caller_at};
 
 use rom_lr::Seat;
-use rom_model::{Args, Back};
 use std::marker::Model;
 
 /// One caller's right to call. A store makes it as it is started, one for each caller, and a thread may
@@ -14,9 +13,6 @@ use std::marker::Model;
 #[derive(Drop)]
 pub struct Pass {
     pub(crate) seat: Seat,
-    // Room for the words of a call and of its reply. What stands there tells nothing.
-    pub(crate) args: Args,
-    pub(crate) reply: Back,
 }
 
 // Contracts see a pass as a caller, and name no field of its seat. The type's invariant says that the caller
@@ -38,11 +34,7 @@ impl Pass {
         requires { IsIdle (view seat) }
         ensures { result ≡ caller_at seat }
     {
-        Pass {
-            seat,
-            args: Args::new(),
-            reply: Back::new(),
-        }
+        Pass { seat }
     }
 
     /// The caller's number; callers are numbered from 1.

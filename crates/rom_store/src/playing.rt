@@ -18,7 +18,8 @@ use crate::running::{Played, play_on};
 use crate::work::Room;
 use rom_combine::Gate;
 use rom_device::Device;
-use rom_model::{Object, Step};
+use rom_lines::Script;
+use rom_model::Object;
 use rom_open::Refused;
 use std::alloc::Global;
 use std::sync::Wait;
@@ -43,14 +44,14 @@ pub fn play<D: Device + Send, O: Object + Send + Sync, R: Threads + Wait + Sync,
     rt: &R,
     alloc: Global,
     device: D,
-    scripts: &[Vec<Step<O::Call, O::Query>>],
+    scripts: &[Script<O>],
     gate: &G,
-) -> Result<Played<D, O, O::Reply, O::Answer>, Unplayed<D>>
+) -> Result<Played<D, O>, Unplayed<D>>
 where
     O::Call: Send + Sync,
     O::Query: Send + Sync,
-    O::Reply: Drop + Send + Sync,
-    O::Answer: Drop + Send + Sync,
+    O::Reply: Send + Sync,
+    O::Answer: Send + Sync,
     requires callers { (0 < length scripts.now) × (length scripts.now ≤ 16) }
     // No script has more lines than 2^62, the most calls that a caller may post.
     requires few { All (λ v. length v.items ≤ LAST_COUNT) scripts.now }

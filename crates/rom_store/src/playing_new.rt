@@ -27,7 +27,8 @@ use crate::seated::Seated;
 use rom_combine::Gate;
 use rom_device::Device;
 use rom_header::Geometry;
-use rom_model::{Object, Step, VecSpace, new_region};
+use rom_lines::Script;
+use rom_model::{Object, VecSpace, new_region};
 use rom_open::{NotFormatted, write_heap};
 use std::alloc::{AllocError, Global};
 use std::sync::Wait;
@@ -42,8 +43,8 @@ pub struct Unmade<D> {
 
 // All that scripts need of memory on a new heap, before its device is called.
 #[derive(Drop)]
-struct Ready<O: Object, R: Drop, A: Drop> {
-    rooms: Rooms<R, A>,
+struct Ready<O: Object> {
+    rooms: Rooms<O>,
     region: VecSpace,
     seated: Seated<O>,
 }
@@ -52,15 +53,13 @@ struct Ready<O: Object, R: Drop, A: Drop> {
 fn make_ready<O: Object>(
     alloc: Global,
     order: u32,
-    scripts: &[Vec<Step<O::Call, O::Query>>],
+    scripts: &[Script<O>],
     faults: u64,
-) -> Result<Ready<O, O::Reply, O::Answer>, AllocError>
-where
-    O::Reply: Drop,
-    O::Answer: Drop,
+) -> Result<Ready<O>, AllocError>
     requires order { IsOrder order }
     requires callers { (0 < length scripts.now) × (length scripts.now ≤ 16) }
-    ensures rooms { IfOk result (λ made. HasRooms scripts.now made.rooms) }
+    ensures rooms { IfOk result (λ made. HasRooms O.machine.call_words scripts.now
+        made.rooms.results made.rooms.jobs) }
     ensures region { IfOk result (λ made.
         O.Contents order (words_of made.region) O.machine.empty 0) }
     ensures of { IfOk result (λ made. IsWriterOf made.seated.shared made.seated.writer) }
@@ -105,14 +104,14 @@ pub fn play_new<
     alloc: Global,
     device: D,
     order: u32,
-    scripts: &[Vec<Step<O::Call, O::Query>>],
+    scripts: &[Script<O>],
     gate: &G,
-) -> Result<Played<D, O, O::Reply, O::Answer>, Unmade<D>>
+) -> Result<Played<D, O>, Unmade<D>>
 where
     O::Call: Send + Sync,
     O::Query: Send + Sync,
-    O::Reply: Drop + Send + Sync,
-    O::Answer: Drop + Send + Sync,
+    O::Reply: Send + Sync,
+    O::Answer: Send + Sync,
     requires order { IsOrder order }
     requires callers { (0 < length scripts.now) × (length scripts.now ≤ 16) }
     // No script has more lines than 2^62, the most calls that a caller may post.

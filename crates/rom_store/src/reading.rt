@@ -172,11 +172,7 @@ impl<D: Device, O: Object, N: Label> Store<D, O, N> {
         } }
         ensures counted { steps.new ≡ steps.old + 3 }
     {
-        let Pass {
-            mut seat,
-            args: _,
-            reply: _,
-        } = pass;
+        let Pass { mut seat } = pass;
         self.shared.enter(&mut seat);
         steps.add(ENTER_STEPS);
         Reading { seat }

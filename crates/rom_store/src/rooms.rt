@@ -8,37 +8,36 @@ ghost use Rattle.rom_store.specs.Working.{HasDone, IsNext, IsPast, IsRoom, scrip
 use crate::label::Label;
 use crate::pass::Pass;
 use crate::work::Job;
-use rom_model::{LineResult, Object, Step};
+use rom_lines::{Results, Script};
+use rom_model::Object;
 use std::alloc::{AllocError, Global};
 
 /// Room for a result of each line of each script, and for a job of each.
 #[derive(Drop)]
-pub(crate) struct Rooms<R: Drop, A: Drop> {
-    pub results: Vec<Vec<LineResult<R, A>>>,
-    pub jobs: Vec<Job<R, A>>,
+pub(crate) struct Rooms<O: Object> {
+    pub results: Vec<Results<O>>,
+    pub jobs: Vec<Job<O>>,
 }
 
 // Room for a result of each line.
-fn reserve<C, Q, R: Drop, A: Drop>(
-    alloc: Global,
-    scripts: &[Vec<Step<C, Q>>],
-) -> Result<Vec<Vec<LineResult<R, A>>>, AllocError>
+fn reserve<O: Object>(alloc: Global, scripts: &[Script<O>]) -> Result<Vec<Results<O>>, AllocError>
     ensures many { IfOk result (λ rooms. vec_len rooms ≡ length scripts.now) }
-    ensures rooms { IfOk result (λ rooms. Indexed (λ i room.
-        IsRoom (map (λ v. v.items) scripts.now) i room.items (vec_capacity room)) rooms.items) }
+    ensures rooms { IfOk result (λ rooms. Indexed (IsRoom O.machine.call_words
+        (map (λ v. v.items) scripts.now)) rooms.items) }
 {
     let mut rooms = Vec::with_capacity(alloc, scripts.len())?;
     for script in scripts {
-        let room = Vec::with_capacity(alloc, script.len())?;
+        let room = Results::for_script(alloc, script)?;
         rooms.push_reserved(room);
     }
     Ok(rooms)
 }
 
-impl<R: Drop, A: Drop> Rooms<R, A> {
+impl<O: Object> Rooms<O> {
     /// As much as these scripts need.
-    pub fn for_scripts<C, Q>(alloc: Global, scripts: &[Vec<Step<C, Q>>]) -> Result<Self, AllocError>
-        ensures rooms { IfOk result (HasRooms scripts.now) }
+    pub fn for_scripts(alloc: Global, scripts: &[Script<O>]) -> Result<Self, AllocError>
+        ensures rooms { IfOk result (λ made.
+            HasRooms O.machine.call_words scripts.now made.results made.jobs) }
     {
         let results = reserve(alloc, scripts)?;
         let jobs = Vec::with_capacity(alloc, scripts.len())?;
@@ -48,25 +47,21 @@ impl<R: Drop, A: Drop> Rooms<R, A> {
 
 /// Each pass becomes a job with its room, the last first.
 pub(crate) fn deal<O: Object, N: Label>(
-    scripts: &[Vec<Step<O::Call, O::Query>>],
+    scripts: &[Script<O>],
     passes: &mut Vec<Pass>,
-    rooms: &mut Vec<Vec<LineResult<O::Reply, O::Answer>>>,
-    jobs: &mut Vec<Job<O::Reply, O::Answer>>,
+    rooms: &mut Vec<Results<O>>,
+    jobs: &mut Vec<Job<O>>,
 )
-where
-    O::Reply: Drop,
-    O::Answer: Drop,
     requires passes_many { vec_len passes.old ≡ length scripts.now }
     requires rooms_many { vec_len rooms.old ≡ length scripts.now }
     requires none { jobs.old.items ≡ [] }
     requires space { length scripts.now ≤ vec_capacity jobs.old }
     requires fresh { Indexed (IsNewCaller O.Contents N.table N.base) passes.old.items }
-    requires rooms { Indexed (λ i room. IsRoom (map (λ v. v.items) scripts.now) i room.items
-        (vec_capacity room)) rooms.old.items }
+    requires rooms { Indexed (IsRoom O.machine.call_words (map (λ v. v.items) scripts.now))
+        rooms.old.items }
     ensures many { vec_len jobs.new ≡ length scripts.now }
-    ensures jobs { Indexed (λ j job. IsNext O.Contents N.table N.base
-        (map (λ v. v.items) scripts.now) j job.pass job.results.items (vec_capacity job.results))
-        jobs.new.items }
+    ensures jobs { Indexed (λ j job. IsNext O.Contents O.machine.call_words N.table N.base
+        (map (λ v. v.items) scripts.now) j job.pass job.results) jobs.new.items }
     ensures passes { (passes.new.items ≡ [])
         × (vec_capacity passes.new ≡ vec_capacity passes.old) }
     ensures none_left { (rooms.new.items ≡ []) × (vec_capacity rooms.new ≡ vec_capacity rooms.old) }
@@ -84,14 +79,11 @@ where
 
 /// The passes and the results of the jobs, in the order of their callers.
 pub(crate) fn gather<O: Object, N: Label>(
-    scripts: &[Vec<Step<O::Call, O::Query>>],
-    jobs: &mut Vec<Job<O::Reply, O::Answer>>,
+    scripts: &[Script<O>],
+    jobs: &mut Vec<Job<O>>,
     passes: &mut Vec<Pass>,
-    results: &mut Vec<Vec<LineResult<O::Reply, O::Answer>>>,
+    results: &mut Vec<Results<O>>,
 )
-where
-    O::Reply: Drop,
-    O::Answer: Drop,
     requires many { vec_len jobs.old ≡ length scripts.now }
     requires jobs { Indexed (λ j job. IsPast O.machine O.Contents N.base N.table
         (map (λ v. v.items) scripts.now) j job.pass job.results.items) jobs.old.items }

@@ -19,17 +19,16 @@ use crate::rooms::{Rooms, deal, gather};
 use crate::work::{Room, work_jobs};
 use rom_combine::Gate;
 use rom_device::Device;
-use rom_model::{LineResult, Object, Step};
+use rom_lines::{Results, Script};
+use rom_model::Object;
 use std::marker::Brand;
 use std::sync::Wait;
 use std::thread::Threads;
 
 /// What the lines of all scripts were told, in their order, and the store that was closed.
 #[derive(Drop)]
-pub struct Played<D: Device, O: Object, R: Drop, A: Drop> {
-    // The results' types are parameters, since what is dropped with a struct must be `Drop` where it is
-    // declared. That can be asked of a parameter, and not of an object's own types.
-    pub results: Vec<Vec<LineResult<R, A>>>,
+pub struct Played<D: Device, O: Object> {
+    pub results: Vec<Results<O>>,
     pub closed: Closed<D, O>,
 }
 
@@ -40,25 +39,20 @@ fn play_as<
     N: Label + Send + Sync,
     R: Threads + Wait + Sync,
     G: Gate + Sync,
->(
-    rt: &R,
-    opening: Opening<D, O>,
-    rooms: Rooms<O::Reply, O::Answer>,
-    scripts: &[Vec<Step<O::Call, O::Query>>],
-    gate: &G,
-) -> Played<D, O, O::Reply, O::Answer>
+>(rt: &R, opening: Opening<D, O>, rooms: Rooms<O>, scripts: &[Script<O>], gate: &G) -> Played<D, O>
 where
     O::Call: Send + Sync,
     O::Query: Send + Sync,
-    O::Reply: Drop + Send + Sync,
-    O::Answer: Drop + Send + Sync,
+    O::Reply: Send + Sync,
+    O::Answer: Send + Sync,
     requires table { N.table ≡ opening.table_id }
     requires base { N.base ≡ base_of opening.key }
     requires started { N.start ≡ start_of D.shown opening.device }
     requires since { IsTrue D.shown.tells_images → (t : ℕ) (i : List ℕ) →
         (N.since t i → D.shown.left_since opening.device t i)
         × (D.shown.left_since opening.device t i → N.since t i) }
-    requires ready { CanPlay O.Contents N.table N.base opening.passes scripts.now rooms }
+    requires ready { CanPlay O.Contents O.machine.call_words N.table N.base opening.passes
+        scripts.now rooms.results rooms.jobs }
     ensures order { result.closed.session.order ≡ N.base.order }
     ensures image { result.closed.session.image ≡ N.base.image }
     ensures opening_faults { result.closed.session.faults ≡ N.base.faults }
@@ -106,20 +100,14 @@ pub(crate) fn play_on<
     O: Object + Send + Sync,
     R: Threads + Wait + Sync,
     G: Gate + Sync,
->(
-    rt: &R,
-    opening: Opening<D, O>,
-    rooms: Rooms<O::Reply, O::Answer>,
-    scripts: &[Vec<Step<O::Call, O::Query>>],
-    gate: &G,
-) -> Played<D, O, O::Reply, O::Answer>
+>(rt: &R, opening: Opening<D, O>, rooms: Rooms<O>, scripts: &[Script<O>], gate: &G) -> Played<D, O>
 where
     O::Call: Send + Sync,
     O::Query: Send + Sync,
-    O::Reply: Drop + Send + Sync,
-    O::Answer: Drop + Send + Sync,
-    requires ready { CanPlay O.Contents opening.table_id (base_of opening.key) opening.passes
-        scripts.now rooms }
+    O::Reply: Send + Sync,
+    O::Answer: Send + Sync,
+    requires ready { CanPlay O.Contents O.machine.call_words opening.table_id
+        (base_of opening.key) opening.passes scripts.now rooms.results rooms.jobs }
     ensures played { IsPlayed D.shown O.machine O.Contents scripts.now result.results.items
         (base_of opening.key) opening.device result.closed }
 {

@@ -1,48 +1,58 @@
 //! How callers update.
-ghost use Rattle.std.specs.Prelude.{◌≡◌, ℕ, ◌+◌, ◌<◌, ◌≤◌, ◌++◌, ◌∷◌, [], List, length};
+ghost use Rattle.std.specs.Prelude.{◌≡◌, ℕ, ◌+◌, ◌*◌, ◌<◌, ◌≤◌, ◌++◌, ◌∷◌, [], List, length, IsSome};
 ghost use Rattle.std.specs.Bool.{OnFalse, OnTrue};
 ghost use Rattle.rom_model.specs.History.{LAST_COUNT};
 ghost use Rattle.rom_model.specs.Lawful.{as_words};
 ghost use Rattle.rom_model.specs.Machine.{on_words};
 ghost use Rattle.rom_model.specs.Seen.{StartsWith, next_call};
 ghost use Rattle.rom_model.specs.declared.call.Updated.{Updated};
+ghost use Rattle.rom_lines.specs.Replies.{IsReplied, updated_as};
+ghost use Rattle.rom_lines.specs.declared.results.Became.{Became};
+ghost use Rattle.rom_lines.specs.declared.results.Undone.{Undone};
 ghost use Rattle.rom_lr.specs.Seats.{IsPosted, IsSameSeat, IsSeatOf, view};
 ghost use Rattle.rom_rule.specs.CallKinds.{IsTold};
-ghost use Rattle.rom_rule.specs.Calls.{answer_words, packed};
 ghost use Rattle.rom_rule.specs.Views.{kept_of};
 ghost use Rattle.rom_store.specs.Callers.{IsCallerOf, IsSameCaller};
-ghost use Rattle.rom_store.specs.Updating.{HasBeenTold, IsDoneIn, IsReadBack, IsWithinPlaces};
+ghost use Rattle.rom_store.specs.Updating.{HasBeenTold, IsDoneIn, Says};
 
 use crate::held::Held;
 use crate::label::Label;
 use crate::pace::Pace;
 use crate::pass::Pass;
 use crate::store::Store;
-use rom_announce::{answered, linger, nap, post, take_into, wake_next};
+use rom_announce::{answered, linger, nap, post_words, take_into, wake_next};
 use rom_combine::Gate;
 use rom_device::Device;
+use rom_lines::{Became, Undone};
 use rom_lr::Seat;
-use rom_model::{Back, DOUBT, FAILED, LAST_COUNT, Object, SPENT, Updated};
+use rom_model::{Args, Back, DOUBT, FAILED, LAST_COUNT, Object, SPENT, Updated};
 use std::sync::{MutexGuard, Wait};
 
 /// How often a caller looks at its turn before it waits for the lock.
 const LOOKS: u64 = 64;
 
-/// What a caller was told, by its words.
-fn told_by<O: Object>(place: u64, words: &Back) -> Updated<O::Reply>
-    requires told { (u : Updated O.Reply) × IsWithinPlaces u × IsReadBack O.machine u
-        × (answer_words (as_words O.machine u) ≡ place ∷ packed words.now) }
-    ensures within { IsWithinPlaces result }
-    ensures told { answer_words (as_words O.machine result) ≡ place ∷ packed words.now }
+/// What became of an update, by the word that is told: a place or a code.
+fn became_of(word: u64) -> Became
+    ensures { Says result word }
 {
-    match place {
-        SPENT => Updated::Spent,
-        FAILED => Updated::Failed,
-        DOUBT => Updated::Doubt,
-        place => match O::words_reply(words) {
-            Some(reply) => Updated::Done(reply, place),
-            None => unreachable!(),
-        },
+    match word {
+        SPENT => Became::Undone(Undone::Spent),
+        FAILED => Became::Undone(Undone::Failed),
+        DOUBT => Became::Undone(Undone::Doubt),
+        place => Became::Done(place),
+    }
+}
+
+/// What a caller is told, with its reply, which is read from its words.
+fn updated_by<O: Object>(became: Became, words: &Back) -> Updated<O::Reply>
+    requires { IsReplied O.machine.words_reply became words.now }
+    ensures { result ≡ updated_as O.machine.words_reply became words.now }
+{
+    match became {
+        Became::Done(place) => Updated::Done(O::words_reply(words).unwrap(), place),
+        Became::Undone(Undone::Spent) => Updated::Spent,
+        Became::Undone(Undone::Failed) => Updated::Failed,
+        Became::Undone(Undone::Doubt) => Updated::Doubt,
     }
 }
 
@@ -52,7 +62,8 @@ impl<D: Device, O: Object, N: Label> Store<D, O, N> {
     /// took it, and `Spent` only where the count stood at 2^62, or this caller has posted 2^62
     /// calls: then nothing is posted. It may sleep until it is answered, and wait for the lock, and a
     /// pass that it runs waits for readers. It is answered before the pass that did it waits, so
-    /// the count of faults in that pass's record may still rise.
+    /// the count of faults in that pass's record may still rise. Who has the words of a call, and needs
+    /// those of its reply, updates by `update_words`.
     pub fn update<R: Wait, G: Gate>(
         &self,
         rt: &R,
@@ -97,14 +108,77 @@ impl<D: Device, O: Object, N: Label> Store<D, O, N> {
             (next_call (kept_of pass.old.view) (O.machine.call_words call.now))
             (O.machine.reply_words reply) place pass.old.view.seen pass.new.view.seen }
     {
+        let mut words = Args::new();
+        let mut told = Back::new();
+        O::put_call_words(call, &mut words);
+        // An `Args` has room for no more.
+        prove!(words.len() <= 40);
+        let became = self.update_words(rt, pass, words.as_slice(), &mut told, gate);
+        updated_by::<O>(became, &told)
+    }
+
+    /// As [`update`](Store::update), by the words of the call, which may stand anywhere. It makes `told`
+    /// the words of the reply, whatever they were, and leaves none where the update was not done.
+    pub fn update_words<R: Wait, G: Gate>(
+        &self,
+        rt: &R,
+        pass: &mut Pass,
+        words: &[u64],
+        told: &mut Back,
+        gate: &G,
+    ) -> Became
+        requires of { IsCallerOf O.Contents N.table N.base pass.old }
+        requires call { IsSome (O.machine.words_call words.now) }
+        requires few { length words.now ≤ 40 }
+        ensures of { IsCallerOf O.Contents N.table N.base pass.new }
+        ensures same { IsSameCaller pass.old pass.new }
+        // What the caller has now seen begins with all that it had seen.
+        ensures later { StartsWith pass.new.view.seen pass.old.view.seen }
+        ensures fronts { pass.new.view.fronts ≡ pass.old.view.fronts }
+        ensures joined { pass.new.view.joined ≡ pass.old.view.joined }
+        // A caller that was told of 2^62 calls already is told `Spent`, and what it knows stays as it was.
+        ensures unposted { LAST_COUNT ≤ length pass.old.view.outcomes →
+            (result ≡ Became.Undone Undone.Spent) × (pass.new ≡ pass.old) × (told.new ≡ []) }
+        // Else the call is posted: its words follow those of the caller's earlier calls.
+        ensures posted { length pass.old.view.outcomes < LAST_COUNT →
+            pass.new.view.calls ≡ pass.old.view.calls ++ words.now ∷ [] }
+        // Then the caller keeps, behind what it was told before, this call and what is answered here.
+        ensures told { length pass.old.view.outcomes < LAST_COUNT →
+            pass.new.view.outcomes ≡ pass.old.view.outcomes
+            ++ (
+              next_call (kept_of pass.old.view) words.now,
+              as_words O.machine (updated_as O.machine.words_reply result told.new),
+            ) ∷ [] }
+
+        // What one pass told of it, in whose record the device's counts of faults stand.
+        ensures taken { length pass.old.view.outcomes < LAST_COUNT →
+            IsTold O.Contents (on_words O.machine) N.base (
+              next_call (kept_of pass.old.view) words.now,
+              as_words O.machine (updated_as O.machine.words_reply result told.new),
+            )
+            (length pass.old.view.seen) pass.old.view.seen pass.new.view.seen }
+
+        // Where it is done, the caller has seen a legal history that ends with the batch of that
+        // pass and has the update's entry at its place.
+        ensures done { (s : O.State) (k : ℕ) → O.Contents N.base.order N.base.image s k →
+            (place : ℕ) → result ≡ Became.Done place →
+            IsDoneIn (on_words O.machine) N.base.order s k
+            (next_call (kept_of pass.old.view) words.now)
+            told.new place pass.old.view.seen pass.new.view.seen }
+
+        // The words that are left are those of a reply, where it is done.
+        ensures replied { IsReplied O.machine.words_reply result told.new }
+        // So many words at most are left, so that room for them can be reserved before.
+        ensures room { length told.new ≤ 2 * length words.now }
+    {
         if pass.seat.posted >= LAST_COUNT {
-            return Updated::Spent;
+            told.clear();
+            return Became::Undone(Undone::Spent);
         }
-        O::put_call_words(call, &mut pass.args);
-        post(&self.shared, &mut pass.seat, &pass.args);
+        post_words(&self.shared, &mut pass.seat, words);
         self.await_answer(rt, &mut pass.seat, gate);
-        let place = take_into(&self.shared, &mut pass.seat, &mut pass.reply);
-        told_by::<O>(place, &pass.reply)
+        let word = take_into(&self.shared, &mut pass.seat, told);
+        became_of(word)
     }
 
     // Until the posted call is answered: looks at the turn some times, and then takes the lock.

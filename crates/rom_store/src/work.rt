@@ -1,20 +1,22 @@
 //! Callers in threads.
-ghost use Rattle.std.specs.Prelude.{◌≡◌, ℕ, ◌+◌, ◌<◌, ◌≤◌, [], ◌∷◌, ◌++◌, List, length, map, slice_get, Some, All, vec_capacity, vec_len};
+ghost use Rattle.std.specs.Prelude.{◌≡◌, ℕ, ◌+◌, ◌<◌, ◌≤◌, [], length, map, slice_get, Some, All, vec_len};
 ghost use Rattle.rom_model.specs.History.{LAST_COUNT};
-ghost use Rattle.rom_model.specs.declared.line.LineResult.{LineResult};
 ghost use Rattle.rom_model.specs.declared.line.Step.{Step};
+ghost use Rattle.rom_lines.specs.Replies.{HasRoomFor};
+ghost use Rattle.rom_lines.specs.Steps.{IsLine, need};
 ghost use Rattle.rom_store.specs.Callers.{IsCallerOf};
 ghost use Rattle.rom_store.specs.Closing.{kept_in};
 ghost use Rattle.rom_store.specs.Indexed.{Indexed};
-ghost use Rattle.rom_store.specs.Working.{HasDone, HasNotBegun, IsFirst, IsNext, IsPast, script_of};
+ghost use Rattle.rom_store.specs.Working.{HasDone, HasNotBegun, HasTaken, IsFirst, IsNext, IsPast, script_of};
 
 use crate::label::Label;
 use crate::pass::Pass;
 use crate::store::Store;
 use rom_combine::Gate;
 use rom_device::Device;
+use rom_lines::{Line, Results, Script};
 use rom_lr::Steps;
-use rom_model::{LineResult, Object, Step};
+use rom_model::{Back, Object};
 use std::marker::Brand;
 use std::sync::Wait;
 use std::sync::ledger::{Blank, Ledger};
@@ -25,45 +27,50 @@ use std::thread::Threads;
 #[derive(Clone, Copy)]
 pub(crate) struct Room<'a, D: Device, O: Object, N: Label, G: Gate> {
     pub store: &'a Store<D, O, N>,
-    pub scripts: &'a [Vec<Step<O::Call, O::Query>>],
+    pub scripts: &'a [Script<O>],
     pub gate: &'a G,
 }
 
 /// A caller, with what its lines were told.
 #[derive(Drop)]
-pub(crate) struct Job<R: Drop, A: Drop> {
+pub(crate) struct Job<O: Object> {
     pub pass: Pass,
-    pub results: Vec<LineResult<R, A>>,
+    pub results: Results<O>,
     // No two jobs, which threads change all the time, share a line of a processor's cache.
     pub apart: [u64; 8],
 }
 
-// One line. It takes no memory.
+// One line. It takes no memory. What stands in `told` tells nothing.
 fn take_line<D: Device, O: Object, N: Label, R: Wait, G: Gate, L: Ledger>(
     rt: &R,
-    store: &Store<D, O, N>,
+    room: &Room<'_, D, O, N, G>,
     pass: &mut Pass,
-    line: &Step<O::Call, O::Query>,
-    gate: &G,
+    line: Line<'_, O::Query>,
+    results: &mut Results<O>,
+    told: &mut Back,
     steps: &mut Steps<L>,
-) -> LineResult<O::Reply, O::Answer>
+)
     requires of { IsCallerOf O.Contents N.table N.base pass.old }
     requires few { length (kept_in pass.old).told < LAST_COUNT }
+    requires line { (asks : Step O.Call O.Query) × IsLine O.machine.words_call asks line
+        × (0 < results.old.lines) × (need O.machine.call_words asks ≤ results.old.words) }
     ensures of { IsCallerOf O.Contents N.table N.base pass.new }
     ensures number { pass.new.view.number ≡ pass.old.view.number }
-    ensures done { (lines : List (Step O.Call O.Query))
-        (results : List (LineResult O.Reply O.Answer)) →
-        HasDone O.machine O.Contents N.base pass.old lines results →
-        HasDone O.machine O.Contents N.base pass.new
-        (lines ++ line.now ∷ []) (results ++ result ∷ []) }
+    // Whatever the line asks for, its result comes behind those of the lines before, and takes no more room
+    // than was reserved for it.
+    ensures done { (asks : Step O.Call O.Query) → IsLine O.machine.words_call asks line.entry →
+        HasTaken O.machine O.Contents N.base asks pass.old pass.new results.old results.new }
 {
     match line {
-        Step::Update(call) => LineResult::Update(store.update(rt, pass, call, gate)),
-        Step::Ask(query) => {
-            let (answer, front) = store.read(pass, query, steps);
-            LineResult::Read(answer, front)
+        Line::Update(words) => {
+            let became = room.store.update_words(rt, pass, words, told, room.gate);
+            results.push_update(became, told);
         }
-        Step::Unread => LineResult::Unread,
+        Line::Ask(query) => {
+            let (answer, front) = room.store.read(pass, &query, steps);
+            results.push_read(answer, front);
+        }
+        Line::Unread => results.push_unread(),
     }
 }
 
@@ -72,25 +79,25 @@ fn take_lines<D: Device, O: Object, N: Label, R: Wait, G: Gate, L: Ledger>(
     rt: &R,
     room: &Room<'_, D, O, N, G>,
     pass: &mut Pass,
-    lines: &[Step<O::Call, O::Query>],
-    results: &mut Vec<LineResult<O::Reply, O::Answer>>,
+    script: &Script<O>,
+    results: &mut Results<O>,
     steps: &mut Steps<L>,
 )
     requires of { IsCallerOf O.Contents N.table N.base pass.old }
     requires opened { (s : O.State) × (k : ℕ) × O.Contents N.base.order N.base.image s k }
-    requires few { length lines.now ≤ LAST_COUNT }
+    requires few { length script.now.items ≤ LAST_COUNT }
     requires first { IsFirst (kept_in pass.old) }
     requires none { results.old.items ≡ [] }
-    requires fits { length lines.now ≤ vec_capacity results.old }
+    requires fits { HasRoomFor O.machine.call_words script.now.items results.old }
     ensures of { IsCallerOf O.Contents N.table N.base pass.new }
     ensures number { pass.new.view.number ≡ pass.old.view.number }
-    ensures done { HasDone O.machine O.Contents N.base pass.new lines.now results.new.items }
+    ensures done { HasDone O.machine O.Contents N.base pass.new
+        script.now.items results.new.items }
 {
-    for line in lines {
-        room.gate
-            .before(rt, pass.number(), results.len() as u64 + 1);
-        let told = take_line(rt, room.store, pass, line, room.gate, steps);
-        results.push_reserved(told);
+    let mut told = Back::new();
+    for i in 0..script.len() {
+        room.gate.before(rt, pass.number(), i as u64 + 1);
+        take_line(rt, room, pass, script.line(i), results, &mut told, steps);
     }
 }
 
@@ -100,38 +107,36 @@ fn take_counted<D: Device, O: Object, N: Label, R: Wait, G: Gate, L: Ledger>(
     blank: Blank,
     room: &Room<'_, D, O, N, G>,
     pass: &mut Pass,
-    lines: &[Step<O::Call, O::Query>],
-    results: &mut Vec<LineResult<O::Reply, O::Answer>>,
+    script: &Script<O>,
+    results: &mut Results<O>,
 )
     requires name { blank.name ≡ L.name }
     requires parts { (blank.parts ≡ L.parts) × (0 < blank.parts) }
     requires of { IsCallerOf O.Contents N.table N.base pass.old }
     requires opened { (s : O.State) × (k : ℕ) × O.Contents N.base.order N.base.image s k }
-    requires few { length lines.now ≤ LAST_COUNT }
+    requires few { length script.now.items ≤ LAST_COUNT }
     requires first { IsFirst (kept_in pass.old) }
     requires none { results.old.items ≡ [] }
-    requires fits { length lines.now ≤ vec_capacity results.old }
+    requires fits { HasRoomFor O.machine.call_words script.now.items results.old }
     ensures of { IsCallerOf O.Contents N.table N.base pass.new }
     ensures number { pass.new.view.number ≡ pass.old.view.number }
-    ensures done { HasDone O.machine O.Contents N.base pass.new lines.now results.new.items }
+    ensures done { HasDone O.machine O.Contents N.base pass.new
+        script.now.items results.new.items }
 {
     let mut steps = Steps::<L>::of(blank);
-    take_lines(rt, room, pass, lines, results, &mut steps);
+    take_lines(rt, room, pass, script, results, &mut steps);
 }
 
 // What a caller's thread does.
 fn work<D: Device, O: Object, N: Label, R: Wait, G: Gate>(
     rt: &R,
     room: &Room<'_, D, O, N, G>,
-    job: &mut Job<O::Reply, O::Answer>,
+    job: &mut Job<O>,
 )
-where
-    O::Reply: Drop,
-    O::Answer: Drop,
     requires opened { (s : O.State) × (k : ℕ) × O.Contents N.base.order N.base.image s k }
     requires few { All (λ v. length v.items ≤ LAST_COUNT) room.now.scripts.now }
-    requires ready { HasNotBegun O.Contents N.table N.base (map (λ v. v.items) room.now.scripts.now)
-        job.old.pass job.old.results.items (vec_capacity job.old.results) }
+    requires ready { HasNotBegun O.Contents O.machine.call_words N.table N.base
+        (map (λ v. v.items) room.now.scripts.now) job.old.pass job.old.results }
     ensures of { IsCallerOf O.Contents N.table N.base job.new.pass }
     ensures number { job.new.pass.view.number ≡ job.old.pass.view.number }
     ensures done { HasDone O.machine O.Contents N.base job.new.pass
@@ -157,17 +162,16 @@ fn work_all<
     N: Label + Send + Sync,
     R: Threads + Wait + Sync,
     G: Gate + Sync,
->(rt: &R, room: &Room<'a, D, O, N, G>, jobs: &mut [Job<O::Reply, O::Answer>])
+>(rt: &R, room: &Room<'a, D, O, N, G>, jobs: &mut [Job<O>])
 where
     O::Call: Send + Sync,
     O::Query: Send + Sync,
-    O::Reply: Drop + Send + Sync,
-    O::Answer: Drop + Send + Sync,
+    O::Reply: Send + Sync,
+    O::Answer: Send + Sync,
     requires opened { (s : O.State) × (k : ℕ) × O.Contents N.base.order N.base.image s k }
     requires few { All (λ v. length v.items ≤ LAST_COUNT) room.now.scripts.now }
-    requires ready { All (λ j. HasNotBegun O.Contents N.table N.base
-        (map (λ v. v.items) room.now.scripts.now) j.pass j.results.items (vec_capacity j.results))
-        jobs.old }
+    requires ready { All (λ j. HasNotBegun O.Contents O.machine.call_words N.table N.base
+        (map (λ v. v.items) room.now.scripts.now) j.pass j.results) jobs.old }
     ensures of { (i : ℕ) (c : _) → slice_get jobs.new i ≡ Some c →
         IsCallerOf O.Contents N.table N.base c.pass }
     ensures number { (i : ℕ) (a : _) (c : _) → slice_get jobs.old i ≡ Some a →
@@ -187,17 +191,16 @@ pub(crate) fn work_jobs<
     N: Label + Send + Sync,
     R: Threads + Wait + Sync,
     G: Gate + Sync,
->(rt: &R, room: &Room<'a, D, O, N, G>, jobs: &mut Vec<Job<O::Reply, O::Answer>>)
+>(rt: &R, room: &Room<'a, D, O, N, G>, jobs: &mut Vec<Job<O>>)
 where
     O::Call: Send + Sync,
     O::Query: Send + Sync,
-    O::Reply: Drop + Send + Sync,
-    O::Answer: Drop + Send + Sync,
+    O::Reply: Send + Sync,
+    O::Answer: Send + Sync,
     requires opened { (s : O.State) × (k : ℕ) × O.Contents N.base.order N.base.image s k }
     requires few { All (λ v. length v.items ≤ LAST_COUNT) room.now.scripts.now }
-    requires next { Indexed (λ j job. IsNext O.Contents N.table N.base
-        (map (λ v. v.items) room.now.scripts.now) j job.pass job.results.items
-        (vec_capacity job.results)) jobs.old.items }
+    requires next { Indexed (λ j job. IsNext O.Contents O.machine.call_words N.table N.base
+        (map (λ v. v.items) room.now.scripts.now) j job.pass job.results) jobs.old.items }
     ensures many { vec_len jobs.new ≡ vec_len jobs.old }
     ensures past { Indexed (λ j job. IsPast O.machine O.Contents N.base N.table
         (map (λ v. v.items) room.now.scripts.now) j job.pass job.results.items) jobs.new.items }

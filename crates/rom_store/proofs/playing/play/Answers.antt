@@ -17,7 +17,7 @@ pub play_on-requires-clause-ready : goal.play_on-requires-clause-ready
 play_on-requires-clause-ready g c = λ κs outlive.
     let o = c.in-Ok-open_store.opening in
     let opened = c.in-Ok-open_store.ensures in
-    let ready : CanPlay g.O.Object.Contents o.table_id (base_of o.key) o.passes c.args.scripts.now c.in-Ok.rooms = record {
+    let ready : CanPlay g.O.Object.Contents g.O.Object.machine.call_words o.table_id (base_of o.key) o.passes c.args.scripts.now c.in-Ok.rooms.results c.in-Ok.rooms.jobs = record {
       opened = opened.formed;
       fresh = opened.passes;
       as_many = (opened.many.0, sym opened.many.1);

@@ -23,7 +23,7 @@ play_on-requires-clause-ready g c = λ κs outlive.
     let made = c.in-Ok.ensures in
     let scripts = c.args.scripts.now in
     let rooms = c.in-Ok.made.rooms in
-    subst (λ (o : Started _). CanPlay Contents o.table_id (base_of o.key) o.passes scripts rooms) (sym c.of-opening.ensures.opening)
+    subst (λ (o : Started _). CanPlay Contents g.O.Object.machine.call_words o.table_id (base_of o.key) o.passes scripts rooms.results rooms.jobs) (sym c.of-opening.ensures.opening)
     (record {
       opened = (g.O.Object.machine.empty, 0, subst (λ (b : Base). Contents b.order b.image g.O.Object.machine.empty 0) (sym made.base) made.region);
       fresh = made.passes;

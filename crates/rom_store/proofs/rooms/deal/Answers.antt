@@ -1,4 +1,4 @@
-use Rattle.std.proofs.Common.{arith, ap, ◌∙◌, subst, length, map, vec_capacity, ◌≡◌, ◌+◌, refl}
+use Rattle.std.proofs.Common.{arith, ap, ◌∙◌, subst, length, map, ◌≡◌, ◌+◌, refl}
 use Rattle.std.proofs.lemmas.List.{length-map}
 use Rattle.rom_store.specs.Callers.{IsNewCaller}
 use Rattle.rom_store.specs.Indexed.{Indexed}
@@ -27,7 +27,7 @@ loop-preserved g c =
     let ps = c.take_last-pass.new.self.items in
     let rs = c.take_last-results.new.self.items in
     let fresh = subst (Indexed (IsNewCaller g.O.Object.Contents g.N.Label.table g.N.Label.base)) c.take_last-pass.ensures.items b.fresh in
-    let rooms = subst (Indexed (λ i room. IsRoom scripts i room.items (vec_capacity room))) c.take_last-results.ensures.items b.rooms in
+    let rooms = subst (Indexed (IsRoom g.O.Object.machine.call_words scripts)) c.take_last-results.ensures.items b.rooms in
     let passes_left : length ps + (length c.loop.jobs.items + 1) ≡ length c.args.scripts.now = omega (arith, c.take_last-pass.ensures.len, b.passes_many, b.jobs_many, c.take_last-pass.new.self.ok, c.loop.jobs.ok) in
     let rooms_left : length rs ≡ length ps = omega (arith, c.take_last-pass.ensures.len, b.passes_many, c.take_last-results.ensures.len, b.rooms_many, c.take_last-pass.new.self.ok, c.take_last-results.new.self.ok) in
     record {
@@ -36,7 +36,7 @@ loop-preserved g c =
       jobs_many = omega (arith, c.push_reserved.ensures.len, b.jobs_many);
       fresh = pop_at _ ps c.take_last-pass.result fresh;
       rooms = pop_at _ rs c.take_last-results.result rooms;
-      jobs = rw c.push_reserved.ensures.items (push_at _ c.loop.jobs.items _ b.jobs (next_job g.O.Object.Contents g.N.Label.table g.N.Label.base scripts (length ps) (length rs) (length c.loop.jobs.items) c.take_last-pass.result _ _
+      jobs = rw c.push_reserved.ensures.items (push_at _ c.loop.jobs.items _ b.jobs (next_job g.O.Object.Contents g.N.Label.table g.N.Label.base g.O.Object.machine.call_words scripts (length ps) (length rs) (length c.loop.jobs.items) c.take_last-pass.result _
           (last_at _ ps c.take_last-pass.result fresh) (last_at _ rs c.take_last-results.result rooms) rooms_left (omega (arith, passes_left, length-map c.args.scripts.now (λ v. v.items)))));
       space = omega (arith, c.push_reserved.ensures.capacity, b.space);
       passes_space = c.take_last-pass.ensures.capacity ∙ b.passes_space;

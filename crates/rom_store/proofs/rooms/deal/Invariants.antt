@@ -10,8 +10,8 @@ invariant-loop g l = record {
   rooms_many : vec_len l.rooms + l.counter ≡ length l.scripts;
   jobs_many : vec_len l.jobs ≡ l.counter;
   fresh : Indexed (IsNewCaller g.O.Object.Contents g.N.Label.table g.N.Label.base) l.passes.items;
-  rooms : Indexed (λ i room. IsRoom (map (λ v. v.items) l.scripts) i room.items (vec_capacity room)) l.rooms.items;
-  jobs : Indexed (λ j job. IsNext g.O.Object.Contents g.N.Label.table g.N.Label.base (map (λ v. v.items) l.scripts) j job.pass job.results.items (vec_capacity job.results)) l.jobs.items;
+  rooms : Indexed (IsRoom g.O.Object.machine.call_words (map (λ v. v.items) l.scripts)) l.rooms.items;
+  jobs : Indexed (λ j job. IsNext g.O.Object.Contents g.O.Object.machine.call_words g.N.Label.table g.N.Label.base (map (λ v. v.items) l.scripts) j job.pass job.results) l.jobs.items;
   space : length l.scripts ≤ vec_capacity l.jobs;
   passes_space : vec_capacity l.passes ≡ vec_capacity l.fn.passes;
   rooms_space : vec_capacity l.rooms ≡ vec_capacity l.fn.rooms;

@@ -1,4 +1,5 @@
-use Rattle.std.proofs.Common.{arith, length, map, ◌≡◌}
+use Rattle.std.proofs.Common.{arith, length, map, ◌≡◌, subst, sym}
+use Rattle.rom_lines.specs.Replies.{HasRoomFor}
 use Rattle.rom_store.proofs.Places.{none_at, push_at}
 use Rattle.rom_store.proofs.Dealing.{script_here}
 use Rattle.rom_store.proofs.rooms.reserve.Goals as goal
@@ -19,14 +20,9 @@ loop-script-preserved g c =
     record {
       many = omega (arith, c.push_reserved.ensures.len, b.many);
       rooms = rw c.push_reserved.ensures.items (push_at _ c.loop-script.rooms.items _ b.rooms (record {
-        none = c.in_ok-room.ensures.items;
-        fits = omega (
-          arith,
-          c.in_ok-room.ensures.capacity,
-          c.len.ensures,
-          c.script-item.result.ok,
-          script_here (λ v. v.items) c.args.scripts.now n c.loop-script.script-index c.script-item.result here c.loop-script-test.true c.script-item.is,
-        );
+        none = c.in_ok-room.ensures.none;
+        fits = subst (λ ls. HasRoomFor g.O.Object.machine.call_words ls c.in_ok-room.room)
+            (sym (script_here (λ v. v.items) c.args.scripts.now n c.loop-script.script-index c.script-item.result here c.loop-script-test.true c.script-item.is)) c.in_ok-room.ensures.room;
       }));
       space = omega (arith, c.push_reserved.ensures.capacity, b.space);
     }

@@ -6,6 +6,6 @@ use Rattle.rom_store.proofs.rooms.reserve.Given as goal
 abbrev pub invariant-loop-script : goal.invariant-loop-script
 invariant-loop-script g l = record {
   many : vec_len l.rooms ≡ l.script-index;
-  rooms : Indexed (λ i room. IsRoom (map (λ v. v.items) l.scripts) i room.items (vec_capacity room)) l.rooms.items;
+  rooms : Indexed (IsRoom g.O.Object.machine.call_words (map (λ v. v.items) l.scripts)) l.rooms.items;
   space : length l.scripts ≤ vec_capacity l.rooms;
 }

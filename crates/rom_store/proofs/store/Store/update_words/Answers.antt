@@ -1,0 +1,73 @@
+-- What the caller takes are the words of what one pass told of its call.
+use Rattle.std.proofs.Common.{◌≡◌, ◌+◌, ◌*◌, ◌∷◌, ◌≤◌, length, refl, subst, sym}
+use Rattle.rom_model.specs.Lawful.{as_words}
+use Rattle.rom_model.specs.Machine.{on_words}
+use Rattle.rom_model.specs.Seen.{next_call}
+use Rattle.rom_model.specs.declared.call.Updated.{Updated}
+use Rattle.rom_lines.specs.Replies.{IsReplied, updated_as}
+use Rattle.rom_rule.specs.Calls.{answer_words, packed}
+use Rattle.rom_rule.specs.Views.{kept_of}
+use Rattle.rom_rule.specs.declared.views.View.{View}
+use Rattle.rom_store.specs.Updating.{IsDoneIn}
+use Rattle.rom_store.proofs.Becoming.{IsReadBack, IsWithinPlaces, became_is, call_steps, done_reply, few_beside}
+use Rattle.rom_store.proofs.Telling.{IsTaken, posted_same, told_done, told_few, told_next, told_once, told_some}
+use Rattle.rom_store.proofs.store.Store.update_words.Given.{Over}
+use Rattle.rom_store.proofs.store.Store.update_words.Goals as goal
+
+pub post_words-requires-clause-call : goal.post_words-requires-clause-call
+post_words-requires-clause-call g c s k = call_steps g.O.Object.machine c.args.words.now c.requires.call _ s k
+
+-- what its pass told it
+was_told : (g : Over) (c : goal.After-became_of g) → (u : Updated _) × IsWithinPlaces u × IsReadBack g.O.Object.machine u × (answer_words (as_words g.O.Object.machine u) ≡ c.take_into-word.result ∷ packed c.take_into-word.new.reply)
+was_told g c = told_some g.O.Object.machine g.O.Object.Contents g.met.O.Object.reply_back c.post_words.new.seat.token.me.0 c.await_answer.new.seat.token.me.0 c.await_answer.ensures.told _ c.take_into-word.ensures.answer
+
+became : (g : Over) (c : goal.After-became_of g) → (updated_as g.O.Object.machine.words_reply c.became_of.result c.take_into-word.new.reply ≡ (was_told g c).0) × IsReplied g.O.Object.machine.words_reply c.became_of.result c.take_into-word.new.reply
+became g c = let told = was_told g c in became_is g.O.Object.machine told.0 c.became_of.result c.take_into-word.result c.take_into-word.new.reply told.1 told.2 told.3 c.became_of.ensures
+
+told_words : (g : Over) (c : goal.After-became_of g) → answer_words (as_words g.O.Object.machine (updated_as g.O.Object.machine.words_reply c.became_of.result c.take_into-word.new.reply)) ≡ c.take_into-word.result ∷ packed c.take_into-word.new.reply
+told_words g c = subst (λ u. answer_words (as_words g.O.Object.machine u) ≡ c.take_into-word.result ∷ packed c.take_into-word.new.reply) (sym (became g c).0) (was_told g c).3
+
+taken : (g : Over) (c : goal.After-became_of g) → IsTaken g.O.Object.machine g.O.Object.Contents g.N.Label.base c.args.pass.now.view c.post_words.new.seat.token.me.0 c.await_answer.new.seat.token.me.0
+    c.take_into-word.new.seat.token.me.0 c.args.words.now (updated_as g.O.Object.machine.words_reply c.became_of.result c.take_into-word.new.reply)
+taken g c =
+    let inside : View = c.pass.inside.seat.token.me.0 in
+    let old : View = c.args.pass.now.view in
+    let was : inside ≡ old = λ i. (c.pass.view_is i).view in
+    let words = c.args.words.now in
+    record {
+      base_is = c.requires.of.base_is;
+      idle = subst (λ (z : View). length z.calls ≡ length z.outcomes) was c.pass.invariant.1;
+      laid = packed words;
+      steps = inside.steps + length words + 2;
+      posts = posted_same inside old c.post_words.new.seat.token.me.0 words words (packed words) (inside.steps + length words + 2) c.post_words.ensures.posted was refl;
+      told_of = c.await_answer.ensures.told;
+      more = c.await_answer.new.seat.token.me.0.steps + length c.take_into-word.new.reply + 2;
+      takes = c.take_into-word.ensures.still;
+      answer = c.take_into-word.result ∷ packed c.take_into-word.new.reply;
+      taken = c.take_into-word.ensures.answer;
+      told = told_words g c;
+      low = subst IsWithinPlaces (sym (became g c).0) (was_told g c).1;
+    }
+
+pub returns-clause-told : goal.returns-clause-told
+returns-clause-told g c few = told_next g.O.Object.machine g.O.Object.Contents _ _ _ _ _ _ _ (taken g c)
+
+pub returns-clause-taken : goal.returns-clause-taken
+returns-clause-taken g c few = told_once g.O.Object.machine g.O.Object.Contents _ _ _ _ _ _ _ (taken g c)
+
+pub returns-clause-done : goal.returns-clause-done
+returns-clause-done g c = λ s k at place done.
+    let m = g.O.Object.machine in
+    let read = done_reply m g.met.O.Object.reply_only c.became_of.result c.take_into-word.new.reply place (became g c).1 done in
+    subst (λ ws. IsDoneIn (on_words m) g.N.Label.base.order s k (next_call (kept_of c.args.pass.now.view) c.args.words.now) ws place c.args.pass.now.view.seen c.take_into-word.new.seat.token.me.0.seen) read.2
+    (told_done m g.O.Object.Contents _ _ _ _ _ _ _ (taken g c) (λ s t j k. g.met.O.Object.one_contents _ _ s t j k) s k at read.0 place read.1)
+
+pub returns-clause-replied : goal.returns-clause-replied
+returns-clause-replied g c = (became g c).1
+
+pub returns-clause-room : goal.returns-clause-room
+returns-clause-room g c =
+    let m = g.O.Object.machine in
+    few_beside m c.became_of.result c.take_into-word.result c.take_into-word.new.reply (2 * length c.args.words.now) (told_words g c) (λ place done.
+    let read = done_reply m g.met.O.Object.reply_only c.became_of.result c.take_into-word.new.reply place (became g c).1 done in
+    subst (λ ws. length ws ≤ 2 * length c.args.words.now) read.2 (told_few m g.O.Object.Contents _ _ _ _ _ _ _ (taken g c) g.met.O.Object.reply_few read.0 place read.1))
