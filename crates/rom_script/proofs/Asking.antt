@@ -7,7 +7,7 @@ use Rattle.std.proofs.lemmas.Bool.Decides.{Decides-eqb}
 use Rattle.std.specs.List.{join_with_byte}
 use Rattle.std.proofs.lemmas.Slice.Eq.{strip_prefix_is}
 use Rattle.std.proofs.lemmas.List.Splits.{join_with_byte-slice_split}
-use Rattle.rom_model.specs.Singles.{kind_of}
+use Rattle.rom_model.specs.Singles.{call_of, kind_of}
 use Rattle.rom_model.specs.declared.call.Single.{Single}
 use Rattle.rom_model.specs.declared.call.Single.TheVariants as single
 use Rattle.rom_model.specs.declared.call.Kind.{Kind}
@@ -192,6 +192,16 @@ no_phrase_reads line other none = (
   (λ call. no_call line other (no_phrase_updates line none) (kind_of call)),
   (λ q fits is. none (query_phrase q).0 (query_phrase q).1 (query_is_short q) (query_fits q fits) (ap line_words is ∙ query_words q)),
 )
+
+-- the call of an update of one structure is asked for by the update's words
+pub asks_single : (name numbers : List ℕ) (c : Single) → (name, numbers) ≡ single_phrase c → Asks name numbers (Update (call_of c))
+asks_single name numbers (single.Enq v) is = is
+asks_single name numbers single.Deq is = is
+asks_single name numbers (single.Add k) is = is
+asks_single name numbers (single.Rem k) is = is
+asks_single name numbers (single.Put k v) is = is
+asks_single name numbers (single.Del k) is = is
+asks_single name numbers (single.Move a b d) is = is
 
 -- how a line begins, by what is left of it
 pub group_text : (line : List ℕ) (r : Option (Bor (List ℕ))) →

@@ -1,5 +1,5 @@
 -- The scripts of a drill, as far as they are written.
-use Rattle.std.specs.Prelude.{◌≡◌, ℕ, ◌+◌, ◌-◌, ◌<◌, List, ◌++◌}
+use Rattle.std.specs.Prelude.{◌≡◌, ℕ, ◌+◌, ◌-◌, ◌<◌, List, [], ◌∷◌, ◌++◌}
 use Rattle.std.proofs.Common.{suc, sym, ap, ◌∙◌, arith, append_assoc, append-nil}
 use Rattle.rom_model.specs.declared.call.Call.{Call}
 use Rattle.rom_model.specs.declared.call.Query.{Query}
@@ -22,3 +22,11 @@ pub none_left : (callers caller calls made x : ℕ) (script whole : List (Step C
 none_left callers caller calls made x script whole all so_far =
     let none : 0 ≡ calls - made = omega arith in
     sym (append-nil script) ∙ ap (λ n. script ++ items callers caller n x) none ∙ so_far
+
+-- four lines are written one by one
+pub four_more : {X : Type 0} (old one two three four : List X) (a b c d : X) → one ≡ old ++ a ∷ [] → two ≡ one ++ b ∷ [] → three ≡ two ++ c ∷ [] → four ≡ three ++ d ∷ [] → four ≡ old ++ a ∷ b ∷ c ∷ d ∷ []
+four_more old one two three four a b c d is_one is_two is_three is_four =
+    is_four
+    ∙ ap (λ l. l ++ d ∷ []) (is_three ∙ ap (λ l. l ++ c ∷ []) (is_two ∙ ap (λ l. l ++ b ∷ []) is_one))
+    ∙ ap (λ l. l ++ d ∷ []) (ap (λ l. l ++ c ∷ []) (append_assoc old (a ∷ []) (b ∷ [])) ∙ append_assoc old (a ∷ b ∷ []) (c ∷ []))
+    ∙ append_assoc old (a ∷ b ∷ c ∷ []) (d ∷ [])

@@ -5,6 +5,7 @@ pub mod Members
 pub mod Determined
 pub mod Drills
 pub mod GroupLines
+pub mod Queued
 pub mod Sums
 pub mod Summaries
 pub use Rattle.rom_text.proofs.Prints

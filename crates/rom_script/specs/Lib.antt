@@ -6,6 +6,8 @@ pub mod Scripts
 pub mod Trio
 pub mod Runs
 pub mod Drill
+-- What updates have put into the queue and taken out of it, by words.
+pub mod Queued
 pub mod Summaries
 pub use Rattle.rom_text.specs.Streams
 pub use Rattle.rom_text.specs.Limits

@@ -4,6 +4,8 @@ ghost use Rattle.rom_model.specs.declared.line.Step.TheVariants.{Ask, Update};
 ghost use Rattle.rom_script.specs.Drill as numbered;
 
 use crate::line::Line;
+use rom_heap::Trio;
+use rom_lines::Script;
 use rom_model::{Call, Query};
 use std::alloc::{AllocError, Global};
 
@@ -64,7 +66,7 @@ fn query(callers: u64, q: u64) -> Query
 }
 
 /// Writes the lines of the item that a number makes. There are two at most.
-fn push_item(script: &mut Vec<Line>, callers: u64, caller: u64, x: u64) -> Result<(), AllocError>
+fn push_item(script: &mut Script<Trio>, callers: u64, caller: u64, x: u64) -> Result<(), AllocError>
     requires caller { (1 ≤ caller) × (caller ≤ callers) × (callers ≤ 16) }
     ensures lines { OnOk result (script.new.items
         ≡ script.old.items ++ numbered.item callers caller x) }
@@ -73,10 +75,13 @@ fn push_item(script: &mut Vec<Line>, callers: u64, caller: u64, x: u64) -> Resul
     let r = x / 65536;
     let q = r / 4;
     match r % 4 {
-        0 => script.extend_from_slice(&[Line::Update(Call::Enq(q)), Line::Update(Call::Deq)]),
-        1 => script.extend_from_slice(&[Line::Update(move_call(callers, q))]),
-        2 => script.extend_from_slice(&[Line::Update(set_call(caller, q))]),
-        _ => script.extend_from_slice(&[Line::Ask(query(callers, q))]),
+        0 => {
+            script.push_step(&Line::Update(Call::Enq(q)))?;
+            script.push_step(&Line::Update(Call::Deq))
+        }
+        1 => script.push_step(&Line::Update(move_call(callers, q))),
+        2 => script.push_step(&Line::Update(set_call(caller, q))),
+        _ => script.push_query(query(callers, q)),
     }
 }
 
@@ -88,29 +93,28 @@ fn put_line(key: u64) -> Line
 }
 
 /// Writes the lines that give each of the caller's own four keys 1000.
-fn push_keys(script: &mut Vec<Line>, caller: u64) -> Result<(), AllocError>
+fn push_keys(script: &mut Script<Trio>, caller: u64) -> Result<(), AllocError>
     requires caller { (1 ≤ caller) × (caller ≤ 16) }
     ensures lines { OnOk result (script.new.items ≡ script.old.items ++ numbered.put_lines caller) }
     ensures few { OnOk result (length script.new.items ≤ length script.old.items + 4) }
 {
     let key = 4 * (caller - 1);
-    script.extend_from_slice(&[
-        put_line(key),
-        put_line(key + 1),
-        put_line(key + 2),
-        put_line(key + 3),
-    ])
+    script.push_step(&put_line(key))?;
+    script.push_step(&put_line(key + 1))?;
+    script.push_step(&put_line(key + 2))?;
+    script.push_step(&put_line(key + 3))?;
+    Ok(())
 }
 
 /// The script of one of a drill's callers, who are numbered from 1 on: four lines that give the
-/// caller's own keys 1000, and so many items of one or two lines. Its memory is taken at once.
+/// caller's own keys 1000, and so many items of one or two lines.
 pub fn drill_script(
     alloc: Global,
     start: u64,
     caller: u64,
     callers: u64,
     calls: u64,
-) -> Result<Vec<Line>, AllocError>
+) -> Result<Script<Trio>, AllocError>
     requires caller { (1 ≤ caller) × (caller ≤ callers) × (callers ≤ 16) }
     requires calls { calls ≤ 10000 }
     // After `Ok` the script is the one that the definition makes of these numbers.
@@ -118,7 +122,7 @@ pub fn drill_script(
         script.items ≡ numbered.drill_script start callers calls caller) }
     ensures few { IfOk result (λ script. length script.items ≤ 4 + 2 * calls) }
 {
-    let mut script = Vec::with_capacity(alloc, 4 + 2 * calls as usize)?;
+    let mut script = Script::new(alloc);
     push_keys(&mut script, caller)?;
     let mut x = first(start, caller);
     for _made in 0..calls {
@@ -134,7 +138,7 @@ pub fn drill_scripts(
     start: u64,
     callers: u64,
     calls: u64,
-) -> Result<Vec<Vec<Line>>, AllocError>
+) -> Result<Vec<Script<Trio>>, AllocError>
     requires callers { callers ≤ 16 }
     requires calls { calls ≤ 10000 }
     // After `Ok` the scripts are those that the definition makes of these numbers, one for each caller.

@@ -11,6 +11,7 @@
 mod drill;
 mod group_line;
 mod line;
+mod replies;
 mod script;
 mod summary;
 mod update_line;

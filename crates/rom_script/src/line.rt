@@ -1,14 +1,18 @@
 //! What the lines of a script ask a queue, a set and a map for.
 ghost use Rattle.std.specs.Prelude.{◌≡◌, ◌≢◌, ◌++◌, codes, IfSome, IfNone};
+ghost use Rattle.rom_model.specs.Codes as codes_of;
+ghost use Rattle.rom_model.specs.declared.call.Call.{Call};
 ghost use Rattle.rom_model.specs.declared.call.Query.{Query};
+ghost use Rattle.rom_model.specs.declared.line.Step.{Step};
+ghost use Rattle.rom_text.specs.Lines.{AsksFor};
 ghost use Rattle.rom_script.specs.Asking.{Asks, query_phrase};
 ghost use Rattle.rom_script.specs.Lines.{Reads};
 
 use crate::group_line::read_members;
 use crate::update_line::asked_update;
 use rom_heap::Trio;
-use rom_model::{Call, Query, Step};
-use rom_text::{Lines, read_phrase};
+use rom_model::{Args, Call, Query, Step, put_call_words, put_single_words, words_call};
+use rom_text::{Asked, Lines, read_phrase};
 
 /// What a script's line asks for.
 pub type Line = Step<Call, Query>;
@@ -29,39 +33,64 @@ fn asked_query(name: &[u8], numbers: &[u64]) -> Option<Query>
     }
 }
 
-/// What a line of one update or query with this first word and these numbers behind it asks for.
-fn asked(name: &[u8], numbers: &[u64]) -> Line
-    ensures { Asks name.now numbers.now result }
+/// What a line of one update or query with this first word and these numbers behind it asks for. It makes
+/// `words` those of the update's call. No `Call` is made, since each is as wide as a group.
+fn put_asked(name: &[u8], numbers: &[u64], words: &mut Args) -> Asked<Query>
+    ensures { (step : Step Call Query) × AsksFor codes_of.words_call words.new result step
+        × Asks name.now numbers.now step }
 {
     if let Some(update) = asked_update(name, numbers) {
-        return Line::Update(Call::plain(update));
+        put_single_words(update, words);
+        return Asked::Update;
     }
     match asked_query(name, numbers) {
-        Some(query) => Line::Ask(query),
-        None => Line::Unread,
+        Some(query) => Asked::Ask(query),
+        None => Asked::Unread,
     }
 }
 
-/// What a group's line asks for, whose members this text has.
-fn asked_group(members: &[u8]) -> Line
-    ensures { Reads (codes "tx " ++ members.now) result }
+/// What a group's line asks for, whose members this text has. It makes `words` those of the group's
+/// call.
+#[cold]
+#[inline(never)]
+fn put_group(members: &[u8], words: &mut Args) -> Asked<Query>
+    ensures { (step : Step Call Query) × AsksFor codes_of.words_call words.new result step
+        × Reads (codes "tx " ++ members.now) step }
 {
     match read_members(members) {
-        Some(group) => Line::Update(Call::Group(group)),
-        None => Line::Unread,
+        Some(group) => {
+            put_call_words(&Call::Group(group), words);
+            Asked::Update
+        }
+        None => Asked::Unread,
     }
 }
 
-/// Reads a line, which comes without its LF.
+/// Reads a line, which comes without its LF. It makes `words` those of its call, where it asks for
+/// one.
+fn read_words(line: &[u8], words: &mut Args) -> Asked<Query>
+    ensures reads { (step : Step Call Query) × AsksFor codes_of.words_call words.new result step
+        × Reads line.now step }
+{
+    if let Some(members) = line.strip_prefix(b"tx ") {
+        return put_group(members, words);
+    }
+    match read_phrase(line) {
+        Some(phrase) => put_asked(phrase.name, &phrase.numbers, words),
+        None => Asked::Unread,
+    }
+}
+
+/// Reads a line, which comes without its LF, for whoever wants its step. A script is read by the words of
+/// its calls.
 pub fn read_line(line: &[u8]) -> Line
     ensures reads { Reads line.now result }
 {
-    if let Some(members) = line.strip_prefix(b"tx ") {
-        return asked_group(members);
-    }
-    match read_phrase(line) {
-        Some(phrase) => asked(phrase.name, &phrase.numbers),
-        None => Line::Unread,
+    let mut words = Args::new();
+    match read_words(line, &mut words) {
+        Asked::Update => Line::Update(words_call(&words).unwrap()),
+        Asked::Ask(query) => Line::Ask(query),
+        Asked::Unread => Line::Unread,
     }
 }
 
@@ -73,5 +102,9 @@ impl Lines<Trio> for TrioLines {
 
     fn read_line(line: &[u8]) -> Line {
         read_line(line)
+    }
+
+    fn read_words(line: &[u8], words: &mut Args) -> Asked<Query> {
+        read_words(line, words)
     }
 }

@@ -1,4 +1,5 @@
-//! Whole scripts: their lines in order.
+//! Whole scripts, for whoever compares or shows lines. No program uses them: a run keeps its scripts as
+//! `rom_text::read_script` reads them.
 ghost use Rattle.std.specs.Prelude.{◌≡◌, ◌≤◌, length, IfOk, IfSome, OnOk, slice_get};
 ghost use Rattle.rom_text.specs.declared.read.TheConstants.{MAX_LINES};
 ghost use Rattle.rom_text.specs.Limits.{EndsReading, FitsScript};
@@ -7,10 +8,12 @@ ghost use Rattle.rom_script.specs.Scripts.{steps_of};
 
 use crate::line::{Line, TrioLines};
 use rom_heap::Trio;
+use rom_lines::Script as Small;
 use rom_text::{ReadRefused, Source};
-use std::alloc::Global;
+use std::alloc::{AllocError, Global};
 
-/// The lines of a script, in order. A contract sees them as `steps_of` the script.
+/// The lines of a script, in order. A contract sees them as `steps_of` the script. Each line is as wide as
+/// a group, some 280 bytes: a `rom_lines::Script` has the same lines in less.
 #[derive(Drop)]
 pub struct Script {
     lines: Vec<Line>,
@@ -47,6 +50,17 @@ impl Script {
     }
 }
 
+/// The lines of a small script, each with its call.
+fn whole_lines(alloc: Global, script: &Small<Trio>) -> Result<Vec<Line>, AllocError>
+    ensures { IfOk result (λ lines. lines.items ≡ script.now.items) }
+{
+    let mut lines = Vec::with_capacity(alloc, script.len())?;
+    for i in 0..script.len() {
+        lines.push(script.whole(i))?;
+    }
+    Ok(lines)
+}
+
 /// Reads a script to the end of its source. What was taken is lost to the source after an `Err`.
 pub fn read_script<S: Source>(alloc: Global, source: &mut S) -> Result<Script, ReadRefused>
     // After `Ok` the lines are those of the bytes that the source had left, where it tells them.
@@ -56,6 +70,7 @@ pub fn read_script<S: Source>(alloc: Global, source: &mut S) -> Result<Script, R
     ensures fits { OnOk result (IfSome (S.shown.left source.old) FitsScript) }
     ensures ends { EndsReading S.shown source.old source.new result }
 {
-    let lines = rom_text::read_script::<Trio, TrioLines, S>(alloc, source)?;
+    let script = rom_text::read_script::<Trio, TrioLines, S>(alloc, source)?;
+    let lines = whole_lines(alloc, &script)?;
     Ok(Script { lines })
 }

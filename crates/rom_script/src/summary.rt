@@ -3,83 +3,126 @@ ghost use Rattle.std.specs.Prelude.{◌≡◌, ◌-◌, ◌*◌, ◌^◌, ◌<�
 ghost use Rattle.std.specs.List.{flat_map};
 ghost use Rattle.rom_script.specs.Drill.{drill_lines};
 ghost use Rattle.rom_script.specs.Drill as summed;
+ghost use Rattle.rom_script.specs.Queued as words;
+ghost use Rattle.rom_lines.specs.Replies.{IsTold};
+ghost use Rattle.rom_lines.specs.Steps.{IsLine};
+ghost use Rattle.rom_model.specs.Codes.{words_call, words_reply};
+ghost use Rattle.rom_model.specs.declared.call.Call.{Call};
+ghost use Rattle.rom_model.specs.declared.call.Reply.{Reply};
+ghost use Rattle.rom_model.specs.declared.line.LineResult.{LineResult};
+ghost use Rattle.rom_model.specs.declared.line.Step.{Step};
 ghost use Rattle.rom_text.specs.Streams.{Prints};
 ghost use Rattle.rom_text.specs.Text.{line_text};
 ghost use Rattle.rom_script.specs.Trio.{answer_text};
 
-use crate::line::Line;
 use itoa::Buffer;
-use rom_model::{Answer, Call, LineResult, Reply, Updated};
+use rom_heap::Trio;
+use rom_lines::{Line, Results, Script};
+use rom_model::{Answer, Query};
 use rom_text::{IoFailed, Report, Sink, Told, print_gathered, print_pieces, print_text};
 
+// The words of `enq v` are 1 and v. Those of `queued` are 1, and those of `head v` are 3 and v. Calls and replies
+// of full width would be made anew for each line.
+
+/// What an update with these words has put into the queue, which was told the reply with these.
+fn queued(call: &[u64], reply: &[u64]) -> u64
+    ensures { result ≡ words.queued call.now reply.now }
+{
+    match call {
+        [1, v] => told_queued(*v, reply),
+        _ => 0,
+    }
+}
+
+/// The value, where the reply with these words says that it was queued.
+fn told_queued(v: u64, reply: &[u64]) -> u64
+    ensures { result ≡ words.told_queued v reply.now }
+{
+    match reply {
+        [1] => v,
+        _ => 0,
+    }
+}
+
+/// What an update has taken out of the queue that was told the reply with these words.
+fn taken(reply: &[u64]) -> u64
+    ensures { result ≡ words.taken reply.now }
+{
+    match reply {
+        [3, v] => *v,
+        _ => 0,
+    }
+}
+
 /// What a line has put into the queue. In a drill it is never a group's.
-fn enqueued_by(line: &Line, told: &LineResult<Reply, Answer>) -> u64
-    ensures { result ≡ summed.enqueued_by line.now told.now }
+fn enqueued_by(line: Line<'_, Query>, told: rom_lines::Told<'_, Answer>) -> u64
+    // Whatever the line asks for and was told, by these words.
+    ensures { (asks : Step Call Query) (became : LineResult Reply Answer) →
+        IsLine words_call asks line.entry → IsTold words_reply became told.entry →
+        result ≡ summed.enqueued_by asks became }
 {
     let Line::Update(call) = line else {
         return 0;
     };
-    let LineResult::Update(Updated::Done(reply, _)) = told else {
+    let rom_lines::Told::Done(reply, _) = told else {
         return 0;
     };
-    match (call, reply) {
-        (Call::Enq(v), Reply::Queued) => *v,
-        _ => 0,
-    }
+    queued(call, reply)
 }
 
 /// What a line has taken out of it.
-fn dequeued_by(told: &LineResult<Reply, Answer>) -> u64
-    ensures { result ≡ summed.dequeued_by told.now }
+fn dequeued_by(told: rom_lines::Told<'_, Answer>) -> u64
+    ensures { (became : LineResult Reply Answer) → IsTold words_reply became told.entry →
+        result ≡ summed.dequeued_by became }
 {
-    match told {
-        LineResult::Update(Updated::Done(Reply::Head(v), _)) => *v,
-        _ => 0,
-    }
+    let rom_lines::Told::Done(reply, _) = told else {
+        return 0;
+    };
+    taken(reply)
 }
 
 /// The sum of what a caller's lines have put into the queue.
-fn enqueued_of(lines: &[Line], results: &[LineResult<Reply, Answer>]) -> u128
-    requires few { length lines.now ≤ 2 ^ 32 }
-    ensures sum { result ≡ summed.enqueued_of lines.now results.now }
+fn enqueued_of(script: &Script<Trio>, results: &Results<Trio>) -> u128
+    requires few { length script.now.items ≤ 2 ^ 32 }
+    ensures sum { result ≡ summed.enqueued_of script.now.items results.now.items }
     ensures within { result ≤ 2 ^ 32 * (2 ^ 64 - 1) }
 {
     let mut sum = 0;
-    for (line, told) in lines.iter().zip(results) {
-        sum += u128::from(enqueued_by(line, told));
+    for i in 0..script.len().min(results.len()) {
+        sum += u128::from(enqueued_by(script.line(i), results.at(i)));
     }
     sum
 }
 
 /// The sum of what they have taken out of it.
-fn dequeued_of(results: &[LineResult<Reply, Answer>]) -> u128
-    requires few { length results.now ≤ 2 ^ 32 }
-    ensures sum { result ≡ summed.dequeued_of results.now }
+fn dequeued_of(results: &Results<Trio>) -> u128
+    requires few { length results.now.items ≤ 2 ^ 32 }
+    ensures sum { result ≡ summed.dequeued_of results.now.items }
     ensures within { result ≤ 2 ^ 32 * (2 ^ 64 - 1) }
 {
     let mut sum = 0;
-    for told in results {
-        sum += u128::from(dequeued_by(told));
+    for i in 0..results.len() {
+        sum += u128::from(dequeued_by(results.at(i)));
     }
     sum
 }
 
 /// The sum of the values that were queued.
-pub fn sum_enqueued(scripts: &[Vec<Line>], results: &[Vec<LineResult<Reply, Answer>>]) -> u128
+pub fn sum_enqueued(scripts: &[Script<Trio>], results: &[Results<Trio>]) -> u128
     requires callers { length scripts.now ≤ 16 }
     requires few { All (λ v. length v.items ≤ 2 ^ 32) scripts.now }
     ensures sum { result
         ≡ summed.enqueued (map (λ v. v.items) scripts.now) (map (λ v. v.items) results.now) }
 {
     let mut sum = 0;
-    for (lines, own) in scripts.iter().zip(results) {
-        sum += enqueued_of(lines, own);
+    for (script, own) in scripts.iter().zip(results) {
+        sum += enqueued_of(script, own);
     }
     sum
 }
 
 /// The sum of the values of heads that updates took.
-pub fn sum_dequeued(results: &[Vec<LineResult<Reply, Answer>>]) -> u128
+pub fn sum_dequeued(results: &[Results<Trio>]) -> u128
     requires callers { length results.now ≤ 16 }
     requires few { All (λ v. length v.items ≤ 2 ^ 32) results.now }
     ensures sum { result ≡ summed.dequeued (map (λ v. v.items) results.now) }

@@ -1,8 +1,9 @@
 -- The text of a run, piece by piece.
-use Rattle.std.specs.Prelude.{◌≡◌, ℕ, ◌+◌, ◌<◌, List, [], ◌∷◌, ◌++◌, codes, decimal, length, take, drop, map, min}
-use Rattle.std.proofs.Common.{suc, refl, sym, ap, ◌∙◌, arith, append_assoc, append-nil, get_or, subst, take-append-drop}
-use Rattle.std.proofs.lemmas.List.{drop_more, length-map, length-take, map-append, take_more}
-use Rattle.std.specs.List.{AllByRecursion}
+use Rattle.std.specs.Prelude.{◌≡◌, ◌⊎◌, ℕ, ◌+◌, ◌<◌, ◌≤◌, List, [], ◌∷◌, ◌++◌, codes, decimal, length, take, drop, map, min, slice_get, Option, Some, None, IfSome}
+use Rattle.std.proofs.Common.{inl, inr, suc, refl, sym, ap, ◌∙◌, arith, append_assoc, append-nil, get_or, subst, take-append-drop}
+use Rattle.std.proofs.lemmas.List.{drop_more, flat_map_more, length-map, length-take, map-append, take_more}
+use Rattle.std.proofs.lemmas.Option.{get_or_from_slice_get, slice_get_cases, slice_get_within}
+use Rattle.std.specs.List.{AllByRecursion, flat_map}
 use Rattle.rom_model.specs.declared.line.LineResult.{LineResult}
 use Rattle.rom_text.specs.Text.{Texts, AreOfType, ResultFits, callers_text, line_text, results_text}
 
@@ -59,6 +60,47 @@ module _ {R A : Type 0} (texts : Texts R A) where
         and_one : (rows : List (List (LineResult R A))) → AreOfType texts rows → AreOfType texts (rows ++ f (get_or xs i d) ∷ [])
         and_one [] every = (own, tt)
         and_one (row ∷ rows) every = (every.0, and_one rows every.1)
+
+-- what is told, and behind it a mark and digits up to the line's end
+pub placed : (told mark digits : List ℕ) → told ++ line_text (mark ++ digits) ≡ line_text (told ++ mark ++ digits)
+placed told mark digits = simp (append_assoc) refl
+
+-- what follows for each value follows for one that may be there
+pub for_some : {X : Type 0} (P R : X → Type 0) → ((x : X) → P x → R x) → (o : Option X) → IfSome o P → IfSome o R
+for_some P R all (Some x) h = all x h
+for_some P R all None h = tt
+
+-- what is so of the element of a list at an index
+pub of_some : {X : Type 0} (P : X → Type 0) (o : Option X) (x : X) → o ≡ Some x → P x → IfSome o P
+of_some P o x is h = subst (λ e. IfSome e P) (sym is) h
+
+pub by_some : {X : Type 0} (P : X → Type 0) (o : Option X) (x : X) → o ≡ Some x → IfSome o P → P x
+by_some P o x is h = subst (λ e. IfSome e P) is h
+
+-- an index within a list has an element
+pub found_at : {X : Type 0} (xs : List X) (i : ℕ) → i < length xs → (x : X) × (slice_get xs i ≡ Some x)
+found_at xs i lt = inside (slice_get_cases xs i).1
+  where
+    inside : (((x : _) × (i < length xs) × (slice_get xs i ≡ Some x) × (get_or xs i x ≡ x)) ⊎ ((length xs ≤ i) × (slice_get xs i ≡ None))) → (x : _) × (slice_get xs i ≡ Some x)
+    inside (inl h) = (h.0, h.2)
+    inside (inr h) = absurd (omega (arith, lt, h.0))
+
+-- Of a list with this element at the index i:
+module _ {X : Type 0} (xs : List X) (i : ℕ) (x : X) (at : slice_get xs i ≡ Some x) where
+  next_of : take (i + 1) xs ≡ take i xs ++ x ∷ []
+  next_of = take_more xs i x (slice_get_within xs i x at) ∙ ap (λ y. take i xs ++ y ∷ []) (get_or_from_slice_get xs i x x at)
+
+  -- the text of the elements before it, and its own
+  pub text_more : (f : X → List ℕ) → flat_map f (take i xs) ++ f x ≡ flat_map f (take (i + 1) xs)
+  text_more f = flat_map_more f [] (take i xs) x ∙ ap (flat_map f) (sym next_of)
+
+  -- what holds of the elements before it, and of it
+  pub all_more : (P : X → Type 0) → AllByRecursion P (take i xs) → P x → AllByRecursion P (take (i + 1) xs)
+  all_more P all own = subst (AllByRecursion P) (sym next_of) (and_one (take i xs) all)
+    where
+      and_one : (ys : List X) → AllByRecursion P ys → AllByRecursion P (ys ++ x ∷ [])
+      and_one [] every = (own, tt)
+      and_one (y ∷ ys) every = (every.0, and_one ys every.1)
 
 -- a text, and then a space, a mark and digits, which are printed as pieces
 pub marked : (told : List ℕ) (mark : ℕ) (digits : List ℕ) → told ++ (32 ∷ mark ∷ (digits ++ [])) ≡ told ++ 32 ∷ mark ∷ [] ++ digits

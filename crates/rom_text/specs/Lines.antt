@@ -1,6 +1,9 @@
 -- The lines of scripts, and what they ask an object for.
-use Rattle.std.specs.Prelude.{ℕ, ◌-◌, ◌==◌, List, [], ◌∷◌, length, take, map, decimal, slice_index, if◌then◌else◌, Option, IfSome}
+use Rattle.std.specs.Prelude.{◌≡◌, ℕ, ◌-◌, ◌==◌, List, [], ◌∷◌, length, take, map, decimal, slice_index, if◌then◌else◌, Option, Some, IfSome}
 use Rattle.rom_model.specs.declared.line.Step.{Step}
+use Rattle.rom_model.specs.declared.line.Step.TheVariants as step
+use Rattle.rom_text.specs.declared.lines.Asked.{Asked}
+use Rattle.rom_text.specs.declared.lines.Asked.TheVariants as asked
 use Rattle.rom_text.specs.Streams.{ShownSource}
 
 -- the byte goes onto the first piece
@@ -24,6 +27,12 @@ lines_of bytes = map without_cr (pieces_of bytes)
 -- a space and a number, in digits without sign and without leading zero
 abbrev pub spaced : ℕ → List ℕ
 spaced n = 32 ∷ decimal n
+
+-- What is asked for is this step, where the words are those of its call.
+abbrev pub AsksFor : {C Q : Type 0} → (List ℕ → Option C) → List ℕ → Asked Q → Step C Q → Type 0
+AsksFor {C = C} words_call words asked.Update asks = (call : C) × (asks ≡ step.Update call) × (words_call words ≡ Some call)
+AsksFor words_call words (asked.Ask query) asks = asks ≡ step.Ask query
+AsksFor words_call words asked.Unread asks = asks ≡ step.Unread
 
 -- Of an object that says how its steps are written:
 module _ {C Q : Type 0} (Reads : List ℕ → Step C Q → Type 0) where

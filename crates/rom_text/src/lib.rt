@@ -5,8 +5,9 @@
 //! that each printing call writes exactly its text, or some of it from the front where the sink
 //! failed, that the numbers of what is printed whole are of their types, and that a failure is
 //! answered only where the very object's count of faults rose. How an object's lines are written is
-//! its language's to say (`Lines`), and what is printed of its replies and answers theirs (`Told`);
-//! those of a queue, a set and a map stand in `trio`.
+//! its language's to say (`Lines`). Its answers print themselves (`Told`). Its replies are printed from
+//! their words (`Replies`): those that are `Told` by `Whole`. The texts of a queue, a set and a map stand
+//! in `trio`.
 #![tactic(auto)]
 
 mod adapt;
@@ -17,6 +18,7 @@ mod names;
 mod phrase;
 mod print;
 mod read;
+mod replies;
 mod report;
 mod script;
 mod streams;
@@ -26,12 +28,13 @@ mod wanted;
 
 pub use adapt::Adapted;
 pub use gathered::print_gathered;
-pub use lines::{Lines, line_end, lines_in};
+pub use lines::{Asked, Lines, line_end, lines_in};
 pub use memory::{Bytes, Collect};
 pub use names::{Name, Names};
 pub use phrase::{Phrase, read_number, read_phrase, read_within};
 pub use print::{print_answer, print_bytes, print_number, print_pieces, print_text, print_update};
 pub use read::{ReadRefused, read_bytes};
+pub use replies::{Replies, Whole};
 pub use report::print_run;
 pub use script::read_script;
 pub use streams::{IoFailed, Sink, Source};

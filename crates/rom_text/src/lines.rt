@@ -1,16 +1,26 @@
 //! The lines of a script, and what those of any object ask for.
-ghost use Rattle.std.specs.Prelude.{◌≡◌, ◌≢◌, ◌⊎◌, ℕ, ◌-◌, ◌<◌, ◌≤◌, List, ◌∷◌, length, drop, slice_index, slice_range, Err, IfOk, OnOk};
+ghost use Rattle.std.specs.Prelude.{◌≡◌, ◌≢◌, ◌⊎◌, ℕ, ◌-◌, ◌<◌, ◌≤◌, List, [], ◌∷◌, ◌++◌, length, drop, slice_index, slice_range, Err, IfOk, OnOk};
 ghost use Rattle.rom_model.specs.declared.line.Step.{Step};
 ghost use Rattle.rom_text.specs.declared.read.TheConstants.{MAX_LINES};
 ghost use Rattle.rom_text.specs.declared.read.ReadRefused.TheVariants.{Failed, TooLong};
 ghost use Rattle.rom_text.specs.Limits.{HasFewLines, HasManyLines};
-ghost use Rattle.rom_text.specs.Lines.{AreRead, lines_of};
+ghost use Rattle.rom_text.specs.Lines.{AreRead, AsksFor, lines_of};
 ghost use Rattle.rom_text.specs.Lines as lines;
 
 use crate::phrase::len_before;
 use crate::read::{MAX_LINES, ReadRefused};
-use rom_model::{Object, Step};
-use std::alloc::Global;
+use rom_lines::Script;
+use rom_model::{Args, Object, Step};
+use std::alloc::{AllocError, Global};
+
+/// What a line asks for, where the words of its call stand beside it.
+#[derive(Clone, Copy, Debug, PartialEq, Eq)]
+pub enum Asked<Q> {
+    Update,
+    Ask(Q),
+    /// The line is no command; it makes no call.
+    Unread,
+}
 
 /// How the calls and queries of an object are written.
 pub trait Lines<O: Object> {
@@ -20,6 +30,23 @@ pub trait Lines<O: Object> {
     /// What a line asks for, which comes without its LF.
     fn read_line(line: &[u8]) -> Step<O::Call, O::Query>
         ensures reads { Reads line.now result };
+
+    /// What a line asks for, as `read_line` does. It makes `words` those of the line's call, where it
+    /// asks for one. A script is read by this, so that a language can do without a call of full width.
+    fn read_words(line: &[u8], words: &mut Args) -> Asked<O::Query>
+        // What is answered, with the words that then stand in `words`, is a step that the line is read as.
+        ensures reads { (step : Step O.Call O.Query)
+            × AsksFor O.machine.words_call words.new result step × Reads line.now step }
+    {
+        match Self::read_line(line) {
+            Step::Update(call) => {
+                O::put_call_words(&call, words);
+                Asked::Update
+            }
+            Step::Ask(query) => Asked::Ask(query),
+            Step::Unread => Asked::Unread,
+        }
+    }
 }
 
 /// The bytes without a CR at their end.
@@ -53,11 +80,27 @@ pub fn line_end(bytes: &[u8], start: u64) -> (u64, u64)
     (start + line.len() as u64, start + next as u64)
 }
 
+/// Adds what a line asks for. `words` are those of the line's call on the way, whatever they were.
+fn push_line<O: Object, L: Lines<O>>(
+    lines: &mut Script<O>,
+    line: &[u8],
+    words: &mut Args,
+) -> Result<(), AllocError>
+    ensures added { OnOk result ((step : Step O.Call O.Query) × L.Reads line.now step
+        × (lines.new.items ≡ lines.old.items ++ step ∷ [])) }
+{
+    match L::read_words(line, words) {
+        Asked::Update => lines.push_words(words),
+        Asked::Ask(query) => lines.push_query(query),
+        Asked::Unread => lines.push_unread(),
+    }
+}
+
 /// What the lines of some bytes ask for, unless they are too many for a script.
 pub fn lines_in<O: Object, L: Lines<O>>(
     alloc: Global,
     bytes: &[u8],
-) -> Result<Vec<Step<O::Call, O::Query>>, ReadRefused>
+) -> Result<Script<O>, ReadRefused>
     // After `Ok` each step is what its line asks for, in order.
     ensures read { IfOk result (λ lines. AreRead L.Reads (lines_of bytes.now) lines.items) }
     ensures few { IfOk result (λ lines. length lines.items ≤ MAX_LINES) }
@@ -65,7 +108,9 @@ pub fn lines_in<O: Object, L: Lines<O>>(
     ensures too_long { result ≡ Err TooLong → HasManyLines bytes.now }
     ensures unfailed { result ≢ Err Failed }
 {
-    let mut lines = Vec::new(alloc);
+    let mut lines = Script::new(alloc);
+    // All lines use the same words: a new list for each would be 328 bytes that are cleared.
+    let mut words = Args::new();
     let mut start = 0;
     while start < bytes.len() as u64 {
         // No memory is taken for the first line that is too many.
@@ -73,7 +118,8 @@ pub fn lines_in<O: Object, L: Lines<O>>(
             return Err(ReadRefused::TooLong);
         }
         let (end, next) = line_end(bytes, start);
-        lines.push(L::read_line(&bytes[start as usize..end as usize]))?;
+        let line = &bytes[start as usize..end as usize];
+        push_line::<O, L>(&mut lines, line, &mut words)?;
         start = next;
     }
     Ok(lines)

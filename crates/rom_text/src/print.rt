@@ -2,6 +2,7 @@
 //! some of the text, from its front.
 ghost use Rattle.std.specs.Prelude.{decimal, OnOk};
 ghost use Rattle.std.specs.List.{flat_map};
+ghost use Rattle.rom_model.specs.declared.call.Updated.TheVariants.{Done};
 ghost use Rattle.rom_text.specs.Streams.{Prints};
 ghost use Rattle.rom_text.specs.Text.{UpdateFits, read_text, update_text};
 
@@ -46,16 +47,27 @@ pub fn print_pieces<O: Sink>(out: &mut O, pieces: &[&str]) -> Result<(), IoFaile
     Ok(())
 }
 
+/// Prints what an update was told that was done, and its place.
+pub(crate) fn print_done<R: Told, O: Sink>(
+    out: &mut O,
+    reply: &R,
+    place: u64,
+) -> Result<(), IoFailed>
+    ensures prints { Prints O.shown out.old out.new result
+        (update_text R.shown.text (Done reply.now place)) }
+    ensures fits { OnOk result (R.shown.Fits reply.now) }
+{
+    reply.print(out)?;
+    print_pieces(out, &[" @", Buffer::new().format(place)])
+}
+
 /// Prints what an update was told, with its place where it was done.
 pub fn print_update<R: Told, O: Sink>(out: &mut O, updated: &Updated<R>) -> Result<(), IoFailed>
     ensures prints { Prints O.shown out.old out.new result (update_text R.shown.text updated.now) }
     ensures fits { OnOk result (UpdateFits R.shown.Fits updated.now) }
 {
     match updated {
-        Updated::Done(reply, place) => {
-            reply.print(out)?;
-            print_pieces(out, &[" @", Buffer::new().format(*place)])
-        }
+        Updated::Done(reply, place) => print_done(out, reply, *place),
         Updated::Spent => print_text(out, "spent"),
         Updated::Failed => print_text(out, "fault"),
         Updated::Doubt => print_text(out, "doubt"),

@@ -9,9 +9,9 @@ use std::alloc::{AllocError, AllocFailed, Global};
 /// The greatest number of bytes in a script.
 pub const MAX_BYTES: usize = 1 << 20;
 
-/// The greatest number of lines in a script. A line and its result are kept to the end of a run. Each is as
-/// wide as a group's, so the two take some 410 bytes, however short the line is. A limit on bytes alone
-/// would let in a million empty lines.
+/// The greatest number of lines in a script. A line and its result are kept to the end of a run. They take 56
+/// bytes, and those of the words of a call and its reply. A limit on bytes alone would let in a million
+/// empty lines.
 pub const MAX_LINES: usize = 1 << 17;
 
 /// How many bytes a read asks for, unless fewer may still come.

@@ -7,7 +7,8 @@ ghost use Rattle.rom_text.specs.Lines.{AreStepsOf};
 use crate::lines::{Lines, lines_in};
 use crate::read::{ReadRefused, read_bytes};
 use crate::streams::Source;
-use rom_model::{Object, Step};
+use rom_lines::Script;
+use rom_model::Object;
 use std::alloc::Global;
 
 /// Reads a script to the end of its source, and then its lines: so too many bytes are noticed before too
@@ -15,7 +16,7 @@ use std::alloc::Global;
 pub fn read_script<O: Object, L: Lines<O>, S: Source>(
     alloc: Global,
     source: &mut S,
-) -> Result<Vec<Step<O::Call, O::Query>>, ReadRefused>
+) -> Result<Script<O>, ReadRefused>
     // After `Ok`, where the source tells its bytes: each step is what its line asks for, in order.
     ensures lines { IfOk result (λ lines.
         AreStepsOf L.Reads (S.shown.left source.old) lines.items) }

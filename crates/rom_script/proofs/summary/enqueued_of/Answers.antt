@@ -1,35 +1,29 @@
-use Rattle.std.proofs.Common.{◌≡◌, ◌+◌, ◌∷◌, [], ◌++◌, length, take, ap, sym, ◌∙◌, arith, length-append}
-use Rattle.std.proofs.lemmas.Slice.Zip.{zip_turn, zip_end}
-use Rattle.std.specs.List.{sum_by, zip}
+use Rattle.std.proofs.Common.{◌≡◌, ◌<◌, ◌+◌, length, min, sym, ◌∙◌, arith}
+use Rattle.std.proofs.lemmas.Option.{get_or_from_slice_get}
 use Rattle.rom_script.specs.Drill.{enqueued_by}
 use Rattle.rom_script.proofs.Sums.{pair_more, pairs_all}
 use Rattle.rom_script.proofs.summary.enqueued_of.Goals as goal
 
-pub loop-line-preserved : goal.loop-line-preserved
-loop-line-preserved c =
-    let lines = c.args.lines.now in
-    let results = c.args.results.now in
-    let first = ap (λ z. z.a.rest.now) c.into_iter-line-iterator.ensures.into_iter_gives ∙ ap (λ i. i.rest.now) c.zip-line-items.ensures.first ∙ c.iter.ensures.rest in
-    let other : c.zip-line-items.result.b.rest.now ≡ results = c.zip-line-items.ensures.second.0 in
-    let second = ap (λ z. z.b.rest.now) c.into_iter-line-iterator.ensures.into_iter_gives ∙ other in
-    let turn = zip_turn lines results c.loop-line.yielded c.into_iter-line-iterator.result c.loop-line.line-iterator c.next.new.self c.next.result first second c.loop-line.yielded_by
-    (c.in-Some.line, c.in-Some.told) c.in-Some.is c.next.ensures.steps in
-    let one : length (c.loop-line.yielded ++ (c.in-Some.line, c.in-Some.told) ∷ []) ≡ length c.loop-line.yielded + 1 = length-append c.loop-line.yielded ((c.in-Some.line, c.in-Some.told) ∷ []) in
-    let value = c.from-sum.ensures ∙ c.enqueued_by.ensures in
+pub loop-i-preserved : goal.loop-i-preserved
+loop-i-preserved c =
+    let lines = c.args.script.now.items in
+    let results = c.args.results.now.items in
+    let i = c.loop-i.i in
+    let in_lines : i < length lines = omega (arith, c.loop-i-test.true, c.min-i-end.ensures, c.len.ensures, c.len-2.ensures) in
+    let in_results : i < length results = omega (arith, c.loop-i-test.true, c.min-i-end.ensures, c.len.ensures, c.len-2.ensures) in
+    let asked = c.line.ensures in
+    let said = c.at.ensures in
+    let value = c.from-sum.ensures ∙ c.enqueued_by.ensures asked.asks said.line asked.line said.told in
     record {
-      sum = (λ i. c.loop-line.invariant.sum i + value i)
-          ∙ sym (pair_more (λ p. enqueued_by p.0 p.1) lines results (length c.loop-line.yielded) c.in-Some.line.now c.in-Some.told.now turn.0 turn.1 (turn.2 c.in-Some.line.now) (turn.3 c.in-Some.told.now))
-          ∙ ap (λ n. sum_by (λ p. enqueued_by p.0 p.1) (take n (zip lines results))) (sym one);
-      within = omega (arith, one, c.from-sum.ensures, c.enqueued_by.type_inv, c.loop-line.invariant.within);
-      few = omega (arith, one, turn.0, c.requires.few);
+      sum = (λ j. c.loop-i.invariant.sum j + value j)
+          ∙ sym (pair_more (λ p. enqueued_by p.0 p.1) lines results i asked.asks said.line in_lines in_results
+          (sym (get_or_from_slice_get lines i asked.asks asked.asks asked.at)) (sym (get_or_from_slice_get results i said.line said.line said.at)));
+      within = omega (arith, c.from-sum.ensures, c.enqueued_by.type_inv, c.loop-i.invariant.within);
     }
 
 pub returns-clause-sum : goal.returns-clause-sum
 returns-clause-sum c =
-    let lines = c.args.lines.now in
-    let results = c.args.results.now in
-    let first = ap (λ z. z.a.rest.now) c.into_iter-line-iterator.ensures.into_iter_gives ∙ ap (λ i. i.rest.now) c.zip-line-items.ensures.first ∙ c.iter.ensures.rest in
-    let other : c.zip-line-items.result.b.rest.now ≡ results = c.zip-line-items.ensures.second.0 in
-    let second = ap (λ z. z.b.rest.now) c.into_iter-line-iterator.ensures.into_iter_gives ∙ other in
-    let end = zip_end lines results c.loop-line.yielded c.into_iter-line-iterator.result c.loop-line.line-iterator c.next.new.self c.next.result first second c.loop-line.yielded_by c.in-None.is c.next.ensures.steps in
-    c.loop-line.invariant.sum ∙ pairs_all (λ p. enqueued_by p.0 p.1) lines results (length c.loop-line.yielded) end
+    let lines = c.args.script.now.items in
+    let results = c.args.results.now.items in
+    let end : c.loop-i.i ≡ min (length lines) (length results) = omega (arith, c.loop-i-test.false, c.loop-i.auto.i-end, c.min-i-end.ensures, c.len.ensures, c.len-2.ensures) in
+    c.loop-i.invariant.sum ∙ pairs_all (λ p. enqueued_by p.0 p.1) lines results c.loop-i.i end

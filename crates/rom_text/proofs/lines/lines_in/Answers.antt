@@ -8,4 +8,4 @@ returns-clause-read g c = read_all g.L.Lines.Reads c.args.bytes.now c.loop-start
 pub returns-then-len-eq-MAX_LINES-clause-too_long :
     goal.returns-then-len-eq-MAX_LINES-clause-too_long
 returns-then-len-eq-MAX_LINES-clause-too_long g c = λ _. more_left c.args.bytes.now c.loop-start.start (length c.loop-start.lines.items)
-    c.loop-start-test.true (omega (arith, c.loop-start.lines.ok.0, c.len.ensures, c.if-len-eq-MAX_LINES.true)) c.loop-start.invariant.many
+    c.loop-start-test.true (omega (arith, c.len.ensures, c.if-len-eq-MAX_LINES.true)) c.loop-start.invariant.many

@@ -5,8 +5,8 @@ use Rattle.rom_text.proofs.Prints.{Printed}
 use Rattle.rom_text.proofs.report.print_results.Given as goal
 
 -- the results so far are printed, and their numbers are of their types
-abbrev pub invariant-loop-told : goal.invariant-loop-told
-invariant-loop-told g l = record {
-  printed : Printed g.O.Sink.shown l.fn.out l.out (results_text (texts_of g.R.Told.shown g.A.Told.shown) (take l.told-index l.results));
-  of_type : AllByRecursion (ResultFits (texts_of g.R.Told.shown g.A.Told.shown)) (take l.told-index l.results);
+abbrev pub invariant-loop-i : goal.invariant-loop-i
+invariant-loop-i g l = record {
+  printed : Printed g.S.Sink.shown l.fn.out l.out (results_text (texts_of g.P.Replies.shown g.O.Answer.Told.shown) (take l.i l.results.items));
+  of_type : AllByRecursion (ResultFits (texts_of g.P.Replies.shown g.O.Answer.Told.shown)) (take l.i l.results.items);
 }
