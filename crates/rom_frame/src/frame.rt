@@ -1,9 +1,9 @@
 //! A frame: an entry of a history as bytes.
 ghost use Rattle.std.specs.Prelude.{◌≡◌, ◌*◌, ◌^◌, ◌<◌, ◌≤◌, All, List, ℕ, [], ◌++◌, length, take, Some, IfSome, IsSome, OnOk, OnErr};
 ghost use Rattle.byteorder.specs.Endian.{little_number};
-ghost use Rattle.rom_model.specs.Groups.{HasFewReplies, HasSize};
-ghost use Rattle.rom_model.specs.Singles.{kind_of, reply_kind};
-ghost use Rattle.rom_frame.specs.Frames.{IsOfWords, bytes_of, frame, words_of};
+ghost use Rattle.rom_model.specs.Codes as codes;
+ghost use Rattle.rom_frame.specs.Frames.{IsOfWords, bytes_of, frame, frame_words};
+ghost use Rattle.rom_frame.specs.Frames as frames;
 
 use byteorder::{ByteOrder, LittleEndian};
 use rom_model::{Args, Back, Call, Reply, Words, call_words, reply_words, words_call, words_reply};
@@ -24,33 +24,20 @@ pub struct Frame {
 }
 
 impl Frame {
-    /// The words of the frame.
-    fn words(&self) -> Words<MOST_WORDS>
-        ensures words { result ≡ words_of self.now }
-        ensures members { HasSize (kind_of self.now.call) }
-        ensures replies { HasFewReplies (reply_kind self.now.reply) }
-    {
-        let args = call_words(&self.call);
-        let reply = reply_words(&self.reply);
-        let mut words = Words::of(&[4 + args.len() + reply.len(), self.place, args.len()]);
-        words.extend(args.as_slice());
-        words.extend(&[reply.len()]);
-        words.extend(reply.as_slice());
-        words
-    }
-
     /// Puts the bytes of the frame at the start of these, and says how many they are.
     pub fn fill(&self, bytes: &mut [u8; MOST_BYTES]) -> usize
         ensures within { result ≤ 512 }
         ensures frame { take result bytes.new ≡ frame self.now }
         ensures of_words { IsOfWords self.now }
     {
-        put(self.words().as_slice(), bytes)
+        let args = call_words(&self.call);
+        let reply = reply_words(&self.reply);
+        fill_frame(self.place, args.as_slice(), reply.as_slice(), bytes)
     }
 
     /// The frame that has these words, where there is one.
     fn of_words(words: &[u64]) -> Option<Frame>
-        ensures { (f : Frame) → IsOfWords f → words.now ≡ words_of f → result ≡ Some f }
+        ensures { (f : Frame) → IsOfWords f → words.now ≡ frames.words_of f → result ≡ Some f }
     {
         if words.len() < 4 || words[2] > 40 {
             return None;
@@ -80,6 +67,33 @@ impl Frame {
         LittleEndian::read_u64_into(bytes, &mut words[..len]);
         Frame::of_words(&words[..len])
     }
+}
+
+/// The words of the frame of an update that was done at a place, by those of its call and its reply.
+fn words_of(place: u64, args: &[u64], reply: &[u64]) -> Words<MOST_WORDS>
+    requires few { (length args.now ≤ 40) × (length reply.now ≤ 20) }
+    ensures { result ≡ frame_words place args.now reply.now }
+{
+    let len = 4 + args.len() + reply.len();
+    let mut words = Words::of(&[len as u64, place, args.len() as u64]);
+    words.extend(args);
+    words.extend(&[reply.len() as u64]);
+    words.extend(reply);
+    words
+}
+
+/// Puts the bytes of the frame of an update that was done at a place at the start of these, and says how
+/// many they are. It takes the words of the call and of the reply as they stand, and reads neither.
+pub fn fill_frame(place: u64, args: &[u64], reply: &[u64], bytes: &mut [u8; MOST_BYTES]) -> usize
+    requires few { (length args.now ≤ 40) × (length reply.now ≤ 20) }
+    ensures within { result ≤ 512 }
+    // The bytes are those of the frame whose call and reply the words are read as, and it is one that a
+    // program can have.
+    ensures frame { (f : Frame) → f.place ≡ place → codes.words_call args.now ≡ Some f.call →
+        codes.words_reply reply.now ≡ Some f.reply →
+        (take result bytes.new ≡ frame f) × IsOfWords f }
+{
+    put(words_of(place, args, reply).as_slice(), bytes)
 }
 
 /// Puts the bytes of words at the start of these, and says how many they are.

@@ -9,4 +9,4 @@
 
 mod frame;
 
-pub use frame::{Frame, MOST_BYTES, read_frame, write_frame};
+pub use frame::{Frame, MOST_BYTES, fill_frame, read_frame, write_frame};

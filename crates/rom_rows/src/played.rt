@@ -6,7 +6,8 @@ use crate::heaps::{device, left};
 use rom_combine::{Gate, NoGate};
 use rom_device::{CallKind, Device, every_trip};
 use rom_heap::Trio;
-use rom_model::{Answer, Call, LineResult, Query, Reply, Step, Updated};
+use rom_lines::{Results, Script, Told, Undone};
+use rom_model::{Call, Step};
 use rom_store::{Closed, Played, Refused, Unplayed, play};
 use rom_test::{Holding, Roll};
 use std::alloc::{AllocError, Global};
@@ -14,18 +15,14 @@ use std::sync::Wait;
 use std::test::Fail;
 use std::thread::Threads;
 
-type Line = Step<Call, Query>;
-
-type Told = LineResult<Reply, Answer>;
-
 /// The results of all scripts, and the store that was closed.
 fn played<D: Device + Send + Drop, R: Threads + Wait + Sync, G: Gate + Sync>(
     rt: &R,
     alloc: Global,
     device: D,
-    scripts: &[Vec<Line>],
+    scripts: &[Script<Trio>],
     gate: &G,
-) -> Result<(Vec<Vec<Told>>, Closed<D, Trio>), Fail>
+) -> Result<(Vec<Results<Trio>>, Closed<D, Trio>), Fail>
     requires callers { (0 < length scripts.now) × (length scripts.now ≤ 16) }
     requires few { All (λ v. length v.items ≤ LAST_COUNT) scripts.now }
 {
@@ -49,17 +46,17 @@ fn take_place(taken: &mut [bool], place: u64) -> bool {
 
 /// Whether the updates of a caller are done, each at a free place, which is then taken, or failed or in
 /// doubt, and the places rise.
-fn is_rising(taken: &mut [bool], results: &[Told]) -> bool {
+fn is_rising(taken: &mut [bool], results: &Results<Trio>) -> bool {
     let mut least = 0;
-    for told in results {
-        match told {
-            LineResult::Update(Updated::Done(_, place)) => {
-                if *place < least || !take_place(taken, *place) {
+    for i in 0..results.len() {
+        match results.at(i) {
+            Told::Done(_, place) => {
+                if place < least || !take_place(taken, place) {
                     return false;
                 }
                 least = place.saturating_add(1);
             }
-            LineResult::Update(Updated::Failed | Updated::Doubt) => {}
+            Told::Undone(Undone::Failed | Undone::Doubt) => {}
             _ => return false,
         }
     }
@@ -67,13 +64,13 @@ fn is_rising(taken: &mut [bool], results: &[Told]) -> bool {
 }
 
 /// How many updates of a caller were done, how many failed, and how many are in doubt.
-fn fates_of(told: &[Told]) -> (u64, u64, u64) {
+fn fates_of(results: &Results<Trio>) -> (u64, u64, u64) {
     let mut fates = (0u64, 0u64, 0u64);
-    for line in told {
-        match line {
-            LineResult::Update(Updated::Done(_, _)) => fates.0 = fates.0.saturating_add(1),
-            LineResult::Update(Updated::Failed) => fates.1 = fates.1.saturating_add(1),
-            LineResult::Update(Updated::Doubt) => fates.2 = fates.2.saturating_add(1),
+    for i in 0..results.len() {
+        match results.at(i) {
+            Told::Done(_, _) => fates.0 = fates.0.saturating_add(1),
+            Told::Undone(Undone::Failed) => fates.1 = fates.1.saturating_add(1),
+            Told::Undone(Undone::Doubt) => fates.2 = fates.2.saturating_add(1),
             _ => {}
         }
     }
@@ -81,10 +78,10 @@ fn fates_of(told: &[Told]) -> (u64, u64, u64) {
 }
 
 /// The same of all callers.
-fn fates(results: &[Vec<Told>]) -> (u64, u64, u64) {
+fn fates(results: &[Results<Trio>]) -> (u64, u64, u64) {
     let mut fates = (0u64, 0u64, 0u64);
-    for told in results {
-        let (done, failed, doubt) = fates_of(told.as_slice());
+    for own in results {
+        let (done, failed, doubt) = fates_of(own);
         fates.0 = fates.0.saturating_add(done);
         fates.1 = fates.1.saturating_add(failed);
         fates.2 = fates.2.saturating_add(doubt);
@@ -93,18 +90,17 @@ fn fates(results: &[Vec<Told>]) -> (u64, u64, u64) {
 }
 
 /// Two numbers are put into the queue.
-fn queueing(alloc: Global, number: u64) -> Result<Vec<Line>, AllocError>
-    ensures few { IfOk result (λ lines. vec_len lines ≤ LAST_COUNT) }
+fn queueing(alloc: Global, number: u64) -> Result<Script<Trio>, AllocError>
+    ensures few { IfOk result (λ script. length script.items ≤ LAST_COUNT) }
 {
-    [
-        Step::Update(Call::Enq(number)),
-        Step::Update(Call::Enq(number)),
-    ]
-    .to_vec(alloc)
+    let mut script = Script::new(alloc);
+    script.push_step(&Step::Update(Call::Enq(number)))?;
+    script.push_step(&Step::Update(Call::Enq(number)))?;
+    Ok(script)
 }
 
 /// The lines of 16 callers that put two numbers each into the queue.
-fn all_queueing(alloc: Global) -> Result<Vec<Vec<Line>>, AllocError>
+fn all_queueing(alloc: Global) -> Result<Vec<Script<Trio>>, AllocError>
     ensures many { IfOk result (λ scripts. vec_len scripts ≡ 16) }
     ensures few { IfOk result (λ scripts. All (λ v. length v.items ≤ LAST_COUNT) scripts.items) }
 {
@@ -138,10 +134,10 @@ fn a_fault_fails_at_most_one_update_of_each_of_sixteen_callers(
         assert!(rt; hit >= 1);
         assert_eq!(rt; (closed.count(), gate.differs(true, done)), (done, None));
         let mut taken = vec![in alloc; false; 32]?;
-        for told in &results {
-            let (_, failed, doubt) = fates_of(told.as_slice());
+        for own in &results {
+            let (_, failed, doubt) = fates_of(own);
             assert!(rt; failed.saturating_add(doubt) <= 1);
-            assert!(rt; is_rising(taken.as_mut_slice(), told.as_slice()));
+            assert!(rt; is_rising(taken.as_mut_slice(), own));
         }
         assert!(rt; taken.iter().take(done as usize).all(|mark| *mark));
     }

@@ -1,6 +1,8 @@
--- The status of results, of which the code looks at lists behind vectors.
-use Rattle.std.specs.Prelude.{◌≡◌, ◌||◌, Bool, if◌then◌else◌, List, [], ◌∷◌, map}
-use Rattle.std.proofs.Common.{refl, ap, ◌∙◌}
+-- The status of results, of which the code looks at lists behind vectors, one result after another.
+use Rattle.std.specs.Prelude.{◌≡◌, ℕ, ◌+◌, ◌<◌, ◌||◌, Bool, true, false, if◌then◌else◌, List, [], ◌∷◌, length, map, take, slice_get, IfSome}
+use Rattle.std.proofs.Common.{refl, ap, sym, ◌∙◌, subst, arith, get_or}
+use Rattle.std.proofs.lemmas.List.Folds.{list_any_more}
+use Rattle.std.proofs.lemmas.Option.{slice_get-get_or}
 use Rattle.std.specs.List.{list_any}
 use Rattle.rom_model.specs.declared.line.LineResult.{LineResult}
 use Rattle.rom_run.specs.Statuses.{is_faulted, is_unread, status_of}
@@ -17,3 +19,18 @@ status_by f vs faulted unread some_faulted some_unread =
     let first = any_mapped f (λ rs. list_any is_faulted rs) vs ∙ some_faulted in
     let second = any_mapped f (λ rs. list_any is_unread rs) vs ∙ some_unread in
     λ i. if first i then 7 else if second i then 1 else 0
+
+or_three : (a b c : Bool) → ((a || b) || c) ≡ (a || (b || c))
+or_three true b c = refl
+or_three false b c = refl
+
+-- one result more
+pub any_so_far : {X : Type 0} (test : X → Bool) (before now next : Bool) (xs : List X) (i : ℕ) → i < length xs → now ≡ (before || list_any test (take i xs)) →
+    IfSome (slice_get xs i) (λ x. next ≡ (now || test x)) → next ≡ (before || list_any test (take (i + 1) xs))
+any_so_far test before now next [] i within so_far more = absurd (omega (arith, within))
+any_so_far test before now next (x ∷ xs) i within so_far more =
+    let y = get_or (x ∷ xs) i x in
+    subst (λ o. IfSome o (λ z. next ≡ (now || test z))) (slice_get-get_or (x ∷ xs) i x within) more
+    ∙ ap (λ b. b || test y) so_far
+    ∙ or_three before (list_any test (take i (x ∷ xs))) (test y)
+    ∙ ap (λ b. before || b) (sym (list_any_more test (x ∷ xs) i x within))

@@ -1,6 +1,7 @@
 -- The session of scripts that were played on a heap, and what the device of one that was to be made keeps, by what the players say.
 use Rattle.std.specs.Prelude.{◌≡◌, ◌≤◌, ℕ, List, map, IsTrue, Ok}
-use Rattle.std.specs.Global.{Vec}
+use Rattle.rom_lines.specs.Replies.{Reserved}
+use Rattle.rom_lines.specs.Steps.{Items}
 use Rattle.std.proofs.Common.{ap, arith, inl, inr, subst, sym, ◌∙◌}
 use Rattle.rom_model.specs.Lawful.{IsLawful}
 use Rattle.rom_model.specs.Machine.{Machine, on_words}
@@ -32,7 +33,7 @@ pub kept_made : {D : Type 0} (shown : ShownDevice D) (order : ℕ) (was now : D)
     → (IsTrue shown.tells_words → IsRefused order (shown.words was) → Does shown Stays was now) → IsDeviceKept shown (New order) was now
 kept_made shown order was now size outside spared = record { size = size; outside = outside; spared = spared }
 
-module _ {D S C Q R A : Type 0} (shown : ShownDevice D) (machine : Machine S C Q R A) (Contents : ℕ → List ℕ → S → ℕ → Type 0) (scripts : List (Vec (Step C Q))) (results : List (Vec (LineResult R A))) (was : D) (closed : ClosedSeen D) (faults : closed.session.faults ≡ shown.faults was) where
+module _ {D S C Q R A : Type 0} (shown : ShownDevice D) (machine : Machine S C Q R A) (Contents : ℕ → List ℕ → S → ℕ → Type 0) (scripts : List (Items (Step C Q))) (results : List (Reserved (LineResult R A))) (was : D) (closed : ClosedSeen D) (faults : closed.session.faults ≡ shown.faults was) where
   abbrev Lawful : Story S → Type 0
   Lawful story = IsLawful machine story (map (λ v. v.items) scripts) (map (λ v. v.items) results)
 

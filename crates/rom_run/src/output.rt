@@ -8,8 +8,10 @@ ghost use Rattle.rom_text.specs.Streams.{Prints};
 ghost use Rattle.rom_text.specs.Text.{texts_of};
 ghost use Rattle.rom_run.specs.Played.{ShownOutput, text_output};
 
-use rom_model::{LineResult, Object, Step};
-use rom_text::{IoFailed, Sink, Told, print_run};
+use rom_lines::{Results, Script};
+use rom_model::Object;
+use rom_text::{IoFailed, Replies, Sink, Told, print_run};
+use std::marker::PhantomData;
 
 /// What a program prints of scripts that were played on an object. The rest of the promise does not change
 /// with it. Its bytes depend on the count at the opening, the history and the results, and not on the state:
@@ -24,8 +26,8 @@ pub trait Output<O: Object> {
     /// front.
     fn print<K: Sink>(
         out: &mut K,
-        scripts: &[Vec<Step<O::Call, O::Query>>],
-        results: &[Vec<LineResult<O::Reply, O::Answer>>],
+        scripts: &[Script<O>],
+        results: &[Results<O>],
         count: u64,
     ) -> Result<(), IoFailed>
         requires { length scripts.now ≤ 16 }
@@ -46,22 +48,24 @@ pub trait Output<O: Object> {
         ensures rest { K.shown.rest out.new ≡ K.shown.rest out.old };
 }
 
-/// The text of a run: what each line was told, by its caller, and the count at closing.
-pub struct ResultText;
+/// The text of a run: what each line was told, by its caller, and the count at closing. Replies are printed
+/// in this way, by their words.
+pub struct ResultText<P> {
+    replies: PhantomData<P>,
+}
 
-impl<O: Object> Output<O> for ResultText
+impl<O: Object, P: Replies<O>> Output<O> for ResultText<P>
 where
-    O::Reply: Told,
     O::Answer: Told,
 {
-    ghost shown = { text_output (texts_of O.Reply.shown O.Answer.shown) };
+    ghost shown = { text_output (texts_of P.shown O.Answer.shown) };
 
     fn print<K: Sink>(
         out: &mut K,
-        scripts: &[Vec<Step<O::Call, O::Query>>],
-        results: &[Vec<LineResult<O::Reply, O::Answer>>],
+        scripts: &[Script<O>],
+        results: &[Results<O>],
         count: u64,
     ) -> Result<(), IoFailed> {
-        print_run(out, results, count)
+        print_run::<O, P, K>(out, results, count)
     }
 }

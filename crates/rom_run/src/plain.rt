@@ -20,7 +20,7 @@ use rom_device::Device;
 use rom_header::Geometry;
 use rom_model::Object;
 use rom_store::Gate;
-use rom_text::{DeviceWant, Lines, Name, Names, Sink, Source, Told, Wanted, read_within};
+use rom_text::{DeviceWant, Lines, Name, Names, Sink, Source, Told, Wanted, Whole, read_within};
 use std::alloc::{AllocError, Global};
 use std::sync::Wait;
 use std::thread::Threads;
@@ -208,8 +208,8 @@ pub fn run_plain<
 where
     O::Call: Send + Sync,
     O::Query: Send + Sync,
-    O::Reply: Told + Drop + Send + Sync,
-    O::Answer: Told + Drop + Send + Sync,
+    O::Reply: Told + Send + Sync,
+    O::Answer: Told + Send + Sync,
     requires { length scripts.items ≡ length (scripts_of (command words.now)) }
     // All that is promised of the command that the words are; the record's fields say it one by one.
     ensures promise { Promise O.machine O.Contents O.Rejects O.earlier D.shown S.shown
@@ -218,5 +218,7 @@ where
         result.status result.session }
 {
     let asked = asked_by(words);
-    run_asked::<O, L, ResultText, D, S, K, R, G>(rt, alloc, asked, device, scripts, out, gate)
+    run_asked::<O, L, ResultText<Whole>, D, S, K, R, G>(
+        rt, alloc, asked, device, scripts, out, gate,
+    )
 }

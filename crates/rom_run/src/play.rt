@@ -21,7 +21,8 @@ use crate::status::Status;
 use crate::telling::tell;
 use crate::worked::Worked;
 use rom_device::Device;
-use rom_model::{Object, Step};
+use rom_lines::Script;
+use rom_model::Object;
 use rom_open::Refused;
 use rom_store::{Gate, Played, Unmade, Unplayed, play, play_new};
 use rom_text::Sink;
@@ -94,13 +95,10 @@ pub(crate) fn end_unopened<D: Device, K: Sink>(refused: Refused<D>, out: &mut K)
 
 /// Prints what an output is of these scripts and of what they were told, and ends the session.
 pub fn end_of<O: Object, T: Output<O>, D: Device, K: Sink>(
-    played: Played<D, O, O::Reply, O::Answer>,
-    scripts: &[Vec<Step<O::Call, O::Query>>],
+    played: Played<D, O>,
+    scripts: &[Script<O>],
     out: &mut K,
 ) -> Worked<D>
-where
-    O::Reply: Drop,
-    O::Answer: Drop,
     requires { length scripts.now ≤ 16 }
     ensures device { result.device ≡ played.closed.device }
     ensures session { result.session ≡ Some played.closed.session }
@@ -142,15 +140,15 @@ pub fn play_heap<
     alloc: Global,
     heap: Heap,
     device: D,
-    scripts: &[Vec<Step<O::Call, O::Query>>],
+    scripts: &[Script<O>],
     out: &mut K,
     gate: &G,
-) -> Result<Played<D, O, O::Reply, O::Answer>, Worked<D>>
+) -> Result<Played<D, O>, Worked<D>>
 where
     O::Call: Send + Sync,
     O::Query: Send + Sync,
-    O::Reply: Drop + Send + Sync,
-    O::Answer: Drop + Send + Sync,
+    O::Reply: Send + Sync,
+    O::Answer: Send + Sync,
     requires order { HasOrder heap }
     requires callers { (0 < length scripts.now) × (length scripts.now ≤ 16) }
     requires few { All (λ v. length v.items ≤ LAST_COUNT) scripts.now }
@@ -204,15 +202,15 @@ pub fn play_lines<
     alloc: Global,
     heap: Heap,
     device: D,
-    scripts: &[Vec<Step<O::Call, O::Query>>],
+    scripts: &[Script<O>],
     out: &mut K,
     gate: &G,
 ) -> Worked<D>
 where
     O::Call: Send + Sync,
     O::Query: Send + Sync,
-    O::Reply: Drop + Send + Sync,
-    O::Answer: Drop + Send + Sync,
+    O::Reply: Send + Sync,
+    O::Answer: Send + Sync,
     requires order { HasOrder heap }
     requires callers { (0 < length scripts.now) × (length scripts.now ≤ 16) }
     requires few { All (λ v. length v.items ≤ LAST_COUNT) scripts.now }

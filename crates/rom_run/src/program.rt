@@ -56,8 +56,8 @@ fn run_command<
 where
     O::Call: Send + Sync,
     O::Query: Send + Sync,
-    O::Reply: Drop + Send + Sync,
-    O::Answer: Drop + Send + Sync,
+    O::Reply: Send + Sync,
+    O::Answer: Send + Sync,
     requires order { IfSome asked IsAskedOf }
     requires sources { IfSome asked (HasSources (length scripts.items)) }
     ensures statuses { IsStatus (use_of asked) result.status }
@@ -133,8 +133,8 @@ pub fn run_asked<
 where
     O::Call: Send + Sync,
     O::Query: Send + Sync,
-    O::Reply: Drop + Send + Sync,
-    O::Answer: Drop + Send + Sync,
+    O::Reply: Send + Sync,
+    O::Answer: Send + Sync,
     requires order { IfSome asked IsAskedOf }
     requires sources { IfSome asked (HasSources (length scripts.items)) }
     // All that is promised of this command; the record's fields say it one by one.

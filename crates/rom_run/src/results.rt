@@ -1,5 +1,5 @@
 //! What scripts were told, printed.
-ghost use Rattle.std.specs.Prelude.{◌≡◌, ◌⊎◌, ◌≤◌, length, map};
+ghost use Rattle.std.specs.Prelude.{◌≡◌, ◌⊎◌, ◌<◌, ◌≤◌, ◌||◌, length, map, slice_get, IfSome};
 ghost use Rattle.std.specs.List.{list_any};
 ghost use Rattle.rom_model.specs.Lawful.{IsLawful};
 ghost use Rattle.rom_model.specs.Story.{Story};
@@ -11,53 +11,88 @@ ghost use Rattle.rom_run.specs.Statuses as statuses;
 
 use crate::output::Output;
 use crate::status::Status;
-use rom_model::{LineResult, Object, Step, Updated};
+use rom_lines::{Results, Script, Told, Undone};
+use rom_model::Object;
 use rom_text::Sink;
 
-fn is_unread<R, A>(told: &LineResult<R, A>) -> bool
-    ensures { result ≡ statuses.is_unread told.now }
-{
-    matches!(told, LineResult::Unread)
+/// What was found among results.
+#[derive(Clone, Copy)]
+struct Found {
+    /// A line was no command.
+    unread: bool,
+    /// The device failed under an update.
+    faulted: bool,
 }
 
-fn is_faulted<R, A>(told: &LineResult<R, A>) -> bool
-    ensures { result ≡ statuses.is_faulted told.now }
-{
-    matches!(told, LineResult::Update(Updated::Failed | Updated::Doubt))
-}
+impl Found {
+    /// What was found, and what the result at an index is.
+    fn with<O: Object>(self, results: &Results<O>, i: usize) -> Found
+        requires { i < length results.now.items }
+        ensures unread { IfSome (slice_get results.now.items i) (λ told.
+            result.unread ≡ (self.unread || statuses.is_unread told)) }
+        ensures faulted { IfSome (slice_get results.now.items i) (λ told.
+            result.faulted ≡ (self.faulted || statuses.is_faulted told)) }
+    {
+        match results.at(i) {
+            Told::Unread => Found {
+                unread: true,
+                ..self
+            },
+            Told::Undone(Undone::Failed | Undone::Doubt) => Found {
+                faulted: true,
+                ..self
+            },
+            _ => self,
+        }
+    }
 
-fn has_unread<R, A>(results: &[LineResult<R, A>]) -> bool
-    ensures { result ≡ list_any statuses.is_unread results.now }
-{
-    results.iter().any(|told| is_unread(told))
-}
+    /// What was found, and what is among one caller's results. No reply is read from its words.
+    fn among<O: Object>(self, results: &Results<O>) -> Found
+        ensures unread { result.unread
+            ≡ (self.unread || list_any statuses.is_unread results.now.items) }
+        ensures faulted { result.faulted
+            ≡ (self.faulted || list_any statuses.is_faulted results.now.items) }
+    {
+        let mut found = self;
+        for i in 0..results.len() {
+            found = found.with(results, i);
+        }
+        found
+    }
 
-fn has_faulted<R, A>(results: &[LineResult<R, A>]) -> bool
-    ensures { result ≡ list_any statuses.is_faulted results.now }
-{
-    results.iter().any(|told| is_faulted(told))
-}
-
-fn any_unread<R, A>(results: &[Vec<LineResult<R, A>>]) -> bool
-    ensures { result ≡ list_any (λ v. list_any statuses.is_unread v.items) results.now }
-{
-    results.iter().any(|own| has_unread(own))
+    /// What is found among the results of all callers.
+    fn among_all<O: Object>(results: &[Results<O>]) -> Found
+        ensures unread { result.unread
+            ≡ list_any (λ v. list_any statuses.is_unread v.items) results.now }
+        ensures faulted { result.faulted
+            ≡ list_any (λ v. list_any statuses.is_faulted v.items) results.now }
+    {
+        let mut found = Found {
+            unread: false,
+            faulted: false,
+        };
+        for own in results {
+            found = found.among(own);
+        }
+        found
+    }
 }
 
 /// Whether the device failed under an update of any caller.
-pub fn any_faulted<R, A>(results: &[Vec<LineResult<R, A>>]) -> bool
+pub fn any_faulted<O: Object>(results: &[Results<O>]) -> bool
     ensures { result ≡ list_any (λ v. list_any statuses.is_faulted v.items) results.now }
 {
-    results.iter().any(|own| has_faulted(own))
+    Found::among_all(results).faulted
 }
 
 /// The status of results that are all printed.
-fn status_of<R, A>(results: &[Vec<LineResult<R, A>>]) -> Status
+fn status_of<O: Object>(results: &[Results<O>]) -> Status
     ensures { number_of result ≡ statuses.status_of (map (λ v. v.items) results.now) }
 {
-    if any_faulted(results) {
+    let found = Found::among_all(results);
+    if found.faulted {
         Status::DeviceFailed
-    } else if any_unread(results) {
+    } else if found.unread {
         Status::Unread
     } else {
         Status::Done
@@ -67,8 +102,8 @@ fn status_of<R, A>(results: &[Vec<LineResult<R, A>>]) -> Status
 /// Prints what an output is of the results of all scripts, and the count at closing.
 pub(crate) fn tell_results<O: Object, T: Output<O>, K: Sink>(
     out: &mut K,
-    scripts: &[Vec<Step<O::Call, O::Query>>],
-    results: &[Vec<LineResult<O::Reply, O::Answer>>],
+    scripts: &[Script<O>],
+    results: &[Results<O>],
     count: u64,
 ) -> Status
     requires { length scripts.now ≤ 16 }

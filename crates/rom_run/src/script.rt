@@ -11,7 +11,8 @@ ghost use Rattle.rom_run.specs.Reading.{AreUnread, IsUnread, unread_line, unread
 use crate::status::Status;
 use crate::telling::tell;
 use itoa::Buffer;
-use rom_model::{Object, Step};
+use rom_lines::Script;
+use rom_model::Object;
 use rom_text::{Lines, ReadRefused, Sink, Source, read_script};
 use std::alloc::Global;
 
@@ -27,7 +28,7 @@ pub enum Unread {
 fn read_all<O: Object, L: Lines<O>, S: Source>(
     alloc: Global,
     sources: &mut [S],
-) -> Result<Vec<Vec<Step<O::Call, O::Query>>>, Unread>
+) -> Result<Vec<Script<O>>, Unread>
     ensures many { length sources.new ≡ length sources.old }
     ensures lines { IfOk result (λ read.
         AreScripts L.Reads S.shown sources.old (map (λ v. v.items) read.items)) }
@@ -82,7 +83,7 @@ pub fn read_scripts<O: Object, L: Lines<O>, S: Source, K: Sink>(
     alloc: Global,
     sources: &mut [S],
     out: &mut K,
-) -> Result<Vec<Vec<Step<O::Call, O::Query>>>, Status>
+) -> Result<Vec<Script<O>>, Status>
     ensures many { length sources.new ≡ length sources.old }
     ensures lines { IfOk result (λ read.
         AreScripts L.Reads S.shown sources.old (map (λ v. v.items) read.items)) }

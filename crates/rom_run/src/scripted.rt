@@ -44,8 +44,8 @@ pub fn play_sources<
 where
     O::Call: Send + Sync,
     O::Query: Send + Sync,
-    O::Reply: Drop + Send + Sync,
-    O::Answer: Drop + Send + Sync,
+    O::Reply: Send + Sync,
+    O::Answer: Send + Sync,
     requires order { HasOrder heap }
     requires callers { (0 < length scripts.items) × (length scripts.items ≤ 16) }
     ensures statuses { IsStatus (Some (Plays heap Read)) result.status }

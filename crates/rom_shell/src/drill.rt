@@ -17,9 +17,10 @@ ghost use Rattle.rom_store.specs.Sessions.{EachStory};
 
 use rom_device::Device;
 use rom_heap::Trio;
-use rom_model::{Answer, LineResult, Query, Reply};
+use rom_lines::{Results, Script};
+use rom_model::Query;
 use rom_run::{Heap, Status, Worked, any_faulted, end_without_memory, play_heap};
-use rom_script::{Line, Sink, Summary, drill_scripts, print_drill, sum_dequeued, sum_enqueued};
+use rom_script::{Sink, Summary, drill_scripts, print_drill, sum_dequeued, sum_enqueued};
 use rom_store::{Gate, Played};
 use rom_words::DRILL_ORDER;
 use std::alloc::Global;
@@ -27,7 +28,7 @@ use std::sync::Wait;
 use std::thread::Threads;
 
 /// The status of results that are all told of.
-fn status_of(results: &[Vec<LineResult<Reply, Answer>>]) -> Status
+fn status_of(results: &[Results<Trio>]) -> Status
     ensures status { number_of result ≡ drill_status (map (λ v. v.items) results.now) }
     ensures statuses { (result ≡ Status.Done) ⊎ (result ≡ Status.DeviceFailed) }
 {
@@ -39,11 +40,7 @@ fn status_of(results: &[Vec<LineResult<Reply, Answer>>]) -> Status
 }
 
 /// Prints the five lines of these results.
-fn tell_drill<O: Sink>(
-    out: &mut O,
-    told: &Summary,
-    results: &[Vec<LineResult<Reply, Answer>>],
-) -> Status
+fn tell_drill<O: Sink>(out: &mut O, told: &Summary, results: &[Results<Trio>]) -> Status
     ensures printed { IsDrillText O.shown (drill_lines told.now.start told.now.callers
         told.now.calls told.now.enqueued told.now.dequeued told.now.sizes
         told.now.total told.now.count)
@@ -62,11 +59,11 @@ fn tell_drill<O: Sink>(
 
 /// Prints what the scripts of a drill were told, and ends the session.
 fn end_of<D: Device, O: Sink>(
-    played: Played<D, Trio, Reply, Answer>,
+    played: Played<D, Trio>,
     start: u64,
     callers: u64,
     calls: u64,
-    scripts: &[Vec<Line>],
+    scripts: &[Script<Trio>],
     out: &mut O,
 ) -> Worked<D>
     requires scripts { map (λ v. v.items) scripts.now ≡ drilled.drill_scripts start callers calls }

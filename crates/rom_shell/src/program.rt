@@ -80,13 +80,13 @@ fn run_command<R: Threads + Wait + Sync, D: Device + Send, S: Source, O: Sink, G
     match asked {
         Asked::Try(_) => {
             let heap = Heap::New(TRY_ORDER);
-            play_sources::<Trio, TrioLines, ResultText, D, S, O, R, G>(
+            play_sources::<Trio, TrioLines, ResultText<TrioLines>, D, S, O, R, G>(
                 rt, alloc, heap, device, scripts, out, gate,
             )
         }
         Asked::Run { .. } => {
             let heap = Heap::Standing;
-            play_sources::<Trio, TrioLines, ResultText, D, S, O, R, G>(
+            play_sources::<Trio, TrioLines, ResultText<TrioLines>, D, S, O, R, G>(
                 rt, alloc, heap, device, scripts, out, gate,
             )
         }

@@ -2,5 +2,6 @@
 pub mod Turns
 pub mod Told
 pub mod Taking
+pub mod Passing
 pub mod Writing
 mod Worked

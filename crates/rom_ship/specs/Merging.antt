@@ -1,5 +1,5 @@
 -- The updates of several callers, taken by their places: at each turn that of the caller whose next one comes first.
-use Rattle.std.specs.Prelude.{ℕ, zero, suc, ◌+◌, nat_lt, Bool, true, false, if◌then◌else◌, List, [], ◌∷◌, ◌++◌, set, slice_get, Option, Some, None}
+use Rattle.std.specs.Prelude.{ℕ, zero, suc, ◌+◌, nat_lt, Bool, true, false, if◌then◌else◌, List, [], ◌∷◌, ◌++◌, drop, set, slice_get, Option, Some, None}
 use Rattle.std.specs.Option.{option_map_or}
 use Rattle.rom_model.specs.declared.call.Answer.{Answer}
 use Rattle.rom_model.specs.declared.call.Call.{Call}
@@ -22,6 +22,10 @@ abbrev pub updates : List (Step Call Query) → List (LineResult Reply Answer) �
 updates [] results = []
 updates (l ∷ lines) [] = []
 updates (l ∷ lines) (r ∷ results) = update_by l r ++ updates lines results
+
+-- those of its lines from an index on
+abbrev pub left : ℕ → List (Step Call Query) → List (LineResult Reply Answer) → List Frame
+left at lines results = updates (drop at lines) (drop at results)
 
 -- those of each caller
 abbrev pub all_updates : List (List (Step Call Query)) → List (List (LineResult Reply Answer)) → List (List Frame)

@@ -1,7 +1,11 @@
--- An update as a frame.
+-- An update by the words of its call and its reply.
+use Rattle.std.specs.Prelude.{◌≡◌, Some}
+use Rattle.rom_model.specs.Codes.{words_call, words_reply}
 use Rattle.rom_frame.specs.declared.frame.Frame.{Frame}
 use Rattle.rom_ship.specs.declared.update.Update.{Update}
 
--- the place, the call and the reply of an update
-abbrev pub framed : Update → Frame
-framed update = record { place = update.place; call = update.call.now; reply = update.reply.now }
+-- The frame has the place of the update, and the call and the reply that its words are read as.
+pub record IsFrameOf (update : Update) (f : Frame) : Type 0 where
+  pub place : f.place ≡ update.place
+  pub call : words_call update.args.now ≡ Some f.call
+  pub reply : words_reply update.reply.now ≡ Some f.reply

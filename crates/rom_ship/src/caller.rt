@@ -1,90 +1,96 @@
 //! One caller's updates, in the order of its lines.
-ghost use Rattle.std.specs.Prelude.{◌≡◌, [], ◌∷◌, IsTrue, IfNone, IfSome};
-ghost use Rattle.rom_ship.specs.Merging.{begins_done, next_place, updates};
-ghost use Rattle.rom_ship.specs.Merging as merging;
-ghost use Rattle.rom_ship.specs.Updates.{framed};
+ghost use Rattle.std.specs.Prelude.{◌≡◌, ◌+◌, ◌^◌, ◌<◌, ◌≤◌, [], ◌∷◌, drop, length, IsTrue, IsFalse, IfNone, IfSome};
+ghost use Rattle.rom_frame.specs.declared.frame.Frame.{Frame};
+ghost use Rattle.rom_ship.specs.Merging.{begins_done, left, next_place};
+ghost use Rattle.rom_ship.specs.Updates.{IsFrameOf};
 
 use crate::update::Update;
-use rom_model::{Answer, Call, LineResult, Query, Reply, Step, Updated};
+use rom_heap::Trio;
+use rom_lines::{Line, Results, Script, Told};
 
-fn is_done(line: &Step<Call, Query>, told: &LineResult<Reply, Answer>) -> bool
-    ensures { result ≡ merging.is_done line.now told.now }
+/// Whether the line at an index is an update that was done. Neither its call nor its reply is read.
+fn is_done(script: &Script<Trio>, results: &Results<Trio>, at: usize) -> bool
+    requires line { at < length script.now.items }
+    requires result { at < length results.now.items }
+    ensures { result ≡ begins_done (drop at script.now.items) (drop at results.now.items) }
 {
     matches!(
-        (line, told),
-        (Step::Update(_), LineResult::Update(Updated::Done(_, _)))
+        (script.line(at), results.at(at)),
+        (Line::Update(_), Told::Done(_, _))
     )
 }
 
-/// What is left of a caller's lines and of what they were told. The first line, if one is left, is an
-/// update that was done. All lines before it have been passed, so the search for the least place passes none.
+/// What is left of a caller's lines and of what they were told: those from an index on. The first of them, if
+/// one is left, is an update that was done. All lines before it have been passed, so the search for the least
+/// place passes none.
 #[derive(Clone, Copy)]
 pub(crate) struct Caller<'a> {
-    pub(crate) lines: &'a [Step<Call, Query>],
-    pub(crate) results: &'a [LineResult<Reply, Answer>],
-    ghost begins: { IsTrue (begins_done lines.now results.now) },
+    pub(crate) script: &'a Script<Trio>,
+    pub(crate) results: &'a Results<Trio>,
+    pub(crate) at: usize,
+    ghost begins: { IsTrue (begins_done (drop at script.now.items) (drop at results.now.items)) },
 }
 
 impl<'a> Caller<'a> {
-    /// A caller with no lines.
-    pub(crate) fn idle() -> Caller<'a>
-        ensures { updates result.lines.now result.results.now ≡ [] }
-    {
-        Caller {
-            lines: &[],
-            results: &[],
-        }
-    }
-
-    /// The caller of these lines, from its first update on.
-    pub(crate) fn of(
-        lines: &'a [Step<Call, Query>],
-        results: &'a [LineResult<Reply, Answer>],
+    /// The caller of these lines, from its first update at that index or behind it.
+    pub(crate) fn from(
+        script: &'a Script<Trio>,
+        results: &'a Results<Trio>,
+        start: usize,
     ) -> Caller<'a>
-        ensures { updates result.lines.now result.results.now ≡ updates lines.now results.now }
+        ensures { left result.at result.script.now.items result.results.now.items
+            ≡ left start script.now.items results.now.items }
     {
-        let mut at = 0;
-        while at < lines.len() && at < results.len() && !is_done(&lines[at], &results[at]) {
+        let mut at = start;
+        while at < script.len() && at < results.len() && !is_done(script, results, at) {
             at += 1;
         }
         Caller {
-            lines: &lines[at..],
-            results: &results[at..],
+            script,
+            results,
+            at,
         }
+    }
+
+    /// Whether no line is left.
+    fn is_over(&self) -> bool
+        ensures over { IsTrue result → left self.now.at self.now.script.now.items self.now.results.now.items ≡ [] }
+        ensures not_over { IsFalse result → (self.now.at < length self.now.script.now.items)
+            × (self.now.at < length self.now.results.now.items) }
+        ensures fits { IsFalse result → self.now.at + 1 < 2 ^ 64 }
+    {
+        self.at >= self.script.len() || self.at >= self.results.len()
     }
 
     /// The place of its next update.
     pub(crate) fn place(&self) -> Option<u64>
-        ensures { result ≡ next_place (updates self.now.lines.now self.now.results.now) }
+        ensures { result ≡ next_place
+            (left self.now.at self.now.script.now.items self.now.results.now.items) }
     {
-        match (self.lines, self.results) {
-            ([Step::Update(_), ..], [LineResult::Update(Updated::Done(_, place)), ..]) => {
-                Some(*place)
-            }
+        if self.is_over() {
+            return None;
+        }
+        match self.results.at(self.at) {
+            Told::Done(_, place) => Some(place),
             _ => None,
         }
     }
 
     /// Its next update, and the caller behind it.
     pub(crate) fn split(&self) -> Option<(Update<'a>, Caller<'a>)>
-        ensures next { IfSome result (λ r. updates self.now.lines.now self.now.results.now
-            ≡ framed r.0 ∷ updates r.1.lines.now r.1.results.now) }
-        ensures none { IfNone result (updates self.now.lines.now self.now.results.now ≡ []) }
+        ensures next { IfSome result (λ r. (f : Frame) × IsFrameOf r.0 f ×
+            (left self.now.at self.now.script.now.items self.now.results.now.items
+            ≡ f ∷ left r.1.at r.1.script.now.items r.1.results.now.items)) }
+        ensures none { IfNone result
+            (left self.now.at self.now.script.now.items self.now.results.now.items ≡ []) }
     {
-        match (self.lines, self.results) {
-            (
-                [Step::Update(call), lines @ ..],
-                [
-                    LineResult::Update(Updated::Done(reply, place)),
-                    results @ ..,
-                ],
-            ) => Some((
-                Update {
-                    place: *place,
-                    call,
-                    reply,
-                },
-                Caller::of(lines, results),
+        if self.is_over() {
+            return None;
+        }
+        match (self.script.line(self.at), self.results.at(self.at)) {
+            (Line::Update(args), Told::Done(reply, place)) => Some((
+                Update { place, args, reply },
+                Caller::from(self.script, self.results, self.at + 1),
             )),
             _ => None,
         }

@@ -1,8 +1,9 @@
 //! The callers' updates in the order of their places.
-ghost use Rattle.std.specs.Prelude.{◌≡◌, ◌<◌, ℕ, length, map, option_map, IfSome};
-ghost use Rattle.rom_ship.specs.Merging.{least_from, updates};
+ghost use Rattle.std.specs.Prelude.{◌≡◌, ◌<◌, ℕ, length, map, None, Some, IfNone, IfSome};
+ghost use Rattle.rom_frame.specs.declared.frame.Frame.{Frame};
+ghost use Rattle.rom_ship.specs.Merging.{least_from, left};
 ghost use Rattle.rom_ship.specs.Merging as merging;
-ghost use Rattle.rom_ship.specs.Updates.{framed};
+ghost use Rattle.rom_ship.specs.Updates.{IsFrameOf};
 
 use crate::caller::Caller;
 use crate::update::Update;
@@ -27,7 +28,7 @@ fn nearer(best: Option<(usize, u64)>, i: usize, place: Option<u64>) -> Option<(u
 /// The index of the caller whose next place is least, and that place.
 fn least(callers: &[Caller<'_>]) -> Option<(usize, u64)>
     ensures is { result ≡ merging.least
-        (map (λ c. updates c.lines.now c.results.now) callers.now) }
+        (map (λ c. left c.at c.script.now.items c.results.now.items) callers.now) }
     ensures within { IfSome result (λ best. best.0 < length callers.now) }
 {
     let mut best = None;
@@ -39,8 +40,11 @@ fn least(callers: &[Caller<'_>]) -> Option<(usize, u64)>
 
 /// Takes the next update of the caller whose next place is least.
 pub(crate) fn next<'a>(callers: &mut [Caller<'a>]) -> Option<Update<'a>>
-    ensures { option_map (λ u. (framed u, map (λ c. updates c.lines.now c.results.now) callers.new)) result
-        ≡ merging.next (map (λ c. updates c.lines.now c.results.now) callers.old) }
+    ensures next { IfSome result (λ u. (f : Frame) × IsFrameOf u f ×
+        (merging.next (map (λ c. left c.at c.script.now.items c.results.now.items) callers.old)
+        ≡ Some (f, map (λ c. left c.at c.script.now.items c.results.now.items) callers.new))) }
+    ensures none { IfNone result
+        (merging.next (map (λ c. left c.at c.script.now.items c.results.now.items) callers.old) ≡ None) }
 {
     let (i, _) = least(callers)?;
     let Some((update, rest)) = callers[i].split() else {

@@ -3,7 +3,7 @@ ghost use Rattle.rom_ship.specs.Shipped.{frames_output};
 
 use crate::updates::print_updates;
 use rom_heap::Trio;
-use rom_model::{Answer, Call, LineResult, Query, Reply, Step};
+use rom_lines::{Results, Script};
 use rom_run::Output;
 use rom_text::{IoFailed, Sink};
 
@@ -15,8 +15,8 @@ impl Output<Trio> for HistoryFrames {
 
     fn print<K: Sink>(
         out: &mut K,
-        scripts: &[Vec<Step<Call, Query>>],
-        results: &[Vec<LineResult<Reply, Answer>>],
+        scripts: &[Script<Trio>],
+        results: &[Results<Trio>],
         count: u64,
     ) -> Result<(), IoFailed> {
         print_updates(out, scripts, results, count)

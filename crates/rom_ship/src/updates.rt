@@ -1,17 +1,19 @@
 //! The frames of callers' updates, written in the order of their places.
 ghost use Rattle.std.specs.Prelude.{◌≡◌, ◌≤◌, length, map, OnOk};
 ghost use Rattle.std.specs.List.{AllByRecursion, flat_map};
+ghost use Rattle.rom_frame.specs.declared.frame.Frame.{Frame};
 ghost use Rattle.rom_frame.specs.Frames.{IsOfWords};
 ghost use Rattle.rom_frame.specs.Frames as frames;
 ghost use Rattle.rom_text.specs.Streams.{Prints};
-ghost use Rattle.rom_ship.specs.Merging.{all_updates, merged, updates};
-ghost use Rattle.rom_ship.specs.Updates.{framed};
+ghost use Rattle.rom_ship.specs.Merging.{all_updates, left, merged};
+ghost use Rattle.rom_ship.specs.Updates.{IsFrameOf};
 
 use crate::caller::Caller;
 use crate::merge::next;
 use crate::update::Update;
-use rom_frame::MOST_BYTES;
-use rom_model::{Answer, Call, LineResult, Query, Reply, Step};
+use rom_frame::{MOST_BYTES, fill_frame};
+use rom_heap::Trio;
+use rom_lines::{Results, Script};
 use rom_text::{IoFailed, Report, Sink, print_bytes, print_gathered};
 
 /// The most callers of a heap.
@@ -23,10 +25,11 @@ fn print_frame<K: Sink>(
     update: &Update<'_>,
     bytes: &mut [u8; MOST_BYTES],
 ) -> Result<(), IoFailed>
-    ensures prints { Prints K.shown out.old out.new result (frames.frame (framed update.now)) }
-    ensures of_words { IsOfWords (framed update.now) }
+    ensures prints { (f : Frame) → IsFrameOf update.now f →
+        Prints K.shown out.old out.new result (frames.frame f) }
+    ensures of_words { (f : Frame) → IsFrameOf update.now f → IsOfWords f }
 {
-    let len = update.fill(bytes);
+    let len = fill_frame(update.place, update.args, update.reply, bytes);
     print_bytes(out, &bytes[..len])
 }
 
@@ -38,9 +41,9 @@ fn print_merged<K: Sink>(
     count: u64,
 ) -> Result<(), IoFailed>
     ensures prints { Prints K.shown out.old out.new result (flat_map frames.frame
-        (merged count (map (λ c. updates c.lines.now c.results.now) callers.old))) }
+        (merged count (map (λ c. left c.at c.script.now.items c.results.now.items) callers.old))) }
     ensures of_words { OnOk result (AllByRecursion IsOfWords
-        (merged count (map (λ c. updates c.lines.now c.results.now) callers.old))) }
+        (merged count (map (λ c. left c.at c.script.now.items c.results.now.items) callers.old))) }
 {
     let mut bytes = [0; MOST_BYTES];
     // The loop ends where no caller has an update left. The bound `count` only shows that it ends.
@@ -56,8 +59,8 @@ fn print_merged<K: Sink>(
 /// The updates of scripts that were done, and the count at closing.
 #[derive(Clone, Copy)]
 struct Updates<'a> {
-    scripts: &'a [Vec<Step<Call, Query>>],
-    results: &'a [Vec<LineResult<Reply, Answer>>],
+    scripts: &'a [Script<Trio>],
+    results: &'a [Results<Trio>],
     count: u64,
     ghost few: { length scripts.now ≤ 16 },
 }
@@ -72,9 +75,12 @@ impl Report for Updates<'_> {
 
     fn print<O: Sink>(&self, out: &mut O) -> Result<(), IoFailed> {
         let many = self.scripts.len().min(self.results.len());
-        let mut callers = [Caller::idle(); MOST_CALLERS];
-        for i in 0..many {
-            callers[i] = Caller::of(&self.scripts[i], &self.results[i]);
+        if many == 0 {
+            return Ok(());
+        }
+        let mut callers = [Caller::from(&self.scripts[0], &self.results[0], 0); MOST_CALLERS];
+        for i in 1..many {
+            callers[i] = Caller::from(&self.scripts[i], &self.results[i], 0);
         }
         print_merged(out, &mut callers[..many], self.count)
     }
@@ -86,8 +92,8 @@ impl Report for Updates<'_> {
 /// front.
 pub(crate) fn print_updates<K: Sink>(
     out: &mut K,
-    scripts: &[Vec<Step<Call, Query>>],
-    results: &[Vec<LineResult<Reply, Answer>>],
+    scripts: &[Script<Trio>],
+    results: &[Results<Trio>],
     count: u64,
 ) -> Result<(), IoFailed>
     requires { length scripts.now ≤ 16 }

@@ -1,13 +1,12 @@
 //! The scripts of drills, line by line, and their five lines.
 
+use crate::told::{Told, results_of, script_of};
 use rom_model::{Answer, Call, LineResult, Query, Reply, Updated};
 use rom_script::{
     Bytes, Collect, IoFailed, Line, Summary, drill_script, drill_scripts, print_drill, read_script,
     sum_dequeued, sum_enqueued,
 };
 use std::test::Fail;
-
-type Told = LineResult<Reply, Answer>;
 
 /// From 1 the numbers 59559187, 1495354192 and 671064393 are drawn, and a fourth one.
 const WORKED: &[u8] =
@@ -35,7 +34,10 @@ fn scripts_follow_from_their_start(rt: HostRuntime) -> Result<(), Fail> {
         let script = drill_script(rt.alloc(), start, caller, callers, 4)?;
         let mut source = Bytes::new(lines.to_vec(rt.alloc())?, 4096, Vec::new(rt.alloc()));
         let wanted = read_script(rt.alloc(), &mut source)?;
-        assert!(rt; script.as_slice() == wanted.lines(), "from {start}");
+        assert_eq!(rt; script.len() as u64, wanted.len(), "from {start}");
+        for i in 0..script.len() {
+            assert_eq!(rt; Some(script.whole(i)), wanted.at(i as u64), "from {start}");
+        }
     }
     Ok(())
 }
@@ -80,7 +82,7 @@ const RESULTS: [Told; 6] = [
 fn a_drill_has_five_lines(rt: HostRuntime) -> Result<(), Fail> {
     let alloc = rt.alloc();
     let scripts = drill_scripts(alloc, 1, 1, 3)?;
-    let results = [TOLD.to_vec(alloc)?];
+    let results = [results_of(alloc, &TOLD)?];
     let drilled = Summary {
         start: 1,
         callers: 1,
@@ -107,8 +109,8 @@ fn a_drill_has_five_lines(rt: HostRuntime) -> Result<(), Fail> {
         assert!(rt; out.bytes() == &FIVE_LINES[..room], "with room for {room}");
     }
     // What was not put in and what was not taken out is not summed.
-    let scripts = [LINES.to_vec(alloc)?, LINES.to_vec(alloc)?];
-    let results = [RESULTS.to_vec(alloc)?, RESULTS.to_vec(alloc)?];
+    let scripts = [script_of(alloc, &LINES)?, script_of(alloc, &LINES)?];
+    let results = [results_of(alloc, &RESULTS)?, results_of(alloc, &RESULTS)?];
     let twice = 36893488147419103230;
     let sums = (sum_enqueued(&scripts, &results), sum_dequeued(&results));
     assert_eq!(rt; sums, (twice, twice));

@@ -7,9 +7,14 @@ use std::path::PathBuf;
 use std::test::Fail;
 use std::{env, fs, process};
 
+/// The name of a file of the process with this number.
+fn file_name(alloc: Global, process: u32, name: &str) -> Result<String, AllocError> {
+    format!(in alloc; "rom_units_{process}_{name}")
+}
+
 /// A path of this name that no other process uses.
 pub(crate) fn path(rt: &HostRuntime, name: &str) -> Result<PathBuf, Fail> {
-    let file = format!(in rt.alloc(); "rom_units_{}_{name}", process::id(rt.process()))?;
+    let file = file_name(rt.alloc(), process::id(rt.process()), name)?;
     Ok(env::temp_dir(rt)?.join(rt.alloc(), file.as_str())?)
 }
 

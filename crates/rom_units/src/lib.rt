@@ -44,4 +44,6 @@ mod store;
 #[cfg(test)]
 mod text;
 #[cfg(test)]
+mod told;
+#[cfg(test)]
 mod twin;

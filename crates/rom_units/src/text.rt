@@ -2,10 +2,13 @@
 ghost use Rattle.std.specs.Prelude.{◌<◌, None};
 
 use crate::files::path;
+use crate::told::{Told, results_of};
+use rom_heap::Trio;
+use rom_lines::Results;
 use rom_model::{Answer, LineResult, Replies, Reply, SingleReply, Updated};
 use rom_script::{
-    Adapted, Collect, IoFailed, ReadRefused, Sink, print_answer, print_number, print_pieces,
-    print_run, print_text, print_update, read_bytes, read_script,
+    Adapted, Collect, IoFailed, ReadRefused, Sink, TrioLines, print_answer, print_number,
+    print_pieces, print_run, print_text, print_update, read_bytes, read_script,
 };
 use std::alloc::{AllocError, Global};
 use std::fs::File;
@@ -135,8 +138,6 @@ fn replies_and_answers_have_their_texts(rt: HostRuntime) -> Result<(), Fail> {
     Ok(())
 }
 
-type Told = LineResult<Reply, Answer>;
-
 type Row = LineResult<SingleReply, Answer>;
 
 const UNREAD: Row = LineResult::Unread;
@@ -188,7 +189,7 @@ const RUNS: [(&[&[Row]], u64, &str); 3] = [
 ];
 
 /// What each line of each caller was told, by rows that have the reply to an update of one structure.
-fn results_of(alloc: Global, callers: &[&[Row]]) -> Result<Vec<Vec<Told>>, AllocError> {
+fn callers_of(alloc: Global, callers: &[&[Row]]) -> Result<Vec<Results<Trio>>, AllocError> {
     let mut results = Vec::new(alloc);
     for rows in callers {
         let mut told = Vec::new(alloc);
@@ -201,7 +202,7 @@ fn results_of(alloc: Global, callers: &[&[Row]]) -> Result<Vec<Vec<Told>>, Alloc
                 _ => Told::Unread,
             })?;
         }
-        results.push(told)?;
+        results.push(results_of(alloc, &told)?)?;
     }
     Ok(results)
 }
@@ -209,7 +210,7 @@ fn results_of(alloc: Global, callers: &[&[Row]]) -> Result<Vec<Vec<Told>>, Alloc
 /// Prints a run to sinks that take so many bytes at a time, with room for each number of the text's bytes.
 fn prints_the_front<R: Abort + AllocGlobal>(
     rt: &R,
-    results: &[Vec<Told>],
+    results: &[Results<Trio>],
     count: u64,
     text: &[u8],
     piece: u64,
@@ -218,7 +219,7 @@ fn prints_the_front<R: Abort + AllocGlobal>(
 {
     for room in 0..=text.len() {
         let mut out = Collect::with_room(rt.alloc(), room as u64, piece)?;
-        let printed = print_run(&mut out, results, count).is_ok();
+        let printed = print_run::<Trio, TrioLines, Collect>(&mut out, results, count).is_ok();
         assert!(rt;
             printed == (room == text.len()) && out.bytes() == &text[..room],
             "with room for {room}"
@@ -230,7 +231,7 @@ fn prints_the_front<R: Abort + AllocGlobal>(
 #[test]
 fn a_sink_without_room_has_the_front_of_the_text(rt: HostRuntime) -> Result<(), Fail> {
     for (callers, count, text) in RUNS {
-        let results = results_of(rt.alloc(), callers)?;
+        let results = callers_of(rt.alloc(), callers)?;
         for piece in [1, 5, 7, 4096] {
             prints_the_front(&rt, &results, count, text.as_bytes(), piece)?;
         }
@@ -287,7 +288,8 @@ fn texts_of_runs_leave_in_whole_blocks(rt: HostRuntime) -> Result<(), Fail> {
             faults: 0,
             failing: false,
         };
-        print_run(&mut out, &results_of(alloc, &[unread.as_slice()])?, 5)?;
+        let results = callers_of(alloc, &[unread.as_slice()])?;
+        print_run::<Trio, TrioLines, Widths>(&mut out, &results, 5)?;
         assert!(rt; out.widths.as_slice() == widths, "at {lines} lines");
     }
     Ok(())
@@ -298,7 +300,8 @@ fn files_are_sources_and_sinks(rt: HostRuntime) -> Result<(), Fail> {
     let alloc = rt.alloc();
     let path = path(&rt, "script")?;
     let mut out = Adapted::new(fs::create(&rt, &path)?);
-    print_run(&mut out, &results_of(alloc, &[FILLED])?, 18)?;
+    let results = callers_of(alloc, &[FILLED])?;
+    print_run::<Trio, TrioLines, Adapted<File>>(&mut out, &results, 18)?;
     let mut source = Adapted::new(fs::open(&rt, &path)?);
     let bytes = read_bytes(alloc, &mut source)?;
     fs::remove_file(&rt, &path)?;

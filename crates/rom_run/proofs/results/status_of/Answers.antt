@@ -2,11 +2,11 @@ use Rattle.std.proofs.Common.{true, false, refl, sym, ◌∙◌}
 use Rattle.rom_run.proofs.Ending.{status_by}
 use Rattle.rom_run.proofs.results.status_of.Goals as goal
 
-pub returns-then-any_faulted : goal.returns-then-any_faulted
-returns-then-any_faulted g c = sym (status_by (λ v. v.items) c.args.results.now true _ (sym c.any_faulted.ensures ∙ c.if-any_faulted.true) refl)
+pub returns-then-found : goal.returns-then-found
+returns-then-found g c = sym (status_by (λ v. v.items) c.args.results.now true _ (sym c.among_all-found.ensures.faulted ∙ c.if-found.true) refl)
 
-pub returns-then-any_unread : goal.returns-then-any_unread
-returns-then-any_unread g c = sym (status_by (λ v. v.items) c.args.results.now false true (sym c.any_faulted.ensures ∙ c.if-any_faulted.false) (sym c.any_unread.ensures ∙ c.if-any_unread.true))
+pub returns-then-found-2 : goal.returns-then-found-2
+returns-then-found-2 g c = sym (status_by (λ v. v.items) c.args.results.now false true (sym c.among_all-found.ensures.faulted ∙ c.if-found.false) (sym c.among_all-found.ensures.unread ∙ c.if-found-2.true))
 
-pub returns-else-any_unread : goal.returns-else-any_unread
-returns-else-any_unread g c = sym (status_by (λ v. v.items) c.args.results.now false false (sym c.any_faulted.ensures ∙ c.if-any_faulted.false) (sym c.any_unread.ensures ∙ c.if-any_unread.false))
+pub returns-else-found-2 : goal.returns-else-found-2
+returns-else-found-2 g c = sym (status_by (λ v. v.items) c.args.results.now false false (sym c.among_all-found.ensures.faulted ∙ c.if-found.false) (sym c.among_all-found.ensures.unread ∙ c.if-found-2.false))

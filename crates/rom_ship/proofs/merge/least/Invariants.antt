@@ -1,10 +1,10 @@
 use Rattle.std.proofs.Common.{◌≡◌, ◌<◌, IfSome, drop, map}
-use Rattle.rom_ship.specs.Merging.{least, least_from, updates}
+use Rattle.rom_ship.specs.Merging.{least, least_from, left}
 use Rattle.rom_ship.proofs.merge.least.Given as goal
 
 -- the best so far, and then the callers from here on, give the least
 abbrev pub invariant-loop-i : goal.invariant-loop-i
 invariant-loop-i l = record {
-  is : least_from l.i l.best (map (λ c. updates c.lines.now c.results.now) (drop l.i l.callers)) ≡ least (map (λ c. updates c.lines.now c.results.now) l.callers);
+  is : least_from l.i l.best (map (λ c. left c.at c.script.now.items c.results.now.items) (drop l.i l.callers)) ≡ least (map (λ c. left c.at c.script.now.items c.results.now.items) l.callers);
   within : IfSome l.best (λ best. best.0 < l.i);
 }

@@ -1,10 +1,10 @@
 use Rattle.std.proofs.Common.{◌≡◌, length, map, take}
-use Rattle.rom_ship.specs.Merging.{all_updates, updates}
+use Rattle.rom_ship.specs.Merging.{all_updates, left}
 use Rattle.rom_ship.proofs.updates.UpdatesReport.print.Given as goal
 
 -- the callers so far have their updates
 abbrev pub invariant-loop-i : goal.invariant-loop-i
 invariant-loop-i g l = record {
   many : length l.callers ≡ 16;
-  own : map (λ c. updates c.lines.now c.results.now) (take l.i l.callers) ≡ all_updates (map (λ v. v.items) (take l.i l.self.scripts.now)) (map (λ v. v.items) (take l.i l.self.results.now));
+  own : map (λ c. left c.at c.script.now.items c.results.now.items) (take l.i l.callers) ≡ all_updates (map (λ v. v.items) (take l.i l.self.scripts.now)) (map (λ v. v.items) (take l.i l.self.results.now));
 }
