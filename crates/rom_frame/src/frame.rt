@@ -83,7 +83,8 @@ fn words_of(place: u64, args: &[u64], reply: &[u64]) -> Words<MOST_WORDS>
 }
 
 /// Puts the bytes of the frame of an update that was done at a place at the start of these, and says how
-/// many they are. It takes the words of the call and of the reply as they stand, and reads neither.
+/// many they are. It takes the words of the call, at most 40, and of the reply, at most 20, as they stand,
+/// and reads neither.
 pub fn fill_frame(place: u64, args: &[u64], reply: &[u64], bytes: &mut [u8; MOST_BYTES]) -> usize
     requires few { (length args.now ≤ 40) × (length reply.now ≤ 20) }
     ensures within { result ≤ 512 }

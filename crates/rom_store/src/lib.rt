@@ -2,9 +2,9 @@
 //!
 //! [`open_store`] opens a heap for 1 to 16 callers, and [`Opening::start`] makes the [`Store`] that they
 //! share and a [`Pass`] for each. A caller reads by `query`, by `read`, which counts its steps, or by
-//! `enter`, `ask` and `leave`, without a lock; it updates by `update`, which posts the call and has whoever
-//! holds the lock do all that are posted; by a note one caller tells another what it has seen. `close` ends
-//! the session. [`play`] and [`play_new`] do all of that for scripts, one caller each, in threads. Their
+//! `enter`, `ask` and `leave`, without a lock; it updates by `update`, or by `update_words` where it has the
+//! words of a call, and these post the call and have whoever holds the lock do all that are posted; by a note
+//! one caller tells another what it has seen. `close` ends the session. [`play`] and [`play_new`] do all of that for scripts, one caller each, in threads. Their
 //! contract says that the results are those of one history, and what a stop at any moment leaves of it.
 //!
 //! What a clause says of a device's words, or of images that a stop leaves, holds where the device tells

@@ -117,8 +117,8 @@ impl<D: Device, O: Object, N: Label> Store<D, O, N> {
         updated_by::<O>(became, &told)
     }
 
-    /// As [`update`](Store::update), by the words of the call, which may stand anywhere. It makes `told`
-    /// the words of the reply, whatever they were, and leaves none where the update was not done.
+    /// As [`update`](Store::update), by the words of the call, at most 40, which may stand anywhere. Where
+    /// the update is done it makes `told` the words of the reply, whatever they were.
     pub fn update_words<R: Wait, G: Gate>(
         &self,
         rt: &R,
