@@ -53,15 +53,19 @@ module _ {S C Q R A : Type 0} (m : Machine S C Q R A) where
   became_is told.Doubt (became.Undone undone.Doubt) word words low back is says = (refl, tt)
 
   -- no words stand beside a code
-  none_beside : (why : Undone) (word : ℕ) (words : List ℕ) → answer_words (as_words m (undone_as why)) ≡ word ∷ packed words → length words ≡ 0
-  none_beside undone.Spent word words is = let e : words ≡ [] = cc in ap length e
-  none_beside undone.Failed word words is = let e : words ≡ [] = cc in ap length e
-  none_beside undone.Doubt word words is = let e : words ≡ [] = cc in ap length e
+  none_beside : (why : Undone) (word : ℕ) (words : List ℕ) → answer_words (as_words m (undone_as why)) ≡ word ∷ packed words → words ≡ []
+  none_beside undone.Spent word words is = cc
+  none_beside undone.Failed word words is = cc
+  none_beside undone.Doubt word words is = cc
+
+  pub none_undone : (b : Became) (word : ℕ) (words : List ℕ) → answer_words (as_words m (updated_as m.words_reply b words)) ≡ word ∷ packed words → (why : Undone) → b ≡ became.Undone why → words ≡ []
+  none_undone (became.Done place) word words is why undone = absurd (let never : became.Done place ≡ became.Undone why = undone in cc)
+  none_undone (became.Undone given) word words is why undone = none_beside given word words is
 
   -- so they are few, if those of a reply are
   pub few_beside : (b : Became) (word : ℕ) (words : List ℕ) (most : ℕ) → answer_words (as_words m (updated_as m.words_reply b words)) ≡ word ∷ packed words → ((place : ℕ) → b ≡ became.Done place → length words ≤ most) → length words ≤ most
   few_beside (became.Done place) word words most is few = few place refl
-  few_beside (became.Undone why) word words most is few = omega (arith, none_beside why word words is)
+  few_beside (became.Undone why) word words most is few = omega (arith, ap length (none_beside why word words is))
 
   -- the reply of an update that is done, and its words
   pub done_reply : (only : (words : List ℕ) (reply : R) → m.words_reply words ≡ Some reply → m.reply_words reply ≡ words) (b : Became) (words : List ℕ) (place : ℕ) → IsReplied m.words_reply b words → b ≡ became.Done place → (reply : R) × (updated_as m.words_reply b words ≡ told.Done reply place) × (m.reply_words reply ≡ words)

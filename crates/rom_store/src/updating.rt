@@ -117,8 +117,8 @@ impl<D: Device, O: Object, N: Label> Store<D, O, N> {
         updated_by::<O>(became, &told)
     }
 
-    /// As [`update`](Store::update), by the words of the call, at most 40, which may stand anywhere. Where
-    /// the update is done it makes `told` the words of the reply, whatever they were.
+    /// As [`update`](Store::update), by the words of the call, at most 40, which may stand anywhere. It makes
+    /// `told` the words of the reply, whatever they were, and leaves none where the update was not done.
     pub fn update_words<R: Wait, G: Gate>(
         &self,
         rt: &R,
@@ -168,6 +168,8 @@ impl<D: Device, O: Object, N: Label> Store<D, O, N> {
 
         // The words that are left are those of a reply, where it is done.
         ensures replied { IsReplied O.machine.words_reply result told.new }
+        // No words are left where it is not done.
+        ensures none { (why : Undone) → result ≡ Became.Undone why → told.new ≡ [] }
         // So many words at most are left, so that room for them can be reserved before.
         ensures room { length told.new ≤ 2 * length words.now }
     {

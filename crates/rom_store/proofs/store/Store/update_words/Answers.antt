@@ -9,7 +9,7 @@ use Rattle.rom_rule.specs.Calls.{answer_words, packed}
 use Rattle.rom_rule.specs.Views.{kept_of}
 use Rattle.rom_rule.specs.declared.views.View.{View}
 use Rattle.rom_store.specs.Updating.{IsDoneIn}
-use Rattle.rom_store.proofs.Becoming.{IsReadBack, IsWithinPlaces, became_is, call_steps, done_reply, few_beside}
+use Rattle.rom_store.proofs.Becoming.{IsReadBack, IsWithinPlaces, became_is, call_steps, done_reply, few_beside, none_undone}
 use Rattle.rom_store.proofs.Telling.{IsTaken, posted_same, told_done, told_few, told_next, told_once, told_some}
 use Rattle.rom_store.proofs.store.Store.update_words.Given.{Over}
 use Rattle.rom_store.proofs.store.Store.update_words.Goals as goal
@@ -64,6 +64,9 @@ returns-clause-done g c = λ s k at place done.
 
 pub returns-clause-replied : goal.returns-clause-replied
 returns-clause-replied g c = (became g c).1
+
+pub returns-clause-none : goal.returns-clause-none
+returns-clause-none g c why undone = none_undone g.O.Object.machine c.became_of.result c.take_into-word.result c.take_into-word.new.reply (told_words g c) why undone
 
 pub returns-clause-room : goal.returns-clause-room
 returns-clause-room g c =
