@@ -17,7 +17,7 @@ use Rattle.rom_model.specs.declared.call.Answer.TheVariants.{Total}
 use Rattle.rom_model.specs.declared.entry.Entry.{Entry}
 use Rattle.rom_model.specs.declared.kept.Kept.{Kept}
 use Rattle.rom_rule.specs.declared.views.Base.{Base}
-use Rattle.rom_store.specs.Callers.{Caller, IsCallerOf, IsNumbered}
+use Rattle.rom_store.specs.Callers.{Caller, IsCallerOf, IsNumberedCaller}
 use Rattle.rom_store.specs.Closing.{kept_in}
 use Rattle.rom_store.specs.Indexed.{Indexed}
 use Rattle.rom_store.specs.Sessions.{EachStory, IsStoryOf, SessionSeen}
@@ -229,14 +229,14 @@ back_again q0 q1 q2 q3 q4 q5 a b c d m none e1 e2 e3 e4 e5 =
     e5 ∙ ap (λ zs. zs ++ m ∷ []) four
 
 -- passes with these numbers are those of a store
-pub numbered_five : (table : TableId) (base : Base) (a b c d m : Caller) → IsNumbered Contents table base 0 a → IsNumbered Contents table base 1 b → IsNumbered Contents table base 2 c → IsNumbered Contents table base 3 d → IsNumbered Contents table base 4 m →
-    Indexed (IsNumbered Contents table base) (a ∷ b ∷ c ∷ d ∷ m ∷ [])
+pub numbered_five : (table : TableId) (base : Base) (a b c d m : Caller) → IsNumberedCaller Contents table base 0 a → IsNumberedCaller Contents table base 1 b → IsNumberedCaller Contents table base 2 c → IsNumberedCaller Contents table base 3 d → IsNumberedCaller Contents table base 4 m →
+    Indexed (IsNumberedCaller Contents table base) (a ∷ b ∷ c ∷ d ∷ m ∷ [])
 numbered_five table base a b c d m one two three four five = record { at = at }
   where
-    at : (i : ℕ) (p : Caller) → slice_get (a ∷ b ∷ c ∷ d ∷ m ∷ []) i ≡ Some p → IsNumbered Contents table base i p
-    at zero p is = subst (IsNumbered Contents table base 0) (let same : a ≡ p = cc in same) one
-    at (suc zero) p is = subst (IsNumbered Contents table base 1) (let same : b ≡ p = cc in same) two
-    at (suc (suc zero)) p is = subst (IsNumbered Contents table base 2) (let same : c ≡ p = cc in same) three
-    at (suc (suc (suc zero))) p is = subst (IsNumbered Contents table base 3) (let same : d ≡ p = cc in same) four
-    at (suc (suc (suc (suc zero)))) p is = subst (IsNumbered Contents table base 4) (let same : m ≡ p = cc in same) five
+    at : (i : ℕ) (p : Caller) → slice_get (a ∷ b ∷ c ∷ d ∷ m ∷ []) i ≡ Some p → IsNumberedCaller Contents table base i p
+    at zero p is = subst (IsNumberedCaller Contents table base 0) (let same : a ≡ p = cc in same) one
+    at (suc zero) p is = subst (IsNumberedCaller Contents table base 1) (let same : b ≡ p = cc in same) two
+    at (suc (suc zero)) p is = subst (IsNumberedCaller Contents table base 2) (let same : c ≡ p = cc in same) three
+    at (suc (suc (suc zero))) p is = subst (IsNumberedCaller Contents table base 3) (let same : d ≡ p = cc in same) four
+    at (suc (suc (suc (suc zero)))) p is = subst (IsNumberedCaller Contents table base 4) (let same : m ≡ p = cc in same) five
     at (suc (suc (suc (suc (suc i))))) p is = absurd (let no : None ≡ Some p = is in cc)

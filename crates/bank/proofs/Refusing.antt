@@ -19,7 +19,7 @@ use Rattle.rom_model.specs.Region.{Contents}
 use Rattle.rom_model.specs.State.{State}
 use Rattle.rom_model.specs.Trio.{trio}
 use Rattle.rom_rule.specs.declared.views.Base.{Base}
-use Rattle.bank.specs.Promise.{HasOpened}
+use Rattle.bank.specs.Promise.{HasBegunWith}
 
 -- one region of the words counts
 one_region : (words : List ℕ) (m n : ℕ) (p q : List ℕ) → IsCurrentRegion m words p → IsCurrentRegion n words q → (m ≡ n) × (p ≡ q)
@@ -112,7 +112,7 @@ no_value Q P (Err e) is = tt
 
 -- the session of a store whose base stands for what these words hold
 pub goes_on : (base : Base) (session : SessionSeen) (words : List ℕ) (n : ℕ) (s : State) (k : ℕ) → (session.order ≡ base.order) × (session.image ≡ base.image) → ((t : State) (j : ℕ) → Contents base.order base.image t j → Holds Contents base.order words t j) → Holds Contents n words s k →
-    EachStory trio Contents session (HasOpened n s k)
+    EachStory trio Contents session (HasBegunWith n s k)
 goes_on base session words n s k same held stood = λ story is.
     let at = subst (λ (z : ℕ × List ℕ). Contents z.0 z.1 story.opening story.opening_count) (λ i. (same.0 i, same.1 i)) is.opening in
     let one = holds_one Contents one_contents words base.order n story.opening s story.opening_count k (held story.opening story.opening_count at) stood in

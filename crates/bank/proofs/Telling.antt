@@ -29,9 +29,9 @@ use Rattle.rom_model.specs.declared.record.Found.{Found}
 use Rattle.rom_model.proofs.Placed.{enumerate_append}
 use Rattle.rom_rule.specs.declared.views.Base.{Base}
 use Rattle.rom_store.specs.Callers.{Caller, IsCallerOf}
-use Rattle.bank.specs.Moved.{IsMove, is_made, is_moved, moved_in}
+use Rattle.bank.specs.Moved.{IsMove, is_moved, is_told_moved, moved_in}
 use Rattle.bank.specs.Promise.{rounds, total_after}
-use Rattle.bank.specs.Tellers.{IsRead, IsTeller}
+use Rattle.bank.specs.Tellers.{IsRoundRead, IsTeller}
 use Rattle.bank.specs.declared.bank.Tally.{Tally}
 use Rattle.bank.specs.declared.bank.Teller.{Teller}
 use Rattle.bank.proofs.Splitting.{all_both}
@@ -48,7 +48,7 @@ starts_further a b c (more, is) (rest, whole) = (more ++ rest, whole ∙ (ap (λ
 
 -- how many moves an update was told of
 abbrev pub made : Updated Reply → ℕ
-made u = cond (is_made u) 1 0
+made u = cond (is_told_moved u) 1 0
 
 pub byte_is : (b : Bool) → bool_byte b ≡ cond b 1 0
 byte_is true = refl
@@ -127,7 +127,7 @@ none_first (x ∷ xs) ys is = is_none is
 module _ (table : TableId) (base : Base) (first : List Entry) where
   -- what is read stays read
   later_read : (p q : Caller) (more : List (Found × Updated (List ℕ))) (round : ℕ) (read : ℕ × ℕ) → StartsWith q.view.seen p.view.seen → q.view.number ≡ p.view.number → q.view.outcomes ≡ p.view.outcomes ++ more → 16 * (round + 1) ≤ length p.view.outcomes →
-      IsRead base first p round read → IsRead base first q round read
+      IsRoundRead base first p round read → IsRoundRead base first q round read
   later_read p q more round read on number told fits is = record {
     state = λ s k at. let (seen, past, within, front, total, own) = is.state s k at in
         let same = ap (λ (n : ℕ). filter (λ x. x.1.caller == n) (enumerate_from k seen)) number in
@@ -156,7 +156,7 @@ module _ (table : TableId) (base : Base) (first : List Entry) where
 
   -- a total that is read now, behind as many rounds as were tried
   read_now : (q : Caller) (round total front : ℕ) → IsCallerOf Contents table base q → StartsWith q.view.seen first → length q.view.outcomes ≡ 16 * (round + 1) →
-      ((s : State) (k : ℕ) → Contents base.order base.image s k → front ≡ k + length q.view.seen) → ((s : State) (k : ℕ) → Contents base.order base.image s k → total ≡ total_after base.order s k q.view.seen) → IsRead base first q round (total, front)
+      ((s : State) (k : ℕ) → Contents base.order base.image s k → front ≡ k + length q.view.seen) → ((s : State) (k : ℕ) → Contents base.order base.image s k → total ≡ total_after base.order s k q.view.seen) → IsRoundRead base first q round (total, front)
   read_now q round total front of learnt many front_is total_is = record {
     state = λ s k at. let all : q.view.outcomes ≡ take (16 * (round + 1)) q.view.outcomes = sym (take-length q.view.outcomes) ∙ ap (λ (n : ℕ). take n q.view.outcomes) many in
         (q.view.seen, learnt, ([], sym (append-nil q.view.seen)), front_is s k at, total_is s k at, (of.knows s k at).own ∙ ap done_in all);
@@ -181,7 +181,7 @@ module _ (table : TableId) (base : Base) (first : List Entry) where
             | inl same ↦
                 let now = read_now q round total front of learnt (ap length told ∙ many) front_is total_is in
                 let stored = get_stored t.tally.reads round (total, front) read (omega (arith, low, four)) (subst (λ (i : ℕ). slice_get (slice_set t.tally.reads round (total, front)) i ≡ Some read) same there) in
-                subst (λ (z : ℕ × (ℕ × ℕ)). IsRead base first q z.0 z.1) (λ i. (sym same i, sym stored i)) now
+                subst (λ (z : ℕ × (ℕ × ℕ)). IsRoundRead base first q z.0 z.1) (λ i. (sym same i, sym stored i)) now
             | inr other ↦
                 let before : r < round = omega (arith, within, other) in let had = is.reads r before in let fits = had.0 in
                 later_read t.pass q [] r read on number (told ∙ sym (append-nil t.pass.view.outcomes)) (omega (arith, fits, many)) (had.1 read (get_other t.tally.reads round r (total, front) read other there))

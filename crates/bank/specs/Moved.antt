@@ -14,9 +14,9 @@ abbrev pub IsMove : List ℕ → Type 0
 IsMove args = (a b d : ℕ) × (args ≡ call_words (Move a b d))
 
 -- whether an update was told that money was moved
-abbrev pub is_made : Updated Reply → Bool
-is_made (Done Moved place) = true
-is_made other = false
+abbrev pub is_told_moved : Updated Reply → Bool
+is_told_moved (Done Moved place) = true
+is_told_moved other = false
 
 -- whether a reply, by its words, says that money was moved
 abbrev pub is_moved : List ℕ → Bool

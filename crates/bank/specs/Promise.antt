@@ -25,8 +25,8 @@ rounds zero = []
 rounds (suc n) = rounds n ++ call_words (Move (n % 16) ((n + 1) % 16) 1) ∷ []
 
 -- The session began with a heap of this order, in this state and with this count of updates.
-abbrev pub HasOpened : ℕ → State → ℕ → Story State → Type 0
-HasOpened n s k story = (story.order ≡ n) × (story.opening ≡ s) × (story.opening_count ≡ k)
+abbrev pub HasBegunWith : ℕ → State → ℕ → Story State → Type 0
+HasBegunWith n s k story = (story.order ≡ n) × (story.opening ≡ s) × (story.opening_count ≡ k)
 
 -- The first updates are the manager's, who is caller 5, and behind them there are moves alone. From there on the total in each state is what was put in.
 pub record IsBalanced (put_in : ℕ) (story : Story State) : Type 0 where

@@ -13,7 +13,7 @@ use Rattle.bank.specs.Promise.{rounds, total_after}
 use Rattle.bank.specs.declared.bank.Teller.{Teller}
 
 -- The read is of one state, behind these first updates and among those that the caller has seen; of the caller's own it has those that are done of what it had tried up to this round.
-pub record IsRead (base : Base) (first : List Entry) (p : Caller) (round : ℕ) (read : ℕ × ℕ) : Type 0 where
+pub record IsRoundRead (base : Base) (first : List Entry) (p : Caller) (round : ℕ) (read : ℕ × ℕ) : Type 0 where
   pub state : (s : State) (k : ℕ) → Contents base.order base.image s k → (at : List Entry) × StartsWith at first × StartsWith p.view.seen at × (read.1 ≡ k + length at) × (read.0 ≡ total_after base.order s k at)
       × (filter (λ x. x.1.caller == p.view.number) (enumerate_from k at) ≡ done_in (take (16 * (round + 1)) p.view.outcomes))
 
@@ -25,7 +25,7 @@ pub record IsTeller (table : TableId) (base : Base) (first : List Entry) (n roun
   pub asked : map (λ x. x.0.args) t.pass.view.outcomes ≡ rounds n
   pub moved : t.tally.moved ≡ moved_in (done_in t.pass.view.outcomes)
   pub four : length t.tally.reads ≡ 4
-  pub reads : (round : ℕ) → round < rounds_read → (16 * (round + 1) ≤ n) × ((read : ℕ × ℕ) → slice_get t.tally.reads round ≡ Some read → IsRead base first t.pass round read)
+  pub reads : (round : ℕ) → round < rounds_read → (16 * (round + 1) ≤ n) × ((read : ℕ × ℕ) → slice_get t.tally.reads round ≡ Some read → IsRoundRead base first t.pass round read)
 
 -- The teller at some later moment of its work: it is still such, with what it had first seen.
 pub record IsAfter (table : TableId) (base : Base) (n rounds_read : ℕ) (was : Teller) (m rounds_now : ℕ) (now : Teller) : Type 0 where

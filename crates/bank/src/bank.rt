@@ -18,9 +18,9 @@ ghost use Rattle.rom_rule.specs.Views.{base_of};
 ghost use Rattle.rom_store.specs.Callers.{IsCallerOf, IsNewCaller};
 ghost use Rattle.rom_store.specs.Indexed.{Indexed};
 ghost use Rattle.rom_store.specs.Sessions.{EachStory, HasStory};
-ghost use Rattle.rom_store.specs.Start.{start_of};
-ghost use Rattle.bank.specs.Moved.{is_made};
-ghost use Rattle.bank.specs.Promise.{HasOpened, IsBalanced, IsTallyOf, total_after};
+ghost use Rattle.rom_store.specs.Start.{device_start};
+ghost use Rattle.bank.specs.Moved.{is_told_moved};
+ghost use Rattle.bank.specs.Promise.{HasBegunWith, IsBalanced, IsTallyOf, total_after};
 ghost use Rattle.bank.specs.Tellers.{IsAfter, IsTeller};
 
 use rom_device::Device;
@@ -85,7 +85,7 @@ fn total_in(answer: Answer) -> u128
 
 // Whether a move was made: the account that it was to take from had enough, and the device did not fail.
 fn was_moved(told: &Updated<Reply>) -> bool
-    ensures { result ≡ is_made told.now }
+    ensures { result ≡ is_told_moved told.now }
 {
     matches!(told, Updated::Done(Reply::Moved, _))
 }
@@ -193,7 +193,7 @@ fn bank<D: Device + Send, N: Label + Send + Sync, R: Threads + Wait + Sync>(
 ) -> Books<D>
     requires table { N.table ≡ opening.table_id }
     requires base { N.base ≡ base_of opening.key }
-    requires started { N.start ≡ start_of D.shown opening.device }
+    requires started { N.start ≡ device_start D.shown opening.device }
     requires since { IsTrue D.shown.tells_images → (t : ℕ) (i : List ℕ) →
         (N.since t i → D.shown.left_since opening.device t i)
         × (D.shown.left_since opening.device t i → N.since t i) }
@@ -319,12 +319,12 @@ pub fn run_bank<D: Device + Send, R: Threads + Wait + Sync + AllocGlobal>(
         slice_index (D.shown.words device) 0 ≡ 0 →
         IfErr result (λ refused. (refused.why ≡ Device) ⊎ (refused.why ≡ OutOfMemory))
         × IfOk result (λ books.
-        EachStory trio Contents books.closed.session (HasOpened 5 trio.empty 0)) }
+        EachStory trio Contents books.closed.session (HasBegunWith 5 trio.empty 0)) }
 
     // What they hold is what it goes on from.
     ensures stood { IsTrue D.shown.tells_words → (n : ℕ) (s : State) (k : ℕ) →
         Holds Contents n (D.shown.words device) s k → IfOk result (λ books.
-        EachStory trio Contents books.closed.session (HasOpened n s k)) }
+        EachStory trio Contents books.closed.session (HasBegunWith n s k)) }
 
     // There is a history of five callers, the tellers, numbered from 1, and the manager, and of nobody else.
     ensures story { IfOk result (λ books. HasStory trio Contents books.closed.session) }

@@ -4,6 +4,9 @@
 //! what it read, then what was put in and what there is. FILE must be new or a heap: any other file is refused,
 //! unless its first word is 0.
 //!
+//! It knows accounts and tellers, and the calls of a store; it knows no script and no text of another
+//! program.
+//!
 //! `run_bank` does all of it on any device. Its contract says that behind what was paid in the history has
 //! moves alone, and that each total that is read, and the one at the end, is the one that was put in.
 #![tactic(auto)]

@@ -1,6 +1,8 @@
 //! Announced calls: a caller posts a call in its slot, the writer finds and answers it there, and the
 //! caller takes the answer.
 //!
+//! It knows slots and turns of the shared words; it knows no region, and no device but its count of faults.
+//!
 //! [`post`], [`post_words`], [`answered`] and [`take`] are a caller's, [`posted`], [`arguments`], [`arguments_into`]
 //! and [`answer`] the writer's. None waits, takes memory or can be refused, and each makes a number of
 //! steps that its contract tells, each of one word. A caller whose call is not answered yet may

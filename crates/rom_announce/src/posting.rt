@@ -2,6 +2,7 @@
 ghost use Rattle.std.specs.Prelude.{◌≡◌, ℕ, ◌+◌, ◌<◌, ◌≤◌, List, [], ◌∷◌, ◌++◌, take, length};
 ghost use Rattle.rom_model.specs.History.{LAST_COUNT};
 ghost use Rattle.rom_model.specs.Machine.{on_words};
+ghost use Rattle.rom_model.specs.declared.words.TheConstants.{CALL_WORDS};
 ghost use Rattle.rom_lr.specs.Seats.{IsAnswered, IsSameSeat, IsSeatOf, view};
 ghost use Rattle.rom_rule.specs.CallKinds.{posting};
 ghost use Rattle.rom_rule.specs.Calls.{packed};
@@ -29,17 +30,15 @@ pub fn post<O: Object>(shared: &Shared<O>, seat: &mut Seat, args: &Args)
           steps = v.steps + length args.now + 2;
         } }
 {
-    store_argument(shared, seat, 0, args.len());
-    store_arguments(shared, seat, args.as_slice());
-    store_turn(shared, seat);
+    post_words(shared, seat, args.as_slice());
 }
 
-/// As [`post`], for words that stand anywhere, such as in a list of calls. They are at most 40.
+/// As [`post`], for words that stand anywhere, such as in a list of calls. They are at most `CALL_WORDS`.
 pub fn post_words<O: Object>(shared: &Shared<O>, seat: &mut Seat, words: &[u64])
     requires of { IsSeatOf shared.now seat.old }
     requires none_posted { IsAnswered seat.old }
     requires few { length (view seat.old).calls < LAST_COUNT }
-    requires room { length words.now ≤ 40 }
+    requires room { length words.now ≤ CALL_WORDS }
     requires call { IsCall (on_words O.machine) (view seat.old).base words.now }
     ensures same { IsSameSeat seat.old seat.new }
     // The call with these words is posted, as by `post`.
@@ -60,7 +59,7 @@ pub fn post_words<O: Object>(shared: &Shared<O>, seat: &mut Seat, words: &[u64])
 fn store_argument<O: Object>(shared: &Shared<O>, seat: &mut Seat, j: u64, word: u64)
     requires of { IsSeatOf shared.now seat.old }
     requires none_posted { IsAnswered seat.old }
-    requires next { (j ≤ length (view seat.old).laid) × (j ≤ 40) }
+    requires next { (j ≤ length (view seat.old).laid) × (j ≤ CALL_WORDS) }
     ensures same { IsSameSeat seat.old seat.new }
     ensures stored { let v = view seat.old in
         view seat.new ≡ record v { laid = take j v.laid ++ word ∷ []; steps = v.steps + 1 } }
@@ -75,7 +74,7 @@ fn store_argument<O: Object>(shared: &Shared<O>, seat: &mut Seat, j: u64, word: 
 fn store_arguments<O: Object>(shared: &Shared<O>, seat: &mut Seat, words: &[u64])
     requires of { IsSeatOf shared.now seat.old }
     requires none_posted { IsAnswered seat.old }
-    requires few { length words.now ≤ 40 }
+    requires few { length words.now ≤ CALL_WORDS }
     requires number { (view seat.old).laid ≡ length words.now ∷ [] }
     ensures same { IsSameSeat seat.old seat.new }
     ensures stored { let v = view seat.old in
@@ -91,7 +90,7 @@ fn store_turn<O: Object>(shared: &Shared<O>, seat: &mut Seat)
     requires of { IsSeatOf shared.now seat.old }
     requires none_posted { IsAnswered seat.old }
     requires few { length (view seat.old).calls < LAST_COUNT }
-    requires call { (args : List ℕ) × ((view seat.old).laid ≡ packed args) × (length args ≤ 40)
+    requires call { (args : List ℕ) × ((view seat.old).laid ≡ packed args) × (length args ≤ CALL_WORDS)
         × IsCall (on_words O.machine) (view seat.old).base args }
     ensures same { IsSameSeat seat.old seat.new }
     ensures posted { view seat.new ≡ posting (view seat.old) }

@@ -2,6 +2,7 @@
 ghost use Rattle.std.specs.Prelude.{◌≡◌, ℕ, ◌+◌, ◌<◌, ◌≤◌, ◌∷◌, drop, length, slice_index};
 ghost use Rattle.std.specs.Bool.{OnTrue, OnFalse};
 ghost use Rattle.rom_model.specs.Machine.{on_words};
+ghost use Rattle.rom_model.specs.declared.words.TheConstants.{REPLY_WORDS};
 ghost use Rattle.rom_lr.specs.Seats.{IsAnswered, IsPosted, IsSameSeat, IsSeatOf, view};
 ghost use Rattle.rom_rule.specs.CallKinds.{IsLast, Learnt};
 ghost use Rattle.rom_rule.specs.Calls.{answer_words, packed};
@@ -87,7 +88,7 @@ fn load_word<O: Object>(shared: &Shared<O>, seat: &mut Seat, j: u64) -> u64
 fn load_reply<O: Object>(shared: &Shared<O>, seat: &mut Seat, count: u64, reply: &mut Back)
     requires of { IsSeatOf shared.now seat.old }
     requires answered { IsAnswered seat.old }
-    requires few { count ≤ 20 }
+    requires few { count ≤ REPLY_WORDS }
     ensures same { IsSameSeat seat.old seat.new }
     ensures many { length reply.new ≡ count }
     ensures reply { (x : Told) → IsLast (view seat.old) x → length (answer_words x.1) ≡ count + 2 →

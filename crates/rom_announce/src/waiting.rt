@@ -11,11 +11,12 @@ use rom_lr::{Seat, Shared};
 use rom_model::Object;
 use rom_rule::TURN;
 use std::sync::Wait;
+use std::sync::atomic::Ordering;
 use std::thread::yield_now;
 use std::time::Duration;
 
 /// The most that a caller sleeps before its second look, in milliseconds, and by how much longer it
-/// sleeps at each look. Who was woken just before it fell asleep is woken by nobody else, so the first
+/// sleeps at each look. Who is to run the next pass may be passed over just before it falls asleep, so the first
 /// sleeps are short; 64 of them take two seconds, which outlast the passes of a slow disk. Where a sync takes
 /// 20 ms, passes of sixteen callers hold 15.5 calls; with sleeps of one millisecond each they held 3.4.
 const NAP: u64 = 1;
@@ -52,21 +53,32 @@ pub fn nap<O: Object, R: Wait>(rt: &R, shared: &Shared<O>, seat: &Seat, looked: 
     // The low 32 bits of the odd turn, which is twice the number of calls posted before, and one.
     let before = (seat.posted - 1) % (1 << 31);
     let odd = (2 * before + 1) as u32;
+    // Who answers stores the turn, and then looks whether anybody sleeps. Who sleeps counts itself, and then the
+    // system compares the turn, before it puts the caller to sleep. So the one sees the count, or the other the
+    // turn.
+    shared.asleep().fetch_add(1, Ordering::SeqCst);
     // The sleep takes no seat and changes no word, so the rule of the table knows nothing of it. It ends by
-    // itself, since a caller that is woken just before it falls asleep would sleep on.
+    // itself, since `wake_next` may miss a caller that is about to fall asleep.
     shared.table.shared.park_timeout(
         rt,
         at,
         odd,
         Duration::from_millis(NAP.saturating_mul(looked.saturating_add(1))),
     );
+    shared.asleep().fetch_sub(1, Ordering::SeqCst);
 }
 
-/// Wakes a caller where it sleeps. With one caller there is nobody to wake, since that one runs here.
+// Whether a caller sleeps, or is about to. A wake calls the system, so a pass whose callers are all awake makes
+// none.
+fn is_any_asleep<O: Object>(shared: &Shared<O>) -> bool {
+    shared.asleep().load(Ordering::SeqCst) > 0
+}
+
+/// Wakes a caller where it sleeps. Where nobody sleeps it does nothing.
 pub(crate) fn wake<O: Object>(shared: &Shared<O>, caller: u32)
     requires within { (1 ≤ caller) × (caller ≤ shared.now.layout.callers) }
 {
-    if shared.layout.callers() > 1 {
+    if is_any_asleep(shared) {
         let at = shared.layout.slot(caller, TURN) as usize;
         shared.table.shared.wake_one(at);
     }
@@ -74,12 +86,12 @@ pub(crate) fn wake<O: Object>(shared: &Shared<O>, caller: u32)
 
 /// Wakes the first caller that has a call posted, where it sleeps, so that it may run the next pass.
 /// Who has run a pass calls this once it has given the lock back. Who took the lock and found its own call
-/// answered does not: it held the lock for one load, and whoever found it taken then wakes by itself. With
-/// one caller this does nothing.
+/// answered does not: it held the lock for one load, and whoever found it taken then wakes by itself. Where
+/// nobody sleeps this does nothing. It may miss a caller that found the lock taken and does not sleep yet, and
+/// that one then sleeps to its end.
 pub fn wake_next<O: Object>(shared: &Shared<O>) {
-    let callers = shared.layout.callers();
-    if callers > 1 {
-        for i in 0..callers {
+    if is_any_asleep(shared) {
+        for i in 0..shared.layout.callers() {
             if is_posted(shared, 1 + i) {
                 wake(shared, 1 + i);
                 break;

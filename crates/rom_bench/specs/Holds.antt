@@ -4,7 +4,7 @@ use Rattle.rom_model.specs.State.{State}
 use Rattle.rom_model.specs.Region.{Contents}
 
 -- They are a well-formed region of order 16 that has counted at most so many updates.
-pub record Holds (words : List ℕ) (most : ℕ) : Type 0 where
+pub record HoldsAtMost (words : List ℕ) (most : ℕ) : Type 0 where
   pub state : State
   pub count : ℕ
   pub contents : Contents 16 words state count

@@ -14,6 +14,8 @@ pub enum Command {
     Count(Calls, u64),
     /// So much of this work by the one caller of a store in memory.
     Store(Work, u64),
+    /// So many passes on a heap in memory, before each of which sixteen callers post a call.
+    Pass(u64),
 }
 
 impl Command {
@@ -32,6 +34,7 @@ impl Command {
         match (name.as_str(), number) {
             ("make", Some(order)) => Some(Command::Make(what, Geometry::of(order)?)),
             ("open", None) => Some(Command::Open(what)),
+            ("pass", None) => Some(Command::Pass(what.as_str().parse::<u64>().ok()?)),
             ("count", Some(calls)) => Some(Command::Count(Calls::of(what.as_str())?, calls)),
             ("store", Some(times)) => Some(Command::Store(Work::of(what.as_str())?, times)),
             _ => None,

@@ -1,5 +1,7 @@
-//! Makes calls on a heap in memory, and reads and updates of a store, for their instructions to be
+//! Makes calls on a heap in memory, reads and updates of a store, and passes, for their instructions to be
 //! counted; and makes and opens a heap in a file.
+//!
+//! It knows which calls to repeat and how often; nothing is promised of what they answer.
 //!
 //! It stands apart from the program. Nothing is promised of its answers; it is proved that it
 //! does not panic and that it meets the conditions of what it calls.
@@ -8,6 +10,7 @@
 mod calls;
 mod command;
 mod heap;
+mod passes;
 mod stores;
 
 use command::Command;
@@ -21,7 +24,8 @@ rom_bench count CALL CALLS
 a CALL is enq, deq, add, add-middle, rem, rem-middle, put, again, del, move, has, has-middle, get, peek, len, total
 or nothing, and at most 1000 are made
 rom_bench store WORK TIMES
-a WORK is get, peek or update";
+a WORK is get, peek or update
+rom_bench pass PASSES";
 
 /// What the words after the program's name ask for.
 fn wanted(rt: &HostRuntime) -> io::Result<Option<Command>> {
@@ -70,6 +74,7 @@ fn main(rt: HostRuntime) -> io::Result<ExitCode> {
         Command::Count(calls, many) => tell(&rt, Some(calls::count(rt.alloc(), calls, many)?))?,
         // Readers are waited for with the handle that `main` alone has.
         Command::Store(work, times) => tell(&rt, stores::make(&rt, rt.alloc(), work, times)?)?,
+        Command::Pass(many) => tell(&rt, passes::make(&rt, rt.alloc(), many)?)?,
     };
     if is_done {
         Ok(ExitCode::SUCCESS)

@@ -2,7 +2,7 @@
 ghost use Rattle.std.specs.Prelude.{◌≡◌, ◌≤◌, ◌<◌, [], IfOk, IfSome, length, vec_capacity, vec_len};
 ghost use Rattle.rom_model.specs.Region.{Contents};
 ghost use Rattle.rom_rule.specs.Views.{base_of};
-ghost use Rattle.rom_store.specs.Callers.{IsCallerOf, IsNewCaller, IsNumbered};
+ghost use Rattle.rom_store.specs.Callers.{IsCallerOf, IsNewCaller, IsNumberedCaller};
 ghost use Rattle.rom_store.specs.Indexed.{Indexed};
 ghost use Rattle.rom_bench.specs.Stores.{IsLabelled};
 
@@ -17,10 +17,11 @@ use std::marker::Brand;
 use std::sync::Wait;
 use std::sync::ledger::{Blank, Ledger};
 
-/// The heap's order, and how many words a device needs for it.
-const ORDER: u32 = 4;
+/// The heap's order.
+pub const ORDER: u32 = 4;
 
-const WORDS: u64 = 232;
+/// How many words a device needs for a heap of that order.
+pub const WORDS: u64 = 232;
 
 /// The map's one key.
 const KEY: u64 = 7;
@@ -62,8 +63,8 @@ fn read_all<D: Device, N: Label, L: Ledger>(
     requires name { blank.name ≡ L.name }
     requires parts { blank.parts ≡ L.parts }
     requires part { 0 < blank.parts }
-    requires of { IsNumbered Contents N.table N.base 0 pass.old }
-    ensures of { IsNumbered Contents N.table N.base 0 pass.new }
+    requires of { IsNumberedCaller Contents N.table N.base 0 pass.old }
+    ensures of { IsNumberedCaller Contents N.table N.base 0 pass.new }
 {
     let mut steps = Steps::<L>::of(blank);
     let mut found = 0u64;
@@ -83,8 +84,8 @@ fn update_all<D: Device, N: Label, R: Wait>(
     pass: &mut Pass,
     updates: u64,
 ) -> u64
-    requires of { IsNumbered Contents N.table N.base 0 pass.old }
-    ensures of { IsNumbered Contents N.table N.base 0 pass.new }
+    requires of { IsNumberedCaller Contents N.table N.base 0 pass.old }
+    ensures of { IsNumberedCaller Contents N.table N.base 0 pass.new }
 {
     let mut done = 0u64;
     for round in 0..updates {
@@ -103,8 +104,8 @@ fn fill_and_work<D: Device, N: Label, R: Wait>(
     work: Work,
     times: u64,
 ) -> u64
-    requires of { IsNumbered Contents N.table N.base 0 pass.old }
-    ensures of { IsNumbered Contents N.table N.base 0 pass.new }
+    requires of { IsNumberedCaller Contents N.table N.base 0 pass.old }
+    ensures of { IsNumberedCaller Contents N.table N.base 0 pass.new }
 {
     store.update(rt, pass, &Call::Enq(VALUE), &NoGate);
     store.update(rt, pass, &Call::Put(KEY, VALUE), &NoGate);
@@ -120,7 +121,7 @@ fn fill_and_work<D: Device, N: Label, R: Wait>(
 fn alone<N: Label>(passes: &mut Vec<Pass>) -> Pass
     requires many { vec_len passes.old ≡ 1 }
     requires new { Indexed (IsNewCaller Contents N.table N.base) passes.old.items }
-    ensures of { IsNumbered Contents N.table N.base 0 result }
+    ensures of { IsNumberedCaller Contents N.table N.base 0 result }
     ensures none { passes.new.items ≡ [] }
     ensures room { 1 ≤ vec_capacity passes.new }
 {
@@ -136,7 +137,7 @@ fn close<D: Device + Drop, N: Label, R: Wait>(
     requires callers { N.base.callers ≡ 1 }
     requires none { passes.items ≡ [] }
     requires room { 1 ≤ vec_capacity passes }
-    requires of { IsNumbered Contents N.table N.base 0 pass }
+    requires of { IsNumberedCaller Contents N.table N.base 0 pass }
 {
     passes.push_reserved(pass);
     let _closed = store.close(rt, passes);

@@ -8,7 +8,7 @@ use Rattle.rom_text.proofs.Reading.{is_word}
 use Rattle.rom_blob_region.specs.Texts.{AreBytes, bytes_text, digit_of, digits_of}
 use Rattle.rom_blob_region.specs.declared.call.BlobCall.TheVariants as call
 use Rattle.rom_blob_region.specs.declared.call.BlobQuery.TheVariants as query
-use Rattle.rom_blob.specs.Lines.{IsNoCall, IsNoQuery, call_line}
+use Rattle.rom_blob.specs.Lines.{IsNoCall, IsNoQuery, blob_call_line}
 use Rattle.rom_blob.proofs.Words.{one_word, some_word, word_alone}
 
 -- a digit is no space
@@ -32,7 +32,7 @@ bytes_are_a_word (b ∷ bytes) = digits_are_a_word (b ∷ bytes)
 
 -- a key and bytes behind it
 module _ (text key bytes : List ℕ) (words : line_words text ≡ key ∷ line_words bytes) where
-  pub set_words : (n : ℕ) (list : List ℕ) → key ≡ decimal n → bytes ≡ bytes_text list → codes "set" ∷ line_words text ≡ call_line (call.Set n list)
+  pub set_words : (n : ℕ) (list : List ℕ) → key ≡ decimal n → bytes ≡ bytes_text list → codes "set" ∷ line_words text ≡ blob_call_line (call.Set n list)
   set_words n list number text_is = ap (λ ws. codes "set" ∷ ws) (words ∙ (λ i. number i ∷ line_words (text_is i)) ∙ ap (λ ws. decimal n ∷ ws) (one_word (bytes_text list) (bytes_are_a_word list)))
 
   pub no_set_key : ((n : ℕ) → n < 2 ^ 64 → key ≢ decimal n) → IsNoCall (codes "set" ∷ line_words text)

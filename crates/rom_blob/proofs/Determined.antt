@@ -9,7 +9,7 @@ use Rattle.rom_text.specs.Determines.{TextDetermines}
 use Rattle.rom_text.proofs.Determined as determined
 use Rattle.rom_text.proofs.Naming.{IsNamed, by_two, by_word, number_of}
 use Rattle.rom_text.proofs.Reading.{decimal_is_a_word, decimal_read, wide}
-use Rattle.rom_blob_region.specs.Texts.{answer_text, bytes_text, digit_of, digits_of, reply_text, AnswerFits, ReplyFits}
+use Rattle.rom_blob_region.specs.Texts.{blob_answer_text, bytes_text, digit_of, digits_of, blob_reply_text, BlobAnswerFits, BlobReplyFits}
 use Rattle.rom_blob_region.specs.declared.call.BlobReply.{BlobReply}
 use Rattle.rom_blob_region.specs.declared.call.BlobReply.TheVariants as reply
 use Rattle.rom_blob_region.specs.declared.call.BlobAnswer.{BlobAnswer}
@@ -58,14 +58,14 @@ answer_of w [] = answer.Missing
 answer_of w (v ∷ more) = if bytes_eq w (codes "bytes") then answer.Bytes (bytes_said v) else answer.Keys (digits_value 10 v)
 
 -- a reply's text is words that name it
-reply_named : (r : BlobReply) → ReplyFits r → IsNamed reply_of (reply_text r) r
+reply_named : (r : BlobReply) → BlobReplyFits r → IsNamed reply_of (blob_reply_text r) r
 reply_named reply.New fits = by_word reply_of (codes "new") reply.New refl refl
 reply_named (reply.Was v) fits = by_two reply_of (codes "was") (decimal v) (reply.Was v) refl (decimal_is_a_word v) (ap reply.Was (decimal_read v (wide v fits)))
 reply_named reply.Full fits = by_word reply_of (codes "full") reply.Full refl refl
 reply_named reply.NoPrior fits = by_word reply_of (codes "none") reply.NoPrior refl refl
 
 -- and so is an answer's
-answer_named : (a : BlobAnswer) → AnswerFits a → IsNamed answer_of (answer_text a) a
+answer_named : (a : BlobAnswer) → BlobAnswerFits a → IsNamed answer_of (blob_answer_text a) a
 answer_named (answer.Bytes bytes) fits = by_two answer_of (codes "bytes") (bytes_text bytes) (answer.Bytes bytes) refl (bytes_are_a_word bytes) (ap answer.Bytes (text_bytes bytes fits.1))
 answer_named answer.Missing fits = by_word answer_of (codes "none") answer.Missing refl refl
 answer_named (answer.Keys count) fits = by_two answer_of (codes "keys") (decimal count) (answer.Keys count) refl (decimal_is_a_word count) (ap answer.Keys (decimal_read count (wide count fits)))

@@ -1,16 +1,16 @@
 //! The object.
 ghost use Rattle.rom_model.specs.Earlier.{no_earlier};
 ghost use Rattle.rom_blob_region.specs.State.{BlobState};
-ghost use Rattle.rom_blob_region.specs.Region.{Contents};
-ghost use Rattle.rom_blob_inspect.specs.Answers.{Rejects};
+ghost use Rattle.rom_blob_region.specs.Region.{BlobContents};
+ghost use Rattle.rom_blob_region.specs.Answers.{RejectsBlobs};
 ghost use Rattle.rom_blob.specs.Blobs.{blobs};
 ghost use Rattle.rom_blob.specs.Laws.{contents_within, one_contents, reply_back, reply_few};
 ghost use Rattle.rom_blob.specs.Tags.{call_only, reply_only};
 
 use crate::codes;
-use rom_blob_inspect::inspect_blobs;
 use rom_blob_region::{
     BlobAnswer, BlobCall, BlobQuery, BlobReply, answer_blob, apply_blob, format_blobs,
+    inspect_blobs,
 };
 use rom_model::{Args, Back, Look, Object, Space, Unfit};
 use std::alloc::Global;
@@ -44,9 +44,9 @@ impl Object for Blobs {
 
     ghost machine = { blobs };
 
-    ghost Contents = { Contents };
+    ghost Contents = { BlobContents };
 
-    ghost Rejects = { Rejects };
+    ghost Rejects = { RejectsBlobs };
 
     ghost earlier = { no_earlier };
 

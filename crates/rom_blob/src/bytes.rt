@@ -3,7 +3,7 @@ ghost use Rattle.std.specs.Prelude.{◌≡◌, ◌≢◌, ◌<◌, ℕ, List, []
 ghost use Rattle.std.specs.List.{flat_map};
 ghost use Rattle.rom_blob_region.specs.Texts.{AreBytes, bytes_text, digit_of, digits_of};
 
-use rom_bytes::Chunk;
+use rom_blob_region::Chunk;
 
 /// The greatest number of bytes.
 const MOST: usize = 256;

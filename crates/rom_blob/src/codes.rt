@@ -4,14 +4,13 @@ ghost use Rattle.std.specs.Prelude.{◌≡◌, ◌<◌, ◌≤◌, ◌∷◌, []
 ghost use Rattle.rom_blob_region.specs.declared.call.BlobCall.TheVariants.{Set};
 ghost use Rattle.rom_blob.specs.Codes as codes;
 
-use rom_blob_region::{BlobCall, BlobReply};
-use rom_bytes::Chunk;
+use rom_blob_region::{BlobCall, BlobReply, Chunk};
 use rom_model::{Args, Back};
 
 /// Makes no words those of a call that gives a key bytes.
 fn put_set_words(key: u64, bytes: &Chunk, words: &mut Args)
     requires { words.old ≡ [] }
-    ensures words { words.new ≡ codes.call_words (Set key bytes.now) }
+    ensures words { words.new ≡ codes.blob_call_words (Set key bytes.now) }
     ensures few { length bytes.now ≤ 256 }
     ensures small { (k : ℕ) → slice_index bytes.now k < 256 }
 {
@@ -24,8 +23,8 @@ fn put_set_words(key: u64, bytes: &Chunk, words: &mut Args)
 
 /// Makes the words those of a call, whatever they were.
 pub(crate) fn put_call_words(call: &BlobCall, words: &mut Args)
-    ensures words { words.new ≡ codes.call_words call.now }
-    ensures back { codes.words_call words.new ≡ Some call.now }
+    ensures words { words.new ≡ codes.blob_call_words call.now }
+    ensures back { codes.words_blob_call words.new ≡ Some call.now }
 {
     words.clear();
     match call {
@@ -36,8 +35,8 @@ pub(crate) fn put_call_words(call: &BlobCall, words: &mut Args)
 
 /// The words of a call.
 pub fn call_words(call: &BlobCall) -> Args
-    ensures words { result ≡ codes.call_words call.now }
-    ensures back { codes.words_call result ≡ Some call.now }
+    ensures words { result ≡ codes.blob_call_words call.now }
+    ensures back { codes.words_blob_call result ≡ Some call.now }
 {
     let mut words = Args::new();
     put_call_words(call, &mut words);
@@ -46,7 +45,7 @@ pub fn call_words(call: &BlobCall) -> Args
 
 /// The call that gives a key the bytes whose number and words these are.
 fn read_set(key: u64, words: &[u64]) -> Option<BlobCall>
-    ensures { result ≡ codes.set_call key words.now }
+    ensures { result ≡ codes.set_blob_call key words.now }
 {
     match words {
         [len, words @ ..] => Some(BlobCall::Set(key, Chunk::of_words(words, *len)?)),
@@ -66,7 +65,7 @@ fn read_cut(key: u64, words: &[u64]) -> Option<BlobCall>
 
 /// The call that the words are those of. It is `None` exactly where they are no call's.
 pub fn words_call(words: &Args) -> Option<BlobCall>
-    ensures { result ≡ codes.words_call words.now }
+    ensures { result ≡ codes.words_blob_call words.now }
 {
     match words.as_slice() {
         [1, key, words @ ..] => read_set(*key, words),
@@ -77,8 +76,8 @@ pub fn words_call(words: &Args) -> Option<BlobCall>
 
 /// Makes the words those of a reply, whatever they were.
 pub(crate) fn put_reply_words(reply: &BlobReply, words: &mut Back)
-    ensures words { words.new ≡ codes.reply_words reply.now }
-    ensures back { codes.words_reply words.new ≡ Some reply.now }
+    ensures words { words.new ≡ codes.blob_reply_words reply.now }
+    ensures back { codes.words_blob_reply words.new ≡ Some reply.now }
 {
     words.clear();
     match reply {
@@ -91,8 +90,8 @@ pub(crate) fn put_reply_words(reply: &BlobReply, words: &mut Back)
 
 /// The words of a reply.
 pub fn reply_words(reply: &BlobReply) -> Back
-    ensures words { result ≡ codes.reply_words reply.now }
-    ensures back { codes.words_reply result ≡ Some reply.now }
+    ensures words { result ≡ codes.blob_reply_words reply.now }
+    ensures back { codes.words_blob_reply result ≡ Some reply.now }
 {
     let mut words = Back::new();
     put_reply_words(reply, &mut words);
@@ -101,7 +100,7 @@ pub fn reply_words(reply: &BlobReply) -> Back
 
 /// The reply that the words are those of. It is `None` exactly where they are no reply's.
 pub fn words_reply(words: &Back) -> Option<BlobReply>
-    ensures { result ≡ codes.words_reply words.now }
+    ensures { result ≡ codes.words_blob_reply words.now }
 {
     match words.as_slice() {
         [1] => Some(BlobReply::New),

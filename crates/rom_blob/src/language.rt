@@ -1,7 +1,7 @@
 //! What the lines of a script ask keys with bytes for.
 ghost use Rattle.std.specs.Prelude.{◌≡◌, ◌≢◌, ◌^◌, ◌<◌, ℕ, [], ◌∷◌, codes, decimal, IfSome, IfNone};
 ghost use Rattle.rom_text.specs.Phrases.{line_words};
-ghost use Rattle.rom_blob.specs.Lines.{IsCall, IsNoCall, IsNoQuery, IsQuery, Reads};
+ghost use Rattle.rom_blob.specs.Lines.{IsBlobCall, IsNoCall, IsNoQuery, IsQuery, ReadsBlobs};
 
 use crate::blobs::Blobs;
 use crate::bytes::read_bytes;
@@ -30,7 +30,7 @@ fn read_key(text: &[u8]) -> Option<u64>
 
 /// The call that gives a key bytes, where the text is the key and the bytes.
 fn read_set(text: &[u8]) -> Option<BlobCall>
-    ensures some { IfSome result (IsCall (codes "set" ∷ line_words text.now)) }
+    ensures some { IfSome result (IsBlobCall (codes "set" ∷ line_words text.now)) }
     ensures none { IfNone result (IsNoCall (codes "set" ∷ line_words text.now)) }
 {
     let (key, bytes) = split_word(text)?;
@@ -39,7 +39,7 @@ fn read_set(text: &[u8]) -> Option<BlobCall>
 
 /// The call that takes a key out, where the text is the key.
 fn read_cut(text: &[u8]) -> Option<BlobCall>
-    ensures some { IfSome result (IsCall (codes "cut" ∷ line_words text.now)) }
+    ensures some { IfSome result (IsBlobCall (codes "cut" ∷ line_words text.now)) }
     ensures none { IfNone result (IsNoCall (codes "cut" ∷ line_words text.now)) }
 {
     Some(BlobCall::Cut(read_key(text)?))
@@ -47,7 +47,7 @@ fn read_cut(text: &[u8]) -> Option<BlobCall>
 
 /// The call that a line with this first word and this text behind it asks for.
 fn asked_call(name: &[u8], text: &[u8]) -> Option<BlobCall>
-    ensures some { IfSome result (IsCall (name.now ∷ line_words text.now)) }
+    ensures some { IfSome result (IsBlobCall (name.now ∷ line_words text.now)) }
     ensures none { IfNone result (IsNoCall (name.now ∷ line_words text.now)) }
 {
     match name {
@@ -71,7 +71,7 @@ fn asked_query(name: &[u8], text: &[u8]) -> Option<BlobQuery>
 /// What a line of one word asks for.
 fn asked_alone(word: &[u8]) -> Step<BlobCall, BlobQuery>
     requires alone { line_words word.now ≡ word.now ∷ [] }
-    ensures reads { Reads word.now result }
+    ensures reads { ReadsBlobs word.now result }
 {
     match word {
         b"size" => Step::Ask(BlobQuery::Size),
@@ -84,7 +84,7 @@ fn asked_alone(word: &[u8]) -> Step<BlobCall, BlobQuery>
 pub struct BlobLines;
 
 impl Lines<Blobs> for BlobLines {
-    ghost Reads = { Reads };
+    ghost Reads = { ReadsBlobs };
 
     fn read_line(line: &[u8]) -> Step<BlobCall, BlobQuery> {
         let Some((name, text)) = split_word(line) else {

@@ -1,6 +1,9 @@
 //! Keys with up to 256 bytes each, kept in a heap with the promise of a program: the object, its
 //! language and one call.
 //!
+//! It knows calls, lines and replies of keys with bytes; what the words of their region mean is
+//! `rom_blob_region`'s to know, and devices and callers are below `rom_run`.
+//!
 //! `Blobs` implements `Object`, by which all below knows it; `BlobLines` says how its calls and queries
 //! are written. `run_blob` does all that the program does, and its contract carries the promise of the
 //! whole, in the record that the program of a queue, a set and a map promises too: each printed reply
@@ -27,9 +30,8 @@ pub use codes::{call_words, reply_words, words_call, words_reply};
 pub use language::BlobLines;
 pub use program::run_blob;
 pub use rom_blob_region::{
-    BlobAnswer, BlobCall, BlobQuery, BlobReply, answer_blob, apply_blob, format_blobs,
+    BlobAnswer, BlobCall, BlobQuery, BlobReply, Chunk, answer_blob, apply_blob, format_blobs,
 };
-pub use rom_bytes::Chunk;
 pub use rom_run::{Ended, Status, plain_files as files_of};
 pub use rom_store::{NoGate, Session};
 pub use rom_text::{DeviceWant, Wanted};

@@ -1,17 +1,17 @@
 //! The top call: all that a program of keys with bytes does.
 ghost use Rattle.std.specs.Prelude.{◌≡◌, IfSome, length};
 ghost use Rattle.rom_model.specs.Earlier.{no_earlier};
-ghost use Rattle.rom_run.specs.Plain.{command, scripts_of, use_of};
+ghost use Rattle.rom_run.specs.Plain.{plain_command, plain_scripts, plain_use};
 ghost use Rattle.rom_run.specs.Played.{IsText};
 ghost use Rattle.rom_run.specs.Promise.{Promise};
 ghost use Rattle.rom_store.specs.Sessions.{EachStory};
 ghost use Rattle.rom_text.specs.Determines.{TextDetermines};
 ghost use Rattle.rom_text.specs.Lines.{AreScripts};
-ghost use Rattle.rom_blob_region.specs.Region.{Contents};
-ghost use Rattle.rom_blob_inspect.specs.Answers.{Rejects};
+ghost use Rattle.rom_blob_region.specs.Region.{BlobContents};
+ghost use Rattle.rom_blob_region.specs.Answers.{RejectsBlobs};
 ghost use Rattle.rom_blob.specs.Blobs.{blobs};
 ghost use Rattle.rom_blob.specs.Crowded.{IsFullWhereCrowded};
-ghost use Rattle.rom_blob.specs.Lines.{Reads};
+ghost use Rattle.rom_blob.specs.Lines.{ReadsBlobs};
 ghost use Rattle.rom_blob.specs.Texts.{blob_texts};
 
 use crate::blobs::Blobs;
@@ -41,15 +41,15 @@ pub fn run_blob<R: Threads + Wait + Sync, D: Device + Send, S: Source, O: Sink, 
     out: &mut O,
     gate: &G,
 ) -> Ended<D, S>
-    requires { length scripts.items ≡ length (scripts_of (command words.now)) }
+    requires { length scripts.items ≡ length (plain_scripts (plain_command words.now)) }
 
     // What the words ask for is done so, and printed so: the facts are the record's fields.
-    ensures promise { Promise blobs Contents Rejects no_earlier D.shown S.shown O.shown
-        (AreScripts Reads S.shown) (IsText O.shown blob_texts) (use_of (command words.now)) device
+    ensures promise { Promise blobs BlobContents RejectsBlobs no_earlier D.shown S.shown O.shown
+        (AreScripts ReadsBlobs S.shown) (IsText O.shown blob_texts) (plain_use (plain_command words.now)) device
         result.device scripts result.scripts out.old out.new result.status result.session }
 
     // An update is told `full` only where so many units are in use that there may be no room for it.
-    ensures crowded { IfSome result.session (λ seen. EachStory blobs Contents seen IsFullWhereCrowded) }
+    ensures crowded { IfSome result.session (λ seen. EachStory blobs BlobContents seen IsFullWhereCrowded) }
 
     // A text is that of one list of results and one count.
     ensures determined { TextDetermines blob_texts }

@@ -18,10 +18,10 @@ use Rattle.rom_bucket.proofs.Heads.{head_before}
 use Rattle.rom_bucket.proofs.Finding.{own_within}
 use Rattle.rom_bucket.proofs.Keys.{none_stands}
 use Rattle.rom_bucket.proofs.Added.{MayAdd, at_front, added_tree}
-use Rattle.rom_bytes.specs.Bytes.{bytes_at, words_for, EndsInZeros}
+use Rattle.rom_blob_region.specs.Bytes.{bytes_at, words_for, EndsInZeros}
 use Rattle.rom_blob_region.specs.State.{Blob, BlobState, order_for, some_block, blocks_in, taken_with}
-use Rattle.rom_blob_region.specs.Region.{len_at, data_at, blob_at, IsBlob, AreApart, IsBlobs, Contents}
-use Rattle.rom_bytes.proofs.Carried.{bytes_same, ends_same}
+use Rattle.rom_blob_region.specs.Region.{len_at, data_at, blob_at, IsBlob, AreBlobsApart, IsBlobs, BlobContents}
+use Rattle.rom_blob_region.proofs.Carried.{bytes_same, ends_same}
 use Rattle.rom_blob_region.proofs.Beside.{InBlock, apart_words, in_unit, in_table, block_least}
 use Rattle.rom_blob_region.proofs.Held.{held_has, taken_block, taken_table, taken_none, untaken, apart_more, words_more, taking_one, taking_still, taking_here, disjoint_same}
 use Rattle.rom_blob_region.proofs.Places.{in_body, no_body, some_body, has_node}
@@ -33,7 +33,7 @@ pub changes_nothing : (at : ℕ) (v w : List ℕ) → ChangesOnly at 0 v w → w
 changes_nothing at v w only = same_number_lists w v only.as_long (λ k lt. elim (cases_lt k at) [ inl less ↦ only.before k less | inr ge ↦ only.behind k (omega (arith, ge)) ])
 
 -- blocks with one that stands nowhere else
-module _ (n : ℕ) (xs : List ℕ) (x : ℕ) (apart : AreApart n (x ∷ xs)) where
+module _ (n : ℕ) (xs : List ℕ) (x : ℕ) (apart : AreBlobsApart n (x ∷ xs)) where
   pub new_free : taken_with xs x ≡ false
   new_free = taken_none xs x (λ e. absurd (omega (arith, ap (λ c. times c (x ∷ xs)) e, times_here x xs, apart.beside))) (omega (arith, apart.different x, times_here x xs))
 
@@ -41,7 +41,7 @@ module _ (n : ℕ) (xs : List ℕ) (x : ℕ) (apart : AreApart n (x ∷ xs)) whe
   new_disjoint = disjoint_same n (taken_with (x ∷ xs)) (taking x (taken_with xs)) (λ i. sym (taking_one x xs (x ∷ xs) (λ c. omega (arith, times-append c (x ∷ []) xs)) i)) apart.disjoint
 
   -- without it
-  pub others_apart : AreApart n xs
+  pub others_apart : AreBlobsApart n xs
   others_apart = record {
     different = λ c. omega (arith, apart.different c, times_more c x xs);
     beside = omega (arith, apart.beside, times_more 16 x xs);
@@ -67,7 +67,7 @@ pub record Stored (n len at : ℕ) (bytes w w' : List ℕ) : Type 0 where
   pub ends : EndsInZeros w' at len
   pub others : ChangesOnly at (words_for len) w w'
 
-module _ {n len at : ℕ} {body : Option ℕ} {bytes w w' : List ℕ} {f : ℕ → List ℕ} {s : BlobState} {count : ℕ} (le : 4 ≤ n) (few : len ≤ 256) (is : HasKeys n w f s count) (placed : Placed n len at body) (apart : AreApart n (some_block body ++ held n w f)) (stored : Stored n len at bytes w w') where
+module _ {n len at : ℕ} {body : Option ℕ} {bytes w w' : List ℕ} {f : ℕ → List ℕ} {s : BlobState} {count : ℕ} (le : 4 ≤ n) (few : len ≤ 256) (is : HasKeys n w f s count) (placed : Placed n len at body) (apart : AreBlobsApart n (some_block body ++ held n w f)) (stored : Stored n len at bytes w w') where
   -- the keys stay
   pub record StoredKeys : Type 0 where
     pub keys : HasKeys n w' f s count
@@ -86,7 +86,7 @@ module _ {n len at : ℕ} {body : Option ℕ} {bytes w w' : List ℕ} {f : ℕ �
     | inr some ↦
         let x = placed.is_some some in
         let xs = held n w f in
-        let one : AreApart n (x.0 ∷ xs) = subst (λ o. AreApart n (some_block o ++ xs)) x.1 apart in
+        let one : AreBlobsApart n (x.0 ∷ xs) = subst (λ o. AreBlobsApart n (some_block o ++ xs)) x.1 apart in
         let changed : (k : ℕ) → (slice_index w' k ≡ slice_index w k) ⊎ InBlock n x.0 k = λ k. elim (cases_lt k at) [
           | inl less ↦ inl (stored.others.before k less)
           | inr ge ↦ elim (cases_lt k (at + words_for len)) [
@@ -125,7 +125,7 @@ disjoint_less n T S all is = record {
         go true there = absurd (let never : true ≡ false = sym (all i there) ∙ shut in cc)
         go false gone = gone
 
-module _ {n len at key : ℕ} (b : ℕ) {body : Option ℕ} {bytes w w' : List ℕ} {f : ℕ → List ℕ} {s : BlobState} {count : ℕ} (o : IsOrder n) (few : len ≤ 256) (is : HasKeys n w f s count) (placed : Placed n len at body) (bare : len ≡ 0 → at ≡ 0) (apart : AreApart n (some_block body ++ held n w f))
+module _ {n len at key : ℕ} (b : ℕ) {body : Option ℕ} {bytes w w' : List ℕ} {f : ℕ → List ℕ} {s : BlobState} {count : ℕ} (o : IsOrder n) (few : len ≤ 256) (is : HasKeys n w f s count) (placed : Placed n len at body) (bare : len ≡ 0 → at ≡ 0) (apart : AreBlobsApart n (some_block body ++ held n w f))
     (bytes_are : bytes_at w at len ≡ bytes) (ends : EndsInZeros w at len) (absent : finite.get s key ≡ None) (node : IsNode n (2 ^ n + b)) (free : IsFree n (taken_with (some_block body ++ held n w f)) 0 (2 ^ n + b))
     (disjoint : IsDisjoint n (taking (2 ^ n + b) (taken_with (some_block body ++ held n w f)))) (linked : IsLinked 3 (first_place n key w) (block_of n b) record { key = key; second = len; last = at } w w') where
   abbrev y : ℕ
@@ -161,7 +161,7 @@ module _ {n len at key : ℕ} (b : ℕ) {body : Option ℕ} {bytes w w' : List �
       taking_away : (i : ℕ) → i ≢ y → taking y (taken_with xs) i ≡ taken_with xs i
       taking_away i ne = let test : (i == y) ≡ false = grind (arith, nat_tests) in rw test refl
 
-  apart_now : AreApart n xs
+  apart_now : AreBlobsApart n xs
   apart_now = record {
     different = λ c. omega (arith, apart.different c, times-append c (some_block body) xs);
     beside = omega (arith, apart.beside, times-append 16 (some_block body) xs);
@@ -247,7 +247,7 @@ module _ {n len at key : ℕ} (b : ℕ) {body : Option ℕ} {bytes w w' : List �
   grown_counts c = omega (arith, link_held is may linked apart_now free_now disjoint_now fits c, ap (λ v. times c (blocks_in v)) blob_now, times-append c (y ∷ []) (some_block body), times-append c (some_block body) xs)
 
   -- the region has the key
-  pub added_key : AreWords n (taking y (taken_with all)) w → Contents n w' (finite.insert s key blob) count
+  pub added_key : AreWords n (taking y (taken_with all)) w → BlobContents n w' (finite.insert s key blob) count
   added_key words = (
     grown,
     subst (λ v. IsBlobs n w' grown (finite.insert s key v) count) blob_now

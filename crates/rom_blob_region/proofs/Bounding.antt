@@ -11,7 +11,7 @@ use Rattle.rom_model.specs.Chains.{times}
 use Rattle.rom_model.proofs.Times.{times_away}
 use Rattle.rom_model.proofs.Nodes.{pow_positive, node_positive}
 use Rattle.rom_model.proofs.Members.{quarter_pow}
-use Rattle.rom_blob_region.specs.State.{Blob, BlobState, order_for, some_block, all_in, taken, taken_with, taking_some, lowest, new_body, next_body, set_node, set_new, set_again, set_blob, body_units, units_of, units_in, table_blocks, cut_blob, step, IsCrowded, MayRefuse}
+use Rattle.rom_blob_region.specs.State.{Blob, BlobState, order_for, some_block, all_in, blocks_taken, taken_with, taking_some, lowest, new_body, next_body, set_node, set_new, set_again, set_blob, body_units, units_of, units_in, table_blocks, cut_blob, blob_step, IsCrowded, MayRefuse}
 use Rattle.rom_blob_region.specs.declared.call.BlobCall.{BlobCall}
 use Rattle.rom_blob_region.specs.declared.call.BlobCall.TheVariants.{Set, Cut}
 use Rattle.rom_blob_region.specs.declared.call.BlobReply.TheVariants as reply
@@ -107,7 +107,7 @@ module _ (n : ℕ) (s : BlobState) (le : 4 ≤ n) (ranged : IsRanged n s) where
   all_units = omega (arith, units_are n le (finite.entries s) ranged, sum-map (λ e. units_of e.1) (finite.entries s))
 
   -- no block for bytes is free
-  none_for : (order : ℕ) → order ≤ n → lowest n (taken s) order ≡ None → 2 ^ (n - order) ≤ units_in s + table_blocks n order
+  none_for : (order : ℕ) → order ≤ n → lowest n (blocks_taken s) order ≡ None → 2 ^ (n - order) ≤ units_in s + table_blocks n order
   none_for order within none =
       omega (arith, none_left n order pairs le within all_placed (ap (λ ys. lowest n (taken_with ys) order) all_nodes ∙ none), all_units)
 
@@ -133,61 +133,61 @@ module _ (n : ℕ) (s : BlobState) (le : 4 ≤ n) (ranged : IsRanged n s) where
       order_within : order_for (length bytes) ≤ n
       order_within = omega (arith, le, order_small (length bytes))
 
-      no_block : option_map Some (lowest n (taken s) (order_for (length bytes))) ≡ None → IsCrowded n s (length bytes)
-      no_block is = go (lowest n (taken s) (order_for (length bytes))) refl is
+      no_block : option_map Some (lowest n (blocks_taken s) (order_for (length bytes))) ≡ None → IsCrowded n s (length bytes)
+      no_block is = go (lowest n (blocks_taken s) (order_for (length bytes))) refl is
         where
-          go : (x : Option ℕ) → lowest n (taken s) (order_for (length bytes)) ≡ x → option_map Some x ≡ None → IsCrowded n s (length bytes)
+          go : (x : Option ℕ) → lowest n (blocks_taken s) (order_for (length bytes)) ≡ x → option_map Some x ≡ None → IsCrowded n s (length bytes)
           go None none shut = omega (arith, none_for (order_for (length bytes)) order_within none)
           go (Some x) found shut = absurd (let never : Some (Some x) ≡ None = shut in cc)
 
-      no_node : (body : Option ℕ) → new_body n (taken s) bytes ≡ Some body → (unit : Option ℕ) → lowest n (taking_some body (taken s)) 0 ≡ unit → (set_node s key bytes body unit).1 ≡ reply.Full → IsCrowded n s (length bytes)
+      no_node : (body : Option ℕ) → new_body n (blocks_taken s) bytes ≡ Some body → (unit : Option ℕ) → lowest n (taking_some body (blocks_taken s)) 0 ≡ unit → (set_node s key bytes body unit).1 ≡ reply.Full → IsCrowded n s (length bytes)
       no_node body chosen (Some y) found told = absurd (let never : reply.New ≡ reply.Full = told in cc)
       no_node None chosen None none told = elim (cases_eq (length bytes) 0) [
         | inl zero_long ↦
             let e : order_for (length bytes) ≡ 0 = ap order_for zero_long in
             subst (λ j. 2 ^ (n - j) ≤ units_in s + table_blocks n j + 1) (sym e) (omega (arith, none_for 0 (omega arith) none))
-        | inr some ↦ absurd (other (lowest n (taken s) (order_for (length bytes))) (sym (body_some n (taken s) bytes some) ∙ chosen))
+        | inr some ↦ absurd (other (lowest n (blocks_taken s) (order_for (length bytes))) (sym (body_some n (blocks_taken s) bytes some) ∙ chosen))
       ]
         where
           other : (x : Option ℕ) → option_map Some x ≡ Some None → ⊥
           other None is = absurd (let never : None ≡ Some None = is in cc)
           other (Some x) is = absurd (let never : Some (Some x) ≡ Some None = is in cc)
       no_node (Some x) chosen None none told = elim (cases_eq (length bytes) 0) [
-        | inl zero_long ↦ absurd (let never : Some None ≡ Some (Some x) = sym (body_none n (taken s) bytes zero_long) ∙ chosen in cc)
+        | inl zero_long ↦ absurd (let never : Some None ≡ Some (Some x) = sym (body_none n (blocks_taken s) bytes zero_long) ∙ chosen in cc)
         | inr some ↦
-            let found : lowest n (taken s) (order_for (length bytes)) ≡ Some x = inner (lowest n (taken s) (order_for (length bytes))) (sym (body_some n (taken s) bytes some) ∙ chosen) in
-            let same : taking_some (Some x) (taken s) ≡ taken_with (x ∷ xs) = (λ p i. taking_body (Some x) xs i p) in
-            none_beside x (order_for (length bytes)) (order_small (length bytes)) (lowest_node n (order_for (length bytes)) x (taken s) found) (ap (λ (T : ℕ → Bool). lowest n T 0) (sym same) ∙ none)
+            let found : lowest n (blocks_taken s) (order_for (length bytes)) ≡ Some x = inner (lowest n (blocks_taken s) (order_for (length bytes))) (sym (body_some n (blocks_taken s) bytes some) ∙ chosen) in
+            let same : taking_some (Some x) (blocks_taken s) ≡ taken_with (x ∷ xs) = (λ p i. taking_body (Some x) xs i p) in
+            none_beside x (order_for (length bytes)) (order_small (length bytes)) (lowest_node n (order_for (length bytes)) x (blocks_taken s) found) (ap (λ (T : ℕ → Bool). lowest n T 0) (sym same) ∙ none)
       ]
         where
           inner : (y : Option ℕ) → option_map Some y ≡ Some (Some x) → y ≡ Some x
           inner None is = absurd (let never : None ≡ Some (Some x) = is in cc)
           inner (Some y) is = let same : Some y ≡ Some x = cc in same
 
-      by_body : (body : Option (Option ℕ)) → new_body n (taken s) bytes ≡ body → (set_new n s key bytes body).1 ≡ reply.Full → IsCrowded n s (length bytes)
+      by_body : (body : Option (Option ℕ)) → new_body n (blocks_taken s) bytes ≡ body → (set_new n s key bytes body).1 ≡ reply.Full → IsCrowded n s (length bytes)
       by_body None none told = elim (cases_eq (length bytes) 0) [
-        | inl zero_long ↦ absurd (let never : Some None ≡ None = sym (body_none n (taken s) bytes zero_long) ∙ none in cc)
-        | inr some ↦ no_block (sym (body_some n (taken s) bytes some) ∙ none)
+        | inl zero_long ↦ absurd (let never : Some None ≡ None = sym (body_none n (blocks_taken s) bytes zero_long) ∙ none in cc)
+        | inr some ↦ no_block (sym (body_some n (blocks_taken s) bytes some) ∙ none)
       ]
-      by_body (Some body) chosen told = no_node body chosen (lowest n (taking_some body (taken s)) 0) refl told
+      by_body (Some body) chosen told = no_node body chosen (lowest n (taking_some body (blocks_taken s)) 0) refl told
 
-      again : (was : Blob) (bs : List ℕ) → next_body n (taken s) was bs ≡ None → option_map Some (lowest n (taken s) (order_for (length bs))) ≡ None
+      again : (was : Blob) (bs : List ℕ) → next_body n (blocks_taken s) was bs ≡ None → option_map Some (lowest n (blocks_taken s) (order_for (length bs))) ≡ None
       again was [] none = absurd (let never : Some None ≡ None = none in cc)
       again was (b ∷ bs) none = go (is_some was.body && (order_for (length was.bytes) == order_for (length (b ∷ bs)))) none
         where
-          go : (t : Bool) → (if t then Some was.body else option_map Some (lowest n (taken s) (order_for (length (b ∷ bs))))) ≡ None → option_map Some (lowest n (taken s) (order_for (length (b ∷ bs)))) ≡ None
+          go : (t : Bool) → (if t then Some was.body else option_map Some (lowest n (blocks_taken s) (order_for (length (b ∷ bs))))) ≡ None → option_map Some (lowest n (blocks_taken s) (order_for (length (b ∷ bs)))) ≡ None
           go true is = absurd (let never : Some was.body ≡ None = is in cc)
           go false is = is
 
-      by_next : (was : Blob) (body : Option (Option ℕ)) → next_body n (taken s) was bytes ≡ body → (set_again s key bytes was body).1 ≡ reply.Full → IsCrowded n s (length bytes)
+      by_next : (was : Blob) (body : Option (Option ℕ)) → next_body n (blocks_taken s) was bytes ≡ body → (set_again s key bytes was body).1 ≡ reply.Full → IsCrowded n s (length bytes)
       by_next was (Some body) chosen told = absurd (let never : reply.Was (length was.bytes) ≡ reply.Full = told in cc)
       by_next was None none told = no_block (again was bytes none)
 
       by_key : (x : Option Blob) → (set_blob n s key bytes x).1 ≡ reply.Full → IsCrowded n s (length bytes)
-      by_key None told = by_body (new_body n (taken s) bytes) refl told
-      by_key (Some was) told = by_next was (next_body n (taken s) was bytes) refl told
+      by_key None told = by_body (new_body n (blocks_taken s) bytes) refl told
+      by_key (Some was) told = by_next was (next_body n (blocks_taken s) was bytes) refl told
 
   -- so each call that is refused may be
-  pub refused_bound : (count : ℕ) (call : BlobCall) → (step n s count call).1 ≡ reply.Full → MayRefuse n s call
+  pub refused_bound : (count : ℕ) (call : BlobCall) → (blob_step n s count call).1 ≡ reply.Full → MayRefuse n s call
   refused_bound count (Set key bytes) told = full_bound key bytes told
   refused_bound count (Cut key) told = absurd (cut_not_full s key (finite.get s key) told)

@@ -13,9 +13,9 @@ use Rattle.rom_model.proofs.Room.{tree_stays}
 use Rattle.rom_block.specs.Taken.{Takes}
 use Rattle.rom_bucket.specs.Buckets.{entries_of}
 use Rattle.rom_blob_region.specs.State.{no_blobs, taken_with}
-use Rattle.rom_blob_region.specs.Region.{blob_at, held_by, AreApart, Contents}
+use Rattle.rom_blob_region.specs.Region.{blob_at, held_by, AreBlobsApart, BlobContents}
 use Rattle.rom_blob_region.proofs.Held.{taken_none}
-use Rattle.rom_blob_region.specs.Fresh.{IsFreshRoot}
+use Rattle.rom_blob_region.specs.Fresh.{IsFreshBlobRoot}
 
 pub nothing_disjoint : (n : ℕ) → IsDisjoint n nothing
 nothing_disjoint n = record { nodes = λ i is. absurd (let same : false ≡ true = is in cc); apart = λ i k is. refl }
@@ -58,7 +58,7 @@ pub record Formatted (n : ℕ) (w : List ℕ) : Type 0 where
   pub heads : (i : ℕ) → i < buckets n → slice_index w (block_of n 0 + i) ≡ 0
   pub tree : AreWords n (taking 16 nothing) w
 
-pub emptied : (n : ℕ) (w : List ℕ) → Formatted n w → Contents n w no_blobs 0
+pub emptied : (n : ℕ) (w : List ℕ) → Formatted n w → BlobContents n w no_blobs 0
 emptied n w is = (
   λ i. [],
   record {
@@ -83,7 +83,7 @@ emptied n w is = (
     };
     blobs = λ b some. absurd (none b some);
     state_is = ap (λ bs. finite.from_entries (entries_of n w (blob_at n w) bs)) (no_members n);
-    apart = subst (λ bs. AreApart n (held_by (blob_at n w) bs)) (sym (no_members n)) record {
+    apart = subst (λ bs. AreBlobsApart n (held_by (blob_at n w) bs)) (sym (no_members n)) record {
       different = λ x. omega arith;
       beside = refl;
       disjoint = record {
@@ -112,7 +112,7 @@ module _ (n : ℕ) (w w1 w2 w3 w4 : List ℕ) (order : IsOrder n) (sized : lengt
   root_stays : (k : ℕ) → k < 16 → slice_index w4 k ≡ slice_index w1 k
   root_stays k lt = four.before k (omega (arith, lt)) ∙ three.before k (omega (arith, lt)) ∙ two.before k lt
 
-  pub formatted : IsFreshRoot n w1 → slice_index w2 16 ≡ 0 → AreWords n (taking 16 nothing) w3 → ((i : ℕ) → i < buckets n → slice_index w4 (block_of n 0 + i) ≡ 0) → Formatted n w4
+  pub formatted : IsFreshBlobRoot n w1 → slice_index w2 16 ≡ 0 → AreWords n (taking 16 nothing) w3 → ((i : ℕ) → i < buckets n → slice_index w4 (block_of n 0 + i) ≡ 0) → Formatted n w4
   formatted root last tree heads = record {
     order = order;
     sized = four.as_long ∙ three.as_long ∙ two.as_long ∙ one.as_long ∙ sized;

@@ -9,7 +9,7 @@ use Rattle.rom_bucket.specs.Walk.{Finds}
 use Rattle.rom_bucket.specs.Buckets.{There, keys_beside}
 use Rattle.rom_bucket.specs.declared.walk.Place.{Place}
 use Rattle.rom_bucket.proofs.Finding.{node, looked_beside, sooner_beside, no_value, value_there}
-use Rattle.rom_bytes.specs.Bytes.{words_for}
+use Rattle.rom_blob_region.specs.Bytes.{words_for}
 use Rattle.rom_blob_region.specs.State.{BlobState}
 use Rattle.rom_blob_region.specs.Region.{len_at, data_at, blob_at, IsBlob, IsBlobs}
 use Rattle.rom_blob_region.proofs.Beside.{block_least, block_most}

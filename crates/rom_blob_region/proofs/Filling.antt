@@ -3,9 +3,9 @@ use Rattle.std.proofs.Common.{◌≡◌, ◌≢◌, ◌⊎◌, ⊎_elim, ℕ, �
 use Rattle.std.specs.Prelude.{slice_index, slice_set}
 use Rattle.std.proofs.lemmas.Grind.{get_or-set_at}
 use Rattle.rom_model.specs.Space.{ChangesOnly}
-use Rattle.rom_bytes.specs.Bytes.{bytes_at, words_for, EndsInZeros}
+use Rattle.rom_blob_region.specs.Bytes.{bytes_at, words_for, EndsInZeros}
 use Rattle.rom_blob_region.specs.Calls.{IsFilled}
-use Rattle.rom_bytes.proofs.Carried.{bytes_same, ends_same}
+use Rattle.rom_blob_region.proofs.Carried.{bytes_same, ends_same}
 
 pub filled : (node at many : ℕ) (bytes w w1 w2 w3 : List ℕ) → node + 4 ≤ length w → (node + 4 ≤ at) ⊎ (at + words_for (length bytes) ≤ node) → bytes_at w1 at (length bytes) ≡ bytes → EndsInZeros w1 at (length bytes) → ChangesOnly at (words_for (length bytes)) w w1
     → w2 ≡ slice_set w1 (node + 1) many → many ≡ length bytes → w3 ≡ slice_set w2 (node + 3) at → IsFilled node at bytes w w3

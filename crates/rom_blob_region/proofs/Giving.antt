@@ -7,7 +7,7 @@ use Rattle.rom_model.specs.Blocks.{IsNode, AreWords, block_at}
 use Rattle.rom_model.specs.Chains.{times}
 use Rattle.rom_model.proofs.Times.{times_here, times-append}
 use Rattle.rom_blob_region.specs.State.{BlobState, order_for, some_block, taken_with}
-use Rattle.rom_blob_region.specs.Region.{len_at, data_at, blob_at, IsBlob, AreApart, IsBlobs}
+use Rattle.rom_blob_region.specs.Region.{len_at, data_at, blob_at, IsBlob, AreBlobsApart, IsBlobs}
 use Rattle.rom_blob_region.specs.Calls.{HoldsBody, BodyGiven}
 use Rattle.rom_blob_region.proofs.Held.{taken_block, apart_fewer, words_fewer, apart_same, tree_same}
 use Rattle.rom_blob_region.proofs.Places.{no_body, some_body}
@@ -28,7 +28,7 @@ blob_placed n w b le is = record {
 pub record WithBody (n len at : ℕ) (body : Option ℕ) (w : List ℕ) (f : ℕ → List ℕ) (s : BlobState) (count : ℕ) : Type 0 where
   pub keys : HasKeys n w f s count
   pub placed : Placed n len at body
-  pub apart : AreApart n (some_block body ++ held n w f)
+  pub apart : AreBlobsApart n (some_block body ++ held n w f)
   pub tree : AreWords n (taken_with (some_block body ++ held n w f)) w
 
 module _ {n len at : ℕ} {body : Option ℕ} {w : List ℕ} {f : ℕ → List ℕ} {s : BlobState} {count : ℕ} (le : 4 ≤ n) (is : WithBody n len at body w f s count) where

@@ -14,8 +14,8 @@ use Rattle.rom_model.proofs.Members.{words_same}
 use Rattle.rom_bucket.specs.Buckets.{nodes_of, AreBuckets, entries_of, keyed}
 use Rattle.rom_bucket.proofs.Entries.{sum_entries}
 use Rattle.rom_bucket.proofs.Keys.{once}
-use Rattle.rom_blob_region.specs.State.{Blob, blocks_in, all_in, taken_with, taken}
-use Rattle.rom_blob_region.specs.Region.{held_by, AreApart}
+use Rattle.rom_blob_region.specs.State.{Blob, blocks_in, all_in, taken_with, blocks_taken}
+use Rattle.rom_blob_region.specs.Region.{held_by, AreBlobsApart}
 
 module _ (blob : ℕ → Blob) where
   pub held_append : (us vs : List ℕ) → held_by blob (us ++ vs) ≡ held_by blob us ++ held_by blob vs
@@ -84,7 +84,7 @@ module _ {n size : ℕ} {w : List ℕ} {f : ℕ → List ℕ} (is : AreBuckets n
       times_all x (finite.entries (keyed n w blob f)) ∙ sum_entries (λ e. times x (blocks_in e.1)) (entries_of n w blob (nodes_of n f)) (once is blob)
       ∙ sym (times_all x (entries_of n w blob (nodes_of n f))) ∙ ap (times x) (all_held n w blob (nodes_of n f))
 
-  pub taken_state : (x : ℕ) → taken (keyed n w blob f) x ≡ taken_with (held_by blob (nodes_of n f)) x
+  pub taken_state : (x : ℕ) → blocks_taken (keyed n w blob f) x ≡ taken_with (held_by blob (nodes_of n f)) x
   taken_state x = ap (λ m. (x == 16) || nat_lt 0 m) (times_state x)
 
 positive : (m : ℕ) → 0 < m → nat_lt 0 m ≡ true
@@ -153,9 +153,9 @@ free_untaken n depth order x T deep is free = ap T (sym (up_low order x)) ∙ fr
 pub disjoint_same : (n : ℕ) (T S : ℕ → Bool) → ((i : ℕ) → T i ≡ S i) → IsDisjoint n T → IsDisjoint n S
 disjoint_same n T S same are = subst (λ (R : ℕ → Bool). IsDisjoint n R) (λ p i. same i p) are
 
-module _ (n : ℕ) (xs : List ℕ) (are : AreApart n xs) where
+module _ (n : ℕ) (xs : List ℕ) (are : AreBlobsApart n xs) where
   -- with a block that was free
-  pub apart_more : (x : ℕ) (more : List ℕ) → taken_with xs x ≡ false → IsDisjoint n (taking x (taken_with xs)) → ((c : ℕ) → times c more ≡ times c xs + times c (x ∷ [])) → AreApart n more
+  pub apart_more : (x : ℕ) (more : List ℕ) → taken_with xs x ≡ false → IsDisjoint n (taking x (taken_with xs)) → ((c : ℕ) → times c more ≡ times c xs + times c (x ∷ [])) → AreBlobsApart n more
   apart_more x more new disjoint counts =
       let out = untaken xs x new in
       record {
@@ -168,7 +168,7 @@ module _ (n : ℕ) (xs : List ℕ) (are : AreApart n xs) where
       }
 
   -- without one of them
-  pub apart_fewer : (x : ℕ) (fewer : List ℕ) → IsDisjoint n (giving x (taken_with xs)) → ((c : ℕ) → times c xs ≡ times c fewer + times c (x ∷ [])) → AreApart n fewer
+  pub apart_fewer : (x : ℕ) (fewer : List ℕ) → IsDisjoint n (giving x (taken_with xs)) → ((c : ℕ) → times c xs ≡ times c fewer + times c (x ∷ [])) → AreBlobsApart n fewer
   apart_fewer x fewer disjoint counts =
       let some : 0 < times x xs = omega (arith, counts x, times_here x []) in
       record {
@@ -202,7 +202,7 @@ pub taking_here : (x : ℕ) (T : ℕ → Bool) → taking x T x ≡ true
 taking_here x T = let test : (x == x) ≡ true = grind (arith, nat_tests) in rw test refl
 
 -- the same blocks in another order
-pub apart_same : (n : ℕ) (xs ys : List ℕ) → ((c : ℕ) → times c xs ≡ times c ys) → AreApart n xs → AreApart n ys
+pub apart_same : (n : ℕ) (xs ys : List ℕ) → ((c : ℕ) → times c xs ≡ times c ys) → AreBlobsApart n xs → AreBlobsApart n ys
 apart_same n xs ys same are = record {
   different = λ c. omega (arith, are.different c, same c);
   beside = omega (arith, are.beside, same 16);

@@ -20,7 +20,7 @@ use Rattle.rom_bucket.proofs.Places.{before_node, link_kinds}
 use Rattle.rom_bucket.proofs.Added as added
 use Rattle.rom_bucket.proofs.Removed as removed
 use Rattle.rom_blob_region.specs.State.{BlobState, blocks_in, taken_with}
-use Rattle.rom_blob_region.specs.Region.{IsBlobRoot, len_at, data_at, blob_at, IsBlob, held_by, AreApart, IsBlobs}
+use Rattle.rom_blob_region.specs.Region.{IsBlobRoot, len_at, data_at, blob_at, IsBlob, held_by, AreBlobsApart, IsBlobs}
 use Rattle.rom_blob_region.proofs.Beside.{InBlock, apart_words, in_unit, in_table, block_least}
 use Rattle.rom_blob_region.proofs.Held.{held_has, held_two, held_same, held_between, taken_block, taken_table, not_table, taking_still, taking_here}
 use Rattle.rom_blob_region.proofs.Places.{Same, blob_same, own_word, has_node, in_body, counts_some}
@@ -41,7 +41,7 @@ held n w f = held_by (blob_at n w) (nodes_of n f)
 pub has_keys : {n : ℕ} {w : List ℕ} {f : ℕ → List ℕ} {s : BlobState} {count : ℕ} → IsBlobs n w f s count → HasKeys n w f s count
 has_keys is = record { order = is.order; as_long = is.as_long; root = is.root; keys = is.keys; blobs = is.blobs; state_is = is.state_is }
 
-pub whole : {n : ℕ} {w : List ℕ} {f : ℕ → List ℕ} {s : BlobState} {count : ℕ} → HasKeys n w f s count → AreApart n (held n w f) → AreWords n (taken_with (held n w f)) w → IsBlobs n w f s count
+pub whole : {n : ℕ} {w : List ℕ} {f : ℕ → List ℕ} {s : BlobState} {count : ℕ} → HasKeys n w f s count → AreBlobsApart n (held n w f) → AreWords n (taken_with (held n w f)) w → IsBlobs n w f s count
 whole is apart tree = record { order = is.order; as_long = is.as_long; root = is.root; keys = is.keys; blobs = is.blobs; state_is = is.state_is; apart = apart; tree = tree }
 
 -- the root where these words stay
@@ -107,7 +107,7 @@ module _ {n : ℕ} {w w' : List ℕ} {f : ℕ → List ℕ} {s : BlobState} {cou
   tree_held = same_held is only.as_long low_stays (λ i lt. high_stays (head_of n i) (omega arith)) stay
 
 -- The word is no word of a key or of the bucket table, since it stands in a block of none.
-module _ {n : ℕ} {w : List ℕ} {f : ℕ → List ℕ} {s : BlobState} {count : ℕ} (le : 4 ≤ n) (is : HasKeys n w f s count) (apart : AreApart n (held n w f)) where
+module _ {n : ℕ} {w : List ℕ} {f : ℕ → List ℕ} {s : BlobState} {count : ℕ} (le : 4 ≤ n) (is : HasKeys n w f s count) (apart : AreBlobsApart n (held n w f)) where
   abbrev T : ℕ → Bool
   T = taken_with (held n w f)
 
@@ -162,7 +162,7 @@ module _ {n : ℕ} {w : List ℕ} {f : ℕ → List ℕ} {s : BlobState} {count 
     body_tree k least most = body_low k most
 
 -- without a key, whose node was unlinked
-module _ {n : ℕ} {w : List ℕ} {f : ℕ → List ℕ} {s : BlobState} {count : ℕ} (le : 4 ≤ n) (is : HasKeys n w f s count) (apart : AreApart n (held n w f)) {key : ℕ} {place : Place} (within : bucket_of n key < buckets n) (t : There n w f key place) {w' : List ℕ} (un : IsUnlinked 3 place w w') where
+module _ {n : ℕ} {w : List ℕ} {f : ℕ → List ℕ} {s : BlobState} {count : ℕ} (le : 4 ≤ n) (is : HasKeys n w f s count) (apart : AreBlobsApart n (held n w f)) {key : ℕ} {place : Place} (within : bucket_of n key < buckets n) (t : There n w f key place) {w' : List ℕ} (un : IsUnlinked 3 place w w') where
   abbrev pub left : ℕ → List ℕ
   left = removed.next le (omega arith) is.keys within t un
 
@@ -217,7 +217,7 @@ module _ {n : ℕ} {w : List ℕ} {f : ℕ → List ℕ} {s : BlobState} {count 
 
 -- with a new key, whose node is a unit that was free
 module _ {n : ℕ} {w : List ℕ} {f : ℕ → List ℕ} {s : BlobState} {count : ℕ} (is : HasKeys n w f s count) {node : Node} {block : ℕ} (may : added.MayAdd n 3 w f node.key block) {w' : List ℕ} (linked : IsLinked 3 (first_place n node.key w) (block_of n block) node w w')
-    (apart : AreApart n (held n w f)) (free : taken_with (held n w f) (2 ^ n + block) ≡ false) (disjoint : IsDisjoint n (taking (2 ^ n + block) (taken_with (held n w f)))) (new : IsBlob n w' block) where
+    (apart : AreBlobsApart n (held n w f)) (free : taken_with (held n w f) (2 ^ n + block) ≡ false) (disjoint : IsDisjoint n (taking (2 ^ n + block) (taken_with (held n w f)))) (new : IsBlob n w' block) where
   abbrev front : Between n f node.key (first_place n node.key w)
   front = added.at_front may.are may.within
 
@@ -281,7 +281,7 @@ pub record Own (n : ℕ) (w : List ℕ) (f : ℕ → List ℕ) (block k : ℕ) :
   pub not_node : home ≢ 2 ^ n + block
   pub not_others : (b : ℕ) → 0 < times b (nodes_of n f) → b ≢ block → times home (blocks_in (blob_at n w b)) ≡ 0
 
-module _ {n : ℕ} {w : List ℕ} {f : ℕ → List ℕ} {s : BlobState} {count : ℕ} (le : 4 ≤ n) (is : HasKeys n w f s count) (apart : AreApart n (held n w f)) {key : ℕ} {place : Place} (within : bucket_of n key < buckets n) (t : There n w f key place)
+module _ {n : ℕ} {w : List ℕ} {f : ℕ → List ℕ} {s : BlobState} {count : ℕ} (le : 4 ≤ n) (is : HasKeys n w f s count) (apart : AreBlobsApart n (held n w f)) {key : ℕ} {place : Place} (within : bucket_of n key < buckets n) (t : There n w f key place)
     (w' : List ℕ) (long : length w' ≡ length w) (changed : (k : ℕ) → (slice_index w' k ≡ slice_index w k) ⊎ (((k ≡ block_of n t.block + 1) ⊎ (k ≡ block_of n t.block + 3)) ⊎ Own n w f t.block k)) (new : IsBlob n w' t.block) where
   abbrev set : ℕ → Bool
   set = taken_with (held n w f)

@@ -7,10 +7,10 @@ use Rattle.rom_model.specs.Blocks.{IsNode, block_of, block_at}
 use Rattle.rom_model.specs.Chains.{times}
 use Rattle.rom_model.proofs.Nodes.{block_node}
 use Rattle.rom_model.proofs.Times.{times_here, times_more}
-use Rattle.rom_bytes.specs.Bytes.{bytes_at, EndsInZeros}
+use Rattle.rom_blob_region.specs.Bytes.{bytes_at, EndsInZeros}
 use Rattle.rom_blob_region.specs.State.{order_for, blocks_in, some_block}
 use Rattle.rom_blob_region.specs.Region.{len_at, data_at, node_of, blob_at, IsBlob}
-use Rattle.rom_bytes.proofs.Carried.{bytes_same, ends_same}
+use Rattle.rom_blob_region.proofs.Carried.{bytes_same, ends_same}
 use Rattle.rom_blob_region.proofs.Beside.{InBlock, in_unit}
 
 -- a block of its order has room for so many bytes

@@ -14,11 +14,11 @@ use Rattle.rom_model.specs.Blocks.{IsNode}
 use Rattle.rom_model.specs.Chains.{times}
 use Rattle.rom_model.proofs.Times.{times_here, times_more}
 use Rattle.rom_bucket.specs.Buckets.{nodes_of, entries_of}
-use Rattle.rom_bytes.specs.Packed.{long_at}
-use Rattle.rom_blob_region.specs.State.{Blob, BlobState, order_for, taken, taking_some, first_of, lowest, is_free, new_body, next_body, set_node, set_new, set_again, set_blob, cut_blob, step}
+use Rattle.rom_blob_region.specs.Packed.{long_at}
+use Rattle.rom_blob_region.specs.State.{Blob, BlobState, order_for, blocks_taken, taking_some, first_passing, lowest, is_free, new_body, next_body, set_node, set_new, set_again, set_blob, cut_blob, blob_step}
 use Rattle.rom_blob_region.specs.declared.call.BlobCall.{BlobCall}
 use Rattle.rom_blob_region.specs.declared.call.BlobCall.TheVariants.{Set, Cut}
-use Rattle.rom_blob_region.specs.Region.{len_at, data_at, blob_at, IsBlob, Contents}
+use Rattle.rom_blob_region.specs.Region.{len_at, data_at, blob_at, IsBlob, BlobContents}
 use Rattle.rom_blob_region.proofs.Places.{no_body, some_body}
 
 -- The blocks of a key: a unit, and where there are bytes a block of the order that they want.
@@ -39,11 +39,11 @@ some_same : {A : Type 0} (a b : A) → Some a ≡ Some b → a ≡ b
 some_same a b is = cc
 
 -- what is found stands in the range
-pub in_range : (test : ℕ → Bool) (many at x : ℕ) → first_of test at many ≡ Some x → (at ≤ x) × (x < at + many)
+pub in_range : (test : ℕ → Bool) (many at x : ℕ) → first_passing test at many ≡ Some x → (at ≤ x) × (x < at + many)
 in_range test zero at x is = absurd (let never : None ≡ Some x = is in cc)
 in_range test (suc many) at x is = go (test at) (λ rest. in_range test many (at + 1) x rest) is
   where
-    go : (b : Bool) → (first_of test (at + 1) many ≡ Some x → (at + 1 ≤ x) × (x < at + 1 + many)) → (if b then Some at else first_of test (at + 1) many) ≡ Some x → (at ≤ x) × (x < at + suc many)
+    go : (b : Bool) → (first_passing test (at + 1) many ≡ Some x → (at + 1 ≤ x) × (x < at + 1 + many)) → (if b then Some at else first_passing test (at + 1) many) ≡ Some x → (at ≤ x) × (x < at + suc many)
     go true rest here = let same : at ≡ x = some_same at x here in (omega (arith, same), omega (arith, same))
     go false rest there = let both = rest there in (omega (arith, both), omega (arith, both))
 
@@ -157,26 +157,26 @@ module _ (n : ℕ) where
       go true false order told = new_ranged was.node blocks (b ∷ bytes) body is.node told
       go false u order told = new_ranged was.node blocks (b ∷ bytes) body is.node told
 
-  set_new_ranged : (s : BlobState) (key : ℕ) (bytes : List ℕ) → IsRanged n s → IsRanged n (set_new n s key bytes (new_body n (taken s) bytes)).0
-  set_new_ranged s key bytes all = by_body (new_body n (taken s) bytes) refl
+  set_new_ranged : (s : BlobState) (key : ℕ) (bytes : List ℕ) → IsRanged n s → IsRanged n (set_new n s key bytes (new_body n (blocks_taken s) bytes)).0
+  set_new_ranged s key bytes all = by_body (new_body n (blocks_taken s) bytes) refl
     where
-      by_node : (body : Option ℕ) → new_body n (taken s) bytes ≡ Some body → (unit : Option ℕ) → lowest n (taking_some body (taken s)) 0 ≡ unit → IsRanged n (set_node s key bytes body unit).0
+      by_node : (body : Option ℕ) → new_body n (blocks_taken s) bytes ≡ Some body → (unit : Option ℕ) → lowest n (taking_some body (blocks_taken s)) 0 ≡ unit → IsRanged n (set_node s key bytes body unit).0
       by_node body chosen None none = all
       by_node body chosen (Some x) found =
           let e : n - 0 ≡ n = omega arith in
-          let node : IsNode n x = subst (λ d. IsNode d x) e (lowest_node n 0 x (taking_some body (taken s)) found) in
-          insert_ranged s key record { bytes = bytes; node = x; body = body } (new_ranged x (taken s) bytes body node chosen) all
+          let node : IsNode n x = subst (λ d. IsNode d x) e (lowest_node n 0 x (taking_some body (blocks_taken s)) found) in
+          insert_ranged s key record { bytes = bytes; node = x; body = body } (new_ranged x (blocks_taken s) bytes body node chosen) all
 
-      by_body : (body : Option (Option ℕ)) → new_body n (taken s) bytes ≡ body → IsRanged n (set_new n s key bytes body).0
+      by_body : (body : Option (Option ℕ)) → new_body n (blocks_taken s) bytes ≡ body → IsRanged n (set_new n s key bytes body).0
       by_body None none = all
-      by_body (Some body) chosen = by_node body chosen (lowest n (taking_some body (taken s)) 0) refl
+      by_body (Some body) chosen = by_node body chosen (lowest n (taking_some body (blocks_taken s)) 0) refl
 
-  set_again_ranged : (s : BlobState) (key : ℕ) (bytes : List ℕ) (was : Blob) → IsInRange n was → IsRanged n s → IsRanged n (set_again s key bytes was (next_body n (taken s) was bytes)).0
-  set_again_ranged s key bytes was is all = by_body (next_body n (taken s) was bytes) refl
+  set_again_ranged : (s : BlobState) (key : ℕ) (bytes : List ℕ) (was : Blob) → IsInRange n was → IsRanged n s → IsRanged n (set_again s key bytes was (next_body n (blocks_taken s) was bytes)).0
+  set_again_ranged s key bytes was is all = by_body (next_body n (blocks_taken s) was bytes) refl
     where
-      by_body : (body : Option (Option ℕ)) → next_body n (taken s) was bytes ≡ body → IsRanged n (set_again s key bytes was body).0
+      by_body : (body : Option (Option ℕ)) → next_body n (blocks_taken s) was bytes ≡ body → IsRanged n (set_again s key bytes was body).0
       by_body None none = all
-      by_body (Some body) chosen = insert_ranged s key record { bytes = bytes; node = was.node; body = body } (next_ranged (taken s) was bytes body is chosen) all
+      by_body (Some body) chosen = insert_ranged s key record { bytes = bytes; node = was.node; body = body } (next_ranged (blocks_taken s) was bytes body is chosen) all
 
   cut_ranged : (s : BlobState) (key : ℕ) (was : Option Blob) → IsRanged n s → IsRanged n (cut_blob s key was).0
   cut_ranged s key None all = all
@@ -187,7 +187,7 @@ module _ (n : ℕ) where
   set_ranged s key bytes (Some was) there all = set_again_ranged s key bytes was (get_ranged s key was all there) all
 
   -- each call leaves them so
-  pub step_ranged : (s : BlobState) (count : ℕ) (call : BlobCall) → IsRanged n s → IsRanged n (step n s count call).0
+  pub step_ranged : (s : BlobState) (count : ℕ) (call : BlobCall) → IsRanged n s → IsRanged n (blob_step n s count call).0
   step_ranged s count (Set key bytes) all = set_ranged s key bytes (finite.get s key) refl all
   step_ranged s count (Cut key) all = cut_ranged s key (finite.get s key) all
 
@@ -219,7 +219,7 @@ module _ {n : ℕ} {w : List ℕ} where
       let here = all u (omega (arith, times_here u us)) in
       (blob_ranged le u here.1 here.0, entries_ranged le us (λ b some. all b (omega (arith, some, times_more b u us))))
 
-  pub contents_ranged : {s : BlobState} {k : ℕ} → Contents n w s k → IsRanged n s
+  pub contents_ranged : {s : BlobState} {k : ℕ} → BlobContents n w s k → IsRanged n s
   contents_ranged {s} {k} held =
       let is = held.1 in
       subst (λ (m : BlobState). IsRanged n m) is.state_is

@@ -11,7 +11,7 @@ use Rattle.rom_bucket.specs.Walk.{head_of}
 use Rattle.rom_bucket.specs.Buckets.{nodes_of}
 use Rattle.rom_bucket.proofs.Keys.{entries_same, buckets_same}
 use Rattle.rom_blob_region.specs.State.{BlobState, taken_with}
-use Rattle.rom_blob_region.specs.Region.{data_at, blob_at, AreApart, IsBlobs, Contents}
+use Rattle.rom_blob_region.specs.Region.{data_at, blob_at, AreBlobsApart, IsBlobs, BlobContents}
 use Rattle.rom_blob_region.proofs.Beside.{block_least}
 use Rattle.rom_blob_region.proofs.Held.{held_same}
 use Rattle.rom_blob_region.proofs.Places.{Same, own_word}
@@ -48,9 +48,9 @@ module _ {n : ℕ} {w w' : List ℕ} {f : ℕ → List ℕ} {s : BlobState} {k :
     keys = buckets_same w' (λ i lt. high (head_of n i) (omega arith)) (high 3 (omega arith)) (λ c some. high (block_of n c + 0) (omega arith)) (λ c some. high (block_of n c + 2) (omega arith)) is.keys;
     blobs = λ b some. (same b some).is;
     state_is = ap (λ es. finite.from_entries es) (entries_same n w w' (blob_at n w) (blob_at n w') (nodes_of n f) (λ c some. high (block_of n c + 0) (omega arith)) (λ c some. (same c some).blob)) ∙ is.state_is;
-    apart = subst (λ ys. AreApart n ys) (sym stay) is.apart;
+    apart = subst (λ ys. AreBlobsApart n ys) (sym stay) is.apart;
     tree = subst (λ ys. AreWords n (taken_with ys) w') (sym stay) (tree_stays n (taken_with (held n w f)) w w' (λ j least most. high j (omega (arith, least))) is.tree);
   }
 
-pub raised : {n : ℕ} {w w' : List ℕ} {s : BlobState} {k : ℕ} → 4 ≤ n → k < LAST_COUNT → slice_index w' 2 ≡ slice_index w 2 + 1 → ChangesOnly 2 1 w w' → Contents n w s k → Contents n w' s (k + 1)
+pub raised : {n : ℕ} {w w' : List ℕ} {s : BlobState} {k : ℕ} → 4 ≤ n → k < LAST_COUNT → slice_index w' 2 ≡ slice_index w 2 + 1 → ChangesOnly 2 1 w w' → BlobContents n w s k → BlobContents n w' s (k + 1)
 raised le below now only held_now = (held_now.0, recounted le below (now ∙ ap (λ c. c + 1) held_now.1.root.count_is) only held_now.1)

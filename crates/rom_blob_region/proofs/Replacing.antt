@@ -13,10 +13,10 @@ use Rattle.rom_bucket.specs.Buckets.{nodes_of, There}
 use Rattle.rom_bucket.specs.declared.walk.Place.{Place}
 use Rattle.rom_bucket.proofs.Finding.{own_within}
 use Rattle.rom_bucket.proofs.Keys.{get_here}
-use Rattle.rom_bytes.specs.Bytes.{bytes_at, words_for, EndsInZeros}
-use Rattle.rom_bytes.specs.Packed.{long_at}
-use Rattle.rom_blob_region.specs.State.{Blob, BlobState, order_for, some_block, blocks_in, taken, taken_with, new_body, next_body, set_blob, set_again}
-use Rattle.rom_blob_region.specs.Region.{len_at, data_at, node_of, blob_at, IsBlob, AreApart, IsBlobs, Contents}
+use Rattle.rom_blob_region.specs.Bytes.{bytes_at, words_for, EndsInZeros}
+use Rattle.rom_blob_region.specs.Packed.{long_at}
+use Rattle.rom_blob_region.specs.State.{Blob, BlobState, order_for, some_block, blocks_in, blocks_taken, taken_with, new_body, next_body, set_blob, set_again}
+use Rattle.rom_blob_region.specs.Region.{len_at, data_at, node_of, blob_at, IsBlob, AreBlobsApart, IsBlobs, BlobContents}
 use Rattle.rom_blob_region.specs.Calls.{IsFilled, stay_there}
 use Rattle.rom_blob_region.proofs.Beside.{InBlock, apart_words, in_unit, block_least}
 use Rattle.rom_blob_region.proofs.Held.{held_has, held_two, taken_block, not_table, taking_here, taking_still, disjoint_same, apart_same, tree_same}
@@ -34,7 +34,7 @@ pub record Home (n : ℕ) (w : List ℕ) (f : ℕ → List ℕ) (block x : ℕ) 
   pub not_node : x ≢ 2 ^ n + block
   pub not_others : (b : ℕ) → 0 < times b (nodes_of n f) → b ≢ block → times x (blocks_in (blob_at n w b)) ≡ 0
 
-module _ {n : ℕ} {w : List ℕ} {f : ℕ → List ℕ} {s : BlobState} {count : ℕ} {key : ℕ} {place : Place} (o : IsOrder n) (is : HasKeys n w f s count) (apart : AreApart n (held n w f)) (t : There n w f key place)
+module _ {n : ℕ} {w : List ℕ} {f : ℕ → List ℕ} {s : BlobState} {count : ℕ} {key : ℕ} {place : Place} (o : IsOrder n) (is : HasKeys n w f s count) (apart : AreBlobsApart n (held n w f)) (t : There n w f key place)
     {at : ℕ} {body : Option ℕ} {bytes w' : List ℕ} (few : length bytes ≤ 256) (placed : Placed n (length bytes) at body) (bare : length bytes ≡ 0 → at ≡ 0) (home : (x : ℕ) → body ≡ Some x → Home n w f t.block x) (filled : IsFilled place.node at bytes w w') where
   abbrev len : ℕ
   len = length bytes
@@ -115,7 +115,7 @@ module _ {n : ℕ} {w : List ℕ} {f : ℕ → List ℕ} {s : BlobState} {count 
   filled_tree = again_tree o.least is apart (own_within key o) t w' filled.as_long changed fits
 
 -- the bytes' words and those of the node are different ones
-module _ {n : ℕ} {w : List ℕ} {f : ℕ → List ℕ} {s : BlobState} {count : ℕ} {key : ℕ} {place : Place} (o : IsOrder n) (is : HasKeys n w f s count) (apart : AreApart n (held n w f)) (t : There n w f key place)
+module _ {n : ℕ} {w : List ℕ} {f : ℕ → List ℕ} {s : BlobState} {count : ℕ} {key : ℕ} {place : Place} (o : IsOrder n) (is : HasKeys n w f s count) (apart : AreBlobsApart n (held n w f)) (t : There n w f key place)
     {len at : ℕ} {body : Option ℕ} (few : len ≤ 256) (placed : Placed n len at body) (bare : len ≡ 0 → at ≡ 0) (home : (x : ℕ) → body ≡ Some x → Home n w f t.block x) where
   pub beside_node : (place.node + 4 ≤ at) ⊎ (at + words_for len ≤ place.node)
   beside_node = elim (cases_eq len 0) [
@@ -187,7 +187,7 @@ module _ {n : ℕ} {w : List ℕ} {f : ℕ → List ℕ} {s : BlobState} {count 
 
   -- the bytes stay in their block
   pub kept_bytes : (bytes w' : List ℕ) → length bytes ≤ 256 → len0 ≢ 0 → length bytes ≢ 0 → order_for len0 ≡ order_for (length bytes) → IsFilled place.node (data_at n w t.block) bytes w w'
-      → Contents n w' (finite.insert s key record { bytes = bytes; node = was.node; body = was.body }) count
+      → BlobContents n w' (finite.insert s key record { bytes = bytes; node = was.node; body = was.body }) count
   kept_bytes bytes w' few some more same filled =
       let placed = kept_placed (length bytes) some more same in
       let keys = filled_keys o (has_keys is) is.apart t few placed (λ e. absurd (more e)) own_home filled in
@@ -208,8 +208,8 @@ module _ {n : ℕ} {w : List ℕ} {f : ℕ → List ℕ} {s : BlobState} {count 
     stay : held n w1 f ≡ xs
     stay = tree_held o.least (has_keys is) only
 
-    apart_now : AreApart n (held n w1 f)
-    apart_now = subst (λ ys. AreApart n ys) (sym stay) is.apart
+    apart_now : AreBlobsApart n (held n w1 f)
+    apart_now = subst (λ ys. AreBlobsApart n ys) (sym stay) is.apart
 
     high : (k : ℕ) → block_of n 0 ≤ k → slice_index w1 k ≡ slice_index w k
     high k late = only.behind k (omega (arith, late))
@@ -229,7 +229,7 @@ module _ {n : ℕ} {w : List ℕ} {f : ℕ → List ℕ} {s : BlobState} {count 
 
     new_home : (x : ℕ) → r.body ≡ Some x → Home n w1 f t.block x
     new_home x at_x =
-        let one : AreApart n (x ∷ xs) = subst (λ o. AreApart n (some_block o ++ xs)) at_x r.apart in
+        let one : AreBlobsApart n (x ∷ xs) = subst (λ o. AreBlobsApart n (some_block o ++ xs)) at_x r.apart in
         let none : times x xs ≡ 0 = omega (arith, one.different x, times_here x xs) in
         let none_now : times x (held n w1 f) ≡ 0 = ap (times x) stay ∙ none in
         record {
@@ -307,11 +307,11 @@ module _ {n : ℕ} {w : List ℕ} {f : ℕ → List ℕ} {s : BlobState} {count 
   long : length prior.bytes ≡ len_at n w b
   long = long_at w (data_at n w b) (len_at n w b)
 
-  next_for : next_body n (taken s) prior bytes ≡ next_body n (taken_with (held n w f)) prior bytes
-  next_for = let same : taken s ≡ taken_with (held n w f) = (λ p i. taken_is is i p) in ap (λ (T : ℕ → Bool). next_body n T prior bytes) same
+  next_for : next_body n (blocks_taken s) prior bytes ≡ next_body n (taken_with (held n w f)) prior bytes
+  next_for = let same : blocks_taken s ≡ taken_with (held n w f) = (λ p i. taken_is is i p) in ap (λ (T : ℕ → Bool). next_body n T prior bytes) same
 
   -- they stay in their block
-  pub told_kept : stay_there (len_at n w b) (length bytes) ≡ true → next_body n (taken s) prior bytes ≡ Some prior.body
+  pub told_kept : stay_there (len_at n w b) (length bytes) ≡ true → next_body n (blocks_taken s) prior bytes ≡ Some prior.body
   told_kept test =
       let all = staying (len_at n w b) (length bytes) test in
       next_for ∙ next_kept n (taken_with (held n w f)) prior bytes all.1 (ap is_some (has_body all.0)) (ap order_for long ∙ all.2)
@@ -320,7 +320,7 @@ module _ {n : ℕ} {w : List ℕ} {f : ℕ → List ℕ} {s : BlobState} {count 
       has_body some = let test : (len_at n w b == 0) ≡ false = grind (arith, nat_tests) in ap (λ t. if t then None else Some (node_of n (order_for (len_at n w b)) (data_at n w b))) test
 
   -- they go elsewhere
-  pub told_moved : stay_there (len_at n w b) (length bytes) ≡ false → next_body n (taken s) prior bytes ≡ new_body n (taken_with (held n w f)) bytes
+  pub told_moved : stay_there (len_at n w b) (length bytes) ≡ false → next_body n (blocks_taken s) prior bytes ≡ new_body n (taken_with (held n w f)) bytes
   told_moved test = next_for ∙ next_moved n (taken_with (held n w f)) prior bytes (λ some. other (length bytes == 0) (len_at n w b == 0) some refl refl test)
     where
       other : (a c : Bool) → length bytes ≢ 0 → (length bytes == 0) ≡ a → (len_at n w b == 0) ≡ c → (not c && (not a && (order_for (len_at n w b) == order_for (length bytes)))) ≡ false → (is_some prior.body && (order_for (length prior.bytes) == order_for (length bytes))) ≡ false
@@ -332,7 +332,7 @@ module _ {n : ℕ} {w : List ℕ} {f : ℕ → List ℕ} {s : BlobState} {count 
 
 -- what is told of a key that was there
 pub told_was : {n : ℕ} {w : List ℕ} {f : ℕ → List ℕ} {s : BlobState} {count : ℕ} {key : ℕ} {place : Place} → IsOrder n → IsBlobs n w f s count → (t : There n w f key place) → (bytes : List ℕ)
-    → set_blob n s key bytes (finite.get s key) ≡ set_again s key bytes (blob_at n w t.block) (next_body n (taken s) (blob_at n w t.block) bytes)
+    → set_blob n s key bytes (finite.get s key) ≡ set_again s key bytes (blob_at n w t.block) (next_body n (blocks_taken s) (blob_at n w t.block) bytes)
 told_was {n} {w} {f} {s} {count} {key} {place} o is t bytes =
     let has : finite.get s key ≡ Some (blob_at n w t.block) = ap (λ (m : BlobState). finite.get m key) (sym is.state_is) ∙ get_here is.keys key (own_within key o) t.front t.block t.back t.blocks t.holds (blob_at n w) in
     ap (λ x. set_blob n s key bytes x) has

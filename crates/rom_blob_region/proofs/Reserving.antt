@@ -7,7 +7,7 @@ use Rattle.rom_model.specs.Chains.{times}
 use Rattle.rom_model.proofs.Nodes.{node_positive}
 use Rattle.rom_model.proofs.Times.{times-append}
 use Rattle.rom_blob_region.specs.State.{order_for, some_block, taken_with, lowest, new_body, taking_some}
-use Rattle.rom_blob_region.specs.Region.{AreApart}
+use Rattle.rom_blob_region.specs.Region.{AreBlobsApart}
 use Rattle.rom_blob_region.specs.Calls.{NoBody, BodyTaken}
 use Rattle.rom_blob_region.proofs.Lowest.{lowest_some, lowest_none}
 use Rattle.rom_blob_region.proofs.Held.{free_untaken, apart_more, words_more, taking_one}
@@ -35,12 +35,12 @@ body_some n T (b ∷ bytes) some = refl
 pub record Reserved (n len : ℕ) (xs bytes w : List ℕ) (at : ℕ) : Type 0 where
   pub body : Option ℕ
   pub chosen : new_body n (taken_with xs) bytes ≡ Some body
-  pub apart : AreApart n (some_block body ++ xs)
+  pub apart : AreBlobsApart n (some_block body ++ xs)
   pub tree : AreWords n (taken_with (some_block body ++ xs)) w
   pub placed : Placed n len at body
   pub bare : len ≡ 0 → at ≡ 0
 
-module _ (n len : ℕ) (xs bytes w : List ℕ) (le : 4 ≤ n) (apart : AreApart n xs) (words : AreWords n (taken_with xs) w) (many : length bytes ≡ len) where
+module _ (n len : ℕ) (xs bytes w : List ℕ) (le : 4 ≤ n) (apart : AreBlobsApart n xs) (words : AreWords n (taken_with xs) w) (many : length bytes ≡ len) where
   order_within : order_for len ≤ n
   order_within = omega (arith, le, order_small len)
 
@@ -85,7 +85,7 @@ taking_body None xs i = refl
 taking_body (Some x) xs i = taking_one x xs (x ∷ xs) (λ c. omega (arith, times-append c (x ∷ []) xs)) i
 
 -- the unit for a new key's node
-module _ (n : ℕ) (xs w : List ℕ) (apart : AreApart n xs) where
+module _ (n : ℕ) (xs w : List ℕ) (apart : AreBlobsApart n xs) where
   pub no_unit : NoneFree n (taken_with xs) 0 → lowest n (taken_with xs) 0 ≡ None
   no_unit none = lowest_none n (taken_with xs) (no_zero n (taken_with xs) apart.disjoint) 0 (omega arith) none
 

@@ -11,9 +11,9 @@ use Rattle.rom_model.proofs.Room.{tree_stays}
 use Rattle.rom_block.specs.Taken.{Takes}
 use Rattle.rom_bucket.specs.Link.{first_place, IsLinked}
 use Rattle.rom_bucket.proofs.Keys.{few}
-use Rattle.rom_bytes.specs.Bytes.{words_for}
-use Rattle.rom_blob_region.specs.State.{BlobState, some_block, taken, taken_with, taking_some, lowest, new_body, set_new, set_node}
-use Rattle.rom_blob_region.specs.Region.{blob_at, AreApart, IsBlobs, Contents}
+use Rattle.rom_blob_region.specs.Bytes.{words_for}
+use Rattle.rom_blob_region.specs.State.{BlobState, some_block, blocks_taken, taken_with, taking_some, lowest, new_body, set_new, set_node}
+use Rattle.rom_blob_region.specs.Region.{blob_at, AreBlobsApart, IsBlobs, BlobContents}
 use Rattle.rom_blob_region.specs.Calls.{NoBody}
 use Rattle.rom_blob_region.specs.declared.call.BlobReply.TheVariants as reply
 use Rattle.rom_blob_region.proofs.Beside.{block_most}
@@ -55,35 +55,35 @@ module _ {n : ℕ} {w : List ℕ} {f : ℕ → List ℕ} {s : BlobState} {count 
   xs = held n w f
 
   -- what is taken in the state
-  pub taken_is : (i : ℕ) → taken s i ≡ taken_with xs i
-  taken_is i = ap (λ (m : BlobState). taken m i) (sym is.state_is) ∙ taken_state is.keys (blob_at n w) i
+  pub taken_is : (i : ℕ) → blocks_taken s i ≡ taken_with xs i
+  taken_is i = ap (λ (m : BlobState). blocks_taken m i) (sym is.state_is) ∙ taken_state is.keys (blob_at n w) i
 
-  same_taken : taken s ≡ taken_with xs
+  same_taken : blocks_taken s ≡ taken_with xs
   same_taken = λ p i. taken_is i p
 
-  pub body_for : (bytes : List ℕ) → new_body n (taken s) bytes ≡ new_body n (taken_with xs) bytes
+  pub body_for : (bytes : List ℕ) → new_body n (blocks_taken s) bytes ≡ new_body n (taken_with xs) bytes
   body_for bytes = ap (λ (T : ℕ → Bool). new_body n T bytes) same_taken
 
-  node_for : (body : Option ℕ) → lowest n (taking_some body (taken s)) 0 ≡ lowest n (taken_with (some_block body ++ xs)) 0
+  node_for : (body : Option ℕ) → lowest n (taking_some body (blocks_taken s)) 0 ≡ lowest n (taken_with (some_block body ++ xs)) 0
   node_for body =
       let same : taking_some body (taken_with xs) ≡ taken_with (some_block body ++ xs) = (λ p i. taking_body body xs i p) in
       ap (λ (T : ℕ → Bool). lowest n (taking_some body T) 0) same_taken ∙ ap (λ (T : ℕ → Bool). lowest n T 0) same
 
   module _ {len : ℕ} (bytes : List ℕ) (le : 4 ≤ n) (key : ℕ) (many : length bytes ≡ len) where
     -- there is no block for the bytes
-    pub told_full : NoBody n len (taken_with xs) → set_new n s key bytes (new_body n (taken s) bytes) ≡ (s, reply.Full)
+    pub told_full : NoBody n len (taken_with xs) → set_new n s key bytes (new_body n (blocks_taken s) bytes) ≡ (s, reply.Full)
     told_full none = ap (set_new n s key bytes) (body_for bytes ∙ no_room n len xs bytes w le is.apart is.tree many none)
 
     module _ {w1 : List ℕ} {at : ℕ} (r : Reserved n len xs bytes w1 at) where
-      set_it : (unit : Option ℕ) → lowest n (taken_with (some_block r.body ++ xs)) 0 ≡ unit → set_new n s key bytes (new_body n (taken s) bytes) ≡ set_node s key bytes r.body unit
+      set_it : (unit : Option ℕ) → lowest n (taken_with (some_block r.body ++ xs)) 0 ≡ unit → set_new n s key bytes (new_body n (blocks_taken s) bytes) ≡ set_node s key bytes r.body unit
       set_it unit is_unit = ap (set_new n s key bytes) (body_for bytes ∙ r.chosen) ∙ ap (set_node s key bytes r.body) (node_for r.body ∙ is_unit)
 
       -- there is none for the node
-      pub told_no_unit : NoneFree n (taken_with (some_block r.body ++ xs)) 0 → set_new n s key bytes (new_body n (taken s) bytes) ≡ (s, reply.Full)
+      pub told_no_unit : NoneFree n (taken_with (some_block r.body ++ xs)) 0 → set_new n s key bytes (new_body n (blocks_taken s) bytes) ≡ (s, reply.Full)
       told_no_unit none = set_it None (no_unit n (some_block r.body ++ xs) w r.apart none)
 
       -- there are both
-      pub told_new : (y : ℕ) → IsLowest n (taken_with (some_block r.body ++ xs)) 0 y → set_new n s key bytes (new_body n (taken s) bytes) ≡ (finite.insert s key record { bytes = bytes; node = y; body = r.body }, reply.New)
+      pub told_new : (y : ℕ) → IsLowest n (taken_with (some_block r.body ++ xs)) 0 y → set_new n s key bytes (new_body n (blocks_taken s) bytes) ≡ (finite.insert s key record { bytes = bytes; node = y; body = r.body }, reply.New)
       told_new y lowest_y = set_it (Some y) (a_unit n (some_block r.body ++ xs) w r.apart y lowest_y)
 
   module _ {len : ℕ} {bytes w1 : List ℕ} {at : ℕ} (o : IsOrder n) (r : Reserved n len xs bytes w1 at) (only : ChangesOnly 17 (2 * 2 ^ n - 1) w w1) where
@@ -98,7 +98,7 @@ module _ {n : ℕ} {w : List ℕ} {f : ℕ → List ℕ} {s : BlobState} {count 
     with_body = record {
       keys = keys1;
       placed = r.placed;
-      apart = subst (λ ys. AreApart n (some_block r.body ++ ys)) (sym stay1) r.apart;
+      apart = subst (λ ys. AreBlobsApart n (some_block r.body ++ ys)) (sym stay1) r.apart;
       tree = subst (λ ys. AreWords n (taken_with (some_block r.body ++ ys)) w1) (sym stay1) r.tree;
     }
 
@@ -109,8 +109,8 @@ module _ {n : ℕ} {w : List ℕ} {f : ℕ → List ℕ} {s : BlobState} {count 
       stay2 : held n w2 f ≡ xs
       stay2 = tree_held o.least keys1 then ∙ stay1
 
-      after : StoredKeys o.least few_bytes keys2 r.placed (subst (λ ys. AreApart n (some_block r.body ++ ys)) (sym stay2) r.apart) stored
-      after = stored_keys o.least few_bytes keys2 r.placed (subst (λ ys. AreApart n (some_block r.body ++ ys)) (sym stay2) r.apart) stored
+      after : StoredKeys o.least few_bytes keys2 r.placed (subst (λ ys. AreBlobsApart n (some_block r.body ++ ys)) (sym stay2) r.apart) stored
+      after = stored_keys o.least few_bytes keys2 r.placed (subst (λ ys. AreBlobsApart n (some_block r.body ++ ys)) (sym stay2) r.apart) stored
 
       stay3 : held n w3 f ≡ xs
       stay3 = after.same ∙ stay2
@@ -132,7 +132,7 @@ module _ {n : ℕ} {w : List ℕ} {f : ℕ → List ℕ} {s : BlobState} {count 
       size_small = omega (arith, after.keys.keys.len, few after.keys.keys, pow_small n o.most)
 
       -- the key is there
-      pub new_key : {w4 : List ℕ} (key : ℕ) → finite.get s key ≡ None → IsLinked 3 (first_place n key w3) node record { key = key; second = len; last = at } w3 w4 → Contents n w4 (finite.insert s key record { bytes = bytes; node = takes.node; body = r.body }) count
+      pub new_key : {w4 : List ℕ} (key : ℕ) → finite.get s key ≡ None → IsLinked 3 (first_place n key w3) node record { key = key; second = len; last = at } w3 w4 → BlobContents n w4 (finite.insert s key record { bytes = bytes; node = takes.node; body = r.body }) count
       new_key {w4} key absent linked =
           let all = some_block r.body ++ xs in
           let late = unit_late n takes.node all o.least takes.lowest in
@@ -142,6 +142,6 @@ module _ {n : ℕ} {w : List ℕ} {f : ℕ → List ℕ} {s : BlobState} {count 
           let disjoint : IsDisjoint n (taking (2 ^ n + b) (taken_with (some_block r.body ++ held n w3 f))) = subst (λ ys. IsDisjoint n (taking (2 ^ n + b) (taken_with (some_block r.body ++ ys)))) (sym stay3) (subst (λ z. IsDisjoint n (taking z (taken_with all))) same takes.disjoint) in
           let words : AreWords n (taking takes.node (taken_with all)) w3 = tree_stays n (taking takes.node (taken_with all)) w2 w3 after.tree takes.words_are in
           let words_now : AreWords n (taking (2 ^ n + b) (taken_with (some_block r.body ++ held n w3 f))) w3 = subst (λ ys. AreWords n (taking (2 ^ n + b) (taken_with (some_block r.body ++ ys))) w3) (sym stay3) (subst (λ z. AreWords n (taking z (taken_with all)) w3) same words) in
-          subst (λ z. Contents n w4 (finite.insert s key record { bytes = bytes; node = z; body = r.body }) count) (sym same)
-          (added_key b o few_bytes after.keys r.placed r.bare (subst (λ ys. AreApart n (some_block r.body ++ ys)) (sym stay3) r.apart) stored.bytes_are stored.ends absent node_at free disjoint
+          subst (λ z. BlobContents n w4 (finite.insert s key record { bytes = bytes; node = z; body = r.body }) count) (sym same)
+          (added_key b o few_bytes after.keys r.placed r.bare (subst (λ ys. AreBlobsApart n (some_block r.body ++ ys)) (sym stay3) r.apart) stored.bytes_are stored.ends absent node_at free disjoint
           (subst (λ a. IsLinked 3 (first_place n key w3) a record { key = key; second = len; last = at } w3 w4) node_is linked) words_now)

@@ -2,7 +2,7 @@
 use Rattle.std.specs.Prelude.{◌≡◌, ◌≢◌, ◌⊎◌, ℕ, ◌+◌, ◌-◌, ◌<◌, ◌≤◌, ◌==◌, ◌&&◌, not, Bool, true, List, length, slice_index}
 use Rattle.rom_model.specs.Blocks.{IsNode, IsDisjoint, AreWords, NoneFree, giving, block_at}
 use Rattle.rom_block.specs.Taken.{Takes}
-use Rattle.rom_bytes.specs.Bytes.{bytes_at, words_for, EndsInZeros}
+use Rattle.rom_blob_region.specs.Bytes.{bytes_at, words_for, EndsInZeros}
 use Rattle.rom_blob_region.specs.State.{order_for}
 
 -- no block is wanted where there are no bytes, and else the lowest was taken

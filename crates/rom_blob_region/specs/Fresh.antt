@@ -3,7 +3,7 @@ use Rattle.std.specs.Prelude.{◌≡◌, ◌≢◌, ℕ, ◌<◌, List, slice_in
 use Rattle.rom_model.specs.Blocks.{block_of}
 
 -- The root words of an empty region that has counted no update, without the last, which is the tree's word 0: the kind, the version, the bucket table's offset, and zeros.
-pub record IsFreshRoot (n : ℕ) (words : List ℕ) : Type 0 where
+pub record IsFreshBlobRoot (n : ℕ) (words : List ℕ) : Type 0 where
   pub kind : slice_index words 0 ≡ 2
   pub version : slice_index words 1 ≡ 1
   pub table : slice_index words 8 ≡ block_of n 0

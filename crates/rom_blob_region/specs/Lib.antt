@@ -4,3 +4,9 @@ pub mod Region
 pub mod Calls
 pub mod Fresh
 pub mod Texts
+pub mod Bytes
+pub mod Packed
+pub mod Tests
+pub mod Walks
+pub mod Parts
+pub mod Answers

@@ -6,7 +6,7 @@ use Rattle.rom_model.specs.Blocks.{IsOrder, IsNode, IsDisjoint, AreWords, block_
 use Rattle.rom_model.specs.Chains.{times}
 use Rattle.rom_model.specs.History.{LAST_COUNT}
 use Rattle.rom_bucket.specs.Buckets.{nodes_of, AreBuckets, keyed}
-use Rattle.rom_bytes.specs.Bytes.{bytes_at, EndsInZeros}
+use Rattle.rom_blob_region.specs.Bytes.{bytes_at, EndsInZeros}
 use Rattle.rom_blob_region.specs.State.{Blob, BlobState, order_for, blocks_in, taken_with}
 
 -- the root words, but for the number of keys, which is word 3
@@ -54,7 +54,7 @@ held_by blob [] = []
 held_by blob (b ∷ units) = blocks_in (blob b) ++ held_by blob units
 
 -- different blocks, none of which lies in another or in the bucket table
-pub record AreApart (n : ℕ) (blocks : List ℕ) : Type 0 where
+pub record AreBlobsApart (n : ℕ) (blocks : List ℕ) : Type 0 where
   pub different : (x : ℕ) → times x blocks ≤ 1
   pub beside : times 16 blocks ≡ 0
   pub disjoint : IsDisjoint n (taken_with blocks)
@@ -67,9 +67,9 @@ pub record IsBlobs (n : ℕ) (words : List ℕ) (bucket : ℕ → List ℕ) (s :
   pub keys : AreBuckets n 3 words bucket
   pub blobs : (b : ℕ) → 0 < times b (nodes_of n bucket) → IsBlob n words b
   pub state_is : keyed n words (blob_at n words) bucket ≡ s
-  pub apart : AreApart n (held_by (blob_at n words) (nodes_of n bucket))
+  pub apart : AreBlobsApart n (held_by (blob_at n words) (nodes_of n bucket))
   pub tree : AreWords n (taken_with (held_by (blob_at n words) (nodes_of n bucket))) words
 
 -- The region is well-formed, and stands for this state and count.
-abbrev pub Contents : ℕ → List ℕ → BlobState → ℕ → Type 0
-Contents n words s count = (bucket : ℕ → List ℕ) × IsBlobs n words bucket s count
+abbrev pub BlobContents : ℕ → List ℕ → BlobState → ℕ → Type 0
+BlobContents n words s count = (bucket : ℕ → List ℕ) × IsBlobs n words bucket s count

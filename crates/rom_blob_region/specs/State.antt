@@ -1,5 +1,5 @@
 -- The object: keys with bytes, and the blocks in which these stand. A block is told by its node in the
--- allocator's tree. The state says which blocks each key has. So `step` says exactly when `full` comes,
+-- allocator's tree. The state says which blocks each key has. So `blob_step` says exactly when `full` comes,
 -- though that depends on the calls before.
 use Rattle.std.specs.Prelude.{ℕ, zero, suc, ◌+◌, ◌≤◌, ◌-◌, ◌*◌, ◌^◌, ◌==◌, ◌||◌, ◌&&◌, not, Bool, false, nat_le, nat_lt, List, [], ◌∷◌, ◌++◌, map, length, sum, max, ◌/◌, Option, Some, None, option_map, is_some, if◌then◌else◌}
 use Rattle.std.specs.Ordering.{nat_cmp}
@@ -53,8 +53,8 @@ abbrev pub taken_with : List ℕ → ℕ → Bool
 taken_with blocks i = (i == 16) || nat_lt 0 (times i blocks)
 
 -- the blocks that are taken in a state
-abbrev pub taken : BlobState → ℕ → Bool
-taken s = taken_with (all_in (finite.entries s))
+abbrev pub blocks_taken : BlobState → ℕ → Bool
+blocks_taken s = taken_with (all_in (finite.entries s))
 
 -- whether some number below passes
 abbrev pub any_below : ℕ → (ℕ → Bool) → Bool
@@ -70,13 +70,13 @@ abbrev pub is_free : ℕ → (ℕ → Bool) → ℕ → ℕ → Bool
 is_free n blocks order i = not (any_below (2 ^ order) (λ r. lies_in n blocks (i * 2 ^ order + r)))
 
 -- the first number that passes, of so many from that one on
-abbrev pub first_of : (ℕ → Bool) → ℕ → ℕ → Option ℕ
-first_of test at zero = None
-first_of test at (suc many) = if test at then Some at else first_of test (at + 1) many
+abbrev pub first_passing : (ℕ → Bool) → ℕ → ℕ → Option ℕ
+first_passing test at zero = None
+first_passing test at (suc many) = if test at then Some at else first_passing test (at + 1) many
 
 -- the first free block of that order, or none
 abbrev pub lowest : ℕ → (ℕ → Bool) → ℕ → Option ℕ
-lowest n blocks order = first_of (is_free n blocks order) (2 ^ (n - order)) (2 ^ (n - order))
+lowest n blocks order = first_passing (is_free n blocks order) (2 ^ (n - order)) (2 ^ (n - order))
 
 -- where bytes go that have no block yet, or none where no block is free: nowhere, or to the lowest
 abbrev pub new_body : ℕ → (ℕ → Bool) → List ℕ → Option (Option ℕ)
@@ -102,7 +102,7 @@ set_node s key bytes body (Some node) = (finite.insert s key record { bytes = by
 -- a new key, where this is the block for its bytes
 abbrev pub set_new : ℕ → BlobState → ℕ → List ℕ → Option (Option ℕ) → BlobState × BlobReply
 set_new n s key bytes None = (s, reply.Full)
-set_new n s key bytes (Some body) = set_node s key bytes body (lowest n (taking_some body (taken s)) 0)
+set_new n s key bytes (Some body) = set_node s key bytes body (lowest n (taking_some body (blocks_taken s)) 0)
 
 -- a key that had bytes, where this is the block for the new ones
 abbrev pub set_again : BlobState → ℕ → List ℕ → Blob → Option (Option ℕ) → BlobState × BlobReply
@@ -111,8 +111,8 @@ set_again s key bytes was (Some body) = (finite.insert s key record { bytes = by
 
 -- a key gets bytes, where it had these before
 abbrev pub set_blob : ℕ → BlobState → ℕ → List ℕ → Option Blob → BlobState × BlobReply
-set_blob n s key bytes None = set_new n s key bytes (new_body n (taken s) bytes)
-set_blob n s key bytes (Some was) = set_again s key bytes was (next_body n (taken s) was bytes)
+set_blob n s key bytes None = set_new n s key bytes (new_body n (blocks_taken s) bytes)
+set_blob n s key bytes (Some was) = set_again s key bytes was (next_body n (blocks_taken s) was bytes)
 
 -- a key goes, where it had these
 abbrev pub cut_blob : BlobState → ℕ → Option Blob → BlobState × BlobReply
@@ -120,9 +120,9 @@ cut_blob s key None = (s, reply.NoPrior)
 cut_blob s key (Some was) = (finite.remove s key, reply.Was (length was.bytes))
 
 -- what a call leaves in a heap of order n, and what it is told
-abbrev pub step : ℕ → BlobState → ℕ → BlobCall → BlobState × BlobReply
-step n s count (Set key bytes) = set_blob n s key bytes (finite.get s key)
-step n s count (Cut key) = cut_blob s key (finite.get s key)
+abbrev pub blob_step : ℕ → BlobState → ℕ → BlobCall → BlobState × BlobReply
+blob_step n s count (Set key bytes) = set_blob n s key bytes (finite.get s key)
+blob_step n s count (Cut key) = cut_blob s key (finite.get s key)
 
 -- how many units the block of so many bytes has
 abbrev pub body_units : ℕ → ℕ
@@ -143,7 +143,7 @@ table_blocks n order = max 1 (2 ^ (n - 4) / 2 ^ order)
 -- The blocks of the keys have so many units that there may be no block for so many bytes, or none for a
 -- new key's node. This can be reckoned from the lengths of bytes alone. Each unit is counted as if no other
 -- lay in the same block, so the bound is weak for long bytes: in a heap of order 4 it always holds for more
--- than 128. A closer bound would have to say where blocks lie, as `step` does.
+-- than 128. A closer bound would have to say where blocks lie, as `blob_step` does.
 abbrev pub IsCrowded : ℕ → BlobState → ℕ → Type 0
 IsCrowded n s len = 2 ^ (n - order_for len) ≤ units_in s + table_blocks n (order_for len) + 1
 
@@ -158,11 +158,11 @@ bytes_told None = answer.Missing
 bytes_told (Some blob) = answer.Bytes blob.bytes
 
 -- what a query is told
-abbrev pub tell : BlobState → BlobQuery → BlobAnswer
-tell s (Fetch key) = bytes_told (finite.get s key)
-tell s Size = answer.Keys (finite.len s)
+abbrev pub blob_tell : BlobState → BlobQuery → BlobAnswer
+blob_tell s (Fetch key) = bytes_told (finite.get s key)
+blob_tell s Size = answer.Keys (finite.len s)
 
 -- how many loads a query makes at most, in a heap of order n
-abbrev pub cost : ℕ → BlobState → BlobQuery → ℕ
-cost n s (Fetch key) = 4 + 2 * keys_beside n s key + 32
-cost n s Size = 1
+abbrev pub blob_cost : ℕ → BlobState → BlobQuery → ℕ
+blob_cost n s (Fetch key) = 4 + 2 * keys_beside n s key + 32
+blob_cost n s Size = 1

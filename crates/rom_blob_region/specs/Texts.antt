@@ -1,7 +1,7 @@
 -- What is printed of replies and answers, and how bytes are written in digits.
 use Rattle.std.specs.Prelude.{ℕ, ◌/◌, ◌%◌, ◌^◌, ◌<◌, ◌≤◌, ◌+◌, nat_lt, if◌then◌else◌, List, [], ◌∷◌, ◌++◌, codes, decimal, length, slice_index}
 use Rattle.std.specs.List.{flat_map}
-use Rattle.rom_text.specs.Text.{ShownTold}
+use Rattle.rom_text.specs.Text.{ShownText}
 use Rattle.rom_blob_region.specs.declared.call.BlobReply.{BlobReply}
 use Rattle.rom_blob_region.specs.declared.call.BlobReply.TheVariants as reply
 use Rattle.rom_blob_region.specs.declared.call.BlobAnswer.{BlobAnswer}
@@ -25,35 +25,35 @@ abbrev pub AreBytes : List ℕ → Type 0
 AreBytes bytes = (length bytes ≤ 256) × ((k : ℕ) → slice_index bytes k < 256)
 
 -- what is printed of a reply
-abbrev pub reply_text : BlobReply → List ℕ
-reply_text reply.New = codes "new"
-reply_text (reply.Was len) = codes "was " ++ decimal len
-reply_text reply.Full = codes "full"
-reply_text reply.NoPrior = codes "none"
+abbrev pub blob_reply_text : BlobReply → List ℕ
+blob_reply_text reply.New = codes "new"
+blob_reply_text (reply.Was len) = codes "was " ++ decimal len
+blob_reply_text reply.Full = codes "full"
+blob_reply_text reply.NoPrior = codes "none"
 
 -- what is printed of an answer
-abbrev pub answer_text : BlobAnswer → List ℕ
-answer_text (answer.Bytes bytes) = codes "bytes " ++ bytes_text bytes
-answer_text answer.Missing = codes "none"
-answer_text (answer.Keys count) = codes "keys " ++ decimal count
+abbrev pub blob_answer_text : BlobAnswer → List ℕ
+blob_answer_text (answer.Bytes bytes) = codes "bytes " ++ bytes_text bytes
+blob_answer_text answer.Missing = codes "none"
+blob_answer_text (answer.Keys count) = codes "keys " ++ decimal count
 
 -- the numbers of a reply are words
-abbrev pub ReplyFits : BlobReply → Type 0
-ReplyFits reply.New = Unit {0}
-ReplyFits (reply.Was len) = len < 2 ^ 64
-ReplyFits reply.Full = Unit {0}
-ReplyFits reply.NoPrior = Unit {0}
+abbrev pub BlobReplyFits : BlobReply → Type 0
+BlobReplyFits reply.New = Unit {0}
+BlobReplyFits (reply.Was len) = len < 2 ^ 64
+BlobReplyFits reply.Full = Unit {0}
+BlobReplyFits reply.NoPrior = Unit {0}
 
 -- those of an answer are words, and its bytes are such
-abbrev pub AnswerFits : BlobAnswer → Type 0
-AnswerFits (answer.Bytes bytes) = AreBytes bytes
-AnswerFits answer.Missing = Unit {0}
-AnswerFits (answer.Keys count) = count < 2 ^ 64
+abbrev pub BlobAnswerFits : BlobAnswer → Type 0
+BlobAnswerFits (answer.Bytes bytes) = AreBytes bytes
+BlobAnswerFits answer.Missing = Unit {0}
+BlobAnswerFits (answer.Keys count) = count < 2 ^ 64
 
 -- how replies are printed
-abbrev pub shown_reply : ShownTold BlobReply
-shown_reply = record { text = reply_text; Fits = ReplyFits }
+abbrev pub shown_blob_reply : ShownText BlobReply
+shown_blob_reply = record { text = blob_reply_text; Fits = BlobReplyFits }
 
 -- how answers are printed
-abbrev pub shown_answer : ShownTold BlobAnswer
-shown_answer = record { text = answer_text; Fits = AnswerFits }
+abbrev pub shown_blob_answer : ShownText BlobAnswer
+shown_blob_answer = record { text = blob_answer_text; Fits = BlobAnswerFits }

@@ -1,6 +1,6 @@
 //! What callers ask of keys with bytes, and what they are told.
 
-use rom_bytes::Chunk;
+use crate::bytes::Chunk;
 
 /// An update.
 #[derive(Clone, Copy, Debug)]

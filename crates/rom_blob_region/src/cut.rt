@@ -4,7 +4,7 @@ ghost use Rattle.std.specs.FinMap as finite;
 ghost use Rattle.rom_model.specs.Space.{HasRoom, Stores};
 ghost use Rattle.rom_model.specs.Blocks.{IsOrder};
 ghost use Rattle.rom_blob_region.specs.State.{BlobState, cut_blob};
-ghost use Rattle.rom_blob_region.specs.Region.{Contents};
+ghost use Rattle.rom_blob_region.specs.Region.{BlobContents};
 
 use crate::body::give_body;
 use crate::call::BlobReply;
@@ -16,12 +16,12 @@ use rom_model::Space;
 /// Takes a key out, and gives back the blocks of its node and of its bytes.
 pub fn cut_blob<M: Space>(space: &mut M, order: u32, key: u64) -> BlobReply
     requires order { IsOrder order }
-    requires region { (s : BlobState) × (k : ℕ) × Contents order (M.shown.image space.old) s k }
+    requires region { (s : BlobState) × (k : ℕ) × BlobContents order (M.shown.image space.old) s k }
     requires room { HasRoom M.shown 36 space.old }
     // The reply and the state after it are those that the definition `cut_blob` gives. The count stays.
-    ensures done { (s : BlobState) (k : ℕ) → Contents order (M.shown.image space.old) s k
+    ensures done { (s : BlobState) (k : ℕ) → BlobContents order (M.shown.image space.old) s k
         → let after = cut_blob s key (finite.get s key) in
-        (result ≡ after.1) × Contents order (M.shown.image space.new) after.0 k }
+        (result ≡ after.1) × BlobContents order (M.shown.image space.new) after.0 k }
     ensures stores { Stores M.shown 36 space.old space.new }
 {
     let place = find(space, order, key);

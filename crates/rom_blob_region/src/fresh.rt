@@ -4,8 +4,8 @@ ghost use Rattle.rom_model.specs.Space.{Costs, ChangesOnly};
 ghost use Rattle.rom_model.specs.Blocks.{IsOrder, block_of, region_len};
 ghost use Rattle.rom_model.specs.Region.{buckets};
 ghost use Rattle.rom_blob_region.specs.State.{no_blobs};
-ghost use Rattle.rom_blob_region.specs.Region.{Contents};
-ghost use Rattle.rom_blob_region.specs.Fresh.{IsFreshRoot};
+ghost use Rattle.rom_blob_region.specs.Region.{BlobContents};
+ghost use Rattle.rom_blob_region.specs.Fresh.{IsFreshBlobRoot};
 
 use rom_block::Blocks;
 use rom_model::{KIND, Space, TABLE, VERSION, blocks_at, power_of_two};
@@ -30,7 +30,7 @@ fn format_root<M: Space>(space: &mut M, order: u32)
     requires most { order ≤ 16 }
     requires sized { length (M.shown.image space.old) ≡ region_len order }
     requires free { M.shown.has_limit ≡ false }
-    ensures root { IsFreshRoot order (M.shown.image space.new) }
+    ensures root { IsFreshBlobRoot order (M.shown.image space.new) }
     ensures others { ChangesOnly 0 16 (M.shown.image space.old) (M.shown.image space.new) }
     ensures costs { Costs M.shown 0 19 space.old space.new }
 {
@@ -47,7 +47,7 @@ pub fn format_blobs<M: Space>(space: &mut M, order: u32)
     requires sized { length (M.shown.image space.old) ≡ region_len order }
     requires free { M.shown.has_limit ≡ false }
     // The region stands for the state that has no key, and for the count 0.
-    ensures made { Contents order (M.shown.image space.new) no_blobs 0 }
+    ensures made { BlobContents order (M.shown.image space.new) no_blobs 0 }
     // The words of the blocks behind the bucket table stay as they were.
     ensures free { (k : ℕ) → block_of order (2 ^ (order - 4)) ≤ k
         → slice_index (M.shown.image space.new) k ≡ slice_index (M.shown.image space.old) k }

@@ -4,30 +4,30 @@ ghost use Rattle.std.specs.FinMap as finite;
 ghost use Rattle.rom_model.specs.Space.{Costs, HasRoom, Stores};
 ghost use Rattle.rom_model.specs.Blocks.{IsOrder};
 ghost use Rattle.rom_bucket.specs.Buckets.{There};
-ghost use Rattle.rom_bytes.specs.Bytes.{words_for};
-ghost use Rattle.rom_blob_region.specs.State.{BlobState, taken, new_body, set_new, set_blob, IsCrowded};
+ghost use Rattle.rom_blob_region.specs.Bytes.{words_for};
+ghost use Rattle.rom_blob_region.specs.State.{BlobState, blocks_taken, new_body, set_new, set_blob, IsCrowded};
 ghost use Rattle.rom_blob_region.specs.declared.call.BlobReply.TheVariants.{Full};
-ghost use Rattle.rom_blob_region.specs.Region.{IsBlobs, Contents};
+ghost use Rattle.rom_blob_region.specs.Region.{IsBlobs, BlobContents};
 ghost use Rattle.rom_blob_region.specs.Calls.{IsFilled, stay_there};
 
 use crate::body::{give_body, order_for, take_body};
+use crate::bytes::Chunk;
 use crate::call::BlobReply;
 use crate::fetch::KEYS;
 use rom_block::Blocks;
 use rom_bucket::{Node, Place, find, link_first};
-use rom_bytes::Chunk;
 use rom_model::{Space, store_changed};
 
 /// Gives bytes to a key that is not there. Both blocks are taken before anything else is stored.
 fn add_key<M: Space>(space: &mut M, order: u32, key: u64, bytes: &Chunk) -> BlobReply
     requires order { IsOrder order }
-    requires region { (s : BlobState) × (k : ℕ) × Contents order (M.shown.image space.old) s k }
-    requires absent { (s : BlobState) (k : ℕ) → Contents order (M.shown.image space.old) s k
+    requires region { (s : BlobState) × (k : ℕ) × BlobContents order (M.shown.image space.old) s k }
+    requires absent { (s : BlobState) (k : ℕ) → BlobContents order (M.shown.image space.old) s k
         → finite.get s key ≡ None }
     requires room { HasRoom M.shown 72 space.old }
-    ensures done { (s : BlobState) (k : ℕ) → Contents order (M.shown.image space.old) s k
-        → let after = set_new order s key bytes.now (new_body order (taken s) bytes.now) in
-        (result ≡ after.1) × Contents order (M.shown.image space.new) after.0 k }
+    ensures done { (s : BlobState) (k : ℕ) → BlobContents order (M.shown.image space.old) s k
+        → let after = set_new order s key bytes.now (new_body order (blocks_taken s) bytes.now) in
+        (result ≡ after.1) × BlobContents order (M.shown.image space.new) after.0 k }
     ensures stores { Stores M.shown 72 space.old space.new }
 {
     let len = bytes.len();
@@ -92,7 +92,7 @@ fn replace_bytes<M: Space>(space: &mut M, order: u32, place: Place, bytes: &Chun
         → IsBlobs order (M.shown.image space.old) bucket s k
         → There order (M.shown.image space.old) bucket key place
         → let after = set_blob order s key bytes.now (finite.get s key) in
-        (result ≡ after.1) × Contents order (M.shown.image space.new) after.0 k }
+        (result ≡ after.1) × BlobContents order (M.shown.image space.new) after.0 k }
     ensures stores { Stores M.shown 72 space.old space.new }
 {
     let len = bytes.len();
@@ -116,15 +116,15 @@ fn replace_bytes<M: Space>(space: &mut M, order: u32, place: Place, bytes: &Chun
 /// Gives a key bytes. There is no change where no block is free for them, or for a new key's node.
 pub fn set_blob<M: Space>(space: &mut M, order: u32, key: u64, bytes: &Chunk) -> BlobReply
     requires order { IsOrder order }
-    requires region { (s : BlobState) × (k : ℕ) × Contents order (M.shown.image space.old) s k }
+    requires region { (s : BlobState) × (k : ℕ) × BlobContents order (M.shown.image space.old) s k }
     requires room { HasRoom M.shown 72 space.old }
     // The reply and the state after it are those that the definition `set_blob` gives. The count stays.
-    ensures done { (s : BlobState) (k : ℕ) → Contents order (M.shown.image space.old) s k
+    ensures done { (s : BlobState) (k : ℕ) → BlobContents order (M.shown.image space.old) s k
         → let after = set_blob order s key bytes.now (finite.get s key) in
-        (result ≡ after.1) × Contents order (M.shown.image space.new) after.0 k }
+        (result ≡ after.1) × BlobContents order (M.shown.image space.new) after.0 k }
     ensures stores { Stores M.shown 72 space.old space.new }
     // `Full` comes only where so many units are in use that there may be no block for bytes or a new node.
-    ensures crowded { (s : BlobState) (k : ℕ) → Contents order (M.shown.image space.old) s k
+    ensures crowded { (s : BlobState) (k : ℕ) → BlobContents order (M.shown.image space.old) s k
         → result ≡ Full → IsCrowded order s (length bytes.now) }
 {
     let place = find(space, order, key);

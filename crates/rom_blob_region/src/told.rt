@@ -3,12 +3,12 @@
 ghost use Rattle.std.specs.Prelude.{◌≡◌, ◌*◌, length, OnOk};
 ghost use Rattle.std.specs.List.{flat_map};
 ghost use Rattle.rom_text.specs.Streams.{Prints};
-ghost use Rattle.rom_blob_region.specs.Texts.{AreBytes, bytes_text, digits_of, shown_answer, shown_reply};
+ghost use Rattle.rom_blob_region.specs.Texts.{AreBytes, bytes_text, digits_of, shown_blob_answer, shown_blob_reply};
 
+use crate::bytes::Chunk;
 use crate::call::{BlobAnswer, BlobReply};
 use itoa::Buffer;
-use rom_bytes::Chunk;
-use rom_text::{IoFailed, Sink, Told, print_pieces, print_text};
+use rom_text::{IoFailed, Print, Sink, print_pieces, print_text};
 
 /// Writes bytes in their digits, the one for the higher four bits first.
 fn write_digits(bytes: &[u8], digits: &mut [u8])
@@ -38,8 +38,8 @@ fn print_bytes<O: Sink>(out: &mut O, bytes: &Chunk) -> Result<(), IoFailed>
     rom_text::print_bytes(out, &digits[..2 * len])
 }
 
-impl Told for BlobReply {
-    ghost shown = { shown_reply };
+impl Print for BlobReply {
+    ghost shown = { shown_blob_reply };
 
     fn print<O: Sink>(&self, out: &mut O) -> Result<(), IoFailed> {
         match self {
@@ -51,8 +51,8 @@ impl Told for BlobReply {
     }
 }
 
-impl Told for BlobAnswer {
-    ghost shown = { shown_answer };
+impl Print for BlobAnswer {
+    ghost shown = { shown_blob_answer };
 
     fn print<O: Sink>(&self, out: &mut O) -> Result<(), IoFailed> {
         match self {

@@ -1,5 +1,7 @@
 //! Keys in the chains of buckets, in the words of a region.
 //!
+//! It knows keys and the chains that they stand in; it knows nothing of what a key has.
+//!
 //! Each key has a node, a block of four words: the first is the key, the third links to the next node of
 //! the key's bucket, and the two others belong to the structure that keeps its keys so. A walk along the
 //! bucket's chain finds a key's node or tells that there is none; where the keys rise along a chain,

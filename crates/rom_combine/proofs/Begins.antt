@@ -1,11 +1,11 @@
 -- What a pass that found calls begins from as it publishes them, and as it answers them.
-use Rattle.std.proofs.Common.{◌≡◌, ℕ, ◌+◌, ◌<◌, ◌≤◌, List, map, length, sym, ap, ◌∙◌, subst, arith, true, Option, IsTrue}
+use Rattle.std.proofs.Common.{◌≡◌, ℕ, ◌+◌, ◌<◌, ◌≤◌, List, map, length, sym, ap, ◌∙◌, subst, arith, true, Option}
 use Rattle.rom_model.specs.declared.entry.Entry.{Entry}
 use Rattle.rom_model.specs.declared.record.PassRecord.{PassRecord}
 use Rattle.rom_model.specs.History.{LAST_COUNT}
 use Rattle.rom_model.specs.Passes.{faults_after}
 use Rattle.rom_device.specs.Device.{ShownDevice}
-use Rattle.rom_twin.specs.Seen.{Seen, committed}
+use Rattle.rom_twin.specs.Seen.{Seen}
 use Rattle.rom_lr.specs.Seats.{plan, writer_view}
 use Rattle.rom_lr.specs.declared.seats.WriterSeat.{WriterSeat}
 use Rattle.rom_ranges.specs.Log.{Logged}

@@ -18,14 +18,10 @@ use Rattle.rom_rule.specs.Readers.{Held}
 use Rattle.rom_rule.proofs.Told.{length_map}
 use Rattle.rom_combine.specs.declared.answering.CallAnswer.{CallAnswer}
 use Rattle.rom_combine.specs.Applying.{IsApplied}
-use Rattle.rom_combine.specs.Histories.{HoldsHistory, IsCertainSince, PassMakes}
+use Rattle.rom_combine.specs.Histories.{HoldsHistory, IsCertainSince, PassMakes, batch_found}
 
 module _ {S : Type 0} (Contents : ℕ → List ℕ → S → ℕ → Type 0) (step : ℕ → S → ℕ → List ℕ → Option (S × List ℕ)) (b : Base) (s : S) (n : ℕ) where
-  -- the batch of all found calls
-  abbrev pub batch_now : Plan → List Entry
-  batch_now p = batch step b.order (after step b.order s n p.history) (n + length p.history) (map found_of p.requests)
-
-  pub all_held : (t : S) (k : ℕ) (p : Plan) (main : List ℕ) (i : ℕ) (given : List CallAnswer) → (s ≡ t) × (n ≡ k) → i ≡ length p.requests → IsApplied Contents step b t k p main i given → Held Contents step b s n main (p.history ++ batch_now p)
+  pub all_held : (t : S) (k : ℕ) (p : Plan) (main : List ℕ) (i : ℕ) (given : List CallAnswer) → (s ≡ t) × (n ≡ k) → i ≡ length p.requests → IsApplied Contents step b t k p main i given → Held Contents step b s n main (p.history ++ batch_found Contents step b s n p)
   all_held t k p main i given one long a =
       subst (λ (z : S × ℕ). Held Contents step b z.0 z.1 main (p.history ++ batch step b.order (after step b.order z.0 z.1 p.history) (z.1 + length p.history) (map found_of p.requests))) (λ j. (sym one.0 j, sym one.1 j))
       (subst (λ fs. Held Contents step b t k main (p.history ++ batch step b.order (after step b.order t k p.history) (k + length p.history) fs)) (take_all i (map found_of p.requests) (omega (arith, long, length_map found_of p.requests))) a.held)

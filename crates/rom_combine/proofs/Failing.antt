@@ -40,10 +40,9 @@ use Rattle.rom_combine.specs.declared.scanning.Posted.{Posted}
 use Rattle.rom_combine.specs.Scanning.{but_requests, IsUnanswered, IsScan}
 use Rattle.rom_combine.proofs.Limits.{AreCalls, batch_some}
 use Rattle.rom_combine.specs.Answering.{caller_of, HasGiven, IsRecordedBy, SameCalls}
-use Rattle.rom_combine.specs.Histories.{HoldsHistory, PassMakes, ImageAt}
+use Rattle.rom_combine.specs.Histories.{HoldsHistory, PassMakes, ImageAt, batch_found}
 use Rattle.rom_combine.specs.AtRest.{IsAtRest}
 use Rattle.rom_combine.specs.Passing.{IsPass}
-use Rattle.rom_combine.proofs.Bridge.{batch_now}
 use Rattle.rom_combine.proofs.Keeping.{Stays, scan_stays, now_stays, pass_published, rest_by, rest_stays}
 use Rattle.rom_combine.specs.Published.{IsPublished}
 use Rattle.rom_combine.specs.Resting.{rested}
@@ -142,20 +141,20 @@ module _ {S : Type 0} (Contents : ℕ → List ℕ → S → ℕ → Type 0) (st
   pub passed_refused : {D : Type 0} (shown : ShownDevice D) (a d : D) (b : Base) (p q u : Plan) (callers before now k many : ℕ) (items : List Posted) (more : List Entry) (o : Outcome)
       → IsScan (IsCall step b) p q callers items → IsBatch Contents step b q k more
       → but_requests u ≡ but_requests (making (outcomes.fate_of o) before now k more q) → published (outcomes.fate_of o) more ≡ [] → 0 < length items → many ≡ length items → Each (λ _ f. f.answered ≡ true) u.requests → o ≢ outcome.Nothing → SameCalls q u
-      → (IsTrue shown.tells_images → (s : S) (n : ℕ) → Contents b.order b.image s n → Runs shown (Becomes (PassMakes Contents step b s n (outcomes.fate_of o) q.history (batch_now Contents step b s n q))) a d)
+      → (IsTrue shown.tells_images → (s : S) (n : ℕ) → Contents b.order b.image s n → Runs shown (Becomes (PassMakes Contents step b s n (outcomes.fate_of o) q.history (batch_found Contents step b s n q))) a d)
       → (x : IsPass Contents step b p u callers before now (record { found = many; done = 0; outcome = o }))
       × (IsTrue shown.tells_images → (s : S) (n : ℕ) → Contents b.order b.image s n → Runs shown (Becomes (PassMakes Contents step b s n (outcomes.fate_of o) p.history x.more)) a d)
   passed_refused shown a d b p q u callers before now k many items more o scan batched kept none any_found many_is answered other calls runs =
       let x = pass_refused b p q u callers before now k many items more o scan batched kept none any_found many_is answered other calls in (
         x.0,
-        λ told s n op. let e = batched s n op in let same : batch_now Contents step b s n q ≡ more = ap (λ (m : ℕ). batch step b.order (after step b.order s n q.history) m (map found_of q.requests)) (sym e.0) ∙ sym e.1 in
+        λ told s n op. let e = batched s n op in let same : batch_found Contents step b s n q ≡ more = ap (λ (m : ℕ). batch step b.order (after step b.order s n q.history) m (map found_of q.requests)) (sym e.0) ∙ sym e.1 in
             subst (λ (r : List Entry × List Entry). Runs shown (Becomes (PassMakes Contents step b s n (outcomes.fate_of o) r.0 r.1)) a d) (λ j. (ap (λ (z : Plan). z.history) scan.rest j, (same ∙ sym x.1) j)) (runs told s n op),
       )
 
   -- The same of a pass whose batch was published, and that has settled, from its plans: as it began, with what was found, published, with all answered, and settled.
   pub passed_published : {D : Type 0} (shown : ShownDevice D) (a d : D) (b : Base) (p q m u z : Plan) (callers before mid end version : ℕ) (clear : List (ℕ × ℕ)) (many done : ℕ) (items : List Posted) (o : Outcome)
       → IsScan (IsCall step b) p q callers items → (pb : IsPublished Contents step b q m before mid) → but_requests u ≡ but_requests m → z ≡ rested end version clear u → 0 < length items → many ≡ length items → done ≡ length pb.more → Each (λ _ f. f.answered ≡ true) u.requests → o ≡ outcome.Published → SameCalls q m → SameCalls m u
-      → (IsTrue shown.tells_images → (s : S) (n : ℕ) → Contents b.order b.image s n → Runs shown (Becomes (PassMakes Contents step b s n (outcomes.fate_of o) q.history (batch_now Contents step b s n q))) a d)
+      → (IsTrue shown.tells_images → (s : S) (n : ℕ) → Contents b.order b.image s n → Runs shown (Becomes (PassMakes Contents step b s n (outcomes.fate_of o) q.history (batch_found Contents step b s n q))) a d)
       → (x : IsPass Contents step b p z callers before end (record { found = many; done = done; outcome = o }))
       × (IsTrue shown.tells_images → (s : S) (n : ℕ) → Contents b.order b.image s n → Runs shown (Becomes (PassMakes Contents step b s n (outcomes.fate_of o) p.history x.more)) a d)
   passed_published shown a d b p q m u z callers before mid end version clear many done items o scan pb kept settled any_found many_is done_is answered is out given runs =
@@ -163,18 +162,18 @@ module _ {S : Type 0} (Contents : ℕ → List ℕ → S → ℕ → Type 0) (st
       let last : but_requests z ≡ but_requests (rested end version clear m) = ap but_requests settled ∙ ap (λ (r : Plan). but_requests (rested end version clear r)) kept in
       let x = pass_published Contents step b p q m z callers before mid end version clear many done items o scan pb last any_found many_is done_is (subst (λ (r : Plan). Each (λ _ f. f.answered ≡ true) r.requests) (sym settled) answered) is calls in (
         x.0,
-        λ told s n op. let e = pb.batch s n op in let same : batch_now Contents step b s n q ≡ pb.more = ap (λ (k : ℕ). batch step b.order (after step b.order s n q.history) k (map found_of q.requests)) (sym e.0) ∙ sym e.1 in
+        λ told s n op. let e = pb.batch s n op in let same : batch_found Contents step b s n q ≡ pb.more = ap (λ (k : ℕ). batch step b.order (after step b.order s n q.history) k (map found_of q.requests)) (sym e.0) ∙ sym e.1 in
             subst (λ (r : List Entry × List Entry). Runs shown (Becomes (PassMakes Contents step b s n (outcomes.fate_of o) r.0 r.1)) a d) (λ j. (ap (λ (r : Plan). r.history) scan.rest j, (same ∙ sym x.1) j)) (runs told s n op),
       )
 
   module _ (b : Base) (s : S) (n : ℕ) where
     -- the batch of the last record is in doubt
     now_doubted : (q u : Plan) (rs : List PassRecord) (r : PassRecord) (ph : Phase) (i : List ℕ) → u.history ≡ q.history → records_of u ≡ rs ++ r ∷ [] → r.fate ≡ fate.Doubt → r.len ≡ length q.history → r.found ≡ map found_of q.requests → ph ≡ phase.Doubt
-        → PassMakes Contents step b s n fate.Doubt q.history (batch_now Contents step b s n q) i → ImageAt Contents step b s n ph u i
+        → PassMakes Contents step b s n fate.Doubt q.history (batch_found Contents step b s n q) i → ImageAt Contents step b s n ph u i
     now_doubted q u rs r ph i history records fate_is len found is (inl h) = inl (subst (λ (l : List Entry). HoldsHistory Contents step b s n l i) (sym history) h)
     now_doubted q u rs r ph i history records fate_is len found is (inr h) = inr (
       is,
-      batch_now Contents step b s n q,
+      batch_found Contents step b s n q,
       record {
         earlier = rs;
         pass = r;
@@ -185,7 +184,7 @@ module _ {S : Type 0} (Contents : ℕ → List ℕ → S → ℕ → Type 0) (st
         last = tt;
         batch_is = λ j. batch step b.order (after step b.order s n (sym history j)) (n + length (sym history j)) (sym found j);
       },
-      subst (λ (l : List Entry). HoldsHistory Contents step b s n (l ++ batch_now Contents step b s n q) i) (sym history) h.1,
+      subst (λ (l : List Entry). HoldsHistory Contents step b s n (l ++ batch_found Contents step b s n q) i) (sym history) h.1,
     )
 
     module _ {D : Type 0} (shown : ShownDevice D) (t t' : Seen D) where
@@ -201,12 +200,12 @@ module _ {S : Type 0} (Contents : ℕ → List ℕ → S → ℕ → Type 0) (st
 
       now_refused : (o : Outcome) (p q u : Plan) (before now : ℕ) (i : List ℕ) → o ≢ outcome.Published → o ≢ outcome.Nothing → Stays (record_now q (outcomes.fate_of o) before now ∷ []) p u → u.history ≡ q.history
           → (o ≡ outcome.Failed → (t'.phase ≡ phase.Undo) ⊎ ((t'.phase ≡ t.phase) × NeedsRepair t.phase)) → (o ≡ outcome.Doubt → t'.phase ≡ phase.Doubt) → InPhase shown t' → t'.order ≡ b.order
-          → Held Contents step b s n (committed shown t') u.history → Runs shown (Becomes (PassMakes Contents step b s n (outcomes.fate_of o) q.history (batch_now Contents step b s n q))) t.device t'.device
-          → (o ≡ outcome.Doubt → (j : List ℕ) → shown.leaves t'.device j → PassMakes Contents step b s n fate.Doubt q.history (batch_now Contents step b s n q) j)
+          → Held Contents step b s n (committed shown t') u.history → Runs shown (Becomes (PassMakes Contents step b s n (outcomes.fate_of o) q.history (batch_found Contents step b s n q))) t.device t'.device
+          → (o ≡ outcome.Doubt → (j : List ℕ) → shown.leaves t'.device j → PassMakes Contents step b s n fate.Doubt q.history (batch_found Contents step b s n q) j)
           → ((j : List ℕ) → shown.leaves t.device j → ImageAt Contents step b s n t.phase p j) → shown.leaves t'.device i → ImageAt Contents step b s n t'.phase u i
       now_refused outcome.Nothing p q u before now i unpublished found_some st history failed doubt known order held runs doubted old left = absurd (found_some refl)
       now_refused outcome.Published p q u before now i unpublished found_some st history failed doubt known order held runs doubted old left = absurd (unpublished refl)
-      now_refused outcome.Failed p q u before now i unpublished found_some st history failed doubt known order held runs doubted old left = now_failed p q u (record_now q fate.Failed before now) (batch_now Contents step b s n q) i st history (λ (e : fate.Failed ≡ fate.Doubt). cc) (failed refl) known order held runs old left
+      now_refused outcome.Failed p q u before now i unpublished found_some st history failed doubt known order held runs doubted old left = now_failed p q u (record_now q fate.Failed before now) (batch_found Contents step b s n q) i st history (λ (e : fate.Failed ≡ fate.Doubt). cc) (failed refl) known order held runs old left
       now_refused outcome.Doubt p q u before now i unpublished found_some st history failed doubt known order held runs doubted old left = now_doubted q u (records_of p) (record_now q fate.Doubt before now) t'.phase i history st.records refl refl refl (doubt refl) (doubted refl i left)
 
   rests_refused : (o : Outcome) (ph ph₀ : Phase) → o ≢ outcome.Published → o ≢ outcome.Nothing → (o ≡ outcome.Failed → (ph ≡ phase.Undo) ⊎ ((ph ≡ ph₀) × NeedsRepair ph₀)) → (o ≡ outcome.Doubt → ph ≡ phase.Doubt) → Rests ph
@@ -226,8 +225,8 @@ module _ {S : Type 0} (Contents : ℕ → List ℕ → S → ℕ → Type 0) (st
       → (c : IsAtRest shown Contents step t v) → b ≡ v.base → w.base ≡ v.base → o ≢ outcome.Published → o ≢ outcome.Nothing → but_requests q ≡ but_requests (beginning (plan_of v)) → but_requests (plan_of w) ≡ but_requests (making (outcomes.fate_of o) before now k more q) → 0 < length q.requests
       → Each (λ _ f. f.answered ≡ true) (plan_of w).requests → t'.order ≡ t.order → (IsTrue shown.tells_images → committed shown t' ≡ committed shown t) → (IsTrue shown.tells_images → InPhase shown t')
       → (o ≡ outcome.Failed → (t'.phase ≡ phase.Undo) ⊎ ((t'.phase ≡ t.phase) × NeedsRepair t.phase)) → (o ≡ outcome.Doubt → t'.phase ≡ phase.Doubt) → IsTrue (shown.failing t'.device)
-      → (IsTrue shown.tells_images → Runs shown (Becomes (PassMakes Contents step b c.start c.count (outcomes.fate_of o) q.history (batch_now Contents step b c.start c.count q))) t.device t'.device)
-      → (IsTrue shown.tells_images → o ≡ outcome.Doubt → (j : List ℕ) → shown.leaves t'.device j → PassMakes Contents step b c.start c.count fate.Doubt q.history (batch_now Contents step b c.start c.count q) j) → now ≤ shown.faults t'.device
+      → (IsTrue shown.tells_images → Runs shown (Becomes (PassMakes Contents step b c.start c.count (outcomes.fate_of o) q.history (batch_found Contents step b c.start c.count q))) t.device t'.device)
+      → (IsTrue shown.tells_images → o ≡ outcome.Doubt → (j : List ℕ) → shown.leaves t'.device j → PassMakes Contents step b c.start c.count fate.Doubt q.history (batch_found Contents step b c.start c.count q) j) → now ≤ shown.faults t'.device
       → IsAtRest shown Contents step t' w
   core_refused shown t t' v w b q o before now k more c base_b base unpublished found_some scan kept found answered order committed_same known failed doubt failing runs doubted last =
       let r : PassRecord = record_now q (outcomes.fate_of o) before now in let none = none_refused o more unpublished found_some in

@@ -1,5 +1,5 @@
 -- What the images of a device hold, in terms of the published history.
-use Rattle.std.specs.Prelude.{◌≡◌, ◌≢◌, ◌⊎◌, ℕ, ◌+◌, List, ◌∷◌, ◌++◌, length, Option}
+use Rattle.std.specs.Prelude.{◌≡◌, ◌≢◌, ◌⊎◌, ℕ, ◌+◌, List, ◌∷◌, ◌++◌, map, length, Option}
 use Rattle.std.specs.List.{AllByRecursion}
 use Rattle.rom_model.specs.History.{after, batch}
 use Rattle.rom_model.specs.declared.entry.Entry.{Entry}
@@ -11,6 +11,7 @@ use Rattle.rom_header.specs.Held.{Holds}
 use Rattle.rom_twin.specs.declared.phase.Phase.{Phase}
 use Rattle.rom_twin.specs.declared.phase.Phase.TheVariants as phase
 use Rattle.rom_combine.specs.Images.{MayPublish}
+use Rattle.rom_rule.specs.Calls.{found_of}
 use Rattle.rom_rule.specs.Views.{records_of}
 use Rattle.rom_rule.specs.declared.views.Base.{Base}
 use Rattle.rom_rule.specs.declared.views.Plan.{Plan}
@@ -20,6 +21,10 @@ module _ {S : Type 0} (Contents : ℕ → List ℕ → S → ℕ → Type 0) (st
   -- the image holds the state and the count after this history
   abbrev pub HoldsHistory : List Entry → List ℕ → Type 0
   HoldsHistory history i = Holds Contents b.order i (after step b.order s n history) (n + length history)
+
+  -- the batch of the calls that a pass found, which are the requests of its plan, done behind the published history
+  abbrev pub batch_found : Plan → List Entry
+  batch_found p = batch step b.order (after step b.order s n p.history) (n + length p.history) (map found_of p.requests)
 
   -- The batch of the last record in doubt, since which nothing was published.
   pub record Doubted (p : Plan) (d : List Entry) : Type 0 where

@@ -15,4 +15,5 @@ pub mod Resting
 pub mod Histories
 pub mod AtRest
 pub mod Publishing
+pub mod Ends
 pub mod Passing

@@ -1,17 +1,15 @@
 //! What the lock holds: the device with its heap, and the writer's seat.
-ghost use Rattle.std.specs.Prelude.{Some, ◌≡◌, ◌≢◌, ◌⊎◌, ℕ, ◌+◌, ◌*◌, ◌<◌, ◌≤◌, List, length, IsTrue};
+ghost use Rattle.std.specs.Prelude.{Some, ◌≡◌, ℕ, ◌*◌, ◌<◌, ◌≤◌, IsTrue};
 ghost use Rattle.rom_model.specs.Blocks.{IsOrder, region_len};
-ghost use Rattle.rom_model.specs.Faults.{Rose};
 ghost use Rattle.rom_model.specs.Machine.{on_words, weight_on_words};
 ghost use Rattle.rom_model.specs.Passes.{HasFault};
-ghost use Rattle.rom_device.specs.Device.{Becomes, Runs};
 ghost use Rattle.rom_lr.specs.Seats.{writer_view};
 ghost use Rattle.rom_twin.specs.Seen.{NeedsRepair, committed};
 ghost use Rattle.rom_combine.specs.AtRest.{IsAtRest, IsCoreOf, IsReady};
-ghost use Rattle.rom_combine.specs.Causes.{BeginsIn, FailsAtCommit, FailsBeforeCommit};
-ghost use Rattle.rom_combine.specs.Costs.{IsUnfailed, SpendsAtMost, SpendsWithin, WritesHeap, batch_syncs, batch_writes, syncs_before_commit, weights_added, weights_found, writes_before_commit};
-ghost use Rattle.rom_combine.specs.Histories.{ImageAt, IsCertainSince, PassMakes};
-ghost use Rattle.rom_combine.specs.Passing.{IsPass};
+ghost use Rattle.rom_combine.specs.Causes.{BeginsIn};
+ghost use Rattle.rom_combine.specs.Costs.{SpendsAtMost, WritesHeap, batch_syncs, batch_writes, weights_found};
+ghost use Rattle.rom_combine.specs.Ends.{EndsFailed, EndsInDoubt};
+ghost use Rattle.rom_combine.specs.Passing.{HasDone, HasPassed};
 ghost use Rattle.rom_combine.specs.Told.{fate_of};
 ghost use Rattle.rom_rule.specs.Views.{opening_plan, plan_of};
 
@@ -143,47 +141,12 @@ impl<D: Device, O: Object> Core<D, O> {
           steps = self.new.view.steps;
         } }
 
-        // What it did and answered; and what a stop since its start leaves, whose batch `more` is.
-        ensures passed { let b = self.old.view.base in let p = plan_of self.old.view in
-            (x : IsPass O.Contents (on_words O.machine) b p (plan_of self.new.view)
-            shared.now.layout.callers (D.shown.faults self.old.twin.device)
-            (D.shown.faults self.new.twin.device) result)
-            × (IsTrue D.shown.tells_images →
-            (s : O.State) (n : ℕ) → O.Contents b.order b.image s n →
-            Runs D.shown (Becomes (PassMakes O.Contents (on_words O.machine) b s n
-            (fate_of result.outcome) p.history x.more))
-            self.old.twin.device self.new.twin.device) }
-
-        // Where it did a call, a stop leaves the batch from the commit on, whatever becomes of the rest;
-        // and no more is called until then than up to the commit's sync.
-        ensures certain { 0 < result.done → (mid : D)
-            × SpendsAtMost D.shown (writes_before_commit self.old.twin.phase self.old.twin.order
-            (region_len self.old.twin.order) + 1)
-            (syncs_before_commit self.old.twin.phase + 1) self.old.twin.device mid
-            × (IsTrue D.shown.tells_images →
-            let b = self.old.view.base in
-            (s : O.State) (n : ℕ) → O.Contents b.order b.image s n →
-            IsCertainSince O.Contents (on_words O.machine) b s n D.shown
-            (plan_of self.old.view).history (plan_of self.new.view).history
-            self.old.twin.device mid self.new.twin.device) }
-        // A published pass that did no call, as where the count stands at its limit, leaves the device alone.
-        ensures spent { result.outcome ≡ Outcome.Published → result.done ≡ 0 →
-            self.new.twin ≡ self.old.twin }
-        // A pass that found no call leaves the device alone.
-        ensures untouched { result.outcome ≡ Outcome.Nothing → self.new.twin ≡ self.old.twin }
-
-        // A pass that did no call waits for no reader: a wait adds the indicators that it found to be 0.
-        ensures unwaited { result.done ≡ 0 →
-            (plan_of self.new.view).clear ≡ (plan_of self.old.view).clear }
-
-        // Each image that a stop leaves now holds the published history, or, in the phase `Doubt` alone, that
-        // followed by the batch in doubt.
-        ensures now { IsTrue D.shown.tells_images → let b = self.old.view.base in
-            (s : O.State) (n : ℕ) → O.Contents b.order b.image s n →
-            (i : List ℕ) → D.shown.leaves self.new.twin.device i →
-            ImageAt O.Contents (on_words O.machine) b s n self.new.twin.phase
-            (plan_of self.new.view) i }
-
+        // However it ends: what it did and answered, and what a stop leaves of it.
+        ensures passed { HasPassed D.shown O.Contents O.machine self.old self.new
+            shared.now.layout.callers result }
+        // Nothing is read, only the state and the two regions may differ, and no fault is taken back.
+        ensures device { WritesHeap D.shown self.old.twin.order
+            self.old.twin.device self.new.twin.device }
         // The pass began in `Clean`, and whatever a stop left had the words of shared main in both regions.
         // Or it began in `Undo`, `Doubt` or `Redo`, and the device's last call had failed.
         ensures began { BeginsIn D.shown self.old.twin.phase self.old.twin.order
@@ -191,66 +154,39 @@ impl<D: Device, O: Object> Core<D, O> {
         // The device needed a repair only where its last call had failed.
         ensures needed { NeedsRepair self.old.twin.phase →
             IsTrue (D.shown.failing self.old.twin.device) }
-        // A pass that did a call leaves the phase `Clean`, or `Redo`, which needs a repair.
-        ensures repaired { 0 < result.done → (self.new.twin.phase ≡ Phase.Clean)
-            ⊎ (self.new.twin.phase ≡ Phase.Redo) }
-        // A pass that did a call leaves `Redo` only where the device failed in it.
-        ensures undone { 0 < result.done → self.new.twin.phase ≡ Phase.Redo →
-            Rose (D.shown.faults self.old.twin.device) (D.shown.faults self.new.twin.device) }
-        // A pass that failed leaves `Undo`, or the phase that it began in, where that needs a repair.
-        ensures failed { result.outcome ≡ Outcome.Failed → (self.new.twin.phase ≡ Phase.Undo)
-            ⊎ ((self.new.twin.phase ≡ self.old.twin.phase) × NeedsRepair self.old.twin.phase) }
-        ensures doubt { result.outcome ≡ Outcome.Doubt → self.new.twin.phase ≡ Phase.Doubt }
 
-        // Nothing is read, only the state and the two regions may differ, and no fault is taken back.
-        ensures device { WritesHeap D.shown self.old.twin.order
-            self.old.twin.device self.new.twin.device }
+        // By how it ends. Where it did a call, the batch lasts from the commit on, and the phase is at rest.
+        ensures done { 0 < result.done →
+            HasDone D.shown O.Contents O.machine self.old self.new O.STORES }
+        // A published pass that did no call, as where the count stands at its limit, leaves the device alone.
+        ensures spent { result.outcome ≡ Outcome.Published → result.done ≡ 0 →
+            self.new.twin ≡ self.old.twin }
+        // A pass that found no call leaves the device alone.
+        ensures untouched { result.outcome ≡ Outcome.Nothing → self.new.twin ≡ self.old.twin }
+        // A pass that did no call waits for no reader: a wait adds the indicators that it found to be 0.
+        ensures unwaited { result.done ≡ 0 →
+            (plan_of self.new.view).clear ≡ (plan_of self.old.view).clear }
         // A pass fails or is in doubt only where the device's count of faults rises.
         ensures cause { HasFault (fate_of result.outcome) (D.shown.faults self.old.twin.device)
             (D.shown.faults self.new.twin.device) }
-        // The outcome is `Failed` only where the device failed before COPYING was to be written, at its last
-        // call.
-        ensures failed_cause { result.outcome ≡ Outcome.Failed →
-            FailsBeforeCommit D.shown self.old.twin.phase self.old.twin.order
-            (plan_of self.old.view).main self.old.twin.device self.new.twin.device }
-        // The outcome is `Doubt` only where the write of COPYING or the sync after it failed, and was the
-        // last call.
-        ensures doubt_cause { result.outcome ≡ Outcome.Doubt →
-            FailsAtCommit D.shown self.old.twin.phase self.old.twin.order
-            (plan_of self.old.view).main self.old.twin.device self.new.twin.device }
-        // Where a pass did calls and the device did not fail: four syncs and at most 2 s k + 3 writes, and a
-        // repair's where one was needed. s is `O.STORES`, and k the sum of the weights of the calls done.
-        ensures spends { 0 < result.done →
-            IsUnfailed D.shown self.old.twin.device self.new.twin.device →
-            SpendsWithin D.shown (batch_writes self.old.twin.phase self.old.twin.order
-            (O.STORES * weights_added (weight_on_words O.machine)
-            (plan_of self.old.view).history (plan_of self.new.view).history))
-            (batch_syncs self.old.twin.phase) self.old.twin.device self.new.twin.device }
-        // However a pass ends, it makes no more writes and syncs than `spends` says, where k is the sum of
-        // the weights of all calls that it found.
+        // The outcome is `Failed` only where the device failed before COPYING was to be written.
+        ensures failed { result.outcome ≡ Outcome.Failed → EndsFailed D.shown
+            (O.STORES * weights_found (weight_on_words O.machine) (plan_of self.new.view))
+            (plan_of self.old.view).main self.old.twin self.new.twin }
+        // The outcome is `Doubt` only where the write of COPYING or the sync after it failed.
+        ensures doubt { result.outcome ≡ Outcome.Doubt →
+            EndsInDoubt D.shown (plan_of self.old.view).main self.old.twin self.new.twin }
+
+        // However a pass ends, it makes no more writes and syncs than `spends` of `HasDone` says, where k is
+        // the sum of the weights of all calls that it found.
         ensures most { SpendsAtMost D.shown (batch_writes self.old.twin.phase self.old.twin.order
             (O.STORES * weights_found (weight_on_words O.machine) (plan_of self.new.view)))
             (batch_syncs self.old.twin.phase) self.old.twin.device self.new.twin.device }
-        // A pass that failed makes at most two syncs and s k + 1 writes, and a repair's where one was needed,
-        // with the k of `most`.
-        ensures failed_most { result.outcome ≡ Outcome.Failed →
-            SpendsAtMost D.shown (writes_before_commit self.old.twin.phase self.old.twin.order
-            (O.STORES * weights_found (weight_on_words O.machine) (plan_of self.new.view)))
-            (syncs_before_commit self.old.twin.phase)
-            self.old.twin.device self.new.twin.device }
-
         // No pass makes more writes and syncs than a batch that stores to each word of the region, and the
         // repair where one was needed.
         ensures whole { SpendsAtMost D.shown (batch_writes self.old.twin.phase self.old.twin.order
             (region_len self.old.twin.order))
             (batch_syncs self.old.twin.phase) self.old.twin.device self.new.twin.device }
-        // A pass that failed makes no more writes and syncs than come before COPYING in a batch that stores
-        // to each word of the region, and the repair where one was needed.
-        ensures failed_whole { result.outcome ≡ Outcome.Failed →
-            SpendsAtMost D.shown (writes_before_commit self.old.twin.phase self.old.twin.order
-            (region_len self.old.twin.order))
-            (syncs_before_commit self.old.twin.phase)
-            self.old.twin.device self.new.twin.device }
     {
         // Its contract tells what images a stop may leave now.
         let _ = self.twin.phase();

@@ -3,7 +3,7 @@
 use rom_device::Ram;
 use rom_dump::dump;
 use rom_shell::{NoGate, files_of, run};
-use rom_test::{names_of, source_of};
+use rom_test::{names_of, right, source_of};
 use rom_text::Collect;
 use std::alloc::{AllocError, Global};
 use std::sync::Wait;
@@ -17,7 +17,7 @@ const PART: u64 = 20480;
 const ROOM: u64 = 4_194_304;
 
 /// A full heap: how many elements each structure has, with numbers from this one on.
-#[derive(Clone, Copy, Debug)]
+#[derive(Clone, Copy)]
 struct Full {
     order: &'static str,
     words: u64,
@@ -208,21 +208,25 @@ fn parts_of(alloc: Global, full: &Full, device: &mut Ram) -> Result<Vec<String>,
 #[test]
 fn a_full_heap_is_made_again(rt: HostRuntime) -> Result<(), Fail> {
     let alloc = rt.alloc();
-    for full in &FULL {
+    for (row, full) in FULL.iter().enumerate() {
         let mut device = made(&rt, full, &lines_of(alloc, full, false)?)?;
         if !full.too_long.is_empty() {
             let told = dumped(alloc, &["script", "heap"], &mut device, 8)?;
-            assert_eq!(rt; told.as_str(), full.too_long);
+            right("too long, of heap", row, told.as_str() == full.too_long)?;
         }
         let parts = parts_of(alloc, full, &mut device)?;
         let wanted = lines_of(alloc, full, true)?;
         for (part, wanted) in parts.iter().zip(wanted.iter()) {
-            assert!(rt; part.as_str() == wanted.as_str(), "order {}", full.order);
+            right("a part of heap", row, part.as_str() == wanted.as_str())?;
         }
         let again = made(&rt, full, &parts)?;
         let stat = stat_of(&rt, device)?;
-        assert!(rt; stat.contains("\nfree 0\n"), "order {}", full.order);
-        assert_eq!(rt; stat_of(&rt, again)?.as_str(), stat.as_str());
+        right("full, heap", row, stat.contains("\nfree 0\n"))?;
+        right(
+            "stat of heap",
+            row,
+            stat_of(&rt, again)?.as_str() == stat.as_str(),
+        )?;
     }
     Ok(())
 }
@@ -235,13 +239,13 @@ fn a_full_heap_grows(rt: HostRuntime) -> Result<(), Fail> {
     let parts = parts_of(alloc, small, &mut device)?;
     let mut grown = made(&rt, greater, &parts)?;
     let told = dumped(alloc, &["check", "heap"], &mut grown, 0)?;
-    assert_eq!(rt;
-        told.as_str(),
-        "counts both: idle\norder 9\ncount 15\nqueue 5 set 4 map 6\nfree 465\ntotal 15\n"
+    assert!(rt;
+        told.as_str()
+            == "counts both: idle\norder 9\ncount 15\nqueue 5 set 4 map 6\nfree 465\ntotal 15\n"
     );
     let again = parts_of(alloc, small, &mut grown)?;
-    for (part, was) in again.iter().zip(parts.iter()) {
-        assert_eq!(rt; part.as_str(), was.as_str());
+    for (at, (part, was)) in again.iter().zip(parts.iter()).enumerate() {
+        right("part", at, part.as_str() == was.as_str())?;
     }
     Ok(())
 }

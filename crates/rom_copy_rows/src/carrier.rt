@@ -5,7 +5,8 @@
 use crate::follower::follow_messages;
 use crate::runner::{behind, formatted, front, ran};
 use rom_device::Device;
-use rom_follow::Taken;
+use rom_follow::MessageTaken;
+use rom_test::right;
 use std::alloc::{AllocError, Global};
 use std::test::Fail;
 
@@ -18,7 +19,7 @@ const SCRIPTS: [&str; 4] = [
 ];
 
 /// What a follower is to answer to a message.
-#[derive(Clone, Copy, Debug)]
+#[derive(Clone, Copy)]
 enum Wanted {
     Applied(u64),
     Known(u64),
@@ -28,21 +29,21 @@ enum Wanted {
 
 impl Wanted {
     /// Whether a follower answered that.
-    fn is(&self, told: &Taken) -> bool {
+    fn is(&self, told: &MessageTaken) -> bool {
         match (*self, *told) {
-            (Wanted::Applied(place), Taken::Applied(at)) => at == place,
-            (Wanted::Known(place), Taken::Known(at)) => at == place,
-            (Wanted::Early(place, count), Taken::Early { place: at, want }) => {
+            (Wanted::Applied(place), MessageTaken::Applied(at)) => at == place,
+            (Wanted::Known(place), MessageTaken::Known(at)) => at == place,
+            (Wanted::Early(place, count), MessageTaken::Early { place: at, want }) => {
                 at == place && want == count
             }
-            (Wanted::NotAFrame, Taken::NotAFrame) => true,
+            (Wanted::NotAFrame, MessageTaken::NotAFrame) => true,
             _ => false,
         }
     }
 }
 
 /// Whether a follower answered what was wanted to each message.
-fn are_told(wanted: &[Wanted], told: &[Taken]) -> bool {
+fn are_told(wanted: &[Wanted], told: &[MessageTaken]) -> bool {
     wanted.len() == told.len()
         && wanted
             .iter()
@@ -133,10 +134,10 @@ fn a_follower_holds_a_prefix_whatever_comes(rt: HostRuntime) -> Result<(), Fail>
         scripts.push(script.as_bytes())?;
     }
     let primary = ran(&rt, &["ship", "heap", "a", "b", "c", "d"], &scripts, &heap)?;
-    assert_eq!(&rt; primary.status, 0);
+    assert!(&rt; primary.status == 0);
     let ends = bounds(alloc, &primary.bytes)?;
     let many = ends.len().saturating_sub(1);
-    assert_eq!(&rt; many, 14);
+    assert!(&rt; many == 14);
     // What the heap holds after each prefix.
     let mut prefixes = Vec::new(alloc);
     for count in 0..many.saturating_add(1) {
@@ -160,12 +161,13 @@ fn a_follower_holds_a_prefix_whatever_comes(rt: HostRuntime) -> Result<(), Fail>
         )?;
         let found = follow_messages(&rt, heap.clone()?, &messages)?;
         let told = found.answers;
-        assert!(&rt; are_told(&wanted, &told), "list {list}: {told:?}");
+        right("told of list", list, are_told(&wanted, &told))?;
         let prefix = prefixes.get(count).map(|words| words.as_slice());
-        assert!(&rt;
+        right(
+            "held behind list",
+            list,
             prefix == Some(found.device.words()),
-            "list {list}: {told:?}"
-        );
+        )?;
     }
     Ok(())
 }

@@ -3,14 +3,13 @@
 use crate::heaps::{PAIRS, PUT, QUEUED, TAKEN, TORN, WORDS, change, heap_of};
 use rom_device::Device;
 use rom_dump::dump;
-use rom_test::{Found, Limits, device_of, names_of};
+use rom_test::{Found, Limits, device_of, names_of, right};
 use rom_text::Collect;
 use std::alloc::{AllocError, Global};
-use std::process::Abort;
 use std::test::Fail;
 
 /// A heap, what is asked, and what is to be told.
-#[derive(Clone, Copy, Debug)]
+#[derive(Clone, Copy)]
 pub(crate) struct Row {
     pub(crate) words: &'static [&'static str],
     /// The word of the state.
@@ -312,28 +311,22 @@ pub(crate) fn dump_words(
     })
 }
 
-/// Runs a row, and asserts that it tells what it is to tell, and leaves the device as it was.
-pub(crate) fn try_row<R: AllocGlobal + Abort>(rt: &R, row: &Row) -> Result<(), Fail> {
-    let words = words_for(rt.alloc(), row)?;
+/// Whether a row tells what it is to tell, and leaves the device as it was.
+pub(crate) fn is_told(alloc: Global, row: &Row) -> Result<bool, AllocError> {
+    let words = words_for(alloc, row)?;
     let limits = Limits {
         calls: row.calls,
         room: row.room,
     };
-    let found = dump_words(rt.alloc(), row.words, &words, limits)?;
+    let found = dump_words(alloc, row.words, &words, limits)?;
     let same = found.device.words() == words.as_slice();
-    let text = found.text();
-    assert!(rt;
-        same && found.status == row.status && text == row.text,
-        "status {}, text {text:?}, of {row:?}",
-        found.status
-    );
-    Ok(())
+    Ok(same && found.status == row.status && found.text() == row.text)
 }
 
 #[test]
 fn each_row_is_told(rt: HostRuntime) -> Result<(), Fail> {
-    for row in &ROWS {
-        try_row(&rt, row)?;
+    for (at, row) in ROWS.iter().enumerate() {
+        right("row", at, is_told(rt.alloc(), row)?)?;
     }
     Ok(())
 }

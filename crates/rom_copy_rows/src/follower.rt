@@ -1,7 +1,7 @@
 //! Takes messages on a heap.
 
 use rom_device::{Device, Memory};
-use rom_follow::{Taken, follow_all};
+use rom_follow::{MessageTaken, follow_all};
 use rom_heap::Trio;
 use rom_model::{Answer, Query};
 use rom_store::{NoGate, open_store};
@@ -15,7 +15,7 @@ const MESSAGES: u64 = 256;
 /// A device after messages, what was answered to each, and the heap's count and its queue's front.
 #[derive(Drop)]
 pub struct Followed {
-    pub answers: Vec<Taken>,
+    pub answers: Vec<MessageTaken>,
     pub count: u64,
     pub front: Answer,
     pub device: Memory,
@@ -28,7 +28,7 @@ pub fn follow_messages<R: Wait + AllocGlobal>(
     messages: &[Vec<u8>],
 ) -> Result<Followed, Fail> {
     let alloc = rt.alloc();
-    let mut answers = vec![in alloc; Taken::NotAFrame; messages.len()]?;
+    let mut answers = vec![in alloc; MessageTaken::NotAFrame; messages.len()]?;
     let device = device_of(alloc, words, MESSAGES, Vec::new(alloc), NEVER)?;
     let Ok(opening) = open_store::<_, Trio>(alloc, device, 1) else {
         return Err("the heap was not opened".into());

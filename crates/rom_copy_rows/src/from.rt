@@ -1,9 +1,10 @@
 //! What the commands tell of one region of a heap, by itself. What is to be told was written by hand.
 
 use crate::again::{dumped, ran};
-use crate::dumps::{NEW, NO_COMMAND, REFUSED, Row, SCRIPT, try_row};
+use crate::dumps::{NEW, NO_COMMAND, REFUSED, Row, SCRIPT, is_told};
 use crate::heaps::{PAIRS, PUT, QUEUED, TORN};
 use rom_device::Ram;
+use rom_test::right;
 use std::test::Fail;
 
 /// The words of each command, by the region.
@@ -326,8 +327,8 @@ static ROWS: [Row; 47] = [
 
 #[test]
 fn each_region_is_told(rt: HostRuntime) -> Result<(), Fail> {
-    for row in &ROWS {
-        try_row(&rt, row)?;
+    for (at, row) in ROWS.iter().enumerate() {
+        right("row", at, is_told(rt.alloc(), row)?)?;
     }
     Ok(())
 }
@@ -355,15 +356,17 @@ fn a_region_of_each_order_is_shown(rt: HostRuntime) -> Result<(), Fail> {
     for (order, words, free) in &ORDERS {
         let device = Ram::zeroed(alloc, *words)?;
         let mut made = ran(&rt, &["format", "heap", "--order", *order], device, None)?;
-        assert_eq!(rt;
-            dumped(alloc, SCRIPT_MAIN, &mut made.device, 0)?.as_str(),
-            ""
-        );
+        let told = dumped(alloc, SCRIPT_MAIN, &mut made.device, 0)?;
+        right("script of words", *words as usize, told.as_str() == "")?;
         let told = dumped(alloc, CHECK_BACK, &mut made.device, 0)?;
         let wanted = format!(in alloc;
             "back by itself\norder {order}\ncount 0\nqueue 0 set 0 map 0\nfree {free}\ntotal 0\n"
         )?;
-        assert_eq!(rt; told.as_str(), wanted.as_str());
+        right(
+            "check of words",
+            *words as usize,
+            told.as_str() == wanted.as_str(),
+        )?;
     }
     Ok(())
 }

@@ -4,10 +4,9 @@
 use crate::dumps::dump_words;
 use crate::runner::{ROOM, behind, bytes_of, formatted, front, ran, ran_at};
 use rom_device::Device;
-use rom_test::{AMPLE, Found, Holding, NEVER, Roll, source_of};
+use rom_test::{AMPLE, Found, Holding, NEVER, Roll, right, source_of};
 use rom_text::Bytes;
 use std::alloc::{AllocError, Global};
-use std::process::Abort;
 use std::sync::Wait;
 use std::test::Fail;
 use std::thread::Threads;
@@ -68,7 +67,7 @@ fn is_history(alloc: Global, bytes: &[u8], callers: u64) -> Result<bool, AllocEr
 /// Runs so many callers of `ship` on this heap, who meet at each line, and a follower that takes what was
 /// shipped. Asserts that both come to their end and to the same words, by one history, and gives what the
 /// primary left.
-fn ship_and_follow<R: Threads + Wait + Sync + AllocGlobal + Abort>(
+fn ship_and_follow<R: Threads + Wait + Sync + AllocGlobal>(
     rt: &R,
     heap: &[u64],
     callers: u64,
@@ -83,22 +82,16 @@ fn ship_and_follow<R: Threads + Wait + Sync + AllocGlobal + Abort>(
     let scripts = scripts(alloc, callers)?;
     let primary = ran_at(rt, &words, scripts, heap.to_vec(alloc)?, NEVER, ROOM, &gate)?;
     let done = callers.saturating_mul(LINES);
-    assert_eq!(rt;
-        (primary.status, gate.differs(true, done)),
-        (0, None),
-        "{callers} callers"
-    );
-    assert!(rt;
-        is_history(alloc, &primary.bytes, callers)?,
-        "{callers} callers"
-    );
+    let well = primary.status == 0 && gate.differs(true, done).is_none();
+    right("a primary's callers", callers as usize, well)?;
+    let lawful = is_history(alloc, &primary.bytes, callers)?;
+    right("the history of callers", callers as usize, lawful)?;
     let follower = ran(rt, &["follow", "heap", "s"], &[&primary.bytes], heap)?;
     let text = format!(in alloc; "applied {done} known 0 early 0\ncount {done}\n")?;
-    assert_eq!(rt; (follower.status, follower.text()), (0, text.as_str()));
-    assert!(rt;
-        follower.device.words() == primary.device.words(),
-        "{callers} callers"
-    );
+    let well = follower.status == 0 && follower.text() == text.as_str();
+    right("a follower of callers", callers as usize, well)?;
+    let same = follower.device.words() == primary.device.words();
+    right("the words of callers", callers as usize, same)?;
     Ok(primary)
 }
 
@@ -124,11 +117,8 @@ fn each_order_has_room_for_its_callers(rt: HostRuntime) -> Result<(), Fail> {
         let script = ["script", "heap"];
         let dumped = dump_words(rt.alloc(), &script, primary.device.words(), AMPLE)?;
         let wanted = format!(in rt.alloc(); "put 1 {}\n", last_value(&primary.bytes))?;
-        assert_eq!(&rt;
-            (dumped.status, dumped.text()),
-            (0, wanted.as_str()),
-            "order {order}"
-        );
+        let well = dumped.status == 0 && dumped.text() == wanted.as_str();
+        right("order", order as usize, well)?;
     }
     Ok(())
 }

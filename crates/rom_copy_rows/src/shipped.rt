@@ -2,11 +2,11 @@
 
 use crate::runner::{ROOM, bytes_of, formatted, front, ran, ran_from};
 use rom_device::Device;
-use rom_test::{NEVER, source_of};
+use rom_test::{NEVER, right, source_of};
 use std::test::Fail;
 
 /// A script, and the status and the words of what is shipped, on the device that the row before left.
-#[derive(Clone, Copy, Debug)]
+#[derive(Clone, Copy)]
 struct Row {
     script: &'static str,
     status: u8,
@@ -43,10 +43,14 @@ static ROWS: [Row; 4] = [
 fn frames_are_shipped_as_written(rt: HostRuntime) -> Result<(), Fail> {
     let alloc = rt.alloc();
     let mut heap = formatted(&rt, 4)?;
-    for row in &ROWS {
+    for (at, row) in ROWS.iter().enumerate() {
         let found = ran(&rt, &["ship", "heap", "s"], &[row.script.as_bytes()], &heap)?;
-        assert_eq!(&rt; found.status, row.status, "{row:?}");
-        assert_eq!(&rt; found.bytes, bytes_of(alloc, row.words)?, "{row:?}");
+        right("status of row", at, found.status == row.status)?;
+        right(
+            "bytes of row",
+            at,
+            found.bytes == bytes_of(alloc, row.words)?,
+        )?;
         heap = found.device.words().to_vec(alloc)?;
     }
     // A sink with room for 100 bytes has the first 100.
@@ -60,7 +64,7 @@ fn frames_are_shipped_as_written(rt: HostRuntime) -> Result<(), Fail> {
         NEVER,
         100,
     )?;
-    assert_eq!(&rt; (found.status, found.bytes.len()), (5, 100));
+    assert!(&rt; found.status == 5 && found.bytes.len() == 100);
     let whole = bytes_of(alloc, ROWS[0].words)?;
     assert!(&rt; found.bytes.as_slice() == front(&whole, 100));
     Ok(())
@@ -76,7 +80,7 @@ fn a_script_or_a_device_that_fails_is_told(rt: HostRuntime) -> Result<(), Fail> 
     sources.push(source_of(alloc, b"enq 9\n", 4096, 1)?)?;
     let words = ["ship", "heap", "a", "b"];
     let found = ran_from(&rt, &words, sources, heap.clone()?, NEVER, ROOM)?;
-    assert_eq!(&rt; (found.status, found.text()), (4, "script 2 failed\n"));
+    assert!(&rt; found.status == 4 && found.text() == "script 2 failed\n");
     // The device fails from the second update on: the frame of the first one alone.
     let first = bytes_of(alloc, &[7, 0, 2, 1, 9, 1, 1])?;
     let calls = ran(&rt, &["ship", "heap", "s"], &[b"enq 9\n"], &heap)?
@@ -85,7 +89,7 @@ fn a_script_or_a_device_that_fails_is_told(rt: HostRuntime) -> Result<(), Fail> 
     let mut sources = Vec::new(alloc);
     sources.push(source_of(alloc, b"enq 9\ndeq\n", 4096, 0)?)?;
     let found = ran_from(&rt, &["ship", "heap", "s"], sources, heap, calls, ROOM)?;
-    assert_eq!(&rt; found.status, 7);
+    assert!(&rt; found.status == 7);
     assert!(&rt; found.bytes == first);
     Ok(())
 }
@@ -99,10 +103,10 @@ fn a_follower_has_the_words_of_its_primary(rt: HostRuntime) -> Result<(), Fail> 
     let alloc = rt.alloc();
     let heap = formatted(&rt, 4)?;
     let primary = ran(&rt, &["ship", "heap", "s"], &[ALL.as_bytes()], &heap)?;
-    assert_eq!(&rt; primary.status, 0);
+    assert!(&rt; primary.status == 0);
     let follower = ran(&rt, &["follow", "heap", "s"], &[&primary.bytes], &heap)?;
     let text = "applied 38 known 0 early 0\ncount 38\n";
-    assert_eq!(&rt; (follower.status, follower.text()), (0, text));
+    assert!(&rt; follower.status == 0 && follower.text() == text);
     assert!(&rt; follower.device.words() == primary.device.words());
     // Once more: all is known, and nothing changes.
     let again = ran(
@@ -112,7 +116,7 @@ fn a_follower_has_the_words_of_its_primary(rt: HostRuntime) -> Result<(), Fail> 
         follower.device.words(),
     )?;
     let text = "applied 0 known 38 early 0\ncount 38\n";
-    assert_eq!(&rt; (again.status, again.text()), (0, text));
+    assert!(&rt; again.status == 0 && again.text() == text);
     assert!(&rt; again.device.words() == primary.device.words());
     Ok(())
 }

@@ -2,8 +2,7 @@
 
 use crate::runner::{ROOM, bytes_of, formatted, ran, ran_from};
 use rom_device::Device;
-use rom_test::{Found, NEVER, SMALL, source_of};
-use std::process::Abort;
+use rom_test::{Found, NEVER, SMALL, right, source_of};
 use std::sync::Wait;
 use std::test::Fail;
 use std::thread::Threads;
@@ -43,6 +42,25 @@ fn followed<R: Threads + Wait + Sync + AllocGlobal>(
     )
 }
 
+/// How many of the frames this heap had before it is sent them all, if it then is as if nothing had been: as
+/// that one, and told so once more.
+fn ends<R: Threads + Wait + Sync + AllocGlobal>(
+    rt: &R,
+    heap: &[u64],
+    frames: &[u8],
+    whole: &[u64],
+) -> Result<Option<usize>, Fail> {
+    let found = ran(rt, &["follow", "heap", "s"], &[frames], heap)?;
+    let text = found.text();
+    let had = TOLD.iter().position(|told| *told == text);
+    let words = found.device.words();
+    let again = ran(rt, &["follow", "heap", "s"], &[frames], words)?;
+    if found.status != 0 || words != whole || again.text() != TOLD[2] {
+        return Ok(None);
+    }
+    Ok(had)
+}
+
 #[test]
 fn every_stop_leaves_a_follower(rt: HostRuntime) -> Result<(), Fail> {
     let alloc = rt.alloc();
@@ -50,36 +68,23 @@ fn every_stop_leaves_a_follower(rt: HostRuntime) -> Result<(), Fail> {
     let stream = bytes_of(alloc, &IN_DISORDER)?;
     let frames = bytes_of(alloc, &IN_ORDER)?;
     let whole = followed(&rt, &stream, &heap, NEVER)?;
-    assert_eq!(&rt; whole.text(), "applied 2 known 1 early 1\ncount 2\n");
+    assert!(&rt; whole.text() == "applied 2 known 1 early 1\ncount 2\n");
     let mut before = 0;
     for calls in 0..whole.device.calls_made() {
         for choice in [0, 1] {
             let run = followed(&rt, &stream, &heap, calls)?;
             // Where the last update was done, the device may have failed behind its commit.
-            assert!(&rt;
-                run.status == 7 || run.text() == whole.text(),
-                "after {calls}"
-            );
+            let told = run.status == 7 || run.text() == whole.text();
+            right("told after calls", calls as usize, told)?;
             let choices = vec![in alloc; choice; SMALL]?;
             let left = run.device.crash(&choices);
-            let found = ran(&rt, &["follow", "heap", "s"], &[&frames], &left)?;
-            let text = found.text();
-            let had = TOLD.iter().position(|told| *told == text);
-            assert!(&rt;
-                found.status == 0 && had.is_some(),
-                "after {calls}, {choice}: {text}"
-            );
+            let had = ends(&rt, &left, &frames, whole.device.words())?;
+            let had = had.ok_or(("left after calls", calls))?;
             if choice == 0 {
                 // Later stops leave no fewer.
-                let had = had.unwrap_or(0);
-                assert!(&rt; before <= had, "after {calls}");
+                right("frames after calls", calls as usize, before <= had)?;
                 before = had;
             }
-            // Whatever was left, the heap is then as if nothing had been.
-            let words = found.device.words();
-            assert!(&rt; words == whole.device.words(), "after {calls}, {choice}");
-            let again = ran(&rt, &["follow", "heap", "s"], &[&frames], words)?;
-            assert_eq!(&rt; again.text(), TOLD[2], "after {calls}, {choice}");
         }
     }
     Ok(())

@@ -2,14 +2,14 @@
 
 use crate::runner::{ROOM, behind, bytes_of, formatted, front, ran, ran_from};
 use rom_device::Device;
-use rom_test::{Found, NEVER, SMALL, source_of};
+use rom_test::{Found, NEVER, SMALL, right, source_of};
 use rom_text::Bytes;
 use std::sync::Wait;
 use std::test::Fail;
 use std::thread::Threads;
 
 /// A stream of words, without its last bytes, whose read of this number fails; and what is to be told of it.
-#[derive(Clone, Copy, Debug)]
+#[derive(Clone, Copy)]
 struct Row {
     words: &'static [u64],
     cut: usize,
@@ -149,7 +149,7 @@ static ROWS: [Row; 17] = [
 fn streams_are_followed_as_written(rt: HostRuntime) -> Result<(), Fail> {
     let alloc = rt.alloc();
     let heap = formatted(&rt, 4)?;
-    for row in &ROWS {
+    for (at, row) in ROWS.iter().enumerate() {
         let bytes = bytes_of(alloc, row.words)?;
         let stream = front(&bytes, bytes.len().saturating_sub(row.cut));
         let mut sources = Vec::new(alloc);
@@ -162,11 +162,11 @@ fn streams_are_followed_as_written(rt: HostRuntime) -> Result<(), Fail> {
             NEVER,
             row.room,
         )?;
-        assert_eq!(&rt;
-            (found.status, found.text()),
-            (row.status, row.text),
-            "{row:?}"
-        );
+        right(
+            "row",
+            at,
+            found.status == row.status && found.text() == row.text,
+        )?;
     }
     Ok(())
 }
@@ -193,12 +193,9 @@ fn a_device_that_fails_stops_a_stream(rt: HostRuntime) -> Result<(), Fail> {
         .calls_made();
     // In the opening there is no stream; then no frame, and then one, is applied.
     let found = failing(&rt, &heap, opening.saturating_sub(1))?;
-    assert_eq!(&rt; (found.status, found.text()), (7, "device failed\n"));
+    assert!(&rt; found.status == 7 && found.text() == "device failed\n");
     let found = failing(&rt, &heap, opening)?;
-    assert_eq!(&rt;
-        (found.status, found.text()),
-        (7, "applied 0 known 0 early 0\ncount 0\n")
-    );
+    assert!(&rt; found.status == 7 && found.text() == "applied 0 known 0 early 0\ncount 0\n");
     let mut one: u64 = 0;
     let whole = failing(&rt, &heap, NEVER)?.device.calls_made();
     for calls in opening..whole {
@@ -206,13 +203,12 @@ fn a_device_that_fails_stops_a_stream(rt: HostRuntime) -> Result<(), Fail> {
         match found.text() {
             "applied 0 known 0 early 0\ncount 0\n" => assert!(&rt; found.status == 7 && one == 0),
             "applied 1 known 0 early 0\ncount 1\n" => {
-                assert_eq!(&rt; found.status, 7);
+                assert!(&rt; found.status == 7);
                 one = one.saturating_add(1);
             }
             // Behind the last commit.
-            text => assert_eq!(&rt;
-                (found.status, text),
-                (0, "applied 2 known 0 early 0\ncount 2\n")
+            text => assert!(&rt;
+                found.status == 0 && text == "applied 2 known 0 early 0\ncount 2\n"
             ),
         }
     }
@@ -224,10 +220,7 @@ fn a_device_that_fails_stops_a_stream(rt: HostRuntime) -> Result<(), Fail> {
 fn a_heap_is_made_once(rt: HostRuntime) -> Result<(), Fail> {
     let made = formatted(&rt, 4)?;
     let again = ran(&rt, &["format", "heap", "4"], &[], &made)?;
-    assert_eq!(&rt;
-        (again.status, again.text()),
-        (3, "refused: already a heap\n")
-    );
+    assert!(&rt; again.status == 3 && again.text() == "refused: already a heap\n");
     Ok(())
 }
 
@@ -253,20 +246,16 @@ static WORDS: [&[&str]; 11] = [
 #[test]
 fn other_words_and_other_devices_are_refused(rt: HostRuntime) -> Result<(), Fail> {
     let zeros = vec![in rt.alloc(); 0u64; SMALL]?;
-    for words in &WORDS {
+    for (at, words) in WORDS.iter().enumerate() {
         let found = ran(&rt, words, &[], &zeros)?;
-        assert_eq!(&rt;
-            (found.status, found.text()),
-            (2, "not a command\n"),
-            "{words:?}"
-        );
-        assert_eq!(&rt; found.device.calls_made(), 0);
+        let told = found.status == 2 && found.text() == "not a command\n";
+        right("words", at, told && found.device.calls_made() == 0)?;
     }
     // No heap: the stream is not read, or it would be status 1.
     let found = ran(&rt, &["follow", "heap", "s"], &[b"torn"], &zeros)?;
-    assert_eq!(&rt; (found.status, found.text()), (3, "refused: not a heap\n"));
+    assert!(&rt; found.status == 3 && found.text() == "refused: not a heap\n");
     let found = ran(&rt, &["ship", "heap", "s"], &[b"enq 9\n"], &zeros)?;
-    assert_eq!(&rt; (found.status, found.text()), (3, "refused: not a heap\n"));
+    assert!(&rt; found.status == 3 && found.text() == "refused: not a heap\n");
     Ok(())
 }
 
@@ -306,7 +295,7 @@ fn the_last_count_is_a_stop(rt: HostRuntime) -> Result<(), Fail> {
             &[behind(&frames, begin)],
             &heap,
         )?;
-        assert_eq!(&rt; (found.status, found.text()), (10, text));
+        assert!(&rt; found.status == 10 && found.text() == text);
     }
     Ok(())
 }
@@ -333,12 +322,12 @@ fn the_greatest_length_is_a_stop(rt: HostRuntime) -> Result<(), Fail> {
         stream.extend_from_slice(&frame)?;
     }
     stream.extend_from_slice(&bytes_of(alloc, &SHORT)?)?;
-    assert_eq!(&rt; stream.len(), 67_108_864);
+    assert!(&rt; stream.len() == 67_108_864);
     stream.push(56)?;
     let mut sources = Vec::new(alloc);
     sources.push(Bytes::new(stream, 4096, Vec::new(alloc)))?;
     let found = ran_from(&rt, &["follow", "heap", "s"], sources, heap, NEVER, ROOM)?;
     let text = "applied 0 known 0 early 149797\ncount 0\n";
-    assert_eq!(&rt; (found.status, found.text()), (8, text));
+    assert!(&rt; found.status == 8 && found.text() == text);
     Ok(())
 }

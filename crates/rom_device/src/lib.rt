@@ -1,5 +1,7 @@
 //! Devices of 64-bit words, and what a stop may leave of them.
 //!
+//! It knows words, syncs, faults and stops; it knows no header, no region and no heap.
+//!
 //! A device is read and written word by word, one or many at a call, and made certain by a sync.
 //! The contract of `Device` says what each call does to the words, which images a stop during or
 //! after it may leave, and that a call fails only where the device's own count of faults rose.

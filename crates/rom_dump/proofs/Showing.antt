@@ -14,23 +14,23 @@ use Rattle.rom_header.specs.Layout.{STATE, words_needed}
 use Rattle.rom_header.specs.Regions.{IsCurrentRegion}
 use Rattle.rom_header.specs.declared.header.State.{State}
 use Rattle.rom_heap.specs.Answers.{Rejects}
-use Rattle.rom_open.specs.Calls.{HasFaults}
+use Rattle.rom_open.specs.Calls.{HasOpeningFaults}
 use Rattle.rom_open.specs.Refusals.{IsRefusal, NamesTooFew, named_order}
 use Rattle.rom_open.specs.declared.reasons.Why.{Why}
 use Rattle.rom_open.specs.declared.reasons.Why.TheVariants.{OutOfMemory}
-use Rattle.rom_elements.specs.declared.element.Element.{Element}
-use Rattle.rom_elements.specs.Elements.{AreElements, ElementFits}
+use Rattle.rom_rebuild.specs.declared.elements.element.Element.{Element}
+use Rattle.rom_rebuild.specs.Elements.{AreElements, ElementFits}
 use Rattle.rom_rebuild.proofs.Rebuilding.{elements_many, rebuilt_parts, rebuilt_whole}
 use Rattle.rom_rebuild.proofs.Spans.{part_fits, parts_whole}
 use Rattle.rom_run.specs.Refusing.{refusal_line, refusal_status}
-use Rattle.rom_run.specs.Statuses.{number_of}
+use Rattle.rom_run.specs.Statuses.{exit_number}
 use Rattle.rom_run.specs.declared.status.Status.{Status}
-use Rattle.rom_text.specs.Runs.{IsTold}
+use Rattle.rom_text.specs.Runs.{IsLineTold}
 use Rattle.rom_text.specs.Streams.{ShownSink}
-use Rattle.rom_view.specs.View.{IsNamedRegion, IsRefusalOf}
-use Rattle.rom_view.specs.declared.alone.Region.{Region}
-use Rattle.rom_dump.specs.Shown.{EndsAsScript, IsAnsweredBy, IsPrinted, IsPutAgain, alone_text, counting_text}
-use Rattle.rom_dump.specs.Words.{Command}
+use Rattle.rom_open.specs.View.{IsNamedRegion, IsRefusalOf}
+use Rattle.rom_open.specs.declared.view.alone.Region.{Region}
+use Rattle.rom_dump.specs.Shown.{EndsAsScript, IsAnsweredBy, IsHeapPrinted, IsPutAgain, alone_text, counting_text}
+use Rattle.rom_dump.specs.Words.{DumpCommand}
 
 pub three_pieces : (a n b : List ℕ) → a ++ (n ++ (b ++ [])) ≡ a ++ n ++ b
 three_pieces a n b = ap (λ t. a ++ (n ++ t)) (append-nil b) ∙ sym (append_assoc a n b)
@@ -65,9 +65,9 @@ module _ {K : Type 0} (sink : ShownSink K) where
         printed = printed;
       }
 
-module _ {D K : Type 0} (shown : ShownDevice D) (sink : ShownSink K) (was now : D) (old new : K) (asked : Command) where
+module _ {D K : Type 0} (shown : ShownDevice D) (sink : ShownSink K) (was now : D) (old new : K) (asked : DumpCommand) where
   pub is_shown : (n : ℕ) (kind : State) (image : List ℕ) (status : ℕ) → IsOrder n → (x : (s : model.State) × (k : ℕ) × Contents n image s k) → (IsTrue shown.tells_words → IsCurrentRegion n (shown.words was) image)
-      → (IsTrue shown.tells_words → slice_index (shown.words was) STATE ≡ state_word kind) → words_needed n ≤ shown.size was → shown.faults now ≡ shown.faults was → IsPrinted sink asked (counting_text kind) n x.0 x.1 old new status → IsAnsweredBy shown sink None asked was now old new status
+      → (IsTrue shown.tells_words → slice_index (shown.words was) STATE ≡ state_word kind) → words_needed n ≤ shown.size was → shown.faults now ≡ shown.faults was → IsHeapPrinted sink asked (counting_text kind) n x.0 x.1 old new status → IsAnsweredBy shown sink None asked was now old new status
   is_shown n kind image status order x current named fits faults printed = inl record {
     order = n;
     kind = kind;
@@ -81,19 +81,19 @@ module _ {D K : Type 0} (shown : ShownDevice D) (sink : ShownSink K) (was now : 
     printed = printed;
   }
 
-  pub is_refused : (why : Why) (status : Status) → status ≡ refusal_status why → (IsTrue shown.tells_words → IsRefusal Contents Rejects (shown.words was) why) → NamesTooFew (shown.size was) why → HasFaults {T = Unit {0}} (Err why) (shown.faults was) (shown.faults now) (shown.failing now)
-      → IsTold sink old new (refusal_line why) → IsAnsweredBy shown sink None asked was now old new (number_of status)
-  is_refused why status is refused sizes faults told = inr record { why = why; status_is = ap number_of is; refused = refused; sizes = sizes; faults = faults; told = told }
+  pub is_refused : (why : Why) (status : Status) → status ≡ refusal_status why → (IsTrue shown.tells_words → IsRefusal Contents Rejects (shown.words was) why) → NamesTooFew (shown.size was) why → HasOpeningFaults {T = Unit {0}} (Err why) (shown.faults was) (shown.faults now) (shown.failing now)
+      → IsLineTold sink old new (refusal_line why) → IsAnsweredBy shown sink None asked was now old new (exit_number status)
+  is_refused why status is refused sizes faults told = inr record { why = why; status_is = ap exit_number is; refused = refused; sizes = sizes; faults = faults; told = told }
 
   -- there was no memory for what a script needs
-  pub no_memory : (n : ℕ) (image : List ℕ) (status : Status) → status ≡ refusal_status OutOfMemory → (IsTrue shown.tells_words → IsCurrentRegion n (shown.words was) image) → shown.faults now ≡ shown.faults was → IsTold sink old new (refusal_line OutOfMemory)
-      → IsAnsweredBy shown sink None asked was now old new (number_of status)
+  pub no_memory : (n : ℕ) (image : List ℕ) (status : Status) → status ≡ refusal_status OutOfMemory → (IsTrue shown.tells_words → IsCurrentRegion n (shown.words was) image) → shown.faults now ≡ shown.faults was → IsLineTold sink old new (refusal_line OutOfMemory)
+      → IsAnsweredBy shown sink None asked was now old new (exit_number status)
   no_memory n image status is current faults told = is_refused OutOfMemory status is
       (λ tells. let c = current tells in let e : n ≡ named_order (shown.words was) = sym c.heap.header.order_is in inr (image, subst (λ (m : ℕ). IsCurrentRegion m (shown.words was) image) e c, tt)) tt faults told
 
   module _ (name : Region) where
     pub alone_shown : (n : ℕ) (image : List ℕ) (status : ℕ) → IsOrder n → (x : (s : model.State) × (k : ℕ) × Contents n image s k) → (IsTrue shown.tells_words → IsNamedRegion name n (shown.words was) image) → words_needed n ≤ shown.size was → shown.faults now ≡ shown.faults was
-        → IsPrinted sink asked (alone_text name) n x.0 x.1 old new status → IsAnsweredBy shown sink (Some name) asked was now old new status
+        → IsHeapPrinted sink asked (alone_text name) n x.0 x.1 old new status → IsAnsweredBy shown sink (Some name) asked was now old new status
     alone_shown n image status order x named fits faults printed = inl record {
       order = n;
       state = x.0;
@@ -105,11 +105,11 @@ module _ {D K : Type 0} (shown : ShownDevice D) (sink : ShownSink K) (was now : 
       printed = printed;
     }
 
-    pub alone_refused : (why : Why) (status : Status) → status ≡ refusal_status why → (IsTrue shown.tells_words → IsRefusalOf Contents Rejects name (shown.words was) why) → NamesTooFew (shown.size was) why → HasFaults {T = Unit {0}} (Err why) (shown.faults was) (shown.faults now) (shown.failing now)
-        → IsTold sink old new (refusal_line why) → IsAnsweredBy shown sink (Some name) asked was now old new (number_of status)
-    alone_refused why status is refused sizes faults told = inr record { why = why; status_is = ap number_of is; refused = refused; sizes = sizes; faults = faults; told = told }
+    pub alone_refused : (why : Why) (status : Status) → status ≡ refusal_status why → (IsTrue shown.tells_words → IsRefusalOf Contents Rejects name (shown.words was) why) → NamesTooFew (shown.size was) why → HasOpeningFaults {T = Unit {0}} (Err why) (shown.faults was) (shown.faults now) (shown.failing now)
+        → IsLineTold sink old new (refusal_line why) → IsAnsweredBy shown sink (Some name) asked was now old new (exit_number status)
+    alone_refused why status is refused sizes faults told = inr record { why = why; status_is = ap exit_number is; refused = refused; sizes = sizes; faults = faults; told = told }
 
-    pub alone_no_memory : (n : ℕ) (image : List ℕ) (status : Status) → status ≡ refusal_status OutOfMemory → (IsTrue shown.tells_words → IsNamedRegion name n (shown.words was) image) → shown.faults now ≡ shown.faults was → IsTold sink old new (refusal_line OutOfMemory)
-        → IsAnsweredBy shown sink (Some name) asked was now old new (number_of status)
+    pub alone_no_memory : (n : ℕ) (image : List ℕ) (status : Status) → status ≡ refusal_status OutOfMemory → (IsTrue shown.tells_words → IsNamedRegion name n (shown.words was) image) → shown.faults now ≡ shown.faults was → IsLineTold sink old new (refusal_line OutOfMemory)
+        → IsAnsweredBy shown sink (Some name) asked was now old new (exit_number status)
     alone_no_memory n image status is named faults told = alone_refused OutOfMemory status is
         (λ tells. let c = named tells in let e : n ≡ named_order (shown.words was) = sym c.heap.header.order_is in inr (image, subst (λ (m : ℕ). IsNamedRegion name m (shown.words was) image) e c, tt)) tt faults told

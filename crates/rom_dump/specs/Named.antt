@@ -1,15 +1,15 @@
 -- The command that words were read as.
 use Rattle.std.specs.Prelude.{ℕ, ◌≤◌, List, IfSome, Option, Some, None}
 use Rattle.std.specs.Borrow.{Bor}
-use Rattle.rom_dump.specs.Words.{Command, Script, Check}
+use Rattle.rom_dump.specs.Words.{DumpCommand, Script, Check}
 use Rattle.rom_dump.specs.declared.words.Dump.{Dump}
 use Rattle.rom_dump.specs.declared.words.Dump.TheVariants as dump
 
 -- the command that was read, if one was
-abbrev pub named : Option Dump → Option Command
-named (Some (dump.Script file from part)) = Some (Script file.now from part)
-named (Some (dump.Check file from)) = Some (Check file.now from)
-named None = None
+abbrev pub named_dump : Option Dump → Option DumpCommand
+named_dump (Some (dump.Script file from part)) = Some (Script file.now from part)
+named_dump (Some (dump.Check file from)) = Some (Check file.now from)
+named_dump None = None
 
 -- the file that was read, if one was
 abbrev pub named_file : Option (Bor (List ℕ)) → Option (List ℕ)

@@ -3,15 +3,15 @@ use Rattle.std.specs.Prelude.{ℕ, List, [], ◌∷◌, codes, Option, Some, Non
 use Rattle.std.specs.Str.{bytes_eq}
 use Rattle.rom_run.specs.Plain.{is_name}
 use Rattle.rom_text.specs.Phrases.{number_within}
-use Rattle.rom_view.specs.declared.alone.Region.{Region}
-use Rattle.rom_view.specs.declared.alone.Region.TheVariants.{Main, Back}
+use Rattle.rom_open.specs.declared.view.alone.Region.{Region}
+use Rattle.rom_open.specs.declared.view.alone.Region.TheVariants.{Main, Back}
 
 -- what the words ask for
-pub data Command : Type 0 where
+pub data DumpCommand : Type 0 where
   -- print the script of the heap in the file, or that part of it, counted from 1; by the region of that name, if one is named
-  Script : List ℕ → Option Region → Option ℕ → Command
+  Script : List ℕ → Option Region → Option ℕ → DumpCommand
   -- say which region of the heap in the file counts, and its sizes; or those of the region of that name
-  Check : List ℕ → Option Region → Command
+  Check : List ℕ → Option Region → DumpCommand
 
 -- the region of that name
 abbrev pub region_named : List ℕ → Option Region
@@ -45,39 +45,39 @@ options_of (from ∷ name ∷ option ∷ part ∷ []) = region_and_part (from_wo
 options_of words = None
 
 -- what the words behind `script` ask for
-abbrev pub script_words : List (List ℕ) → Option Command
+abbrev pub script_words : List (List ℕ) → Option DumpCommand
 script_words [] = None
 script_words (file ∷ options) = if is_name file then option_map (λ asked. Script file asked.0 asked.1) (options_of options) else None
 
 -- the command `check` of this file, where its options were read and name no part of a script
-abbrev pub check_of : List ℕ → Option (Option Region × Option ℕ) → Option Command
+abbrev pub check_of : List ℕ → Option (Option Region × Option ℕ) → Option DumpCommand
 check_of file (Some (from, None)) = Some (Check file from)
 check_of file (Some (from, Some part)) = None
 check_of file None = None
 
 -- what the words behind `check` ask for
-abbrev pub check_words : List (List ℕ) → Option Command
+abbrev pub check_words : List (List ℕ) → Option DumpCommand
 check_words [] = None
 check_words (file ∷ options) = if is_name file then check_of file (options_of options) else None
 
 -- the command of this name, with these words behind it
-abbrev pub command_of : List ℕ → List (List ℕ) → Option Command
-command_of name words =
+abbrev pub dump_command_of : List ℕ → List (List ℕ) → Option DumpCommand
+dump_command_of name words =
     if bytes_eq name (codes "script") then script_words words else
     if bytes_eq name (codes "check") then check_words words else None
 
 -- the command that the words are, if they are one
-abbrev pub command : List (List ℕ) → Option Command
-command [] = None
-command (name ∷ words) = command_of name words
+abbrev pub dump_command : List (List ℕ) → Option DumpCommand
+dump_command [] = None
+dump_command (name ∷ words) = dump_command_of name words
 
 -- the file that it reads
-abbrev pub file_of : Option Command → Option (List ℕ)
+abbrev pub file_of : Option DumpCommand → Option (List ℕ)
 file_of (Some (Script file from part)) = Some file
 file_of (Some (Check file from)) = Some file
 file_of None = None
 
 -- the region that it names, if it names one
-abbrev pub region_asked : Command → Option Region
+abbrev pub region_asked : DumpCommand → Option Region
 region_asked (Script file from part) = from
 region_asked (Check file from) = from

@@ -4,9 +4,9 @@ ghost use Rattle.rom_model.specs.Blocks.{IsOrder};
 ghost use Rattle.rom_model.specs.Region.{Contents};
 ghost use Rattle.rom_model.specs.State as model;
 ghost use Rattle.rom_device.specs.Device.{OnlyReads};
-ghost use Rattle.rom_dump.specs.Shown.{IsAnswered, alone_text, check_text, counting_text};
+ghost use Rattle.rom_dump.specs.Shown.{IsCommandAnswered, alone_text, check_text, counting_text};
 ghost use Rattle.rom_dump.specs.Words.{Check};
-ghost use Rattle.rom_run.specs.Statuses.{number_of};
+ghost use Rattle.rom_run.specs.Statuses.{exit_number};
 ghost use Rattle.rom_text.specs.Streams.{Prints};
 
 use crate::refusing::refuse;
@@ -14,10 +14,10 @@ use rom_device::Device;
 use rom_header::State;
 use rom_heap::Trio;
 use rom_model::VecSpace;
+use rom_open::{Region, view_device, view_region};
 use rom_run::Status;
-use rom_stat::print_stat;
+use rom_script::print_stat;
 use rom_text::{IoFailed, Sink, print_text};
-use rom_view::{Region, view_device, view_region};
 use std::alloc::Global;
 
 /// Which region counts.
@@ -60,8 +60,8 @@ fn print_check<O: Sink>(
 
 /// Says which region counts, and its sizes, or why the heap is refused.
 fn check_counted<D: Device, O: Sink>(alloc: Global, device: &mut D, out: &mut O) -> Status
-    ensures answered { (file : List ℕ) → IsAnswered D.shown O.shown (Check file None)
-        device.old device.new out.old out.new (number_of result) }
+    ensures answered { (file : List ℕ) → IsCommandAnswered D.shown O.shown (Check file None)
+        device.old device.new out.old out.new (exit_number result) }
     ensures only { OnlyReads D.shown device.old device.new }
     ensures rest { O.shown.rest out.new ≡ O.shown.rest out.old }
 {
@@ -81,8 +81,8 @@ fn check_region<D: Device, O: Sink>(
     region: Region,
     out: &mut O,
 ) -> Status
-    ensures answered { (file : List ℕ) → IsAnswered D.shown O.shown (Check file (Some region))
-        device.old device.new out.old out.new (number_of result) }
+    ensures answered { (file : List ℕ) → IsCommandAnswered D.shown O.shown (Check file (Some region))
+        device.old device.new out.old out.new (exit_number result) }
     ensures only { OnlyReads D.shown device.old device.new }
     ensures rest { O.shown.rest out.new ≡ O.shown.rest out.old }
 {
@@ -103,8 +103,8 @@ pub fn check_heap<D: Device, O: Sink>(
     from: Option<Region>,
     out: &mut O,
 ) -> Status
-    ensures answered { (file : List ℕ) → IsAnswered D.shown O.shown (Check file from)
-        device.old device.new out.old out.new (number_of result) }
+    ensures answered { (file : List ℕ) → IsCommandAnswered D.shown O.shown (Check file from)
+        device.old device.new out.old out.new (exit_number result) }
     ensures only { OnlyReads D.shown device.old device.new }
     ensures rest { O.shown.rest out.new ≡ O.shown.rest out.old }
 {

@@ -1,6 +1,6 @@
 //! The top call: all that the program does.
-ghost use Rattle.rom_dump.specs.Promise.{Promise};
-ghost use Rattle.rom_dump.specs.Words.{command};
+ghost use Rattle.rom_dump.specs.Promise.{DumpPromise};
+ghost use Rattle.rom_dump.specs.Words.{dump_command};
 
 use crate::check::check_heap;
 use crate::script::show_script;
@@ -17,7 +17,7 @@ use std::alloc::Global;
 /// Words that are no command make no call of the device.
 pub fn dump<D: Device, O: Sink>(alloc: Global, words: &Names, device: &mut D, out: &mut O) -> u8
     // All that is promised of the command that the words are; the record's fields say it one by one.
-    ensures promise { Promise D.shown O.shown (command words.now) device.old device.new
+    ensures promise { DumpPromise D.shown O.shown (dump_command words.now) device.old device.new
         out.old out.new result }
 {
     let Some(asked) = read_dump(words) else {

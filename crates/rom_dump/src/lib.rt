@@ -2,6 +2,9 @@
 //! lines that make it again, `check FILE` says which region counts and why, and the sizes. Of a damaged heap
 //! both show one region by itself, where `--from` names it.
 //!
+//! It knows what the heap of a queue, a set and a map holds, and two commands; it knows no shared word, and
+//! writes to no device.
+//!
 //! `dump` does all that the program does. Its contract promises that the device is only read, that what is told
 //! is what the region that counts stands for, whatever an update in its midst has left, and of a refusal the
 //! very one that an opening tells of the same words. Where a region is named, what is told is what that one

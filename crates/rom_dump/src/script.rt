@@ -5,32 +5,30 @@ ghost use Rattle.rom_model.specs.Region.{Contents};
 ghost use Rattle.rom_model.specs.State as model;
 ghost use Rattle.rom_device.specs.Device.{OnlyReads};
 ghost use Rattle.rom_dump.specs.Named.{IsPartNumber};
-ghost use Rattle.rom_dump.specs.Shown.{EndsAsText, EndsAsWhole, IsAnswered, IsPutAgain, too_long_line};
+ghost use Rattle.rom_dump.specs.Shown.{EndsAsText, EndsAsWhole, IsCommandAnswered, IsPutAgain, too_long_line};
 ghost use Rattle.rom_dump.specs.Words.{Script};
 ghost use Rattle.rom_open.specs.declared.reasons.Why.TheVariants.{OutOfMemory};
 ghost use Rattle.rom_rebuild.specs.Parts.{lines_in};
-ghost use Rattle.rom_rebuild.specs.Script.{script_of};
+ghost use Rattle.rom_rebuild.specs.Script.{elements_script};
 ghost use Rattle.rom_run.specs.Refusing.{refusal_line};
-ghost use Rattle.rom_run.specs.Statuses.{number_of};
-ghost use Rattle.rom_text.specs.Runs.{IsTold};
+ghost use Rattle.rom_run.specs.Statuses.{exit_number};
+ghost use Rattle.rom_text.specs.Runs.{IsLineTold};
 
 use crate::refusing::refuse;
 use itoa::Buffer;
 use rom_device::Device;
-use rom_elements::Elements;
 use rom_heap::Trio;
 use rom_model::VecSpace;
-use rom_open::Why;
-use rom_rebuild::Part;
+use rom_open::{Region, Why, view_device, view_region};
+use rom_rebuild::{Elements, Part};
 use rom_run::{Status, tell};
 use rom_text::{Sink, print_gathered};
-use rom_view::{Region, view_device, view_region};
 use std::alloc::Global;
 
 /// Says that a script is too long, and how many parts it has.
 fn tell_too_long<O: Sink>(parts: u64, out: &mut O) -> Status
     ensures status { result ≡ Status.ScriptTooLong }
-    ensures told { IsTold O.shown out.old out.new (too_long_line parts) }
+    ensures told { IsLineTold O.shown out.old out.new (too_long_line parts) }
     ensures rest { O.shown.rest out.new ≡ O.shown.rest out.old }
 {
     tell(
@@ -42,8 +40,8 @@ fn tell_too_long<O: Sink>(parts: u64, out: &mut O) -> Status
 
 /// Prints the lines of a part.
 fn print_part<O: Sink>(part: &Part, out: &mut O) -> Status
-    ensures text { EndsAsText O.shown (script_of (lines_in part.now)) out.old out.new
-        (number_of result) }
+    ensures text { EndsAsText O.shown (elements_script (lines_in part.now)) out.old out.new
+        (exit_number result) }
     ensures rest { O.shown.rest out.new ≡ O.shown.rest out.old }
 {
     match print_gathered(out, part) {
@@ -54,7 +52,7 @@ fn print_part<O: Sink>(part: &Part, out: &mut O) -> Status
 
 /// Prints the lines of a whole script, or how many parts it has where it is too long for one.
 fn print_whole<O: Sink>(whole: &Part, out: &mut O) -> Status
-    ensures text { EndsAsWhole O.shown (lines_in whole.now) out.old out.new (number_of result) }
+    ensures text { EndsAsWhole O.shown (lines_in whole.now) out.old out.new (exit_number result) }
     ensures rest { O.shown.rest out.new ≡ O.shown.rest out.old }
 {
     if !whole.fits() {
@@ -75,8 +73,8 @@ fn print_script<O: Sink>(
     requires region { (s : model.State) × (k : ℕ) × Contents order image.items s k }
     requires part { IfSome part IsPartNumber }
     ensures printed { (s : model.State) (k : ℕ) → Contents order image.items s k →
-        IsPutAgain O.shown order s part out.old out.new (number_of result)
-        ⊎ ((result ≡ Status.NoMemory) × IsTold O.shown out.old out.new (refusal_line OutOfMemory)) }
+        IsPutAgain O.shown order s part out.old out.new (exit_number result)
+        ⊎ ((result ≡ Status.NoMemory) × IsLineTold O.shown out.old out.new (refusal_line OutOfMemory)) }
     ensures rest { O.shown.rest out.new ≡ O.shown.rest out.old }
 {
     let mut space = VecSpace::of(image);
@@ -97,8 +95,8 @@ fn show_counted<D: Device, O: Sink>(
     out: &mut O,
 ) -> Status
     requires { IfSome part IsPartNumber }
-    ensures answered { (file : List ℕ) → IsAnswered D.shown O.shown (Script file None part)
-        device.old device.new out.old out.new (number_of result) }
+    ensures answered { (file : List ℕ) → IsCommandAnswered D.shown O.shown (Script file None part)
+        device.old device.new out.old out.new (exit_number result) }
     ensures only { OnlyReads D.shown device.old device.new }
     ensures rest { O.shown.rest out.new ≡ O.shown.rest out.old }
 {
@@ -117,9 +115,9 @@ fn show_region<D: Device, O: Sink>(
     out: &mut O,
 ) -> Status
     requires { IfSome part IsPartNumber }
-    ensures answered { (file : List ℕ) → IsAnswered D.shown O.shown
+    ensures answered { (file : List ℕ) → IsCommandAnswered D.shown O.shown
         (Script file (Some region) part)
-        device.old device.new out.old out.new (number_of result) }
+        device.old device.new out.old out.new (exit_number result) }
     ensures only { OnlyReads D.shown device.old device.new }
     ensures rest { O.shown.rest out.new ≡ O.shown.rest out.old }
 {
@@ -139,8 +137,8 @@ pub fn show_script<D: Device, O: Sink>(
     out: &mut O,
 ) -> Status
     requires { IfSome part IsPartNumber }
-    ensures answered { (file : List ℕ) → IsAnswered D.shown O.shown (Script file from part)
-        device.old device.new out.old out.new (number_of result) }
+    ensures answered { (file : List ℕ) → IsCommandAnswered D.shown O.shown (Script file from part)
+        device.old device.new out.old out.new (exit_number result) }
     ensures only { OnlyReads D.shown device.old device.new }
     ensures rest { O.shown.rest out.new ≡ O.shown.rest out.old }
 {

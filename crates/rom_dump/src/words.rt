@@ -1,14 +1,14 @@
 //! The words of the command line: `script` or `check` with a file, then the region where one is named, and of
 //! `script` the part where one is asked for.
 ghost use Rattle.std.specs.Prelude.{◌≡◌, IfSome};
-ghost use Rattle.rom_dump.specs.Named.{AsksForPart, IsPartNumber, named, named_file};
-ghost use Rattle.rom_dump.specs.Words.{command, file_of};
+ghost use Rattle.rom_dump.specs.Named.{AsksForPart, IsPartNumber, named_dump, named_file};
+ghost use Rattle.rom_dump.specs.Words.{dump_command, file_of};
 ghost use Rattle.rom_dump.specs.Words as asks;
 
+use rom_open::Region;
 use rom_rebuild::MOST_PARTS;
 use rom_run::is_name;
 use rom_text::{Name, Names, read_within};
-use rom_view::Region;
 
 /// What the words ask for. No name is empty or begins with a dash.
 #[derive(Clone, Copy, Debug)]
@@ -84,7 +84,7 @@ fn read_options(words: &[Name]) -> Option<(Option<Region>, Option<u64>)>
 
 /// What the words behind `script` ask for.
 fn read_script(words: &[Name]) -> Option<Dump<'_>>
-    ensures named { named result ≡ asks.script_words words.now }
+    ensures named { named_dump result ≡ asks.script_words words.now }
     ensures part { IfSome result AsksForPart }
 {
     let (file, options) = words.split_first()?;
@@ -97,7 +97,7 @@ fn read_script(words: &[Name]) -> Option<Dump<'_>>
 
 /// Behind `check`, which has no parts.
 fn read_check(words: &[Name]) -> Option<Dump<'_>>
-    ensures named { named result ≡ asks.check_words words.now }
+    ensures named { named_dump result ≡ asks.check_words words.now }
     ensures part { IfSome result AsksForPart }
 {
     let (file, options) = words.split_first()?;
@@ -112,7 +112,7 @@ fn read_check(words: &[Name]) -> Option<Dump<'_>>
 
 /// The command that the words are. It takes no memory.
 pub fn read_dump(words: &Names) -> Option<Dump<'_>>
-    ensures named { named result ≡ command words.now }
+    ensures named { named_dump result ≡ dump_command words.now }
     ensures part { IfSome result AsksForPart }
 {
     let (name, words) = words.as_slice().split_first()?;
@@ -125,7 +125,7 @@ pub fn read_dump(words: &Names) -> Option<Dump<'_>>
 
 /// The file whose heap the words ask `main` to open for reading.
 pub fn dump_file(words: &Names) -> Option<&Name>
-    ensures { named_file result ≡ file_of (command words.now) }
+    ensures { named_file result ≡ file_of (dump_command words.now) }
 {
     match read_dump(words)? {
         Dump::Script { file, .. } | Dump::Check { file, .. } => Some(file),

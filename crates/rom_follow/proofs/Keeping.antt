@@ -21,11 +21,11 @@ use Rattle.rom_model.specs.declared.record.Found.{Found}
 use Rattle.rom_frame.specs.declared.frame.Frame.{Frame}
 use Rattle.rom_rule.specs.Views.{Told}
 use Rattle.rom_rule.specs.declared.views.Base.{Base}
-use Rattle.rom_follow.specs.Followed.{Followed, HasDone}
-use Rattle.rom_follow.specs.Following.{AgreesBelow, AreFirstOf, AreTries, Follows, state_after, update_of}
-use Rattle.rom_follow.specs.Taking.{AreTaken, Gives, Takes, IsNext, found_at}
-use Rattle.rom_follow.specs.declared.taken.Taken.{Taken}
-use Rattle.rom_follow.specs.declared.taken.Taken.TheVariants.{Applied, Known, Early, NotAFrame, Diverged, Spent, Failed, Doubt}
+use Rattle.rom_follow.specs.Followed.{Followed, HasDoneUpdates}
+use Rattle.rom_follow.specs.Following.{AgreesBelow, AreFirstOf, AreTries, FollowsHistory, state_after_first, update_of}
+use Rattle.rom_follow.specs.Taking.{AreTaken, TakesFrame, TakesMessage, IsNextFrame, found_at}
+use Rattle.rom_follow.specs.declared.taken.MessageTaken.{MessageTaken}
+use Rattle.rom_follow.specs.declared.taken.MessageTaken.TheVariants.{Applied, Known, Early, NotAFrame, Diverged, Spent, Failed, Doubt}
 use Rattle.rom_follow.proofs.Histories.{from_element, legal_drop, legal_take}
 use Rattle.rom_follow.proofs.Tried.{done_args, same_replies}
 
@@ -53,11 +53,11 @@ args_in k [] = refl
 args_in k (x ∷ xs) = ap (λ ys. x.args ∷ ys) (args_in (k + 1) xs)
 
 -- how many were done
-pub many_done : (order : ℕ) (s : State) (k : ℕ) (f : Followed) → HasDone order s k f → length (done_in f.tried) ≡ length f.history
+pub many_done : (order : ℕ) (s : State) (k : ℕ) (f : Followed) → HasDoneUpdates order s k f → length (done_in f.tried) ≡ length f.history
 many_done order s k f done = ap length (sym done.done) ∙ length-enumerate_from k f.history
 
 -- what was tried of a legal history and done is its first part, with its replies
-pub first_of : (order : ℕ) (s : State) (k : ℕ) (es : List Entry) (f : Followed) → IsLegal (on_words trio) order s k es → HasDone order s k f → AreTries es f.tried → AreFirstOf es f.history
+pub first_of : (order : ℕ) (s : State) (k : ℕ) (es : List Entry) (f : Followed) → IsLegal (on_words trio) order s k es → HasDoneUpdates order s k f → AreTries es f.tried → AreFirstOf es f.history
 first_of order s k es f legal done tries =
     let args : map (λ e. e.args) f.history ≡ map (λ e. e.args) (take (length f.history) es) =
     sym (args_in k f.history) ∙ ap (λ xs. map (λ x. x.1.args) xs) done.done ∙ done_args es f.tried tries ∙ ap (λ (n : ℕ). map (λ e. e.args) (take n es)) (many_done order s k f done) in
@@ -65,21 +65,21 @@ first_of order s k es f legal done tries =
 
 module _ (base : Base) (s0 : State) (n0 : ℕ) (history : List Entry) (first : ℕ) (legal : IsLegal (on_words trio) base.order s0 n0 history) where
   -- the follower with what it tried besides
-  with_tries : (w v : Followed) → Follows base s0 n0 history first w → HasDone base.order (state_after base.order s0 n0 history first) (n0 + first) v → AreTries (drop first history) v.tried → v.diverged ≡ None → Follows base s0 n0 history first v
+  with_tries : (w v : Followed) → FollowsHistory base s0 n0 history first w → HasDoneUpdates base.order (state_after_first base.order s0 n0 history first) (n0 + first) v → AreTries (drop first history) v.tried → v.diverged ≡ None → FollowsHistory base s0 n0 history first v
   with_tries w v follows done tries agrees = record {
     within = follows.within;
     opening = follows.opening;
-    entries = first_of base.order (state_after base.order s0 n0 history first) (n0 + first) (drop first history) v (legal_drop (on_words trio) base.order s0 n0 first history follows.within legal) done tries;
+    entries = first_of base.order (state_after_first base.order s0 n0 history first) (n0 + first) (drop first history) v (legal_drop (on_words trio) base.order s0 n0 first history follows.within legal) done tries;
     tries = tries;
     agrees = agrees;
   }
 
-  module _ (f : Frame) (w v : Followed) (follows : Follows base s0 n0 history first w) (had : HasDone base.order (state_after base.order s0 n0 history first) (n0 + first) w) (done : HasDone base.order (state_after base.order s0 n0 history first) (n0 + first) v)
+  module _ (f : Frame) (w v : Followed) (follows : FollowsHistory base s0 n0 history first w) (had : HasDoneUpdates base.order (state_after_first base.order s0 n0 history first) (n0 + first) w) (done : HasDoneUpdates base.order (state_after_first base.order s0 n0 history first) (n0 + first) v)
       (at : ℕ) (e : Entry) (stands : slice_get history at ≡ Some e) (place : f.place ≡ n0 + at) (args : call_words f.call ≡ e.args) (reply : reply_words f.reply ≡ e.reply) where
     -- the entry of the frame is that which comes next
     comes_next : f.place ≡ w.count → drop (length (done_in w.tried)) (drop first history) ≡ e ∷ drop (at + 1) history
     comes_next here =
-        let index : first + length (done_in w.tried) ≡ at = omega (arith, here, place, had.count_is, many_done base.order (state_after base.order s0 n0 history first) (n0 + first) w had) in
+        let index : first + length (done_in w.tried) ≡ at = omega (arith, here, place, had.count_is, many_done base.order (state_after_first base.order s0 n0 history first) (n0 + first) w had) in
         drop-drop (length (done_in w.tried)) first history ∙ ap (λ (n : ℕ). drop n history) index ∙ from_element history at e stands
 
     tried_next : f.place ≡ w.count → (u : Updated (List ℕ)) → v.tried ≡ w.tried ++ (found_at (length w.tried) f.call, u) ∷ [] → AreTries (drop first history) v.tried
@@ -91,7 +91,7 @@ module _ (base : Base) (s0 : State) (n0 : ℕ) (history : List Entry) (first : �
         let long : length v.history ≡ suc (length w.history) = omega (arith, ap length more, length-append w.history (record { caller = 1; seq = length w.tried; args = call_words f.call; reply = ours } ∷ [])) in
         last_told w.history (drop first history) (record { caller = 1; seq = length w.tried; args = call_words f.call; reply = ours }) e (drop (at + 1) history)
         (subst (λ (n : ℕ). map update_of (w.history ++ record { caller = 1; seq = length w.tried; args = call_words f.call; reply = ours } ∷ []) ≡ map update_of (take n (drop first history))) long (subst (λ (xs : List Entry). map update_of xs ≡ map update_of (take (length v.history) (drop first history))) more entries))
-        (subst (λ (n : ℕ). drop n (drop first history) ≡ e ∷ drop (at + 1) history) (many_done base.order (state_after base.order s0 n0 history first) (n0 + first) w had) (comes_next here))
+        (subst (λ (n : ℕ). drop n (drop first history) ≡ e ∷ drop (at + 1) history) (many_done base.order (state_after_first base.order s0 n0 history first) (n0 + first) w had) (comes_next here))
       where
         last_told : (xs es : List Entry) (x e : Entry) (rest : List Entry) → map update_of (xs ++ x ∷ []) ≡ map update_of (take (suc (length xs)) es) → drop (length xs) es ≡ e ∷ rest → x.reply ≡ e.reply
         last_told [] [] x e rest same next = absurd (let long : 0 ≡ suc (length rest) = ap length next in omega (arith, long))
@@ -99,33 +99,33 @@ module _ (base : Base) (s0 : State) (n0 : ℕ) (history : List Entry) (first : �
         last_told (y ∷ xs) [] x e rest same next = absurd (let long : 0 ≡ suc (length rest) = ap length next in omega (arith, long))
         last_told (y ∷ xs) (d ∷ es) x e rest same next = last_told xs es x e rest (let tail : map update_of (xs ++ x ∷ []) ≡ map update_of (take (suc (length xs)) es) = cc in tail) next
 
-    by_answer : (answer : Taken) → f.place ≡ w.count → IsNext f w answer v → Follows base s0 n0 history first v × AgreesBelow v.count answer
+    by_answer : (answer : MessageTaken) → f.place ≡ w.count → IsNextFrame f w answer v → FollowsHistory base s0 n0 history first v × AgreesBelow v.count answer
     by_answer (Applied p) here next =
         let tries = tried_next here (updated.Done (reply_words f.reply) w.count) (ap (λ (x : Followed). x.tried) next.1) in
         (with_tries w v follows done tries (ap (λ (x : Followed). x.diverged) next.1 ∙ follows.agrees), omega (arith, next.0, here, ap (λ (x : Followed). x.count) next.1))
     by_answer (Diverged p ours theirs) here next =
         let tries = tried_next here (updated.Done (reply_words ours) w.count) (ap (λ (x : Followed). x.tried) next.3) in
-        let entries = first_of base.order (state_after base.order s0 n0 history first) (n0 + first) (drop first history) v (legal_drop (on_words trio) base.order s0 n0 first history follows.within legal) done tries in
+        let entries = first_of base.order (state_after_first base.order s0 n0 history first) (n0 + first) (drop first history) v (legal_drop (on_words trio) base.order s0 n0 first history follows.within legal) done tries in
         absurd (next.2 (same_told here (reply_words ours) (ap (λ (x : Followed). x.history) next.3) entries ∙ sym reply ∙ ap reply_words (sym next.1)))
     by_answer Spent here (inl next) = (with_tries w v follows done (tried_next here updated.Spent (ap (λ (x : Followed). x.tried) next.1)) (ap (λ (x : Followed). x.diverged) next.1 ∙ follows.agrees), tt)
-    by_answer Spent here (inr next) = (subst (Follows base s0 n0 history first) (sym next.1) follows, tt)
+    by_answer Spent here (inr next) = (subst (FollowsHistory base s0 n0 history first) (sym next.1) follows, tt)
     by_answer Failed here next = (with_tries w v follows done (tried_next here updated.Failed (ap (λ (x : Followed). x.tried) next)) (ap (λ (x : Followed). x.diverged) next ∙ follows.agrees), tt)
     by_answer Doubt here next = (with_tries w v follows done (tried_next here updated.Doubt (ap (λ (x : Followed). x.tried) next)) (ap (λ (x : Followed). x.diverged) next ∙ follows.agrees), tt)
     by_answer (Known p) here next = absurd next
     by_answer (Early p want) here next = absurd next
     by_answer NotAFrame here next = absurd next
 
-    pub keeps : (answer : Taken) → Gives f w answer v → Follows base s0 n0 history first v × AgreesBelow v.count answer
+    pub keeps : (answer : MessageTaken) → TakesFrame f w answer v → FollowsHistory base s0 n0 history first v × AgreesBelow v.count answer
     keeps answer gives = elim (cases_lt f.place w.count) [
       | inl lt ↦ let known = gives.known lt in
-          (subst (Follows base s0 n0 history first) (sym known.1) follows, subst (AgreesBelow v.count) (sym known.0) (omega (arith, lt, ap (λ (x : Followed). x.count) known.1)))
+          (subst (FollowsHistory base s0 n0 history first) (sym known.1) follows, subst (AgreesBelow v.count) (sym known.0) (omega (arith, lt, ap (λ (x : Followed). x.count) known.1)))
       | inr le ↦ elim (cases_lt w.count f.place) [
-        | inl gt ↦ let early = gives.early gt in (subst (Follows base s0 n0 history first) (sym early.1) follows, subst (AgreesBelow v.count) (sym early.0) tt)
+        | inl gt ↦ let early = gives.early gt in (subst (FollowsHistory base s0 n0 history first) (sym early.1) follows, subst (AgreesBelow v.count) (sym early.0) tt)
         | inr ge ↦ let here : f.place ≡ w.count = omega (arith, le, ge) in by_answer answer here (gives.next here)
       ]
     ]
 
-pub below_more : (a b : ℕ) → a ≤ b → (t : Taken) → AgreesBelow a t → AgreesBelow b t
+pub below_more : (a b : ℕ) → a ≤ b → (t : MessageTaken) → AgreesBelow a t → AgreesBelow b t
 below_more a b rises (Applied place) below = omega (arith, rises, below)
 below_more a b rises (Known place) below = omega (arith, rises, below)
 below_more a b rises (Early place want) below = tt
@@ -136,16 +136,16 @@ below_more a b rises Failed below = tt
 below_more a b rises Doubt below = tt
 
 -- the answers so far, with one more
-pub answers_more : (a b i : ℕ) (answers : List Taken) (t : Taken) → a ≤ b → i < length answers → ((k : ℕ) (d : Taken) → k < i → AgreesBelow a (get_or answers k d)) → AgreesBelow b t
-    → (k : ℕ) (d : Taken) → k < i + 1 → AgreesBelow b (get_or (set answers i t) k d)
+pub answers_more : (a b i : ℕ) (answers : List MessageTaken) (t : MessageTaken) → a ≤ b → i < length answers → ((k : ℕ) (d : MessageTaken) → k < i → AgreesBelow a (get_or answers k d)) → AgreesBelow b t
+    → (k : ℕ) (d : MessageTaken) → k < i + 1 → AgreesBelow b (get_or (set answers i t) k d)
 answers_more a b i answers t rises within so_far last k d low = elim (cases_lt k i) [
   | inl lt ↦ subst (AgreesBelow b) (sym (get_or-set_other answers i k t d (λ same. omega (arith, same, lt)))) (below_more a b rises (get_or answers k d) (so_far k d lt))
   | inr le ↦ let same : k ≡ i = omega (arith, low, le) in subst (AgreesBelow b) (sym (get_or-set_at answers i k t d same within)) last
 ]
 
 -- one message more
-pub taken_more : (messages : List (Vec ℕ)) (old mid new : Followed) (answers : List Taken) (m : Vec ℕ) (a : Taken) → AreTaken messages old answers mid → Takes m.items mid a new → AreTaken (messages ++ m ∷ []) old (answers ++ a ∷ []) new
-taken_more [] old mid new [] m a so_far next = (new, subst (λ (x : Followed). Takes m.items x a new) so_far next, refl)
+pub taken_more : (messages : List (Vec ℕ)) (old mid new : Followed) (answers : List MessageTaken) (m : Vec ℕ) (a : MessageTaken) → AreTaken messages old answers mid → TakesMessage m.items mid a new → AreTaken (messages ++ m ∷ []) old (answers ++ a ∷ []) new
+taken_more [] old mid new [] m a so_far next = (new, subst (λ (x : Followed). TakesMessage m.items x a new) so_far next, refl)
 taken_more [] old mid new (b ∷ answers) m a so_far next = absurd so_far
 taken_more (n ∷ messages) old mid new [] m a so_far next = absurd so_far
 taken_more (n ∷ messages) old mid new (b ∷ answers) m a so_far next = (so_far.0, so_far.1, taken_more messages so_far.0 mid new answers m a so_far.2 next)

@@ -17,7 +17,7 @@ use Rattle.rom_model.specs.declared.record.Found.{Found}
 use Rattle.rom_model.specs.declared.record.PassRecord.{PassRecord}
 use Rattle.rom_model.proofs.Placed.{done_in_append, history_placed}
 use Rattle.rom_rule.specs.Views.{Told}
-use Rattle.rom_follow.specs.Closing.{ArePassesOf, Tells}
+use Rattle.rom_follow.specs.Closing.{ArePassesOf, TellsUpdate}
 use Rattle.rom_follow.proofs.Alike.{is_one}
 
 -- the found update is of a caller from 1 to 1
@@ -33,11 +33,11 @@ one_found [] some rising own = absurd (omega (arith, some))
 one_found (f ∷ []) some rising own = (f, refl, own.0)
 one_found (f ∷ g ∷ fs) some rising own = absurd (omega (arith, rising.0, rising.1.0, own.1.0.1))
 
-batch_tells : (k : ℕ) (f : Found) (es : List Entry) → (u : Updated (List ℕ)) × (batch_told k (f ∷ []) es ≡ (f, u) ∷ []) × Tells Published u
+batch_tells : (k : ℕ) (f : Found) (es : List Entry) → (u : Updated (List ℕ)) × (batch_told k (f ∷ []) es ≡ (f, u) ∷ []) × TellsUpdate Published u
 batch_tells k f [] = (updated.Spent, refl, tt)
 batch_tells k f (e ∷ es) = (updated.Done e.reply k, refl, tt)
 
-fate_tells : (ended : Fate) (k : ℕ) (f : Found) (es : List Entry) → (u : Updated (List ℕ)) × (fate_told ended k (f ∷ []) es ≡ (f, u) ∷ []) × Tells ended u
+fate_tells : (ended : Fate) (k : ℕ) (f : Found) (es : List Entry) → (u : Updated (List ℕ)) × (fate_told ended k (f ∷ []) es ≡ (f, u) ∷ []) × TellsUpdate ended u
 fate_tells Published k f es = batch_tells k f es
 fate_tells Failed k f es = (updated.Failed, refl, tt)
 fate_tells Doubt k f es = (updated.Doubt, refl, tt)
@@ -47,7 +47,7 @@ own_filter x own = rw (is_one x.0.caller own) refl
 
 module _ {S : Type 0} (step : ℕ → S → ℕ → List ℕ → Option (S × List ℕ)) (order : ℕ) where
   -- what a pass told its one update
-  pub told_one : (s : S) (k : ℕ) (r : PassRecord) → 0 < length r.found → AreRising 0 r.found → AreOwn r → (f : Found) × (u : Updated (List ℕ)) × (r.found ≡ f ∷ []) × (fate_told r.fate k r.found (batch step order s k r.found) ≡ (f, u) ∷ []) × Tells r.fate u × IsOwn f
+  pub told_one : (s : S) (k : ℕ) (r : PassRecord) → 0 < length r.found → AreRising 0 r.found → AreOwn r → (f : Found) × (u : Updated (List ℕ)) × (r.found ≡ f ∷ []) × (fate_told r.fate k r.found (batch step order s k r.found) ≡ (f, u) ∷ []) × TellsUpdate r.fate u × IsOwn f
   told_one s k r some rising own =
       let one = one_found r.found some rising own in
       let told = fate_tells r.fate k one.0 (batch step order s k r.found) in
@@ -86,7 +86,7 @@ module _ {S : Type 0} (step : ℕ → S → ℕ → List ℕ → Option (S × Li
       let more : List Entry = added step order s k pass in
       let told = told_one s k pass in_order.1 in_order.2 own.0 in
       let others : List Told = all_told step order (after step order s k more) (k + length more) since in
-      let is : told.1 ≡ updated.Doubt = in_doubt told.1 (subst (λ (e : Fate). Tells e told.1) fate_is told.4) in
+      let is : told.1 ≡ updated.Doubt = in_doubt told.1 (subst (λ (e : Fate). TellsUpdate e told.1) fate_is told.4) in
       let none : more ≡ [] = ap (λ (e : Fate). published e (batch step order s k pass.found)) fate_is in
       record {
         found = told.0;
@@ -97,7 +97,7 @@ module _ {S : Type 0} (step : ℕ → S → ℕ → List ℕ → Option (S × Li
         len_is = in_order.0 ∙ ap (λ (n : ℕ). len + n) (ap length none);
       }
     where
-      in_doubt : (u : Updated (List ℕ)) → Tells Doubt u → u ≡ updated.Doubt
+      in_doubt : (u : Updated (List ℕ)) → TellsUpdate Doubt u → u ≡ updated.Doubt
       in_doubt (updated.Done reply place) tells = absurd tells
       in_doubt updated.Spent tells = absurd tells
       in_doubt updated.Failed tells = absurd tells

@@ -12,8 +12,8 @@ use Rattle.rom_rule.specs.declared.views.Base.{Base}
 use Rattle.rom_store.specs.Callers.{Caller, IsNewCaller}
 use Rattle.rom_store.specs.Indexed.{Indexed}
 use Rattle.rom_follow.specs.Alone.{IsAlone, IsFollower, followed}
-use Rattle.rom_follow.specs.Followed.{Followed, HasDone}
-use Rattle.rom_follow.specs.Following.{AreFirstOf, AreTries, Follows, state_after}
+use Rattle.rom_follow.specs.Followed.{Followed, HasDoneUpdates}
+use Rattle.rom_follow.specs.Following.{AreFirstOf, AreTries, FollowsHistory, state_after_first}
 use Rattle.rom_model.specs.declared.entry.Entry.{Entry}
 use Rattle.rom_rule.specs.Views.{Told}
 
@@ -30,7 +30,7 @@ only_one (x ∷ y ∷ passes) q one = absurd (omega (arith, one))
 pub new_alone : (table : TableId) (base : Base) (p : Caller) → base.callers ≡ 1 → (s : State) × (k : ℕ) × Contents base.order base.image s k → IsNewCaller Contents table base 0 p → IsAlone table base p
 new_alone table base p one formed new = record { one = one; formed = formed; numbered = new.numbered }
 
-pub new_done : (order : ℕ) (image : List ℕ) (s : State) (k count : ℕ) (q : Caller) → ((order : ℕ) (words : List ℕ) (s : State) (k : ℕ) → Contents order words s k → k ≤ LAST_COUNT) → Contents order image s k → count ≡ k → q.view.outcomes ≡ [] → q.view.seen ≡ [] → HasDone order s k (followed count (q ∷ []) None)
+pub new_done : (order : ℕ) (image : List ℕ) (s : State) (k count : ℕ) (q : Caller) → ((order : ℕ) (words : List ℕ) (s : State) (k : ℕ) → Contents order words s k → k ≤ LAST_COUNT) → Contents order image s k → count ≡ k → q.view.outcomes ≡ [] → q.view.seen ≡ [] → HasDoneUpdates order s k (followed count (q ∷ []) None)
 new_done order image s k count q within held is none unseen = record {
   legal = rw unseen tt;
   count_is = omega (arith, is, ap length unseen);
@@ -50,7 +50,7 @@ new_follower table base passes q count one within alone none unseen is =
 
 -- one that has done and tried nothing follows each history of which its heap has the state and the count after a prefix
 pub none_follows : (base : Base) (s0 : State) (n0 : ℕ) (history : List Entry) (first : ℕ) (f : Followed) → f.history ≡ [] → f.tried ≡ [] → f.diverged ≡ None → first ≤ length history
-    → Contents base.order base.image (state_after base.order s0 n0 history first) (n0 + first) → Follows base s0 n0 history first f
+    → Contents base.order base.image (state_after_first base.order s0 n0 history first) (n0 + first) → FollowsHistory base s0 n0 history first f
 none_follows base s0 n0 history first f unseen untried agrees within held = record {
   within = within;
   opening = held;

@@ -22,12 +22,12 @@ use Rattle.rom_rule.specs.Views.{Told}
 use Rattle.rom_rule.specs.declared.views.Base.{Base}
 use Rattle.rom_store.specs.Callers.{Caller}
 use Rattle.rom_follow.specs.Alone.{IsAlone, IsFollower, IsOutcome, followed, seen_by, tried_by}
-use Rattle.rom_follow.specs.Answers.{IsAnswer, done_by, parted_by}
-use Rattle.rom_follow.specs.Followed.{Followed, HasDone}
-use Rattle.rom_follow.specs.Taking.{IsNext, entry_at, found_at}
+use Rattle.rom_follow.specs.Answers.{IsFrameAnswer, parted_by, updates_done}
+use Rattle.rom_follow.specs.Followed.{Followed, HasDoneUpdates}
+use Rattle.rom_follow.specs.Taking.{IsNextFrame, entry_at, found_at}
 use Rattle.rom_follow.specs.declared.taken.Divergence.{Divergence}
-use Rattle.rom_follow.specs.declared.taken.Taken.{Taken}
-use Rattle.rom_follow.specs.declared.taken.Taken.TheVariants.{Applied, Known, Early, NotAFrame, Diverged, Spent, Failed, Doubt}
+use Rattle.rom_follow.specs.declared.taken.MessageTaken.{MessageTaken}
+use Rattle.rom_follow.specs.declared.taken.MessageTaken.TheVariants.{Applied, Known, Early, NotAFrame, Diverged, Spent, Failed, Doubt}
 use Rattle.rom_follow.proofs.Alone.{seen_is_done}
 
 -- the caller that stands in the list of one
@@ -57,16 +57,16 @@ module _ (table : TableId) (base : Base) (f : Frame) (p q : Caller) (count : ℕ
     pub tried : length p.view.outcomes < LAST_COUNT → q.view.outcomes ≡ p.view.outcomes ++ (found_at (length p.view.outcomes) f.call, as_words trio told) ∷ []
     pub is_told : length p.view.outcomes < LAST_COUNT → IsTold Contents (on_words trio) base (found_at (length p.view.outcomes) f.call, as_words trio told) (length p.view.seen) p.view.seen q.view.seen
     pub outcome : length p.view.outcomes < LAST_COUNT → (s : State) (k : ℕ) → Contents base.order base.image s k → IsOutcome base.order s k f.call p.view told q.view
-    pub done : (s : State) (k : ℕ) → Contents base.order base.image s k → HasDone base.order s k (followed count (p ∷ []) None)
+    pub done : (s : State) (k : ℕ) → Contents base.order base.image s k → HasDoneUpdates base.order s k (followed count (p ∷ []) None)
 
   abbrev pub as_was : Followed
   as_was = followed count (p ∷ []) None
 
-  abbrev pub as_is : Taken → Followed
-  as_is taken = followed (count + done_by taken) (q ∷ []) (parted_by taken)
+  abbrev pub as_is : MessageTaken → Followed
+  as_is taken = followed (count + updates_done taken) (q ∷ []) (parted_by taken)
 
-  posted : (told : Updated Reply) (taken : Taken) (s : State) (k : ℕ) → HasDone base.order s k as_was → f.place ≡ count → IsAnswer f.reply told taken
-      → q.view.outcomes ≡ p.view.outcomes ++ (found_at (length p.view.outcomes) f.call, as_words trio told) ∷ [] → IsOutcome base.order s k f.call p.view told q.view → IsNext f as_was taken (as_is taken)
+  posted : (told : Updated Reply) (taken : MessageTaken) (s : State) (k : ℕ) → HasDoneUpdates base.order s k as_was → f.place ≡ count → IsFrameAnswer f.reply told taken
+      → q.view.outcomes ≡ p.view.outcomes ++ (found_at (length p.view.outcomes) f.call, as_words trio told) ∷ [] → IsOutcome base.order s k f.call p.view told q.view → IsNextFrame f as_was taken (as_is taken)
   posted (updated.Done ours at) (Applied place) s k done is answer tried outcome =
       let here : at ≡ count = outcome.0 ∙ sym done.count_is in (
         answer.0 ∙ here ∙ sym is,
@@ -122,7 +122,7 @@ module _ (table : TableId) (base : Base) (f : Frame) (p q : Caller) (count : ℕ
   posted updated.Doubt Failed s k done is answer tried outcome = absurd answer
 
   -- where nothing was posted, the answer is `Spent`
-  only_spent : (taken : Taken) → IsAnswer f.reply updated.Spent taken → taken ≡ Spent
+  only_spent : (taken : MessageTaken) → IsFrameAnswer f.reply updated.Spent taken → taken ≡ Spent
   only_spent (Applied place) answer = absurd answer
   only_spent (Known place) answer = absurd answer
   only_spent (Early place want) answer = absurd answer
@@ -135,21 +135,21 @@ module _ (table : TableId) (base : Base) (f : Frame) (p q : Caller) (count : ℕ
   unchanged : q ≡ p → as_is Spent ≡ as_was
   unchanged same = λ i. record { count = (let none : count + 0 ≡ count = omega arith in none) i; history = (same i).view.seen; tried = (same i).view.outcomes; diverged = None }
 
-  pub next_is : (told : Updated Reply) (taken : Taken) → Updates told → f.place ≡ count → IsAnswer f.reply told taken → IsNext f as_was taken (as_is taken)
+  pub next_is : (told : Updated Reply) (taken : MessageTaken) → Updates told → f.place ≡ count → IsFrameAnswer f.reply told taken → IsNextFrame f as_was taken (as_is taken)
   next_is told taken u is answer = elim (cases_lt (length p.view.outcomes) LAST_COUNT) [
     | inl lt ↦ let formed = u.before.formed in
         posted told taken formed.0 formed.1 (u.done formed.0 formed.1 formed.2) is answer (u.tried lt) (u.outcome lt formed.0 formed.1 formed.2)
     | inr le ↦ let spent = u.unposted le in
-        let taken_is : taken ≡ Spent = only_spent taken (subst (λ (t : Updated Reply). IsAnswer f.reply t taken) spent.0 answer) in
-        subst (λ (t : Taken). IsNext f as_was t (as_is t)) (sym taken_is) (inr (le, unchanged spent.1))
+        let taken_is : taken ≡ Spent = only_spent taken (subst (λ (t : Updated Reply). IsFrameAnswer f.reply t taken) spent.0 answer) in
+        subst (λ (t : MessageTaken). IsNextFrame f as_was t (as_is t)) (sym taken_is) (inr (le, unchanged spent.1))
   ]
 
   -- what was done, by what became of the update
-  done_by_outcome : (told : Updated Reply) (taken : Taken) (s : State) (k : ℕ) → HasDone base.order s k as_was → IsAnswer f.reply told taken → IsOutcome base.order s k f.call p.view told q.view → IsAlone table base q → Contents base.order base.image s k
-      → AllByRecursion (λ x. x.0.caller ≡ 1) q.view.outcomes → HasDone base.order s k (as_is taken)
+  done_by_outcome : (told : Updated Reply) (taken : MessageTaken) (s : State) (k : ℕ) → HasDoneUpdates base.order s k as_was → IsFrameAnswer f.reply told taken → IsOutcome base.order s k f.call p.view told q.view → IsAlone table base q → Contents base.order base.image s k
+      → AllByRecursion (λ x. x.0.caller ≡ 1) q.view.outcomes → HasDoneUpdates base.order s k (as_is taken)
   done_by_outcome told taken s k done answer outcome alone held own = by told taken answer outcome
     where
-      same : (d : ℕ) → d ≡ 0 → (parted : Option Divergence) → q.view.seen ≡ p.view.seen → HasDone base.order s k (followed (count + d) (q ∷ []) parted)
+      same : (d : ℕ) → d ≡ 0 → (parted : Option Divergence) → q.view.seen ≡ p.view.seen → HasDoneUpdates base.order s k (followed (count + d) (q ∷ []) parted)
       same d none parted still = record {
         legal = subst (IsLegal (on_words trio) base.order s k) (sym still) done.legal;
         count_is = omega (arith, done.count_is, ap length still, none);
@@ -158,7 +158,7 @@ module _ (table : TableId) (base : Base) (f : Frame) (p q : Caller) (count : ℕ
         own = own;
       }
 
-      one : (ours : Reply) (at : ℕ) (parted : Option Divergence) → IsOutcome base.order s k f.call p.view (updated.Done ours at) q.view → HasDone base.order s k (followed (count + 1) (q ∷ []) parted)
+      one : (ours : Reply) (at : ℕ) (parted : Option Divergence) → IsOutcome base.order s k f.call p.view (updated.Done ours at) q.view → HasDoneUpdates base.order s k (followed (count + 1) (q ∷ []) parted)
       one ours at parted outcome = record {
         legal = outcome.3;
         count_is = omega (arith, done.count_is, ap length outcome.2, length-append p.view.seen (entry_at (length p.view.outcomes) f.call ours ∷ []));
@@ -167,7 +167,7 @@ module _ (table : TableId) (base : Base) (f : Frame) (p q : Caller) (count : ℕ
         own = own;
       }
 
-      by : (told : Updated Reply) (taken : Taken) → IsAnswer f.reply told taken → IsOutcome base.order s k f.call p.view told q.view → HasDone base.order s k (as_is taken)
+      by : (told : Updated Reply) (taken : MessageTaken) → IsFrameAnswer f.reply told taken → IsOutcome base.order s k f.call p.view told q.view → HasDoneUpdates base.order s k (as_is taken)
       by (updated.Done ours at) (Applied place) answer outcome = one ours at None outcome
       by (updated.Done ours at) (Diverged place ours' theirs') answer outcome = one ours at (Some record { place = place; ours = ours'; theirs = theirs' }) outcome
       by updated.Spent Spent answer outcome = same 0 refl None outcome.0
@@ -201,16 +201,16 @@ module _ (table : TableId) (base : Base) (f : Frame) (p q : Caller) (count : ℕ
       by updated.Doubt Spent answer outcome = absurd answer
       by updated.Doubt Failed answer outcome = absurd answer
 
-  pub next_done : (told : Updated Reply) (taken : Taken) → Updates told → IsAnswer f.reply told taken → (s : State) (k : ℕ) → Contents base.order base.image s k → HasDone base.order s k (as_is taken)
+  pub next_done : (told : Updated Reply) (taken : MessageTaken) → Updates told → IsFrameAnswer f.reply told taken → (s : State) (k : ℕ) → Contents base.order base.image s k → HasDoneUpdates base.order s k (as_is taken)
   next_done told taken u answer s k held = elim (cases_lt (length p.view.outcomes) LAST_COUNT) [
     | inl lt ↦ let own : AllByRecursion (λ x. x.0.caller ≡ 1) q.view.outcomes = subst (AllByRecursion (λ (x : Told). x.0.caller ≡ 1)) (sym (u.tried lt)) (all_more (λ (x : Told). x.0.caller ≡ 1) p.view.outcomes _ (u.done s k held).own refl) in
         done_by_outcome told taken s k (u.done s k held) answer (u.outcome lt s k held) u.after held own
     | inr le ↦ let spent = u.unposted le in
-        let taken_is : taken ≡ Spent = only_spent taken (subst (λ (t : Updated Reply). IsAnswer f.reply t taken) spent.0 answer) in
-        subst (λ (t : Taken). HasDone base.order s k (as_is t)) (sym taken_is) (subst (HasDone base.order s k) (sym (unchanged spent.1)) (u.done s k held))
+        let taken_is : taken ≡ Spent = only_spent taken (subst (λ (t : Updated Reply). IsFrameAnswer f.reply t taken) spent.0 answer) in
+        subst (λ (t : MessageTaken). HasDoneUpdates base.order s k (as_is t)) (sym taken_is) (subst (HasDoneUpdates base.order s k) (sym (unchanged spent.1)) (u.done s k held))
   ]
 
-  pub next_follower : (told : Updated Reply) (taken : Taken) → Updates told → IsAnswer f.reply told taken → IsFollower table base (q ∷ []) (as_is taken)
+  pub next_follower : (told : Updated Reply) (taken : MessageTaken) → Updates told → IsFrameAnswer f.reply told taken → IsFollower table base (q ∷ []) (as_is taken)
   next_follower told taken u answer = record { only = (q, refl, u.after); done = next_done told taken u answer }
 
   longer_by_one : (xs : List Told) (x : Told) → xs ≡ xs ++ x ∷ [] → ⊥
@@ -226,29 +226,29 @@ module _ (table : TableId) (base : Base) (f : Frame) (p q : Caller) (count : ℕ
   ]
 
 -- So in a list of one, where the follower is seen as w before.
-pub record IsTaking (table : TableId) (base : Base) (f : Frame) (passes : List Caller) (p q : Caller) (count : ℕ) (diverged : Option Divergence) (told : Updated Reply) (taken : Taken) (done : ℕ) (parted : Option Divergence) (w : Followed) : Type 0 where
+pub record IsTaking (table : TableId) (base : Base) (f : Frame) (passes : List Caller) (p q : Caller) (count : ℕ) (diverged : Option Divergence) (told : Updated Reply) (taken : MessageTaken) (done : ℕ) (parted : Option Divergence) (w : Followed) : Type 0 where
   pub one : passes ≡ p ∷ []
   pub seen_as : followed count passes diverged ≡ w
   pub agrees : w.diverged ≡ None
   pub next : f.place ≡ w.count
   pub updates : Updates table base f p q count told
-  pub answer : IsAnswer f.reply told taken
-  pub done_is : done ≡ done_by taken
+  pub answer : IsFrameAnswer f.reply told taken
+  pub done_is : done ≡ updates_done taken
   pub parted_is : parted ≡ parted_by taken
 
-module _ (table : TableId) (base : Base) (f : Frame) (passes : List Caller) (p q : Caller) (count : ℕ) (diverged : Option Divergence) (told : Updated Reply) (taken : Taken) (done : ℕ) (parted : Option Divergence) (w : Followed) (t : IsTaking table base f passes p q count diverged told taken done parted w) where
+module _ (table : TableId) (base : Base) (f : Frame) (passes : List Caller) (p q : Caller) (count : ℕ) (diverged : Option Divergence) (told : Updated Reply) (taken : MessageTaken) (done : ℕ) (parted : Option Divergence) (w : Followed) (t : IsTaking table base f passes p q count diverged told taken done parted w) where
   was : as_was table base f p q count ≡ w
   was = (λ i. followed count (sym t.one i) (sym (ap (λ (x : Followed). x.diverged) t.seen_as ∙ t.agrees) i)) ∙ t.seen_as
 
   now_is : as_is table base f p q count taken ≡ followed (count + done) (set passes 0 q) parted
   now_is = λ i. followed (count + sym t.done_is i) (sym (put_one passes p q t.one) i) (sym t.parted_is i)
 
-  pub takes_next : IsNext f w taken (followed (count + done) (set passes 0 q) parted)
-  takes_next = subst (λ (x : Followed). IsNext f x taken (followed (count + done) (set passes 0 q) parted)) was (subst (λ (x : Followed). IsNext f (as_was table base f p q count) taken x) now_is
+  pub takes_next : IsNextFrame f w taken (followed (count + done) (set passes 0 q) parted)
+  takes_next = subst (λ (x : Followed). IsNextFrame f x taken (followed (count + done) (set passes 0 q) parted)) was (subst (λ (x : Followed). IsNextFrame f (as_was table base f p q count) taken x) now_is
       (next_is table base f p q count told taken t.updates (t.next ∙ sym (ap (λ (x : Followed). x.count) t.seen_as)) t.answer))
 
-  pub takes_done : (s : State) (k : ℕ) → Contents base.order base.image s k → HasDone base.order s k w × HasDone base.order s k (followed (count + done) (set passes 0 q) parted)
-  takes_done s k held = (subst (HasDone base.order s k) was (t.updates.done s k held), subst (HasDone base.order s k) now_is (next_done table base f p q count told taken t.updates t.answer s k held))
+  pub takes_done : (s : State) (k : ℕ) → Contents base.order base.image s k → HasDoneUpdates base.order s k w × HasDoneUpdates base.order s k (followed (count + done) (set passes 0 q) parted)
+  takes_done s k held = (subst (HasDoneUpdates base.order s k) was (t.updates.done s k held), subst (HasDoneUpdates base.order s k) now_is (next_done table base f p q count told taken t.updates t.answer s k held))
 
   pub takes_follower : IsFollower table base (set passes 0 q) (followed (count + done) (set passes 0 q) parted)
   takes_follower = subst (λ (x : Followed). IsFollower table base (set passes 0 q) x) now_is (subst (λ (ps : List Caller). IsFollower table base ps (as_is table base f p q count taken)) (sym (put_one passes p q t.one)) (next_follower table base f p q count told taken t.updates t.answer))
@@ -259,7 +259,7 @@ module _ (table : TableId) (base : Base) (f : Frame) (passes : List Caller) (p q
       subst (λ (ps : List Caller). IsTold Contents (on_words trio) base x (length w.history) w.history (seen_by ps)) (sym (put_one passes p q t.one))
       (subst (λ (y : Followed). IsTold Contents (on_words trio) base x (length y.history) y.history q.view.seen) was (next_told table base f p q count told t.updates x own))
 
-pub few_done : (taken : Taken) → done_by taken ≤ 1
+pub few_done : (taken : MessageTaken) → updates_done taken ≤ 1
 few_done (Applied place) = omega arith
 few_done (Known place) = omega arith
 few_done (Early place want) = omega arith

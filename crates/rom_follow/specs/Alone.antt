@@ -14,8 +14,8 @@ use Rattle.rom_model.specs.declared.entry.Entry.{Entry}
 use Rattle.rom_rule.specs.Views.{Told}
 use Rattle.rom_rule.specs.declared.views.Base.{Base}
 use Rattle.rom_rule.specs.declared.views.View.{View}
-use Rattle.rom_store.specs.Callers.{Caller, IsNumbered}
-use Rattle.rom_follow.specs.Followed.{Followed, HasDone}
+use Rattle.rom_store.specs.Callers.{Caller, IsNumberedCaller}
+use Rattle.rom_follow.specs.Followed.{Followed, HasDoneUpdates}
 use Rattle.rom_follow.specs.Taking.{entry_at}
 use Rattle.rom_follow.specs.declared.taken.Divergence.{Divergence}
 
@@ -23,7 +23,7 @@ use Rattle.rom_follow.specs.declared.taken.Divergence.{Divergence}
 pub record IsAlone (table : TableId) (base : Base) (p : Caller) : Type 0 where
   pub one : base.callers ≡ 1
   pub formed : (s : State) × (k : ℕ) × Contents base.order base.image s k
-  pub numbered : IsNumbered Contents table base 0 p
+  pub numbered : IsNumberedCaller Contents table base 0 p
 
 -- What became of its update, from the state and the count of the opening. One that is done has the next place, and its entry is all that the caller has seen since; of one that is not, it has seen nothing. `Spent` comes only where the count is the last.
 abbrev pub IsOutcome : ℕ → State → ℕ → Call → View → Updated Reply → View → Type 0
@@ -52,4 +52,4 @@ followed count passes diverged = record { count = count; history = seen_by passe
 -- What holds of each follower.
 pub record IsFollower (table : TableId) (base : Base) (passes : List Caller) (f : Followed) : Type 0 where
   pub only : (p : Caller) × (passes ≡ p ∷ []) × IsAlone table base p
-  pub done : (s : State) (k : ℕ) → Contents base.order base.image s k → HasDone base.order s k f
+  pub done : (s : State) (k : ℕ) → Contents base.order base.image s k → HasDoneUpdates base.order s k f

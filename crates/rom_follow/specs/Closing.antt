@@ -12,24 +12,24 @@ use Rattle.rom_rule.specs.Views.{Told}
 use Rattle.rom_store.specs.Sessions.{SessionSeen}
 use Rattle.rom_follow.specs.Followed.{Followed}
 use Rattle.rom_follow.specs.Taking.{AreTaken}
-use Rattle.rom_follow.specs.declared.taken.Taken.{Taken}
+use Rattle.rom_follow.specs.declared.taken.MessageTaken.{MessageTaken}
 
 -- what a pass that ended so tells the one update that it found
-abbrev pub Tells : Fate → Updated (List ℕ) → Type 0
-Tells Published (updated.Done reply place) = Unit {0}
-Tells Published updated.Spent = Unit {0}
-Tells Failed updated.Failed = Unit {0}
-Tells Doubt updated.Doubt = Unit {0}
-Tells other told = ⊥
+abbrev pub TellsUpdate : Fate → Updated (List ℕ) → Type 0
+TellsUpdate Published (updated.Done reply place) = Unit {0}
+TellsUpdate Published updated.Spent = Unit {0}
+TellsUpdate Failed updated.Failed = Unit {0}
+TellsUpdate Doubt updated.Doubt = Unit {0}
+TellsUpdate other told = ⊥
 
 -- One pass for each update that was tried, in their order: it found that update alone, and ended as the update was told.
 abbrev pub ArePassesOf : List PassRecord → List Told → Type 0
 ArePassesOf [] [] = Unit {0}
-ArePassesOf (r ∷ rs) (x ∷ xs) = (r.found ≡ x.0 ∷ []) × Tells r.fate x.1 × ArePassesOf rs xs
+ArePassesOf (r ∷ rs) (x ∷ xs) = (r.found ≡ x.0 ∷ []) × TellsUpdate r.fate x.1 × ArePassesOf rs xs
 ArePassesOf rs xs = ⊥
 
 -- The session of a follower that had done nothing, and took these messages with these answers: its history and its passes are those of what the follower did.
-pub record HasTaken (messages : List (Vec ℕ)) (answers : List Taken) (session : SessionSeen) : Type 0 where
+pub record HasTakenMessages (messages : List (Vec ℕ)) (answers : List MessageTaken) (session : SessionSeen) : Type 0 where
   pub begun : Followed
   pub ended : Followed
   pub none : (begun.history ≡ []) × (begun.tried ≡ []) × (begun.diverged ≡ None)

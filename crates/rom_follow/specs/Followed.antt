@@ -18,7 +18,7 @@ pub record Followed : Type 0 where
   pub diverged : Option Divergence
 
 -- What a follower has done since the state and the count of its opening, in a heap of this order: its history is legal and ends at the count, and its entries, at their places, are those of the updates that were tried and done. It made each try itself, as the one caller that there is.
-pub record HasDone (order : ℕ) (s : State) (k : ℕ) (f : Followed) : Type 0 where
+pub record HasDoneUpdates (order : ℕ) (s : State) (k : ℕ) (f : Followed) : Type 0 where
   pub legal : IsLegal (on_words trio) order s k f.history
   pub count_is : f.count ≡ k + length f.history
   pub within : f.count ≤ LAST_COUNT

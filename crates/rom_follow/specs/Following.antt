@@ -16,8 +16,8 @@ use Rattle.rom_store.specs.Closing.{ClosedSeen}
 use Rattle.rom_frame.specs.Frames.{entry_frame, frame_words}
 use Rattle.rom_follow.specs.Followed.{Followed}
 use Rattle.rom_follow.specs.Taking.{IsNoFrame}
-use Rattle.rom_follow.specs.declared.taken.Taken.{Taken}
-use Rattle.rom_follow.specs.declared.taken.Taken.TheVariants.{Applied, Known, Diverged}
+use Rattle.rom_follow.specs.declared.taken.MessageTaken.{MessageTaken}
+use Rattle.rom_follow.specs.declared.taken.MessageTaken.TheVariants.{Applied, Known, Diverged}
 
 -- The words of an entry's update and reply, without whose it was: all entries of a follower are of caller 1,
 -- and a state depends on the calls alone.
@@ -60,39 +60,39 @@ MayArrive place history message = IsFrameOf place history message ⊎ IsTorn pla
 -- Of a history that begins at this state and this count, and a heap of this order:
 module _ (order : ℕ) (s0 : State) (n0 : ℕ) (history : List Entry) where
   -- the state after its first entries, so many
-  abbrev pub state_after : ℕ → State
-  state_after len = after (on_words trio) order s0 n0 (take len history)
+  abbrev pub state_after_first : ℕ → State
+  state_after_first len = after (on_words trio) order s0 n0 (take len history)
 
   -- The image holds the state and the count after a prefix of the history that has at least so many entries.
   pub record HoldsPrefix (least : ℕ) (image : List ℕ) : Type 0 where
     pub len : ℕ
     pub least_is : least ≤ len
     pub within : len ≤ length history
-    pub holds : Holds Contents order image (state_after len) (n0 + len)
+    pub holds : Holds Contents order image (state_after_first len) (n0 + len)
 
 -- The follower follows this history, which begins at a state and a count. It was opened at the state and the count after the first entries, so many; its own are those behind them, but for whose they are; each update that it tried was that of the entry which came next; and it has not diverged.
 -- Clauses speak of every history at once, so a follower need not know whose it follows.
-pub record Follows (base : Base) (s0 : State) (n0 : ℕ) (history : List Entry) (first : ℕ) (f : Followed) : Type 0 where
+pub record FollowsHistory (base : Base) (s0 : State) (n0 : ℕ) (history : List Entry) (first : ℕ) (f : Followed) : Type 0 where
   pub within : first ≤ length history
-  pub opening : Contents base.order base.image (state_after base.order s0 n0 history first) (n0 + first)
+  pub opening : Contents base.order base.image (state_after_first base.order s0 n0 history first) (n0 + first)
   pub entries : AreFirstOf (drop first history) f.history
   pub tries : AreTries (drop first history) f.tried
   pub agrees : f.diverged ≡ None
 
 -- The answer is no divergence, and the entry whose frame was applied or known is below this count.
-abbrev pub AgreesBelow : ℕ → Taken → Type 0
+abbrev pub AgreesBelow : ℕ → MessageTaken → Type 0
 AgreesBelow count (Applied place) = place < count
 AgreesBelow count (Known place) = place < count
 AgreesBelow count (Diverged place ours theirs) = ⊥
 AgreesBelow count other = Unit {0}
 
 -- What became of a heap that was opened on a device for messages of a history, and closed behind them. It held the state and the count after the first entries, so many.
-pub record HasFollowed {D : Type 0} (shown : ShownDevice D) (order : ℕ) (s0 : State) (n0 : ℕ) (history : List Entry) (first : ℕ) (answers : List Taken) (was : D) (closed : ClosedSeen D) : Type 0 where
+pub record HasFollowed {D : Type 0} (shown : ShownDevice D) (order : ℕ) (s0 : State) (n0 : ℕ) (history : List Entry) (first : ℕ) (answers : List MessageTaken) (was : D) (closed : ClosedSeen D) : Type 0 where
   -- it ends with the state and the count after a prefix
   pub len : ℕ
   pub least : first ≤ len
   pub within : len ≤ length history
-  pub ends : (s : State) (k : ℕ) → Contents closed.session.order closed.session.image s k → (after (on_words trio) closed.session.order s k closed.session.history ≡ state_after order s0 n0 history len) × (k + length closed.session.history ≡ n0 + len)
+  pub ends : (s : State) (k : ℕ) → Contents closed.session.order closed.session.image s k → (after (on_words trio) closed.session.order s k closed.session.history ≡ state_after_first order s0 n0 history len) × (k + length closed.session.history ≡ n0 + len)
   -- no answer is a divergence, and the prefix has each entry that was applied or known
   pub agrees : All (AgreesBelow (n0 + len)) answers
   -- what a stop leaves now holds a prefix no shorter than the one at the opening, and what one at any moment since the opening might have left holds such a prefix, or could be left before

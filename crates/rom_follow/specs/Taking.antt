@@ -12,8 +12,8 @@ use Rattle.rom_model.specs.declared.record.Found.{Found}
 use Rattle.rom_frame.specs.Frames.{IsOfWords, frame}
 use Rattle.rom_frame.specs.declared.frame.Frame.{Frame}
 use Rattle.rom_follow.specs.Followed.{Followed}
-use Rattle.rom_follow.specs.declared.taken.Taken.{Taken}
-use Rattle.rom_follow.specs.declared.taken.Taken.TheVariants.{Applied, Known, Early, NotAFrame, Diverged, Spent, Failed, Doubt}
+use Rattle.rom_follow.specs.declared.taken.MessageTaken.{MessageTaken}
+use Rattle.rom_follow.specs.declared.taken.MessageTaken.TheVariants.{Applied, Known, Early, NotAFrame, Diverged, Spent, Failed, Doubt}
 
 -- the message is this frame, from its first byte to its last
 abbrev pub IsFrame : Frame → List ℕ → Type 0
@@ -44,32 +44,32 @@ doing f call reply = record f {
 }
 
 -- What becomes of the frame whose place is the count. It is applied where its update is told the reply of the frame, and done but divergent where it is told another, of other words. Else it was not done, and the state stays: `Spent` comes only where the count is the last, or so many updates were tried that no other can be.
-abbrev pub IsNext : Frame → Followed → Taken → Followed → Type 0
-IsNext f old (Applied place) new = (place ≡ f.place) × (new ≡ doing old f.call f.reply)
-IsNext f old (Diverged place ours theirs) new =
+abbrev pub IsNextFrame : Frame → Followed → MessageTaken → Followed → Type 0
+IsNextFrame f old (Applied place) new = (place ≡ f.place) × (new ≡ doing old f.call f.reply)
+IsNextFrame f old (Diverged place ours theirs) new =
     (place ≡ f.place) × (theirs ≡ f.reply) × (reply_words ours ≢ reply_words theirs)
     × (new ≡ record (doing old f.call ours) { diverged = Some record { place = place; ours = ours; theirs = theirs } })
-IsNext f old Spent new =
+IsNextFrame f old Spent new =
     ((f.place ≡ LAST_COUNT) × (new ≡ failing old f.call updated.Spent))
     ⊎ ((LAST_COUNT ≤ length old.tried) × (new ≡ old))
-IsNext f old Failed new = new ≡ failing old f.call updated.Failed
-IsNext f old Doubt new = new ≡ failing old f.call updated.Doubt
-IsNext f old other new = ⊥
+IsNextFrame f old Failed new = new ≡ failing old f.call updated.Failed
+IsNextFrame f old Doubt new = new ≡ failing old f.call updated.Doubt
+IsNextFrame f old other new = ⊥
 
 -- What a frame does, by its place: below the count it is known, above it it is early, and both leave the follower as it was.
-pub record Gives (f : Frame) (old : Followed) (answer : Taken) (new : Followed) : Type 0 where
+pub record TakesFrame (f : Frame) (old : Followed) (answer : MessageTaken) (new : Followed) : Type 0 where
   pub known : f.place < old.count → (answer ≡ Known f.place) × (new ≡ old)
   pub early : old.count < f.place → (answer ≡ Early f.place old.count) × (new ≡ old)
-  pub next : f.place ≡ old.count → IsNext f old answer new
+  pub next : f.place ≡ old.count → IsNextFrame f old answer new
 
 -- What a message does. The first of these that holds counts: the heaps had parted, and the answer is the same again; it is no frame; it is one.
-pub record Takes (message : List ℕ) (old : Followed) (answer : Taken) (new : Followed) : Type 0 where
+pub record TakesMessage (message : List ℕ) (old : Followed) (answer : MessageTaken) (new : Followed) : Type 0 where
   pub parted : IfSome old.diverged (λ d. (answer ≡ Diverged d.place d.ours d.theirs) × (new ≡ old))
   pub no_frame : old.diverged ≡ None → IsNoFrame message → (answer ≡ NotAFrame) × (new ≡ old)
-  pub frame : old.diverged ≡ None → (f : Frame) → IsFrame f message → Gives f old answer new
+  pub frame : old.diverged ≡ None → (f : Frame) → IsFrame f message → TakesFrame f old answer new
 
 -- so each of these messages, one after another
-abbrev pub AreTaken : List (Vec ℕ) → Followed → List Taken → Followed → Type 0
+abbrev pub AreTaken : List (Vec ℕ) → Followed → List MessageTaken → Followed → Type 0
 AreTaken [] old [] new = new ≡ old
-AreTaken (m ∷ messages) old (a ∷ answers) new = (next : Followed) × Takes m.items old a next × AreTaken messages next answers new
+AreTaken (m ∷ messages) old (a ∷ answers) new = (next : Followed) × TakesMessage m.items old a next × AreTaken messages next answers new
 AreTaken messages old answers new = ⊥

@@ -9,12 +9,12 @@ ghost use Rattle.rom_model.specs.declared.entry.Entry.{Entry};
 ghost use Rattle.rom_rule.specs.Views.{base_of};
 ghost use Rattle.rom_store.specs.Callers.{IsNewCaller};
 ghost use Rattle.rom_store.specs.Indexed.{Indexed};
-ghost use Rattle.rom_store.specs.Start.{start_of};
-ghost use Rattle.rom_follow.specs.Closing.{HasTaken};
-ghost use Rattle.rom_follow.specs.Following.{HasFollowed, HasWords, MayArrive, state_after};
+ghost use Rattle.rom_store.specs.Start.{device_start};
+ghost use Rattle.rom_follow.specs.Closing.{HasTakenMessages};
+ghost use Rattle.rom_follow.specs.Following.{HasFollowed, HasWords, MayArrive, state_after_first};
 
 use crate::follower::Follower;
-use crate::taken::Taken;
+use crate::taken::MessageTaken;
 use rom_device::Device;
 use rom_heap::Trio;
 use rom_store::{Closed, Gate, Label, Opening};
@@ -26,12 +26,12 @@ fn follow_as<D: Device, N: Label, R: Wait, G: Gate>(
     rt: &R,
     opening: Opening<D, Trio>,
     messages: &[Vec<u8>],
-    answers: &mut [Taken],
+    answers: &mut [MessageTaken],
     gate: &G,
 ) -> Closed<D, Trio>
     requires table { N.table ≡ opening.table_id }
     requires base { N.base ≡ base_of opening.key }
-    requires started { N.start ≡ start_of D.shown opening.device }
+    requires started { N.start ≡ device_start D.shown opening.device }
     requires since { IsTrue D.shown.tells_images → (t : ℕ) (i : List ℕ) →
         (N.since t i → D.shown.left_since opening.device t i)
         × (D.shown.left_since opening.device t i → N.since t i) }
@@ -39,11 +39,11 @@ fn follow_as<D: Device, N: Label, R: Wait, G: Gate>(
     requires passes { Indexed (IsNewCaller Contents N.table N.base) opening.passes }
     requires formed { (s : State) × (k : ℕ) × Contents N.base.order N.base.image s k }
     requires as_many { length answers.old ≡ length messages.now }
-    ensures taken { HasTaken messages.now answers.new result.session }
+    ensures taken { HasTakenMessages messages.now answers.new result.session }
     ensures follows { (s0 : State) (n0 : ℕ) (history : List Entry) (first : ℕ) →
         IsLegal (on_words trio) N.base.order s0 n0 history → HasWords n0 history →
         first ≤ length history → Contents N.base.order N.base.image
-        (state_after N.base.order s0 n0 history first) (n0 + first) →
+        (state_after_first N.base.order s0 n0 history first) (n0 + first) →
         All (λ m. MayArrive n0 history m.items) messages.now →
         HasFollowed D.shown N.base.order s0 n0 history first answers.new opening.device result }
 {
@@ -58,7 +58,7 @@ pub fn follow_all<D: Device, R: Wait, G: Gate>(
     rt: &R,
     opening: Opening<D, Trio>,
     messages: &[Vec<u8>],
-    answers: &mut [Taken],
+    answers: &mut [MessageTaken],
     gate: &G,
 ) -> Closed<D, Trio>
     requires one { (length opening.passes ≡ 1) × ((base_of opening.key).callers ≡ 1) }
@@ -69,7 +69,7 @@ pub fn follow_all<D: Device, R: Wait, G: Gate>(
     requires as_many { length answers.old ≡ length messages.now }
 
     // Each message did to the follower what `take` says, and the session is that of what it did.
-    ensures taken { HasTaken messages.now answers.new result.session }
+    ensures taken { HasTakenMessages messages.now answers.new result.session }
 
     // Of a legal history, where the heap holds the state and the count after a prefix of it, and each
     // message is a frame of that history, one that was torn, or no frame: what became of the heap, of
@@ -78,7 +78,7 @@ pub fn follow_all<D: Device, R: Wait, G: Gate>(
         (s0 : State) (n0 : ℕ) (history : List Entry) (first : ℕ) →
         IsLegal (on_words trio) b.order s0 n0 history → HasWords n0 history →
         first ≤ length history →
-        Contents b.order b.image (state_after b.order s0 n0 history first) (n0 + first) →
+        Contents b.order b.image (state_after_first b.order s0 n0 history first) (n0 + first) →
         All (λ m. MayArrive n0 history m.items) messages.now →
         HasFollowed D.shown b.order s0 n0 history first answers.new opening.device result }
 {

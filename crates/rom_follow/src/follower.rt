@@ -17,16 +17,16 @@ ghost use Rattle.rom_store.specs.Callers.{IsNewCaller};
 ghost use Rattle.rom_store.specs.Closing.{HasLeftSince};
 ghost use Rattle.rom_store.specs.Indexed.{Indexed};
 ghost use Rattle.rom_store.specs.Sessions.{EachStory, HasStory};
-ghost use Rattle.rom_store.specs.Start.{HasStarted, start_of};
+ghost use Rattle.rom_store.specs.Start.{HasStarted, device_start};
 ghost use Rattle.rom_store.specs.Traced.{WentThrough};
 ghost use Rattle.rom_frame.specs.declared.frame.Frame.{Frame};
 ghost use Rattle.rom_follow.specs.Closing.{ArePassesOf};
-ghost use Rattle.rom_follow.specs.Followed.{HasDone};
-ghost use Rattle.rom_follow.specs.Following.{AgreesBelow, Follows, HasWords, HoldsPrefix, MayArrive, state_after};
-ghost use Rattle.rom_follow.specs.Taking.{AreTaken, Gives, IsFrame, IsNext, IsNoFrame};
-ghost use Rattle.rom_follow.specs.declared.taken.Taken.TheVariants as taken;
+ghost use Rattle.rom_follow.specs.Followed.{HasDoneUpdates};
+ghost use Rattle.rom_follow.specs.Following.{AgreesBelow, FollowsHistory, HasWords, HoldsPrefix, MayArrive, state_after_first};
+ghost use Rattle.rom_follow.specs.Taking.{AreTaken, IsFrame, IsNextFrame, IsNoFrame, TakesFrame};
+ghost use Rattle.rom_follow.specs.declared.taken.MessageTaken.TheVariants as taken;
 
-use crate::taken::{Divergence, Taken};
+use crate::taken::{Divergence, MessageTaken};
 use crate::update::{count_of, update_alone};
 use rom_device::Device;
 use rom_frame::{Frame, read_frame};
@@ -63,7 +63,7 @@ impl<D: Device, N: Label> Follower<D, N> {
     pub fn start(opening: Opening<D, Trio>) -> Self
         requires table { N.table ≡ opening.table_id }
         requires base { N.base ≡ base_of opening.key }
-        requires started { N.start ≡ start_of D.shown opening.device }
+        requires started { N.start ≡ device_start D.shown opening.device }
         // Where images are told, the label tells of each moment exactly what a stop since then might have
         // left of this device.
         requires since { IsTrue D.shown.tells_images → (t : ℕ) (i : List ℕ) →
@@ -77,13 +77,13 @@ impl<D: Device, N: Label> Follower<D, N> {
         ensures none { (result.history ≡ []) × (result.tried ≡ []) × (result.diverged ≡ None) }
         // The follower's count is that of the heap as it was opened, since nothing was done.
         ensures done { (s : State) (k : ℕ) → Contents N.base.order N.base.image s k →
-            HasDone N.base.order s k result }
+            HasDoneUpdates N.base.order s k result }
 
         // The follower follows each history of which the heap holds the state and the count after a prefix.
         ensures follows { (s0 : State) (n0 : ℕ) (history : List Entry) (first : ℕ) →
             first ≤ length history → Contents N.base.order N.base.image
-            (state_after N.base.order s0 n0 history first) (n0 + first) →
-            Follows N.base s0 n0 history first result }
+            (state_after_first N.base.order s0 n0 history first) (n0 + first) →
+            FollowsHistory N.base s0 n0 history first result }
     {
         let (store, mut passes) = opening.start::<N>();
         let count = count_of(&store, &mut passes[0]);
@@ -100,7 +100,7 @@ impl<D: Device, N: Label> Follower<D, N> {
         ensures count { result ≡ self.now.count }
         // What the follower has done is legal from the opening's state and count on, and ends at its count.
         ensures done { (s : State) (k : ℕ) → Contents N.base.order N.base.image s k →
-            HasDone N.base.order s k self.now }
+            HasDoneUpdates N.base.order s k self.now }
     {
         self.count
     }
@@ -108,7 +108,7 @@ impl<D: Device, N: Label> Follower<D, N> {
     /// Takes a message. The frame whose place is the count is done. Each other one, and a message that
     /// is no frame, leaves the follower as it was, as does each message once the heaps have parted. It
     /// takes no memory.
-    pub fn take<R: Wait, G: Gate>(&mut self, rt: &R, message: &[u8], gate: &G) -> Taken
+    pub fn take<R: Wait, G: Gate>(&mut self, rt: &R, message: &[u8], gate: &G) -> MessageTaken
         // Once the heaps have parted, each message gets the same `Diverged`, and nothing is done.
         ensures parted { IfSome self.old.diverged (λ d.
             (result ≡ taken.Diverged d.place d.ours d.theirs) × (self.new ≡ self.old)) }
@@ -119,7 +119,7 @@ impl<D: Device, N: Label> Follower<D, N> {
         // `Early`, and nothing is done. The update of a frame at the count is tried, or the answer is
         // `Spent`.
         ensures frame { self.old.diverged ≡ None → (f : Frame) → IsFrame f message.now →
-            Gives f self.old result self.new }
+            TakesFrame f self.old result self.new }
         // While they have not parted, each message is a frame or none: one of the two clauses above speaks of
         // it.
         ensures either { self.old.diverged ≡ None →
@@ -132,7 +132,7 @@ impl<D: Device, N: Label> Follower<D, N> {
             self.new.history }
         // What the follower has done is legal from the opening's state and count on, and ends at its count.
         ensures done { (s : State) (k : ℕ) → Contents N.base.order N.base.image s k →
-            HasDone N.base.order s k self.new }
+            HasDoneUpdates N.base.order s k self.new }
 
         // The count never falls.
         ensures rises { self.old.count ≤ self.new.count }
@@ -141,8 +141,8 @@ impl<D: Device, N: Label> Follower<D, N> {
         // be a frame of that history, whole or torn, or be no frame at all.
         ensures follows { (s0 : State) (n0 : ℕ) (history : List Entry) (first : ℕ) →
             IsLegal (on_words trio) N.base.order s0 n0 history → HasWords n0 history →
-            Follows N.base s0 n0 history first self.old → MayArrive n0 history message.now →
-            Follows N.base s0 n0 history first self.new × AgreesBelow self.new.count result }
+            FollowsHistory N.base s0 n0 history first self.old → MayArrive n0 history message.now →
+            FollowsHistory N.base s0 n0 history first self.new × AgreesBelow self.new.count result }
     {
         if let Some(
             Divergence {
@@ -152,34 +152,34 @@ impl<D: Device, N: Label> Follower<D, N> {
             },
         ) = self.diverged
         {
-            return Taken::Diverged {
+            return MessageTaken::Diverged {
                 place,
                 ours,
                 theirs,
             };
         }
         match read_frame(message) {
-            None => Taken::NotAFrame,
+            None => MessageTaken::NotAFrame,
             Some(frame) => self.take_frame(rt, &frame, gate),
         }
     }
 
     // Takes a frame, by its place.
-    fn take_frame<R: Wait, G: Gate>(&mut self, rt: &R, frame: &Frame, gate: &G) -> Taken
+    fn take_frame<R: Wait, G: Gate>(&mut self, rt: &R, frame: &Frame, gate: &G) -> MessageTaken
         requires agrees { self.old.diverged ≡ None }
-        ensures gives { Gives frame.now self.old result self.new }
+        ensures gives { TakesFrame frame.now self.old result self.new }
         ensures told { (x : Told) → self.new.tried ≡ self.old.tried ++ x ∷ [] →
             IsTold Contents (on_words trio) N.base x (length self.old.history) self.old.history
             self.new.history }
         ensures done { (s : State) (k : ℕ) → Contents N.base.order N.base.image s k →
-            HasDone N.base.order s k self.old × HasDone N.base.order s k self.new }
+            HasDoneUpdates N.base.order s k self.old × HasDoneUpdates N.base.order s k self.new }
         ensures rises { self.old.count ≤ self.new.count }
     {
         if frame.place < self.count {
-            return Taken::Known(frame.place);
+            return MessageTaken::Known(frame.place);
         }
         if frame.place > self.count {
-            return Taken::Early {
+            return MessageTaken::Early {
                 place: frame.place,
                 want: self.count,
             };
@@ -188,19 +188,19 @@ impl<D: Device, N: Label> Follower<D, N> {
     }
 
     // Takes the frame whose place is the count.
-    fn take_next<R: Wait, G: Gate>(&mut self, rt: &R, frame: &Frame, gate: &G) -> Taken
+    fn take_next<R: Wait, G: Gate>(&mut self, rt: &R, frame: &Frame, gate: &G) -> MessageTaken
         requires agrees { self.old.diverged ≡ None }
         requires next { frame.now.place ≡ self.old.count }
-        ensures next { IsNext frame.now self.old result self.new }
+        ensures next { IsNextFrame frame.now self.old result self.new }
         ensures told { (x : Told) → self.new.tried ≡ self.old.tried ++ x ∷ [] →
             IsTold Contents (on_words trio) N.base x (length self.old.history) self.old.history
             self.new.history }
         ensures done { (s : State) (k : ℕ) → Contents N.base.order N.base.image s k →
-            HasDone N.base.order s k self.old × HasDone N.base.order s k self.new }
+            HasDoneUpdates N.base.order s k self.old × HasDoneUpdates N.base.order s k self.new }
         ensures rises { self.old.count ≤ self.new.count }
     {
         let told = update_alone(&self.store, rt, &mut self.passes[0], &frame.call, gate);
-        let taken = Taken::of(told, frame.reply);
+        let taken = MessageTaken::of(told, frame.reply);
         self.count += taken.done();
         self.diverged = taken.parted();
         taken
@@ -211,7 +211,7 @@ impl<D: Device, N: Label> Follower<D, N> {
         &mut self,
         rt: &R,
         messages: &[Vec<u8>],
-        answers: &mut [Taken],
+        answers: &mut [MessageTaken],
         gate: &G,
     )
         requires as_many { length answers.old ≡ length messages.now }
@@ -222,9 +222,9 @@ impl<D: Device, N: Label> Follower<D, N> {
         // may be a frame of that history, whole or torn, or be no frame at all.
         ensures follows { (s0 : State) (n0 : ℕ) (history : List Entry) (first : ℕ) →
             IsLegal (on_words trio) N.base.order s0 n0 history → HasWords n0 history →
-            Follows N.base s0 n0 history first self.old →
+            FollowsHistory N.base s0 n0 history first self.old →
             All (λ m. MayArrive n0 history m.items) messages.now →
-            Follows N.base s0 n0 history first self.new
+            FollowsHistory N.base s0 n0 history first self.new
             × All (AgreesBelow self.new.count) answers.new }
     {
         for i in 0..messages.len() {
@@ -241,7 +241,7 @@ impl<D: Device, N: Label> Follower<D, N> {
 
         // What the follower has done is legal from the opening's state and count on, and ends at its count.
         ensures done { (s : State) (k : ℕ) → Contents N.base.order N.base.image s k →
-            HasDone N.base.order s k self }
+            HasDoneUpdates N.base.order s k self }
         // The session's history is the follower's.
         ensures history { result.session.history ≡ self.history }
         // There is one pass for each update that was tried. It found that update alone, and ended as the
@@ -265,14 +265,14 @@ impl<D: Device, N: Label> Follower<D, N> {
         // prefix is no shorter than the one at the start.
         ensures follows_now { IsTrue D.shown.tells_images →
             (s0 : State) (n0 : ℕ) (history : List Entry) (first : ℕ) →
-            Follows N.base s0 n0 history first self → (i : List ℕ) →
+            FollowsHistory N.base s0 n0 history first self → (i : List ℕ) →
             D.shown.leaves result.device i →
             HoldsPrefix N.base.order s0 n0 history first i }
         // Where images are told, what a stop since the start might have left could be left before, or holds a
         // prefix of each history that is followed. That prefix is no shorter than the one at the start.
         ensures follows_since { IsTrue D.shown.tells_images →
             (s0 : State) (n0 : ℕ) (history : List Entry) (first : ℕ) →
-            Follows N.base s0 n0 history first self →
+            FollowsHistory N.base s0 n0 history first self →
             HasLeftSince D.shown N.start N.since
             (HoldsPrefix N.base.order s0 n0 history first) result.device }
 

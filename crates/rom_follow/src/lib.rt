@@ -2,6 +2,8 @@
 //! first updates, so many, and no other. Where that heap did several updates in one batch, the follower
 //! does them one by one.
 //!
+//! It knows frames and a store with one caller; it knows no stream, no text and no command.
+//!
 //! A [`Follower`] is a store of its own with one caller. It takes one message after another, in
 //! whatever order and as often as they come: the frame whose place is its count is done, each other one
 //! leaves it as it was. The contract of `take` says exactly which answer comes when. [`follow_all`]
@@ -18,4 +20,4 @@ mod update;
 
 pub use followed::follow_all;
 pub use follower::Follower;
-pub use taken::{Divergence, Taken};
+pub use taken::{Divergence, MessageTaken};

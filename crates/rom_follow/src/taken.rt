@@ -2,7 +2,7 @@
 ghost use Rattle.std.specs.Prelude.{◌≡◌, ◌≢◌};
 ghost use Rattle.std.specs.Bool.{OnFalse, OnTrue};
 ghost use Rattle.rom_model.specs.Codes as codes;
-ghost use Rattle.rom_follow.specs.Answers.{IsAnswer, done_by, parted_by};
+ghost use Rattle.rom_follow.specs.Answers.{IsFrameAnswer, parted_by, updates_done};
 
 use rom_model::{Reply, Updated, reply_words};
 
@@ -19,7 +19,7 @@ pub struct Divergence {
 
 /// What became of a message.
 #[derive(Clone, Copy, Debug, PartialEq, Eq)]
-pub enum Taken {
+pub enum MessageTaken {
     /// The frame of this place was the next, and its update is done.
     Applied(u64),
     /// The update of this place was done before.
@@ -56,17 +56,17 @@ fn is_reply(ours: &Reply, theirs: &Reply) -> bool
     reply_words(ours).as_slice() == reply_words(theirs).as_slice()
 }
 
-impl Taken {
+impl MessageTaken {
     /// The answer to the frame of an update that this became of, and whose reply is theirs.
-    pub(crate) fn of(told: Updated<Reply>, theirs: Reply) -> Taken
-        ensures answer { IsAnswer theirs told result }
+    pub(crate) fn of(told: Updated<Reply>, theirs: Reply) -> MessageTaken
+        ensures answer { IsFrameAnswer theirs told result }
     {
         match told {
-            Updated::Spent => Taken::Spent,
-            Updated::Failed => Taken::Failed,
-            Updated::Doubt => Taken::Doubt,
-            Updated::Done(ours, place) if is_reply(&ours, &theirs) => Taken::Applied(place),
-            Updated::Done(ours, place) => Taken::Diverged {
+            Updated::Spent => MessageTaken::Spent,
+            Updated::Failed => MessageTaken::Failed,
+            Updated::Doubt => MessageTaken::Doubt,
+            Updated::Done(ours, place) if is_reply(&ours, &theirs) => MessageTaken::Applied(place),
+            Updated::Done(ours, place) => MessageTaken::Diverged {
                 place,
                 ours,
                 theirs,
@@ -76,10 +76,10 @@ impl Taken {
 
     /// How many updates were done.
     pub(crate) fn done(&self) -> u64
-        ensures { result ≡ done_by self.now }
+        ensures { result ≡ updates_done self.now }
     {
         match self {
-            Taken::Applied(_) | Taken::Diverged { .. } => 1,
+            MessageTaken::Applied(_) | MessageTaken::Diverged { .. } => 1,
             _ => 0,
         }
     }
@@ -89,7 +89,7 @@ impl Taken {
         ensures { result ≡ parted_by self.now }
     {
         match *self {
-            Taken::Diverged {
+            MessageTaken::Diverged {
                 place,
                 ours,
                 theirs,

@@ -19,7 +19,7 @@ use Rattle.rom_model.specs.declared.call.Reply.TheVariants as reply
 use Rattle.rom_model.specs.Groups.{HasFewReplies, HasSize}
 use Rattle.rom_model.specs.Singles.{kind_of, reply_kind}
 use Rattle.rom_frame.specs.declared.frame.Frame.{Frame}
-use Rattle.rom_frame.specs.Frames.{IsOfWords, bytes_of, frame, words_of}
+use Rattle.rom_frame.specs.Frames.{IsOfWords, bytes_of, frame, words_of_frame}
 
 pub length-bytes_of : (ws : List ℕ) → length (bytes_of ws) ≡ 8 * length ws
 unfolding bytes_of
@@ -102,7 +102,7 @@ few_read (reply.All replies) is = by_size (nat_le (length replies) 8) is
     by_size true is = refl
     by_size false is = absurd (let never : None ≡ Some (reply.All replies) = is in cc)
 
-pub length-words_of : (f : Frame) → length (words_of f) ≡ 4 + length (call_words f.call) + length (reply_words f.reply)
+pub length-words_of : (f : Frame) → length (words_of_frame f) ≡ 4 + length (call_words f.call) + length (reply_words f.reply)
 length-words_of f = omega (arith, length-append (call_words f.call) (length (reply_words f.reply) ∷ reply_words f.reply))
 
 -- a frame that a program can have has at most 64 words, of which 40 are its call's and 20 its reply's
@@ -111,7 +111,7 @@ words_short f small = (kind_short (kind_of f.call) small.members, reply_kind_sho
 
 -- how many bytes a frame has
 pub length-frame : (f : Frame) → length (frame f) ≡ 8 * (4 + length (call_words f.call) + length (reply_words f.reply))
-length-frame f = length-bytes_of (words_of f) ∙ ap (λ (n : ℕ). 8 * n) (length-words_of f)
+length-frame f = length-bytes_of (words_of_frame f) ∙ ap (λ (n : ℕ). 8 * n) (length-words_of f)
 
 -- the first word is read back, whatever comes behind the frame
 pub first_back : (f : Frame) (rest : List ℕ) → IsOfWords f → little_number 8 (frame f ++ rest) ≡ 4 + length (call_words f.call) + length (reply_words f.reply)
@@ -139,29 +139,29 @@ no_prefix g f rest small small_2 same =
     none_left rest (omega (arith, firsts, ap length same, length-append (frame g) rest, length-frame g, length-frame f))
 
 -- the words that eight bytes each are read as are those of the frame
-pub read_back : (f : Frame) (bytes words : List ℕ) → IsOfWords f → bytes ≡ frame f → 8 * length words ≡ length bytes → IsRead little_number 8 bytes words → words ≡ words_of f
+pub read_back : (f : Frame) (bytes words : List ℕ) → IsOfWords f → bytes ≡ frame f → 8 * length words ≡ length bytes → IsRead little_number 8 bytes words → words ≡ words_of_frame f
 read_back f bytes words small is long read =
-    let many : length words ≡ length (words_of f) = omega (arith, ap length is, long, length-bytes_of (words_of f)) in
-    same_number_lists words (words_of f) many (λ k within.
+    let many : length words ≡ length (words_of_frame f) = omega (arith, ap length is, long, length-bytes_of (words_of_frame f)) in
+    same_number_lists words (words_of_frame f) many (λ k within.
     read k within
     ∙ ap (λ (xs : List ℕ). little_number 8 (drop (8 * k) xs)) is
-    ∙ word_back (words_of f) k (omega (arith, within, many)) (small.words k 0 (omega (arith, within, many))))
+    ∙ word_back (words_of_frame f) k (omega (arith, within, many)) (small.words k 0 (omega (arith, within, many))))
 
 -- the words of the call, and those of the reply, among the words of a frame
-pub call_there : (f : Frame) (words : List ℕ) → words ≡ words_of f → take (3 + slice_index words 2 - 3) (drop 3 words) ≡ call_words f.call
+pub call_there : (f : Frame) (words : List ℕ) → words ≡ words_of_frame f → take (3 + slice_index words 2 - 3) (drop 3 words) ≡ call_words f.call
 call_there f words is =
     ap (λ (n : ℕ). take n (drop 3 words)) (let here : 3 + slice_index words 2 - 3 ≡ slice_index words 2 = omega arith in here)
     ∙ ap (λ (xs : List ℕ). take (slice_index xs 2) (drop 3 xs)) is
     ∙ take-append_seam (call_words f.call) (length (reply_words f.reply) ∷ reply_words f.reply)
 
-behind_call : (f : Frame) (words : List ℕ) → words ≡ words_of f → drop (3 + slice_index words 2 + 1) words ≡ reply_words f.reply
+behind_call : (f : Frame) (words : List ℕ) → words ≡ words_of_frame f → drop (3 + slice_index words 2 + 1) words ≡ reply_words f.reply
 behind_call f words is =
     ap (λ (xs : List ℕ). drop (3 + slice_index xs 2 + 1) xs) is
-    ∙ ap (λ (n : ℕ). drop n (words_of f)) (let next : 3 + length (call_words f.call) + 1 ≡ 3 + (length (call_words f.call) + 1) = omega arith in next)
-    ∙ sym (drop-drop (length (call_words f.call) + 1) 3 (words_of f))
+    ∙ ap (λ (n : ℕ). drop n (words_of_frame f)) (let next : 3 + length (call_words f.call) + 1 ≡ 3 + (length (call_words f.call) + 1) = omega arith in next)
+    ∙ sym (drop-drop (length (call_words f.call) + 1) 3 (words_of_frame f))
     ∙ drop-append-add (call_words f.call) (length (reply_words f.reply) ∷ reply_words f.reply) 1
 
-pub reply_there : (f : Frame) (words : List ℕ) → words ≡ words_of f → take (length words - (3 + slice_index words 2 + 1)) (drop (3 + slice_index words 2 + 1) words) ≡ reply_words f.reply
+pub reply_there : (f : Frame) (words : List ℕ) → words ≡ words_of_frame f → take (length words - (3 + slice_index words 2 + 1)) (drop (3 + slice_index words 2 + 1) words) ≡ reply_words f.reply
 reply_there f words is =
     take_all _ (drop (3 + slice_index words 2 + 1) words) (omega (arith, length-drop (3 + slice_index words 2 + 1) words))
     ∙ behind_call f words is

@@ -1,2 +1,4 @@
 pub mod Coded
 mod Worked
+pub mod Blocks
+pub mod Hearing

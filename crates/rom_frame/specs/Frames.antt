@@ -17,18 +17,18 @@ abbrev pub frame_words : ℕ → List ℕ → List ℕ → List ℕ
 frame_words place args reply = (4 + length args + length reply) ∷ place ∷ length args ∷ (args ++ length reply ∷ reply)
 
 -- the words of the frame of an update that was done at a place
-abbrev pub words_of : Frame → List ℕ
-words_of f = frame_words f.place (call_words f.call) (reply_words f.reply)
+abbrev pub words_of_frame : Frame → List ℕ
+words_of_frame f = frame_words f.place (call_words f.call) (reply_words f.reply)
 
 -- its bytes
 abbrev pub frame : Frame → List ℕ
-frame f = bytes_of (words_of f)
+frame f = bytes_of (words_of_frame f)
 
 -- Its numbers are 64-bit words, its call is an update alone or a group of two to eight, and its reply tells
 -- at most eight: so it is of each frame that a program can have.
 -- Words of 64 bits are a premise: numbers of a definition have any size, and 2^64 would have the bytes of 0.
 pub record IsOfWords (f : Frame) : Type 0 where
-  pub words : All (λ w. w < 2 ^ 64) (words_of f)
+  pub words : All (λ w. w < 2 ^ 64) (words_of_frame f)
   pub members : HasSize (kind_of f.call)
   pub replies : HasFewReplies (reply_kind f.reply)
 

@@ -2,6 +2,7 @@
 ghost use Rattle.std.specs.Prelude.{◌≡◌, ◌*◌, ◌^◌, ◌<◌, ◌≤◌, All, List, ℕ, [], ◌++◌, length, take, Some, IfSome, IsSome, OnOk, OnErr};
 ghost use Rattle.byteorder.specs.Endian.{little_number};
 ghost use Rattle.rom_model.specs.Codes as codes;
+ghost use Rattle.rom_model.specs.declared.words.TheConstants.{CALL_WORDS, REPLY_WORDS};
 ghost use Rattle.rom_frame.specs.Frames.{IsOfWords, bytes_of, frame, frame_words};
 ghost use Rattle.rom_frame.specs.Frames as frames;
 
@@ -37,7 +38,7 @@ impl Frame {
 
     /// The frame that has these words, where there is one.
     fn of_words(words: &[u64]) -> Option<Frame>
-        ensures { (f : Frame) → IsOfWords f → words.now ≡ frames.words_of f → result ≡ Some f }
+        ensures { (f : Frame) → IsOfWords f → words.now ≡ frames.words_of_frame f → result ≡ Some f }
     {
         if words.len() < 4 || words[2] > 40 {
             return None;
@@ -71,7 +72,7 @@ impl Frame {
 
 /// The words of the frame of an update that was done at a place, by those of its call and its reply.
 fn words_of(place: u64, args: &[u64], reply: &[u64]) -> Words<MOST_WORDS>
-    requires few { (length args.now ≤ 40) × (length reply.now ≤ 20) }
+    requires few { (length args.now ≤ CALL_WORDS) × (length reply.now ≤ REPLY_WORDS) }
     ensures { result ≡ frame_words place args.now reply.now }
 {
     let len = 4 + args.len() + reply.len();
@@ -83,10 +84,10 @@ fn words_of(place: u64, args: &[u64], reply: &[u64]) -> Words<MOST_WORDS>
 }
 
 /// Puts the bytes of the frame of an update that was done at a place at the start of these, and says how
-/// many they are. It takes the words of the call, at most 40, and of the reply, at most 20, as they stand,
-/// and reads neither.
+/// many they are. It takes the words of the call, at most `CALL_WORDS`, and of the reply, at most
+/// `REPLY_WORDS`, as they stand, and reads neither.
 pub fn fill_frame(place: u64, args: &[u64], reply: &[u64], bytes: &mut [u8; MOST_BYTES]) -> usize
-    requires few { (length args.now ≤ 40) × (length reply.now ≤ 20) }
+    requires few { (length args.now ≤ CALL_WORDS) × (length reply.now ≤ REPLY_WORDS) }
     ensures within { result ≤ 512 }
     // The bytes are those of the frame whose call and reply the words are read as, and it is one that a
     // program can have.

@@ -1,12 +1,16 @@
 //! Frames: each entry of a heap's history as bytes of its own.
 //!
-//! A frame has the entry's place, the words of its call and those of its reply, and its first word says
-//! how many words it has. The contracts promise that what is written is the update's frame and nothing
-//! else, that bytes are read as a frame exactly where they are one, that a frame has at most 512 bytes,
-//! and that bytes which were torn off a frame are none. `specs/` says what the frames of a whole history
-//! are.
+//! It knows the bytes of an update, and streams of them; it knows no heap and no device.
+//!
+//! A frame has the entry's place, the words of its call and those of its reply, and its first word says how
+//! many words it has. The contracts promise that what is written is the update's frame and nothing else, that
+//! bytes are read as a frame exactly where they are one, that a frame has at most 512 bytes, and that bytes
+//! which were torn off a frame are none. `specs/` says what the frames of a whole history are. How frames are
+//! read from a stream of bytes is said in `stream`.
 #![tactic(auto)]
 
 mod frame;
+mod stream;
 
 pub use frame::{Frame, MOST_BYTES, fill_frame, read_frame, write_frame};
+pub use stream::{MessageKind, next_message};

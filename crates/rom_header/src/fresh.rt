@@ -10,7 +10,7 @@ ghost use Rattle.rom_header.specs.Layout.{words_needed, MAGIC};
 ghost use Rattle.rom_header.specs.Writing.{Alters};
 
 use crate::geometry::Geometry;
-use crate::header::{MAGIC, State, VERSION};
+use crate::header::{HEADER_VERSION, MAGIC, State};
 use rom_device::{Device, Failed, write_certain};
 
 /// Why no heap was made. The first two leave every word as it was.
@@ -47,7 +47,15 @@ fn lay_out<D: Device>(device: &mut D, geometry: Geometry, image: &[u64]) -> Resu
     device.write_words(geometry.main(), image)?;
     device.write_words(geometry.back(), image)?;
     let idle = State::Idle.word();
-    let header = [VERSION, u64::from(geometry.order()), idle, 0, 0, 0, 0];
+    let header = [
+        HEADER_VERSION,
+        u64::from(geometry.order()),
+        idle,
+        0,
+        0,
+        0,
+        0,
+    ];
     device.write_words(1, &header)?;
     Ok(())
 }

@@ -12,7 +12,7 @@ use rom_device::{Device, Failed};
 pub const MAGIC: u64 = 0x524F_4D55_4C55_5331;
 
 /// The format version that this heap has.
-pub const VERSION: u64 = 1;
+pub const HEADER_VERSION: u64 = 1;
 
 /// The place of the word that names the state.
 pub const STATE: u64 = 3;
@@ -108,7 +108,7 @@ fn read_order<D: Device>(device: &mut D) -> Result<Geometry, HeaderRefused>
         return Err(HeaderRefused::NotAHeap);
     }
     let version = device.read(1)?;
-    if version != VERSION {
+    if version != HEADER_VERSION {
         return Err(HeaderRefused::BadVersion(version));
     }
     let order = device.read(2)?;

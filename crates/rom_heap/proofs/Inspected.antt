@@ -7,7 +7,7 @@ use Rattle.rom_model.specs.State.{State}
 use Rattle.rom_model.specs.Region.{is_old, IsWellFormed, Contents, OldContents}
 use Rattle.rom_model.specs.declared.unfit.Unfit.{Unfit}
 use Rattle.rom_model.specs.declared.unfit.Unfit.TheVariants.{Malformed, Old, OutOfMemory}
-use Rattle.rom_inspect.specs.Answers.{IsOldWellFormed, OldRejects}
+use Rattle.rom_heap.specs.Answers.{IsOldWellFormed, OldRejects}
 
 pub fit : (n : ℕ) (w : List ℕ) (result : Result (Unit {0}) Unfit) → OnOk result (IsWellFormed n w) → OnOk result ((s : State) × (k : ℕ) × Contents n w s k)
 fit n w (Ok done) is = (is.state, is.count, is.contents)

@@ -5,7 +5,7 @@ use Rattle.rom_model.specs.State.{State}
 use Rattle.rom_model.specs.Blocks.{region_len}
 use Rattle.rom_model.specs.Region.{Contents, OldContents}
 use Rattle.rom_model.proofs.Contents as contents
-use Rattle.rom_inspect.specs.Answers.{is_new}
+use Rattle.rom_heap.specs.Answers.{is_new}
 
 -- a region stands for one state and one count
 pub one_contents : (n : ℕ) (words : List ℕ) (s t : State) (j k : ℕ) → Contents n words s j → Contents n words t k → (s ≡ t) × (j ≡ k)

@@ -4,4 +4,9 @@ pub mod Fresh
 pub mod Updates
 pub mod Fits
 pub mod Laws
-pub use Rattle.rom_inspect.specs.Answers
+pub mod Tests
+pub mod Walks
+pub mod Parts
+pub mod Answers
+pub mod Node
+pub mod Renewed

@@ -1,5 +1,7 @@
 //! The object of the heap: a queue, a set and a map of numbers in the words of one region.
 //!
+//! It knows what the words of such a region mean; it knows no device, no caller, no line and no text.
+//!
 //! `Trio` implements `Object`, by which all above knows it: the region of a new heap, one update, one
 //! answer, the words of calls and replies, and the inspection of a region. Its contracts promise of
 //! every well-formed region that an update leaves what one queue, set and map give, with the reply that
@@ -12,9 +14,8 @@
 //! writes; the members of a group have one place in the history, and so one stamp. By the stamps
 //! `Query::Fresh` tells how many keys were written since.
 //!
-//! `Trio` implements `Renew` too, by which a region of version 1 becomes one of version 2. The
-//! inspections of both versions are those of `rom_inspect`, and what makes the one into the other is
-//! that of `rom_renew`.
+//! `Trio` implements `Renew` too, by which a region of version 1 becomes one of version 2 (`renew`).
+//! Whether words are a region of either version is asked in `inspect`.
 #![tactic(auto)]
 
 mod answer;
@@ -22,6 +23,8 @@ mod apply;
 mod fits;
 mod free;
 mod fresh;
+mod inspect;
+mod renew;
 mod trio;
 
 pub use free::free_elements;

@@ -3,19 +3,19 @@ ghost use Rattle.rom_model.specs.declared.group.TheConstants.{MAX_MEMBERS};
 ghost use Rattle.rom_model.specs.State.{State};
 ghost use Rattle.rom_model.specs.Region.{Contents};
 ghost use Rattle.rom_model.specs.Trio.{trio};
-ghost use Rattle.rom_inspect.specs.Answers as told;
+ghost use Rattle.rom_heap.specs.Answers as told;
 ghost use Rattle.rom_heap.specs.Laws as laws;
 ghost use Rattle.rom_model.proofs.Tags.{call_only, reply_back, reply_few, reply_only};
 
 use crate::answer::answer;
 use crate::apply::{apply, apply_words};
 use crate::fresh::format_region;
-use rom_inspect::{inspect, inspect_old};
+use crate::inspect::{inspect, inspect_old};
+use crate::renew::renew_region;
 use rom_model::{
     Answer, Args, Back, Call, Kind, Look, MAX_MEMBERS, Object, Query, Renew, Reply, Space, Unfit,
     VecSpace, call_words, put_call_words, reply_words, words_call, words_reply,
 };
-use rom_renew::renew_region;
 use std::alloc::{AllocError, Global};
 
 /// A queue, a set and a map of numbers.

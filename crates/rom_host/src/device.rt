@@ -21,6 +21,17 @@ pub enum HostDevice {
     Memory(Ram),
 }
 
+/// The same on a device of either kind: `on_device!(device, |device| len_of(&device))`.
+#[macro_export]
+macro_rules! on_device {
+    ($device:expr, |$name:ident| $done:expr) => {
+        match $device {
+            $crate::HostDevice::File($name) => $done,
+            $crate::HostDevice::Memory($name) => $done,
+        }
+    };
+}
+
 /// Who else may have a file open.
 #[derive(Clone, Copy)]
 enum Beside {

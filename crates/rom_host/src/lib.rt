@@ -1,6 +1,9 @@
-//! What `main` of every program here does: it holds the standard streams, takes the words of
-//! the command line, opens the scripts and the device that these name, and says why it cannot, or that
-//! there is no memory.
+//! What `main` of each `romulus` does around its one call: it holds the standard streams and takes the words
+//! of the command line (`begin`), opens the scripts and the device that these name, says why it cannot, or that
+//! there is no memory, and ends with the call's status (`end`).
+//!
+//! It knows descriptors, files and standard streams, and by which word a file is a heap; it knows nothing
+//! else of a heap, and no command by its name.
 //!
 //! The contracts promise a source for each name of a script; of files nothing is told. What cannot be
 //! opened is a device or a source of which each call fails, and a line on standard error.

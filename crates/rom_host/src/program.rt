@@ -1,6 +1,8 @@
 //! The program that opens files by name, and what it tells people on standard error.
 use crate::cause::Cause;
-use rom_text::Adapted;
+use crate::streams::{hold_streams, words_of};
+use rom_text::{Adapted, Names};
+use std::alloc::AllocError;
 use std::fs::Metadata;
 use std::io::{ErrorKind, Printer};
 use std::os::unix::fs::MetadataExt;
@@ -9,6 +11,12 @@ use std::{fs, io};
 
 /// How often a lock that another program has is tried again, 50 milliseconds apart: for five seconds.
 const NAPS: u64 = 100;
+
+/// The status of words that are no command, of each `romulus`.
+const NOT_A_COMMAND: u8 = 2;
+
+/// The status where there is no memory.
+const NO_MEMORY: u8 = 6;
 
 /// A program at its edge: the runtime, the name that stands before each cause, and how long it waits for a
 /// lock. What it tells on standard error is for people; no contract speaks of it, and nothing rests on it.
@@ -109,10 +117,26 @@ impl<'a> Program<'a> {
         Adapted::new(io::writer(self.rt))
     }
 
-    /// Says that there is no memory, and gives this status. Nothing has been done, and nothing can be.
-    pub fn no_memory(&self, status: u8) -> ExitCode {
-        if !self.prints_there {
-            let _ = println!(self.rt; "no memory");
+    /// Begins: holds the standard streams, and gives the words of the command line.
+    pub fn begin(&self) -> Result<Names, AllocError> {
+        if hold_streams(self.rt).is_err() {
+            self.complain("/dev/null cannot be opened");
+            return Err(AllocError);
+        }
+        words_of(self)
+    }
+
+    /// Ends with the status that the program's one call gave, and tells the usage where that says that the words
+    /// are no command. `AllocError` is want of memory before the call: nothing has been done, and nothing can be.
+    pub fn end(&self, usage: &str, called: Result<u8, AllocError>) -> ExitCode {
+        let Ok(status) = called else {
+            if !self.prints_there {
+                let _ = println!(self.rt; "no memory");
+            }
+            return ExitCode::from(NO_MEMORY);
+        };
+        if status == NOT_A_COMMAND {
+            self.say(usage);
         }
         ExitCode::from(status)
     }

@@ -73,11 +73,15 @@ impl Read for Script {
 /// A file of which nothing, or all that a script may have, is read now.
 fn open_script(program: &Program<'_>, name: &str, reading: Reading) -> io::Result<Script> {
     let file = File::open(program.rt, name)?;
-    if file.metadata()?.is_dir() {
+    let metadata = file.metadata()?;
+    if metadata.is_dir() {
         return Err(ErrorKind::IsADirectory.into());
     }
     let mut bytes = Vec::new(program.rt.alloc());
     if let Reading::First = reading {
+        // The bytes of a file that tells how many it has do not move as they come. The one more is for the read
+        // that finds the end.
+        bytes.reserve_exact((metadata.len().min(AHEAD) + 1) as usize)?;
         (&file).take(AHEAD).read_to_end(&mut bytes)?;
         if (bytes.len() as u64) < AHEAD {
             return Ok(Script {

@@ -5,15 +5,18 @@ use Rattle.std.proofs.lemmas.List.{get_or_append_left, map-append}
 use Rattle.std.proofs.lemmas.Option.{slice_get-get_or}
 use Rattle.std.proofs.Math.Seq.{get_or-append_seam}
 use Rattle.std.proofs.lemmas.List.Elements.{All-push}
+use Rattle.rom_model.specs.declared.line.LineResult.{LineResult}
 use Rattle.rom_model.specs.declared.line.LineResult.TheVariants as result
 use Rattle.rom_model.specs.declared.call.Updated.TheVariants as updated
+use Rattle.rom_model.specs.declared.words.TheConstants.{REPLY_WORDS}
 use Rattle.rom_lines.specs.Runs.{run_of, IsRun}
 use Rattle.rom_model.specs.declared.line.Step.{Step}
-use Rattle.rom_lines.specs.Steps.{REPLY_WORDS, need}
-use Rattle.rom_lines.specs.Replies.{Reserved, HasRoomFor, TookRoom, done_with, read_with, result_of, Fits}
+use Rattle.rom_lines.specs.Steps.{need}
+use Rattle.rom_lines.specs.Replies.{Reserved, HasRoomFor, TookRoom, done_with, read_with, result_of, Fits, IsTold, IsToldAt}
 use Rattle.rom_lines.specs.declared.results.Cell.{Cell}
 use Rattle.rom_lines.specs.declared.results.Cell.TheVariants as cell
-use Rattle.rom_lines.proofs.Runs.{run_stays, run_behind, length_run, is_run_stays, is_run_behind, same_images}
+use Rattle.rom_lines.specs.declared.results.Told.{Told}
+use Rattle.rom_lines.proofs.Runs.{run_stays, run_behind, length_run, is_run_stays, is_run_behind, at_before, at_left, same_images}
 
 module _ {R A : Type 0} (words_reply : List ℕ → Option R) where
   result_stays : (words more : List ℕ) (answers : List A) (c : Cell) → Fits words_reply words answers c → result_of words_reply (words ++ more) answers c ≡ result_of words_reply words answers c
@@ -86,6 +89,15 @@ module _ {R A : Type 0} (words_reply : List ℕ → Option R) where
   -- a query whose answer stands there
   pub read_result : (answers : List A) (front at : ℕ) (answer : A) → at < length answers → answer ≡ get_or answers at answer → read_with words_reply front (slice_get answers at) ≡ result.Read answer front
   read_result answers front at answer lt is = ap (read_with words_reply front) (slice_get-get_or answers at answer lt ∙ ap Some (sym is))
+
+  pub told_at : (items : List (LineResult R A)) (i : ℕ) (one : LineResult R A) (handed : Told A) → slice_get items i ≡ Some one → IsTold words_reply one handed → IsToldAt words_reply items i handed
+  told_at items i one handed e h = record {
+    line = one;
+    told = h;
+    at = e;
+    before = at_before items i one e;
+    left = at_left items i one e;
+  }
 
 -- room for more lines than these is room for the rest, once the first has its result
 pub room_left : {C Q T : Type 0} (call_words : C → List ℕ) (asks : Step C Q) (rest : List (Step C Q)) (old new : Reserved T) (used : ℕ) → HasRoomFor call_words (asks ∷ rest) old → TookRoom old new used → used ≤ need call_words asks → HasRoomFor call_words rest new

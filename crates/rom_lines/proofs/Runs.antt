@@ -1,6 +1,7 @@
 -- Runs of words, where the words grow at their end, and elements of lists by their index.
 use Rattle.std.proofs.Common.{◌≡◌, ℕ, suc, ◌+◌, ◌-◌, ◌<◌, ◌≤◌, List, [], ◌∷◌, ◌++◌, length, take, drop, get_or, refl, ap, ◌∙◌, sym, subst, arith, length-append, length-drop}
 use Rattle.std.specs.Prelude.{Option, Some, IsSome, All, map, slice_get, option_map}
+use Rattle.std.specs.List.{AllByRecursion}
 use Rattle.std.proofs.lemmas.List.{take-append-le, drop-append-le, take_all, take_more, drop_more, length-take, length-map}
 use Rattle.std.proofs.lemmas.Option.{slice_get-map, slice_get-get_or, slice_get_within, get_or_from_slice_get}
 use Rattle.std.proofs.Math.Seq.{drop-append_seam}
@@ -59,6 +60,11 @@ pub at_holds : {X Y : Type 0} (P : X → Type 0) (f : X → Y) (xs : List X) (ys
 at_holds P f xs ys i found x all e lt is was =
     let within : i < length xs = omega (arith, ap length e, simp length-map at (ap length e)) in
     subst P (sym is ∙ was) (all i found within)
+
+-- what is so of each element is so with one more behind them
+pub all_and_one : {X : Type 0} (P : X → Type 0) (xs : List X) (x : X) → AllByRecursion P xs → P x → AllByRecursion P (xs ++ x ∷ [])
+all_and_one P [] x all is = (is, tt)
+all_and_one P (y ∷ xs) x all is = (all.0, all_and_one P xs x all.1 is)
 
 -- functions that agree on each element have the same images
 pub same_images : {X Y : Type 0} (f h : X → Y) (xs : List X) → All (λ x. f x ≡ h x) xs → map f xs ≡ map h xs

@@ -5,8 +5,9 @@ use Rattle.std.proofs.lemmas.List.{length-append, map-append}
 use Rattle.std.proofs.lemmas.List.Elements.{All-push}
 use Rattle.rom_model.specs.declared.line.Step.{Step}
 use Rattle.rom_model.specs.declared.line.Step.TheVariants as step
+use Rattle.rom_model.specs.declared.words.TheConstants.{CALL_WORDS}
 use Rattle.rom_lines.specs.Runs.{run_of, IsRun}
-use Rattle.rom_lines.specs.Steps.{asked, step_of, Fits, IsLine, IsLineAt, CALL_WORDS, need, needs, total_words}
+use Rattle.rom_lines.specs.Steps.{asked, step_of, Fits, IsLine, IsLineAt, need, needs, total_words}
 use Rattle.rom_lines.specs.declared.script.Cell.{Cell}
 use Rattle.rom_lines.specs.declared.script.Cell.TheVariants as cell
 use Rattle.rom_lines.specs.declared.script.Line.{Line}

@@ -1,12 +1,13 @@
 -- What became of lines, by the words that stand for replies.
-use Rattle.std.specs.Prelude.{◌≡◌, ℕ, ◌+◌, ◌<◌, ◌≤◌, List, length, Option, Some, None, IsSome, slice_get}
+use Rattle.std.specs.Prelude.{◌≡◌, ℕ, ◌+◌, ◌<◌, ◌≤◌, List, ◌∷◌, ◌++◌, [], length, take, drop, Option, Some, None, IsSome, slice_get}
 use Rattle.rom_model.specs.declared.line.Step.{Step}
 use Rattle.rom_model.specs.declared.line.LineResult.{LineResult}
 use Rattle.rom_model.specs.declared.line.LineResult.TheVariants as result
 use Rattle.rom_model.specs.declared.call.Updated.{Updated}
 use Rattle.rom_model.specs.declared.call.Updated.TheVariants as updated
+use Rattle.rom_model.specs.declared.words.TheConstants.{REPLY_WORDS}
 use Rattle.rom_lines.specs.Runs.{run_of, IsRun}
-use Rattle.rom_lines.specs.Steps.{REPLY_WORDS, needs}
+use Rattle.rom_lines.specs.Steps.{needs}
 use Rattle.rom_lines.specs.declared.results.Became.{Became}
 use Rattle.rom_lines.specs.declared.results.Became.TheVariants as became
 use Rattle.rom_lines.specs.declared.results.Cell.{Cell}
@@ -85,10 +86,12 @@ module _ {R A : Type 0} (words_reply : List ℕ → Option R) where
   IsTold it told.Unread = it ≡ result.Unread
   IsTold it (told.Done words place) = (reply : R) × (it ≡ result.Update (updated.Done reply place)) × (words_reply words.now ≡ Some reply) × (length words.now ≤ REPLY_WORDS)
   IsTold it (told.Undone why) = it ≡ result.Update (undone_as why)
-  IsTold it (told.Read answer front) = it ≡ result.Read answer front
+  IsTold it (told.Read answer front) = it ≡ result.Read answer.now front
 
-  -- The result at an index says what became of the line there.
+  -- The result at an index says what became of the line there: this stands after the results before it, and before those that are left.
   pub record IsToldAt (items : List (LineResult R A)) (i : ℕ) (handed : Told A) : Type 0 where
     pub line : LineResult R A
     pub told : IsTold line handed
     pub at : slice_get items i ≡ Some line
+    pub before : take (i + 1) items ≡ take i items ++ line ∷ []
+    pub left : drop i items ≡ line ∷ drop (i + 1) items

@@ -2,6 +2,7 @@
 use Rattle.std.specs.Prelude.{◌≡◌, ℕ, ◌+◌, ◌*◌, ◌≤◌, List, ◌∷◌, ◌++◌, [], length, take, drop, Option, Some, None, slice_get}
 use Rattle.rom_model.specs.declared.line.Step.{Step}
 use Rattle.rom_model.specs.declared.line.Step.TheVariants as step
+use Rattle.rom_model.specs.declared.words.TheConstants.{CALL_WORDS}
 use Rattle.rom_lines.specs.Runs.{run_of, IsRun}
 use Rattle.rom_lines.specs.declared.script.Cell.{Cell}
 use Rattle.rom_lines.specs.declared.script.Cell.TheVariants as cell
@@ -12,14 +13,6 @@ use Rattle.rom_lines.specs.declared.script.Line.TheVariants as line
 pub record Items (T : Type 0) : Type 0 where
   -- what each line asks for, in order
   pub items : List T
-
--- the most words that a call has
-abbrev pub CALL_WORDS : ℕ
-CALL_WORDS = 40
-
--- the most words that a reply has
-abbrev pub REPLY_WORDS : ℕ
-REPLY_WORDS = 20
 
 module _ {C Q : Type 0} (call_words : C → List ℕ) where
   -- how many words the reply to a line has at most: twice those of its call

@@ -1,5 +1,8 @@
 //! The lines of a script and their results, kept small.
 //!
+//! It knows what lines ask for and what they were told; it knows neither how a line is written nor who runs
+//! it.
+//!
 //! A `Step` has room for the widest call there is, and a `LineResult` for the widest reply. Here a line
 //! has the words of its own call, and a result those of its own reply, in a list beside. A contract
 //! sees the same lists as before: of steps, and of results.

@@ -52,7 +52,7 @@ pub enum Told<'a, A> {
     Done(&'a [u64], u64),
     Undone(Undone),
     /// An answer and its front.
-    Read(A, u64),
+    Read(&'a A, u64),
 }
 
 /// The results of lines, in order. A contract sees what became of each line, and how much room is left.
@@ -188,7 +188,7 @@ impl<O: Object> Results<O> {
                 place,
             ),
             Cell::Undone(why) => Told::Undone(why),
-            Cell::Read(front, at) => Told::Read(self.answers[at as usize], front),
+            Cell::Read(front, at) => Told::Read(&self.answers[at as usize], front),
         }
     }
 
@@ -206,7 +206,7 @@ impl<O: Object> Results<O> {
             Told::Undone(Undone::Spent) => LineResult::Update(Updated::Spent),
             Told::Undone(Undone::Failed) => LineResult::Update(Updated::Failed),
             Told::Undone(Undone::Doubt) => LineResult::Update(Updated::Doubt),
-            Told::Read(answer, front) => LineResult::Read(answer, front),
+            Told::Read(answer, front) => LineResult::Read(*answer, front),
         }
     }
 }

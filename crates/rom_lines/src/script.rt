@@ -1,5 +1,5 @@
 //! A script that owns its lines.
-ghost use Rattle.std.specs.Prelude.{◌≡◌, ◌<◌, ◌≤◌, [], ◌∷◌, ◌++◌, length, OnOk, OnErr, Some, IsSome, IfSome, slice_get};
+ghost use Rattle.std.specs.Prelude.{◌≡◌, ◌<◌, ◌≤◌, [], ◌∷◌, ◌++◌, length, IfOk, OnOk, OnErr, Some, IsSome, IfSome, slice_get};
 ghost use Rattle.rom_model.specs.declared.line.Step.TheVariants.{Update, Ask, Unread};
 ghost use Rattle.rom_lines.specs.Steps.{IsLineAt, needs};
 
@@ -58,6 +58,16 @@ impl<O: Object> Script<O> {
             cells: Vec::new(alloc),
             words: Vec::new(alloc),
         }
+    }
+
+    /// No lines, and memory for so many, whose calls have so many words together. They may become more. No clause
+    /// tells how much memory there is.
+    pub fn with_capacity(alloc: Global, lines: usize, words: usize) -> Result<Self, AllocError>
+        ensures { IfOk result (λ made. made.items ≡ []) }
+    {
+        let cells = Vec::with_capacity(alloc, lines)?;
+        let words = Vec::with_capacity(alloc, words)?;
+        Ok(Script { cells, words })
     }
 
     /// How many lines there are.

@@ -1,6 +1,9 @@
 //! Readers beside the writer, by Left-Right: whoever has entered keeps one committed image, word for
 //! word, while the writer changes the other side; it takes no lock and waits for nobody.
 //!
+//! It knows two sides, indicators and seats; it knows no device but its count of faults, and no object but by
+//! `Object`.
+//!
 //! A [`Shared`] is a table of shared words with two sides, main and back. A caller's [`Seat`]
 //! enters a side, loads its words or asks a query of them, and leaves. The [`WriterSeat`] switches
 //! readers to a side that is whole, and settles: it waits until nobody reads the side that they left.

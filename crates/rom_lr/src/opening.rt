@@ -13,10 +13,12 @@ use crate::seats::{Seat, WriterSeat};
 use crate::shared::Shared;
 use crate::side::Side;
 use atomic_table::Table;
+use crossbeam_utils::CachePadded;
 use rom_model::Object;
 use rom_rule::{Deals, Key, Layout};
 use std::alloc::{AllocError, Global};
 use std::snapshot::Snapshot;
+use std::sync::atomic::AtomicU64;
 
 /// The words of a table as it is opened: readers are sent to back, no call is posted, and both sides
 /// hold the image.
@@ -101,6 +103,7 @@ impl<O: Object> Shared<O> {
             layout,
             main: layout.main(0),
             back: layout.back(0),
+            asleep: CachePadded::new(AtomicU64::new(0)),
         };
         Ok((shared, WriterSeat { token, version: 0 }))
     }

@@ -8,9 +8,11 @@ ghost use Rattle.std.specs.Prelude.{◌≡◌, ◌^◌, ◌<◌};
 ghost use Rattle.rom_rule.specs.Places.{back_at, main_at, table_len};
 
 use atomic_table::Table;
+use crossbeam_utils::CachePadded;
 use rom_model::Object;
 use rom_rule::{Key, Law, Layout, View};
 use std::alloc::Global;
+use std::sync::atomic::AtomicU64;
 
 /// The words that callers and the writer share, and where each stands. Their regions are those of an
 /// object. It is lent to every call; all that a call does to it are single steps on single words.
@@ -21,9 +23,20 @@ pub struct Shared<O: Object> {
     // Where the words of main and those of back begin, so that no load or store counts it out anew.
     pub(crate) main: u64,
     pub(crate) back: u64,
+    // Each step of each caller loads the fields above, so this count, which is written, has no cache line in
+    // common with them. It is no word of the table.
+    pub(crate) asleep: CachePadded<AtomicU64>,
     ghost sized: { table.shared.table_id.words ≡ table_len layout.order layout.callers },
     ghost laid: { layout ≡ table.shared.key.layout },
     ghost placed: { (main ≡ main_at layout.order layout.callers 0)
         × (back ≡ back_at layout.order layout.callers 0) },
     ghost near: { (main < 2 ^ 32) × (back < 2 ^ 32) },
+}
+
+impl<O: Object> Shared<O> {
+    /// How many callers sleep. Who sleeps counts itself before, and takes itself out afterwards; who would
+    /// wake one looks here first. No clause says what it holds.
+    pub fn asleep(&self) -> &AtomicU64 {
+        &self.asleep
+    }
 }

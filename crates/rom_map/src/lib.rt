@@ -1,5 +1,7 @@
 //! The map of a heap, in the words of a region.
 //!
+//! It knows the map's words and what blocks they take; it knows no queue, no set and no update as a whole.
+//!
 //! Each key stands with its value, and with the stamp of the update that last wrote it, in a block of its
 //! own, in the chain of the key's bucket, whose first link is a word of the bucket table, and along which
 //! the keys rise. A walk along that chain finds a key's block or the place where it would stand; a new

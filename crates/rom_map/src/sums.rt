@@ -43,6 +43,8 @@ impl Measure {
 }
 
 /// The sum over a bucket's keys. A bucket has no more than 65,536 nodes.
+// Most buckets are empty: inside the loop over all buckets one costs a load and a test.
+#[inline(always)]
 fn bucket_sum<M: Look>(space: &mut M, order: u32, number: u64, measure: Measure) -> u128
     requires order { IsOrder order }
     requires number { number < buckets order }

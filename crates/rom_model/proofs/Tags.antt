@@ -281,6 +281,20 @@ reply_only (tag ∷ rest) r is =
         let members : all_words single_reply_words replies ≡ rest = sym (append-nil (all_words single_reply_words replies)) ∙ done.1 in
         ap reply_words (sym same) ∙ (λ i. sym tagged i ∷ done.0 i ∷ members i))) (λ e. none_only r e)
 
+-- The words of a reply to an update of one structure are read as it, and no word is left.
+single_reply_alone : (ws : List ℕ) (r : SingleReply) → words_reply ws ≡ Some (reply_of r) → read_single_reply ws ≡ Some (r, [])
+single_reply_alone ws r is = ap read_single_reply (sym (reply_only ws (reply_of r) is) ∙ (plain_reply_words r ∙ sym (append-nil (single_reply_words r)))) ∙ single_reply_back r []
+
+-- the words that are left behind what was read
+left_of : Option (SingleReply × List ℕ) → List ℕ
+left_of None = []
+left_of (Some (r, rest)) = rest
+
+-- No word is left behind the reply whose words these are.
+pub none_left : (ws : List ℕ) (o : SingleReply) (rest : List ℕ) → read_single_reply ws ≡ Some (o, rest) → (r : SingleReply) → words_reply ws ≡ Some (reply_of r) → rest ≡ []
+unfolding left_of
+none_left ws o rest read r is = ap left_of (sym read ∙ single_reply_alone ws r is)
+
 -- no update of one structure begins the words of a group
 none_in_group : (rest : List ℕ) → read_single (8 ∷ rest) ≡ None
 none_in_group [] = refl

@@ -4,3 +4,10 @@ pub mod Inspected
 pub mod Recovering
 pub mod Room
 pub mod Within
+pub mod Counted
+pub mod Regions
+pub mod Outside
+pub mod Writing
+pub mod Leaving
+pub mod Upgraded
+pub mod Unready

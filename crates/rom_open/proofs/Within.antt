@@ -7,7 +7,7 @@ use Rattle.rom_header.specs.Calls.{format_fault, format_reads, format_syncs, for
 use Rattle.rom_header.specs.Headers.{IsIdle}
 use Rattle.rom_header.specs.declared.fresh.FormatRefused.{FormatRefused}
 use Rattle.rom_header.specs.declared.fresh.FormatRefused.TheVariants as format
-use Rattle.rom_open.specs.Calls.{AreReads, AreSyncs, AreWrites, Calls, HasFaults, opening_reads, opening_syncs, opening_writes}
+use Rattle.rom_open.specs.Calls.{AreOpeningReads, AreOpeningSyncs, AreOpeningWrites, HasOpeningFaults, OpeningCalls, opening_reads, opening_syncs, opening_writes}
 use Rattle.rom_open.specs.Within.{CallsOfSomeOrder, WithinMaking, WithinOpening}
 use Rattle.rom_open.specs.declared.reasons.Why.{Why}
 use Rattle.rom_open.specs.declared.reasons.Why.TheVariants.{NotAHeap, BadVersion, BadOrder, BadState, TooSmall, Twins, OldRegion, NewRegion, Malformed, Device, OutOfMemory}
@@ -40,7 +40,7 @@ same_most n = omega arith
 least_most : (n m : ℕ) → min n m ≤ n
 least_most n m = omega arith
 
-most_reads : {T : Type 0} (order state : ℕ) (result : Result T Why) (before now : ℕ) → AreReads order state result before now → AtMost (opening_reads order state) before now
+most_reads : {T : Type 0} (order state : ℕ) (result : Result T Why) (before now : ℕ) → AreOpeningReads order state result before now → AtMost (opening_reads order state) before now
 most_reads order state (Ok opened) before now reads = adds_most _ _ before now (same_most _) reads
 most_reads order state (Err OldRegion) before now reads = adds_most _ _ before now (same_most _) reads
 most_reads order state (Err NewRegion) before now reads = adds_most _ _ before now (same_most _) reads
@@ -54,7 +54,7 @@ most_reads order state (Err (BadVersion version)) before now reads = adds_most _
 most_reads order state (Err (BadOrder n)) before now reads = adds_most _ _ before now (reads_header 3 order state (omega arith)) reads
 most_reads order state (Err (BadState word)) before now reads = adds_most _ _ before now (reads_header 4 order state (omega arith)) reads
 
-most_writes : {T : Type 0} (order state : ℕ) (result : Result T Why) (before now : ℕ) → AreWrites order state result before now → AtMost (opening_writes order state) before now
+most_writes : {T : Type 0} (order state : ℕ) (result : Result T Why) (before now : ℕ) → AreOpeningWrites order state result before now → AtMost (opening_writes order state) before now
 most_writes order state (Ok opened) before now writes = adds_most _ _ before now (same_most _) writes
 most_writes order state (Err OldRegion) before now writes = adds_most _ _ before now (same_most _) writes
 most_writes order state (Err NewRegion) before now writes = adds_most _ _ before now (same_most _) writes
@@ -68,7 +68,7 @@ most_writes order state (Err (BadVersion version)) before now writes = none_most
 most_writes order state (Err (BadOrder n)) before now writes = none_most _ before now writes
 most_writes order state (Err (BadState word)) before now writes = none_most _ before now writes
 
-most_syncs : {T : Type 0} (state : ℕ) (result : Result T Why) (before now : ℕ) → AreSyncs state result before now → AtMost (opening_syncs state) before now
+most_syncs : {T : Type 0} (state : ℕ) (result : Result T Why) (before now : ℕ) → AreOpeningSyncs state result before now → AtMost (opening_syncs state) before now
 most_syncs state (Ok opened) before now syncs = adds_most _ _ before now (same_most _) syncs
 most_syncs state (Err OldRegion) before now syncs = adds_most _ _ before now (same_most _) syncs
 most_syncs state (Err NewRegion) before now syncs = adds_most _ _ before now (same_most _) syncs
@@ -82,7 +82,7 @@ most_syncs state (Err (BadVersion version)) before now syncs = none_most _ befor
 most_syncs state (Err (BadOrder n)) before now syncs = none_most _ before now syncs
 most_syncs state (Err (BadState word)) before now syncs = none_most _ before now syncs
 
-stops_opening : {T : Type 0} (result : Result T Why) (before now : ℕ) (failing : Bool) → HasFaults result before now failing → StopsAtFault before now failing
+stops_opening : {T : Type 0} (result : Result T Why) (before now : ℕ) (failing : Bool) → HasOpeningFaults result before now failing → StopsAtFault before now failing
 stops_opening (Ok opened) before now failing same = inl same
 stops_opening (Err (Twins offset main back)) before now failing stops = stops
 stops_opening (Err Device) before now failing failed = inr failed
@@ -96,8 +96,8 @@ stops_opening (Err NewRegion) before now failing same = inl same
 stops_opening (Err (Malformed offset rule)) before now failing same = inl same
 stops_opening (Err OutOfMemory) before now failing same = inl same
 
-pub within_opening : {D T : Type 0} (shown : ShownDevice D) (was now : D) (result : Result T Why) → (IsTrue shown.tells_words → Calls shown (shown.words was) was now result)
-    → (IsTrue shown.tells_words → IsIdle (shown.words was) → Does shown Stays was now) → HasFaults result (shown.faults was) (shown.faults now) (shown.failing now) → CallsOfSomeOrder shown was now → WithinOpening shown was now
+pub within_opening : {D T : Type 0} (shown : ShownDevice D) (was now : D) (result : Result T Why) → (IsTrue shown.tells_words → OpeningCalls shown (shown.words was) was now result)
+    → (IsTrue shown.tells_words → IsIdle (shown.words was) → Does shown Stays was now) → HasOpeningFaults result (shown.faults was) (shown.faults now) (shown.failing now) → CallsOfSomeOrder shown was now → WithinOpening shown was now
 within_opening shown was now result calls idle faults by_order = record {
   calls = λ told. record {
     most_reads = most_reads _ _ result _ _ (calls told).reads;

@@ -28,19 +28,19 @@ is_recovered (Ok opened) = true
 is_recovered (Err why) = is_late why
 
 -- No call follows one that failed: after `Device` the last one did, and a difference of the regions may be told where a later word could not be read. Else none failed.
-abbrev pub HasFaults : {T : Type 0} → Result T Why → ℕ → ℕ → Bool → Type 0
-HasFaults (Ok opened) before now failing = now ≡ before
-HasFaults (Err NotAHeap) before now failing = now ≡ before
-HasFaults (Err (BadVersion version)) before now failing = now ≡ before
-HasFaults (Err (BadOrder n)) before now failing = now ≡ before
-HasFaults (Err (BadState word)) before now failing = now ≡ before
-HasFaults (Err (TooSmall need have)) before now failing = now ≡ before
-HasFaults (Err (Twins offset main back)) before now failing = StopsAtFault before now failing
-HasFaults (Err OldRegion) before now failing = now ≡ before
-HasFaults (Err NewRegion) before now failing = now ≡ before
-HasFaults (Err (Malformed offset rule)) before now failing = now ≡ before
-HasFaults (Err Device) before now failing = FailedLast before now failing
-HasFaults (Err OutOfMemory) before now failing = now ≡ before
+abbrev pub HasOpeningFaults : {T : Type 0} → Result T Why → ℕ → ℕ → Bool → Type 0
+HasOpeningFaults (Ok opened) before now failing = now ≡ before
+HasOpeningFaults (Err NotAHeap) before now failing = now ≡ before
+HasOpeningFaults (Err (BadVersion version)) before now failing = now ≡ before
+HasOpeningFaults (Err (BadOrder n)) before now failing = now ≡ before
+HasOpeningFaults (Err (BadState word)) before now failing = now ≡ before
+HasOpeningFaults (Err (TooSmall need have)) before now failing = now ≡ before
+HasOpeningFaults (Err (Twins offset main back)) before now failing = StopsAtFault before now failing
+HasOpeningFaults (Err OldRegion) before now failing = now ≡ before
+HasOpeningFaults (Err NewRegion) before now failing = now ≡ before
+HasOpeningFaults (Err (Malformed offset rule)) before now failing = now ≡ before
+HasOpeningFaults (Err Device) before now failing = FailedLast before now failing
+HasOpeningFaults (Err OutOfMemory) before now failing = now ≡ before
 
 -- how many words are read of a heap of this order, by the word of the state: the header, the state again and the region that counts, and under IDLE the other one too
 abbrev pub opening_reads : ℕ → ℕ → ℕ
@@ -55,52 +55,52 @@ abbrev pub opening_syncs : ℕ → ℕ
 opening_syncs state = if state == 0 then 1 else 4
 
 -- The reads that an opening made, by its answer: a header is read up to the word that is refused, and regions that differ at most up to that place. Where the device failed some may be missing.
-abbrev pub AreReads : {T : Type 0} → ℕ → ℕ → Result T Why → ℕ → ℕ → Type 0
-AreReads order state (Ok opened) before now = Adds (opening_reads order state) before now
-AreReads order state (Err OldRegion) before now = Adds (opening_reads order state) before now
-AreReads order state (Err NewRegion) before now = Adds (opening_reads order state) before now
-AreReads order state (Err (Malformed offset rule)) before now = Adds (opening_reads order state) before now
-AreReads order state (Err Device) before now = AtMost (opening_reads order state) before now
-AreReads order state (Err OutOfMemory) before now = Adds (opening_reads order state) before now
-AreReads order state (Err (Twins offset main back)) before now = AtMost (min (opening_reads order state) (5 + 2 * (offset + 64))) before now
-AreReads order state (Err (TooSmall need have)) before now = Adds (if nat_lt have 8 then 0 else 3) before now
-AreReads order state (Err NotAHeap) before now = Adds 1 before now
-AreReads order state (Err (BadVersion version)) before now = Adds 2 before now
-AreReads order state (Err (BadOrder n)) before now = Adds 3 before now
-AreReads order state (Err (BadState word)) before now = Adds 4 before now
+abbrev pub AreOpeningReads : {T : Type 0} → ℕ → ℕ → Result T Why → ℕ → ℕ → Type 0
+AreOpeningReads order state (Ok opened) before now = Adds (opening_reads order state) before now
+AreOpeningReads order state (Err OldRegion) before now = Adds (opening_reads order state) before now
+AreOpeningReads order state (Err NewRegion) before now = Adds (opening_reads order state) before now
+AreOpeningReads order state (Err (Malformed offset rule)) before now = Adds (opening_reads order state) before now
+AreOpeningReads order state (Err Device) before now = AtMost (opening_reads order state) before now
+AreOpeningReads order state (Err OutOfMemory) before now = Adds (opening_reads order state) before now
+AreOpeningReads order state (Err (Twins offset main back)) before now = AtMost (min (opening_reads order state) (5 + 2 * (offset + 64))) before now
+AreOpeningReads order state (Err (TooSmall need have)) before now = Adds (if nat_lt have 8 then 0 else 3) before now
+AreOpeningReads order state (Err NotAHeap) before now = Adds 1 before now
+AreOpeningReads order state (Err (BadVersion version)) before now = Adds 2 before now
+AreOpeningReads order state (Err (BadOrder n)) before now = Adds 3 before now
+AreOpeningReads order state (Err (BadState word)) before now = Adds 4 before now
 
 -- the writes, likewise, of which there are none where the header or the regions are refused
-abbrev pub AreWrites : {T : Type 0} → ℕ → ℕ → Result T Why → ℕ → ℕ → Type 0
-AreWrites order state (Ok opened) before now = Adds (opening_writes order state) before now
-AreWrites order state (Err OldRegion) before now = Adds (opening_writes order state) before now
-AreWrites order state (Err NewRegion) before now = Adds (opening_writes order state) before now
-AreWrites order state (Err (Malformed offset rule)) before now = Adds (opening_writes order state) before now
-AreWrites order state (Err OutOfMemory) before now = Adds (opening_writes order state) before now
-AreWrites order state (Err Device) before now = AtMost (opening_writes order state) before now
-AreWrites order state (Err (Twins offset main back)) before now = now ≡ before
-AreWrites order state (Err (TooSmall need have)) before now = now ≡ before
-AreWrites order state (Err NotAHeap) before now = now ≡ before
-AreWrites order state (Err (BadVersion version)) before now = now ≡ before
-AreWrites order state (Err (BadOrder n)) before now = now ≡ before
-AreWrites order state (Err (BadState word)) before now = now ≡ before
+abbrev pub AreOpeningWrites : {T : Type 0} → ℕ → ℕ → Result T Why → ℕ → ℕ → Type 0
+AreOpeningWrites order state (Ok opened) before now = Adds (opening_writes order state) before now
+AreOpeningWrites order state (Err OldRegion) before now = Adds (opening_writes order state) before now
+AreOpeningWrites order state (Err NewRegion) before now = Adds (opening_writes order state) before now
+AreOpeningWrites order state (Err (Malformed offset rule)) before now = Adds (opening_writes order state) before now
+AreOpeningWrites order state (Err OutOfMemory) before now = Adds (opening_writes order state) before now
+AreOpeningWrites order state (Err Device) before now = AtMost (opening_writes order state) before now
+AreOpeningWrites order state (Err (Twins offset main back)) before now = now ≡ before
+AreOpeningWrites order state (Err (TooSmall need have)) before now = now ≡ before
+AreOpeningWrites order state (Err NotAHeap) before now = now ≡ before
+AreOpeningWrites order state (Err (BadVersion version)) before now = now ≡ before
+AreOpeningWrites order state (Err (BadOrder n)) before now = now ≡ before
+AreOpeningWrites order state (Err (BadState word)) before now = now ≡ before
 
 -- the syncs, likewise, of which there is one where the regions differ, and none where the header is refused
-abbrev pub AreSyncs : {T : Type 0} → ℕ → Result T Why → ℕ → ℕ → Type 0
-AreSyncs state (Ok opened) before now = Adds (opening_syncs state) before now
-AreSyncs state (Err OldRegion) before now = Adds (opening_syncs state) before now
-AreSyncs state (Err NewRegion) before now = Adds (opening_syncs state) before now
-AreSyncs state (Err (Malformed offset rule)) before now = Adds (opening_syncs state) before now
-AreSyncs state (Err OutOfMemory) before now = Adds (opening_syncs state) before now
-AreSyncs state (Err Device) before now = AtMost (opening_syncs state) before now
-AreSyncs state (Err (Twins offset main back)) before now = Adds 1 before now
-AreSyncs state (Err (TooSmall need have)) before now = now ≡ before
-AreSyncs state (Err NotAHeap) before now = now ≡ before
-AreSyncs state (Err (BadVersion version)) before now = now ≡ before
-AreSyncs state (Err (BadOrder n)) before now = now ≡ before
-AreSyncs state (Err (BadState word)) before now = now ≡ before
+abbrev pub AreOpeningSyncs : {T : Type 0} → ℕ → Result T Why → ℕ → ℕ → Type 0
+AreOpeningSyncs state (Ok opened) before now = Adds (opening_syncs state) before now
+AreOpeningSyncs state (Err OldRegion) before now = Adds (opening_syncs state) before now
+AreOpeningSyncs state (Err NewRegion) before now = Adds (opening_syncs state) before now
+AreOpeningSyncs state (Err (Malformed offset rule)) before now = Adds (opening_syncs state) before now
+AreOpeningSyncs state (Err OutOfMemory) before now = Adds (opening_syncs state) before now
+AreOpeningSyncs state (Err Device) before now = AtMost (opening_syncs state) before now
+AreOpeningSyncs state (Err (Twins offset main back)) before now = Adds 1 before now
+AreOpeningSyncs state (Err (TooSmall need have)) before now = now ≡ before
+AreOpeningSyncs state (Err NotAHeap) before now = now ≡ before
+AreOpeningSyncs state (Err (BadVersion version)) before now = now ≡ before
+AreOpeningSyncs state (Err (BadOrder n)) before now = now ≡ before
+AreOpeningSyncs state (Err (BadState word)) before now = now ≡ before
 
 -- The calls that an opening of a device with these words made.
-pub record Calls {D T : Type 0} (shown : ShownDevice D) (words : List ℕ) (old new : D) (result : Result T Why) : Type 0 where
-  pub reads : AreReads (named_order words) (slice_index words STATE) result (shown.reads old) (shown.reads new)
-  pub writes : AreWrites (named_order words) (slice_index words STATE) result (shown.writes old) (shown.writes new)
-  pub syncs : AreSyncs (slice_index words STATE) result (shown.syncs old) (shown.syncs new)
+pub record OpeningCalls {D T : Type 0} (shown : ShownDevice D) (words : List ℕ) (old new : D) (result : Result T Why) : Type 0 where
+  pub reads : AreOpeningReads (named_order words) (slice_index words STATE) result (shown.reads old) (shown.reads new)
+  pub writes : AreOpeningWrites (named_order words) (slice_index words STATE) result (shown.writes old) (shown.writes new)
+  pub syncs : AreOpeningSyncs (slice_index words STATE) result (shown.syncs old) (shown.syncs new)

@@ -5,3 +5,7 @@ pub mod AtRest
 pub mod Opening
 pub mod Making
 pub mod Within
+pub mod View
+pub mod Upgrading
+pub mod UpgradeCalls
+pub mod Batch

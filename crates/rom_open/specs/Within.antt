@@ -8,7 +8,7 @@ use Rattle.rom_header.specs.Headers.{IsIdle}
 use Rattle.rom_header.specs.Held.{Holds}
 use Rattle.rom_header.specs.Layout.{STATE, words_needed}
 use Rattle.rom_recover.specs.Calls.{CallsWithin}
-use Rattle.rom_open.specs.AtRest.{IsAtRest}
+use Rattle.rom_open.specs.AtRest.{IsHeapAtRest}
 use Rattle.rom_open.specs.Calls.{opening_reads, opening_syncs, opening_writes}
 use Rattle.rom_open.specs.Making.{NoneOrHolds}
 use Rattle.rom_open.specs.Refusals.{named_order}
@@ -47,7 +47,7 @@ module _ {D : Type 0} (shown : ShownDevice D) where
 
   -- Where the words are told, they are a heap of this order at rest: under IDLE, with both regions the same.
   abbrev pub LiesAtRest : ℕ → D → Type 0
-  LiesAtRest order now = IsTrue shown.tells_words → (image : List ℕ) × IsAtRest order image (shown.words now)
+  LiesAtRest order now = IsTrue shown.tells_words → (image : List ℕ) × IsHeapAtRest order image (shown.words now)
 
   -- Since this device a heap of this order was opened once at most, and no call failed; and it is at rest.
   pub record HasOpened (order : ℕ) (was now : D) : Type 0 where

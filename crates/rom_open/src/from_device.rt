@@ -8,10 +8,10 @@ ghost use Rattle.rom_header.specs.Regions.{IsCurrentRegion, SameRegion};
 ghost use Rattle.rom_header.specs.Writing.{Alters};
 ghost use Rattle.rom_recover.specs.Doubt.{IsLeftInDoubt};
 ghost use Rattle.rom_recover.specs.Recovered.{IsDone, Mended};
-ghost use Rattle.rom_open.specs.Calls.{Calls, HasFaults, is_recovered};
-ghost use Rattle.rom_header.specs.Held.{Holds, HoldsOne};
-ghost use Rattle.rom_open.specs.AtRest.{IsAtRest};
-ghost use Rattle.rom_open.specs.Opening.{IsOpeningAnswer, MendsNamed, device_of, refusal_of};
+ghost use Rattle.rom_open.specs.Calls.{HasOpeningFaults, OpeningCalls, is_recovered};
+ghost use Rattle.rom_header.specs.Held.{HoldsOne};
+ghost use Rattle.rom_open.specs.AtRest.{IsHeapAtRest};
+ghost use Rattle.rom_open.specs.Opening.{IsHeldSince, IsOpeningAnswer, MendsNamed, device_of, refusal_of};
 ghost use Rattle.rom_open.specs.Refusals.{IsRefusal, NamesTooFew, named_order};
 ghost use Rattle.rom_open.specs.Within.{CallsOfOrder, CallsOfSomeOrder, WithinOpening};
 ghost use Rattle.rom_open.specs.declared.reasons.Why.TheVariants.{TooSmall};
@@ -68,7 +68,7 @@ fn accept<D: Device, O: Object>(alloc: Global, device: &mut D) -> Result<Accepte
         result ≡ Err (TooSmall 8 (D.shown.size device.old)) }
     ensures sizes { IfErr result (NamesTooFew (D.shown.size device.old)) }
     ensures rest { IsTrue D.shown.tells_words → IfOk result (λ accepted.
-        IsAtRest accepted.geometry accepted.image.items (D.shown.words device.new)) }
+        IsHeapAtRest accepted.geometry accepted.image.items (D.shown.words device.new)) }
     ensures recovered { IsTrue D.shown.tells_words → IsTrue (is_recovered result) →
         IsDone (named_order (D.shown.words device.old)) (D.shown.words device.old)
         (D.shown.words device.new) }
@@ -82,10 +82,10 @@ fn accept<D: Device, O: Object>(alloc: Global, device: &mut D) -> Result<Accepte
         Leaves D.shown (SameRegion (D.shown.words device.old)) device.old device.new }
     ensures idle { IsTrue D.shown.tells_words →
         IsIdle (D.shown.words device.old) → Does D.shown Stays device.old device.new }
-    ensures faults { HasFaults result
+    ensures faults { HasOpeningFaults result
         (D.shown.faults device.old) (D.shown.faults device.new) (D.shown.failing device.new) }
     ensures calls { IsTrue D.shown.tells_words →
-        Calls D.shown (D.shown.words device.old) device.old device.new result }
+        OpeningCalls D.shown (D.shown.words device.old) device.old device.new result }
     ensures by_some_order { CallsOfSomeOrder D.shown device.old device.new }
     ensures by_order { IfOk result (λ accepted.
         CallsOfOrder D.shown accepted.geometry device.old device.new) }
@@ -118,14 +118,11 @@ pub fn open_device<D: Device, O: Object>(alloc: Global, device: D) -> Result<Ope
     ensures fit { IfOk result (λ opened.
         (s : O.State) × (k : ℕ) × O.Contents opened.geometry opened.image.items s k) }
     ensures sized { IfOk result (λ opened. length opened.image.items ≡ region_len opened.geometry) }
-    // What the image stands for is what the device's words held at the call.
-    ensures held { IsTrue D.shown.tells_words → IfOk result (λ opened.
+    // What the image stands for, the device's words held at the call and hold now; and each image that a stop
+    // might have left by now could be left before the call, or holds it.
+    ensures held { IfOk result (λ opened.
         (s : O.State) (k : ℕ) → O.Contents opened.geometry opened.image.items s k →
-        Holds O.Contents opened.geometry (D.shown.words device) s k) }
-    // The device's words now hold what the image stands for.
-    ensures holds { IsTrue D.shown.tells_words → IfOk result (λ opened.
-        (s : O.State) (k : ℕ) → O.Contents opened.geometry opened.image.items s k →
-        Holds O.Contents opened.geometry (D.shown.words opened.device) s k) }
+        IsHeldSince O.Contents D.shown opened.geometry s k device opened.device) }
     // Words hold at most one order, one state and one count.
     ensures one { HoldsOne O.Contents }
 
@@ -134,7 +131,7 @@ pub fn open_device<D: Device, O: Object>(alloc: Global, device: D) -> Result<Ope
         words_needed opened.geometry ≤ D.shown.size opened.device) }
     // After `Ok` the device is at rest: its state is IDLE, and both regions are the image.
     ensures rest { IsTrue D.shown.tells_words → IfOk result (λ opened.
-        IsAtRest opened.geometry opened.image.items (D.shown.words opened.device)) }
+        IsHeapAtRest opened.geometry opened.image.items (D.shown.words opened.device)) }
     // After `Ok`, and where the region that counts was refused or there was no memory, the heap is recovered:
     // its state is IDLE, and both regions are the one that counted.
     ensures recovered { IsTrue D.shown.tells_words → IsTrue (is_recovered (refusal_of result)) →
@@ -159,24 +156,19 @@ pub fn open_device<D: Device, O: Object>(alloc: Global, device: D) -> Result<Ope
     ensures doubts { IsTrue D.shown.tells_doubts →
         IsLeftInDoubt D.shown (named_order (D.shown.words device)) device →
         Leaves D.shown (SameRegion (D.shown.words device)) device (device_of result) }
-    // Each image that a stop might have left by now could be left before the call, or holds what the image
-    // stands for.
-    ensures held_images { IsTrue D.shown.tells_images → IfOk result (λ opened.
-        (s : O.State) (k : ℕ) → O.Contents opened.geometry opened.image.items s k →
-        Leaves D.shown (λ i. Holds O.Contents opened.geometry i s k) device opened.device) }
     // Under IDLE every word stays, and a stop leaves no other image than before.
     ensures idle { IsTrue D.shown.tells_words →
         IsIdle (D.shown.words device) → Does D.shown Stays device (device_of result) }
 
     // No call of the device follows one that failed: after `Device` the last one did, after `Twins` it may
     // have, and after any other answer none did.
-    ensures faults { HasFaults (refusal_of result)
+    ensures faults { HasOpeningFaults (refusal_of result)
         (D.shown.faults device) (D.shown.faults (device_of result))
         (D.shown.failing (device_of result)) }
     // The device was called exactly as an opening of these words that answers so calls it: after `Device`,
     // and in the reads of `Twins`, no more than that.
     ensures calls { IsTrue D.shown.tells_words →
-        Calls D.shown (D.shown.words device) device (device_of result) (refusal_of result) }
+        OpeningCalls D.shown (D.shown.words device) device (device_of result) (refusal_of result) }
     // The device was called no more than one opening calls it, and not after a call that failed.
     ensures within { WithinOpening D.shown device (device_of result) }
     // Also where words are not told, the device was called no more than the longest opening of a heap of this

@@ -8,7 +8,7 @@ ghost use Rattle.rom_header.specs.Regions.{IsHeap, SameRegion};
 ghost use Rattle.rom_header.specs.Writing.{Alters};
 ghost use Rattle.rom_recover.specs.Doubt.{IsLeftInDoubt};
 ghost use Rattle.rom_recover.specs.Recovered.{IsDone, Mended};
-ghost use Rattle.rom_open.specs.Calls.{Calls, HasFaults};
+ghost use Rattle.rom_open.specs.Calls.{HasOpeningFaults, OpeningCalls};
 ghost use Rattle.rom_open.specs.Opening.{MendsNamed};
 ghost use Rattle.rom_open.specs.Refusals.{IsUnready, NamesTooFew, named_order};
 ghost use Rattle.rom_open.specs.Within.{CallsOfOrder, CallsOfSomeOrder};
@@ -79,12 +79,12 @@ pub fn make_ready<D: Device>(alloc: Global, device: &mut D) -> Result<Ready, Why
         IsIdle (D.shown.words device.old) → Does D.shown Stays device.old device.new }
     // No call of the device follows one that failed: after `Device` the last one did, after `Twins` it may
     // have, and after any other answer none did.
-    ensures faults { HasFaults result
+    ensures faults { HasOpeningFaults result
         (D.shown.faults device.old) (D.shown.faults device.new) (D.shown.failing device.new) }
     // The device was called exactly as an opening of these words that answers so calls it: after `Device`,
     // and in the reads of `Twins`, no more than that.
     ensures calls { IsTrue D.shown.tells_words →
-        Calls D.shown (D.shown.words device.old) device.old device.new result }
+        OpeningCalls D.shown (D.shown.words device.old) device.old device.new result }
     // Also where words are not told, the device was called no more than the longest opening of some heap that
     // it has room for calls it, or for no more than the four reads of a header.
     ensures by_some_order { CallsOfSomeOrder D.shown device.old device.new }

@@ -2,10 +2,10 @@
 use Rattle.std.specs.Prelude.{◌≡◌, ℕ, List, [], ◌∷◌, codes}
 use Rattle.rom_model.specs.declared.line.Step.{Step}
 use Rattle.rom_model.specs.declared.line.Step.TheVariants.{Update, Ask, Unread}
-use Rattle.rom_order.specs.declared.call.OrderCall.{OrderCall}
-use Rattle.rom_order.specs.declared.call.OrderCall.TheVariants.{Put, Del}
-use Rattle.rom_order.specs.declared.call.OrderQuery.{OrderQuery}
-use Rattle.rom_order.specs.declared.call.OrderQuery.TheVariants.{Get, From, Range}
+use Rattle.rom_order_region.specs.declared.call.OrderCall.{OrderCall}
+use Rattle.rom_order_region.specs.declared.call.OrderCall.TheVariants.{Put, Del}
+use Rattle.rom_order_region.specs.declared.call.OrderQuery.{OrderQuery}
+use Rattle.rom_order_region.specs.declared.call.OrderQuery.TheVariants.{Get, From, Range}
 
 -- the first word of a call's line, and the numbers behind it
 abbrev pub call_phrase : OrderCall → List ℕ × List ℕ
@@ -13,13 +13,13 @@ call_phrase (Put k v) = (codes "put", k ∷ v ∷ [])
 call_phrase (Del k) = (codes "del", k ∷ [])
 
 -- those of a query's line
-abbrev pub query_phrase : OrderQuery → List ℕ × List ℕ
-query_phrase (Get k) = (codes "get", k ∷ [])
-query_phrase (From k) = (codes "from", k ∷ [])
-query_phrase (Range a b) = (codes "range", a ∷ b ∷ [])
+abbrev pub order_query_phrase : OrderQuery → List ℕ × List ℕ
+order_query_phrase (Get k) = (codes "get", k ∷ [])
+order_query_phrase (From k) = (codes "from", k ∷ [])
+order_query_phrase (Range a b) = (codes "range", a ∷ b ∷ [])
 
 -- a line of this word and these numbers asks for the step, or for none
-abbrev pub Asks : List ℕ → List ℕ → Step OrderCall OrderQuery → Type 0
-Asks name numbers (Update call) = (name, numbers) ≡ call_phrase call
-Asks name numbers (Ask query) = (name, numbers) ≡ query_phrase query
-Asks name numbers Unread = ((call : OrderCall) → (name, numbers) ≡ call_phrase call → ⊥) × ((query : OrderQuery) → (name, numbers) ≡ query_phrase query → ⊥)
+abbrev pub AsksOrder : List ℕ → List ℕ → Step OrderCall OrderQuery → Type 0
+AsksOrder name numbers (Update call) = (name, numbers) ≡ call_phrase call
+AsksOrder name numbers (Ask query) = (name, numbers) ≡ order_query_phrase query
+AsksOrder name numbers Unread = ((call : OrderCall) → (name, numbers) ≡ call_phrase call → ⊥) × ((query : OrderQuery) → (name, numbers) ≡ order_query_phrase query → ⊥)

@@ -1,13 +1,8 @@
 -- The ordered index: its states and calls, its region with its inspection, the laws of the object, and its lines
 -- and texts.
-pub mod Region
-pub mod State
 pub mod Codes
 pub mod Index
-pub mod Inspection
-pub mod Marks
 pub mod Laws
 pub mod Tagged
 pub mod Lines
 pub mod Asking
-pub mod Texts

@@ -2,19 +2,19 @@
 use Rattle.std.proofs.Common.{◌≡◌, ℕ, List, [], ◌∷◌, Bool, true, false, refl, sym, ap, ◌∙◌, Some, None}
 use Rattle.std.specs.Prelude.{Option, ◌==◌, if◌then◌else◌}
 use Rattle.std.proofs.lemmas.Bool.{eqb-true}
-use Rattle.rom_order.specs.declared.call.OrderCall.{OrderCall}
-use Rattle.rom_order.specs.declared.call.OrderCall.TheVariants.{Put, Del}
-use Rattle.rom_order.specs.declared.call.OrderReply.{OrderReply}
-use Rattle.rom_order.specs.declared.call.OrderReply.TheVariants.{Was, NoPrior, Full}
-use Rattle.rom_order.specs.Codes.{call_words, words_call, reply_words, words_reply}
+use Rattle.rom_order_region.specs.declared.call.OrderCall.{OrderCall}
+use Rattle.rom_order_region.specs.declared.call.OrderCall.TheVariants.{Put, Del}
+use Rattle.rom_order_region.specs.declared.call.OrderReply.{OrderReply}
+use Rattle.rom_order_region.specs.declared.call.OrderReply.TheVariants.{Was, NoPrior, Full}
+use Rattle.rom_order.specs.Codes.{order_call_words, words_order_call, order_reply_words, words_order_reply}
 
 -- the words of a call are read as that call
-pub call_back : (call : OrderCall) → words_call (call_words call) ≡ Some call
+pub call_back : (call : OrderCall) → words_order_call (order_call_words call) ≡ Some call
 call_back (Put k v) = refl
 call_back (Del k) = refl
 
 -- the words of a reply are read as that reply
-pub reply_back : (reply : OrderReply) → words_reply (reply_words reply) ≡ Some reply
+pub reply_back : (reply : OrderReply) → words_order_reply (order_reply_words reply) ≡ Some reply
 reply_back (Was v) = refl
 reply_back NoPrior = refl
 reply_back Full = refl
@@ -31,16 +31,16 @@ chosen : {X : Type 0} (words : X → List ℕ) (tag own : ℕ) (x c : X) (behind
 chosen words tag own x c behind rest its there = choose (tag == own) x c rest (words c ≡ tag ∷ behind) (by_tag words tag own x c behind its) there
 
 -- words that are read as a call are the words of that call
-pub call_only : (words : List ℕ) (call : OrderCall) → words_call words ≡ Some call → call_words call ≡ words
+pub call_only : (words : List ℕ) (call : OrderCall) → words_order_call words ≡ Some call → order_call_words call ≡ words
 call_only [] call is = cc
 call_only (tag ∷ []) call is = cc
-call_only (tag ∷ k ∷ []) call is = chosen call_words tag 2 (Del k) call (k ∷ []) None refl (λ e. cc) is
-call_only (tag ∷ k ∷ v ∷ []) call is = chosen call_words tag 1 (Put k v) call (k ∷ v ∷ []) None refl (λ e. cc) is
+call_only (tag ∷ k ∷ []) call is = chosen order_call_words tag 2 (Del k) call (k ∷ []) None refl (λ e. cc) is
+call_only (tag ∷ k ∷ v ∷ []) call is = chosen order_call_words tag 1 (Put k v) call (k ∷ v ∷ []) None refl (λ e. cc) is
 call_only (tag ∷ k ∷ v ∷ x ∷ more) call is = cc
 
 -- words that are read as a reply are the words of that reply
-pub reply_only : (words : List ℕ) (reply : OrderReply) → words_reply words ≡ Some reply → reply_words reply ≡ words
+pub reply_only : (words : List ℕ) (reply : OrderReply) → words_order_reply words ≡ Some reply → order_reply_words reply ≡ words
 reply_only [] reply is = cc
-reply_only (tag ∷ []) reply is = chosen reply_words tag 2 NoPrior reply [] (if tag == 3 then Some Full else None) refl (chosen reply_words tag 3 Full reply [] None refl (λ e. cc)) is
-reply_only (tag ∷ v ∷ []) reply is = chosen reply_words tag 1 (Was v) reply (v ∷ []) None refl (λ e. cc) is
+reply_only (tag ∷ []) reply is = chosen order_reply_words tag 2 NoPrior reply [] (if tag == 3 then Some Full else None) refl (chosen order_reply_words tag 3 Full reply [] None refl (λ e. cc)) is
+reply_only (tag ∷ v ∷ []) reply is = chosen order_reply_words tag 1 (Was v) reply (v ∷ []) None refl (λ e. cc) is
 reply_only (tag ∷ v ∷ x ∷ more) reply is = cc

@@ -1,19 +1,19 @@
 //! The object.
 ghost use Rattle.rom_model.specs.Earlier.{no_earlier};
-ghost use Rattle.rom_order.specs.State.{Pairs};
-ghost use Rattle.rom_order.specs.Region.{Contents};
+ghost use Rattle.rom_order_region.specs.State.{Pairs};
+ghost use Rattle.rom_order_region.specs.Region.{OrderContents};
 ghost use Rattle.rom_order.specs.Index.{index};
-ghost use Rattle.rom_order.specs.Inspection.{Rejects};
+ghost use Rattle.rom_order_region.specs.Inspection.{RejectsOrder};
 ghost use Rattle.rom_order.specs.Laws.{one_contents, contents_within, call_only, reply_back, reply_few, reply_only};
 
-use crate::apply::{answer, apply};
-use crate::call::{OrderAnswer, OrderCall, OrderQuery, OrderReply};
 use crate::codes::{
     call_words, put_call_words, put_reply_words, reply_words, words_call, words_reply,
 };
-use crate::fresh::format_region;
-use crate::inspection::inspect;
 use rom_model::{Args, Back, Look, Object, Space, Unfit};
+use rom_order_region::{
+    OrderAnswer, OrderCall, OrderQuery, OrderReply, answer_order, apply_order, format_order,
+    inspect_order,
+};
 use std::alloc::Global;
 
 /// A map from numbers to numbers, in the order of its keys.
@@ -45,9 +45,9 @@ impl Object for Ordered {
 
     ghost machine = { index };
 
-    ghost Contents = { Contents };
+    ghost Contents = { OrderContents };
 
-    ghost Rejects = { Rejects };
+    ghost Rejects = { RejectsOrder };
 
     ghost earlier = { no_earlier };
 
@@ -76,24 +76,24 @@ impl Object for Ordered {
     }
 
     fn format<M: Space>(space: &mut M, order: u32) {
-        format_region(space, order);
+        format_order(space, order);
     }
 
     fn apply<M: Space>(space: &mut M, order: u32, call: &OrderCall) -> OrderReply {
-        apply(space, order, call)
+        apply_order(space, order, call)
     }
 
     fn apply_words<M: Space>(space: &mut M, order: u32, words: &Args, told: &mut Back) {
         let call = words_call(words).unwrap();
-        put_reply_words(&apply(space, order, &call), told);
+        put_reply_words(&apply_order(space, order, &call), told);
     }
 
     fn answer<M: Look>(space: &mut M, order: u32, query: &OrderQuery) -> OrderAnswer {
-        answer(space, order, query)
+        answer_order(space, order, query)
     }
 
     fn inspect(alloc: Global, region: &[u64], order: u32) -> Result<(), Unfit> {
-        inspect(alloc, region, order)
+        inspect_order(alloc, region, order)
     }
 
     ghost call_only = { call_only };

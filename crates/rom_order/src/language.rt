@@ -1,13 +1,13 @@
 //! What the lines of a script ask an ordered index for.
 ghost use Rattle.std.specs.Prelude.{◌≡◌, ◌≢◌, IfSome, IfNone};
-ghost use Rattle.rom_order.specs.declared.call.OrderCall.{OrderCall};
-ghost use Rattle.rom_order.specs.declared.call.OrderQuery.{OrderQuery};
-ghost use Rattle.rom_order.specs.Asking.{Asks, call_phrase, query_phrase};
-ghost use Rattle.rom_order.specs.Lines.{Reads};
+ghost use Rattle.rom_order_region.specs.declared.call.OrderCall.{OrderCall};
+ghost use Rattle.rom_order_region.specs.declared.call.OrderQuery.{OrderQuery};
+ghost use Rattle.rom_order.specs.Asking.{AsksOrder, call_phrase, order_query_phrase};
+ghost use Rattle.rom_order.specs.Lines.{ReadsOrder};
 
-use crate::call::{OrderCall, OrderQuery};
 use crate::index::Ordered;
 use rom_model::Step;
+use rom_order_region::{OrderCall, OrderQuery};
 use rom_text::{Lines, read_phrase};
 
 /// The call that a line with this first word and these numbers behind it asks for.
@@ -24,8 +24,8 @@ fn asked_call(name: &[u8], numbers: &[u64]) -> Option<OrderCall>
 
 /// The query that such a line asks for.
 fn asked_query(name: &[u8], numbers: &[u64]) -> Option<OrderQuery>
-    ensures some { IfSome result (λ q. (name.now, numbers.now) ≡ query_phrase q) }
-    ensures none { IfNone result ((q : OrderQuery) → (name.now, numbers.now) ≢ query_phrase q) }
+    ensures some { IfSome result (λ q. (name.now, numbers.now) ≡ order_query_phrase q) }
+    ensures none { IfNone result ((q : OrderQuery) → (name.now, numbers.now) ≢ order_query_phrase q) }
 {
     match (name, numbers) {
         (b"get", [k]) => Some(OrderQuery::Get(*k)),
@@ -37,7 +37,7 @@ fn asked_query(name: &[u8], numbers: &[u64]) -> Option<OrderQuery>
 
 /// What such a line asks for.
 fn asked(name: &[u8], numbers: &[u64]) -> Step<OrderCall, OrderQuery>
-    ensures { Asks name.now numbers.now result }
+    ensures { AsksOrder name.now numbers.now result }
 {
     if let Some(call) = asked_call(name, numbers) {
         return Step::Update(call);
@@ -53,7 +53,7 @@ fn asked(name: &[u8], numbers: &[u64]) -> Step<OrderCall, OrderQuery>
 pub struct OrderLines;
 
 impl Lines<Ordered> for OrderLines {
-    ghost Reads = { Reads };
+    ghost Reads = { ReadsOrder };
 
     fn read_line(line: &[u8]) -> Step<OrderCall, OrderQuery> {
         match read_phrase(line) {

@@ -1,16 +1,16 @@
 //! The top call: all that a program of an ordered index does.
 ghost use Rattle.std.specs.Prelude.{◌≡◌, length};
 ghost use Rattle.rom_model.specs.Earlier.{no_earlier};
-ghost use Rattle.rom_run.specs.Plain.{command, scripts_of, use_of};
+ghost use Rattle.rom_run.specs.Plain.{plain_command, plain_scripts, plain_use};
 ghost use Rattle.rom_run.specs.Played.{IsText};
 ghost use Rattle.rom_run.specs.Promise.{Promise};
 ghost use Rattle.rom_text.specs.Determines.{TextDetermines};
 ghost use Rattle.rom_text.specs.Lines.{AreScripts};
-ghost use Rattle.rom_order.specs.Region.{Contents};
-ghost use Rattle.rom_order.specs.Inspection.{Rejects};
+ghost use Rattle.rom_order_region.specs.Region.{OrderContents};
+ghost use Rattle.rom_order_region.specs.Inspection.{RejectsOrder};
 ghost use Rattle.rom_order.specs.Index.{index};
-ghost use Rattle.rom_order.specs.Lines.{Reads};
-ghost use Rattle.rom_order.specs.Texts.{order_texts};
+ghost use Rattle.rom_order.specs.Lines.{ReadsOrder};
+ghost use Rattle.rom_order_region.specs.Texts.{order_texts};
 
 use crate::index::Ordered;
 use crate::language::OrderLines;
@@ -39,11 +39,11 @@ pub fn run_order<R: Threads + Wait + Sync, D: Device + Send, S: Source, O: Sink,
     out: &mut O,
     gate: &G,
 ) -> Ended<D, S>
-    requires { length scripts.items ≡ length (scripts_of (command words.now)) }
+    requires { length scripts.items ≡ length (plain_scripts (plain_command words.now)) }
 
     // What the words ask for is done so, and printed so: the facts are the record's fields.
-    ensures promise { Promise index Contents Rejects no_earlier D.shown S.shown O.shown
-        (AreScripts Reads S.shown) (IsText O.shown order_texts) (use_of (command words.now)) device
+    ensures promise { Promise index OrderContents RejectsOrder no_earlier D.shown S.shown O.shown
+        (AreScripts ReadsOrder S.shown) (IsText O.shown order_texts) (plain_use (plain_command words.now)) device
         result.device scripts result.scripts out.old out.new result.status result.session }
 
     // A text is that of one list of results and one count.

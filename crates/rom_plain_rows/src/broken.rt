@@ -7,7 +7,7 @@ use rom_device::Device;
 use rom_model::{Object, Rule, Unfit, blocks_at, region_len};
 use rom_order::Ordered;
 use rom_store::NoGate;
-use rom_test::{AMPLE, SMALL, changed};
+use rom_test::{AMPLE, SMALL, changed, right};
 use std::alloc::{AllocError, Global};
 use std::process::Abort;
 use std::sync::Wait;
@@ -15,7 +15,7 @@ use std::test::Fail;
 use std::thread::Threads;
 
 /// Words of a region that are changed in both of a heap's, and what its opening tells then.
-#[derive(Clone, Copy, Debug)]
+#[derive(Clone, Copy)]
 pub struct Broken {
     pub changes: &'static [(usize, u64)],
     pub text: &'static str,
@@ -33,9 +33,9 @@ fn try_broken<R: Threads + Wait + Sync + AllocGlobal + Abort>(
     let [script, look] = scripts;
     let zeros = vec![in alloc; 0u64; SMALL]?;
     let made = ran(rt, program, &["try", "a"], &[script], zeros, AMPLE, &NoGate)?;
-    assert_eq!(rt; made.status, 0);
+    assert!(rt; made.status == 0);
     let open = ["run", "heap", "a"];
-    for row in rows {
+    for (at, row) in rows.iter().enumerate() {
         let words = changed(alloc, made.device.words(), row.changes)?;
         let found = ran(rt, program, &open, &[look], words, AMPLE, &NoGate)?;
         let status = if row.text.starts_with("refused") {
@@ -43,7 +43,11 @@ fn try_broken<R: Threads + Wait + Sync + AllocGlobal + Abort>(
         } else {
             0
         };
-        assert_eq!(rt; (found.status, found.text()), (status, row.text), "{row:?}");
+        right(
+            program.name(),
+            at,
+            found.status == status && found.text() == row.text,
+        )?;
     }
     Ok(())
 }
@@ -101,7 +105,11 @@ fn a_chain_of_nodes_is_too_deep_or_not_even(rt: HostRuntime) -> Result<(), Fail>
         let words = chain(rt.alloc(), nodes)?;
         let offset = first + 8 * node + word;
         let want = Some(Err(Unfit::Malformed { offset, rule }));
-        assert_eq!(rt; inspected(rt.alloc(), &words), want, "{nodes}");
+        right(
+            "nodes",
+            nodes as usize,
+            inspected(rt.alloc(), &words) == want,
+        )?;
     }
     Ok(())
 }

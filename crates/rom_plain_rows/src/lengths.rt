@@ -147,10 +147,10 @@ fn agrees<R: Threads + Wait + Sync + AllocGlobal + Abort>(
         limits,
         &NoGate,
     )?;
-    assert_eq!(rt; found.status, 0);
+    assert!(rt; found.status == 0);
     let told = found.text().lines().zip(script.told.as_str().lines());
     for (is, wanted) in told {
-        assert_eq!(rt; is, wanted);
+        assert!(rt; is == wanted);
     }
     assert!(rt; found.text() == script.told.as_str());
     Ok(())
@@ -226,9 +226,9 @@ fn full_is_told_where_one_unit_of_each_block_is_taken(rt: HostRuntime) -> Result
         for len in [0, 1, 33, 65, 129] {
             let mut script = with_one_of_each(rt.alloc(), units, len)?;
             let taken = script.model.units();
-            assert_eq!(rt; taken, least_units(units, len).saturating_add(1));
+            assert!(rt; taken == least_units(units, len).saturating_add(1));
             script.set(1000, len)?;
-            assert_eq!(rt; script.full, 1);
+            assert!(rt; script.full == 1);
             // With one unit fewer there is room, but where a byte takes the unit that its node wants.
             script.cut((units / 2) as u64)?;
             script.set(1001, len)?;

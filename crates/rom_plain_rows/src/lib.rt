@@ -1,5 +1,7 @@
 //! Whole runs of the programs of plain words: a counter, keys with bytes, an ordered index.
 //!
+//! It knows rows, and what these programs are to tell; no promise stands on it.
+//!
 //! One runner does each run, of whichever program. A row has the words of a command, its scripts, and what
 //! it is to tell, which was written by hand. Texts of callers who meet are replayed on plain models, which
 //! share no code with the objects. Long runs of keys with bytes are told line by line as a model of units

@@ -3,18 +3,18 @@ ghost use Rattle.std.specs.Prelude.{ℕ, ◌<◌};
 ghost use Rattle.std.specs.Bool.{OnTrue};
 ghost use Rattle.rom_model.specs.Blocks.{IsOrder};
 ghost use Rattle.rom_model.specs.History.{LAST_COUNT};
-ghost use Rattle.rom_order.specs.Region.{Contents};
-ghost use Rattle.rom_order.specs.State.{Pairs};
+ghost use Rattle.rom_order_region.specs.Region.{OrderContents};
+ghost use Rattle.rom_order_region.specs.State.{Pairs};
 
 use crate::map::Map;
 use rom_model::{COUNT, LAST_COUNT, Object, VecSpace, new_region, region_len};
 use rom_order::{OrderAnswer, OrderCall, OrderQuery, OrderReply, Ordered};
+use rom_test::right;
 use std::alloc::{AllocError, Global};
-use std::process::Abort;
 use std::test::Fail;
 
 /// Which keys come and go, and in which order.
-#[derive(Clone, Copy, Debug)]
+#[derive(Clone, Copy)]
 enum Keys {
     /// Any of so many, drawn from this number on.
     Drawn(u64),
@@ -23,7 +23,7 @@ enum Keys {
 }
 
 /// The way in which all keys come. They go so too, or from the last to the first.
-#[derive(Clone, Copy, Debug)]
+#[derive(Clone, Copy)]
 enum Way {
     Rising,
     Falling,
@@ -33,7 +33,7 @@ enum Way {
 
 /// A heap's order, how many keys it has room for, which come and go, whether the last goes first, and how
 /// many updates there are.
-#[derive(Clone, Copy, Debug)]
+#[derive(Clone, Copy)]
 struct Run {
     order: u32,
     room: u64,
@@ -249,7 +249,7 @@ impl Run {
 
 /// Whether these are the words of a well-formed region, to which an update more can be counted.
 fn is_ready(alloc: Global, order: u32, words: &[u64]) -> bool
-    ensures { OnTrue result (IsOrder order × (s : Pairs) × (k : ℕ) × Contents order words.now s k
+    ensures { OnTrue result (IsOrder order × (s : Pairs) × (k : ℕ) × OrderContents order words.now s k
         × (k < LAST_COUNT)) }
 {
     if order < 4 || order > 16 || words.len() as u64 != region_len(order) {
@@ -321,8 +321,7 @@ fn height(words: &[u64]) -> u64 {
 /// Makes the run's updates on a new region, asks after each, and asserts that all is told as by the model
 /// and the tree is no higher than it may be. The heap is full at times; keys that all come fill it once,
 /// and are gone at the end.
-fn agrees<R: AllocGlobal + Abort>(rt: &R, run: &Run) -> Result<(), Fail> {
-    let alloc = rt.alloc();
+fn agrees(alloc: Global, at: usize, run: &Run) -> Result<(), Fail> {
     let mut space = new_space(alloc, run.order)?;
     let mut model = Map::new(alloc, run.room as usize);
     let mut draw = run.draw();
@@ -337,35 +336,27 @@ fn agrees<R: AllocGlobal + Abort>(rt: &R, run: &Run) -> Result<(), Fail> {
             model.tell(&queries[2]),
         ];
         let told = done(alloc, run.order, &mut space, &call, &queries);
-        assert_eq!(rt;
-            told,
-            Some((reply, answers)),
-            "{run:?} {number} {call:?} {queries:?}"
-        );
-        assert!(rt;
-            height(space.words()) <= high(model.keys() as u64),
-            "{run:?} {number}"
-        );
+        right("told by run", at, told == Some((reply, answers)))?;
+        let low = height(space.words()) <= high(model.keys() as u64);
+        right("the height of run", at, low)?;
         if reply == OrderReply::Full {
             fulls = fulls.saturating_add(1);
         }
     }
-    assert!(rt; is_ready(alloc, run.order, space.words()));
-    assert!(rt; fulls > 0, "{run:?}");
-    if let Keys::All(_) = run.keys {
-        assert_eq!(rt;
-            (fulls, model.keys(), height(space.words())),
-            (1, 0, 0),
-            "{run:?}"
-        );
-    }
-    Ok(())
+    let ready = is_ready(alloc, run.order, space.words());
+    right("the region of run", at, ready)?;
+    let empties = model.keys() == 0 && height(space.words()) == 0;
+    let well = match run.keys {
+        Keys::Drawn(_) => fulls > 0,
+        Keys::All(_) => fulls == 1 && empties,
+    };
+    right("how often the heap was full, in run", at, well)
 }
 
 #[test]
 fn long_runs_are_told_as_by_a_map(rt: HostRuntime) -> Result<(), Fail> {
-    for run in &RUNS {
-        agrees(&rt, run)?;
+    for (at, run) in RUNS.iter().enumerate() {
+        agrees(rt.alloc(), at, run)?;
     }
     Ok(())
 }

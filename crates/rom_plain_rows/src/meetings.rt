@@ -8,10 +8,10 @@ use crate::sum::Sum;
 use rom_device::Device;
 use rom_store::NoGate;
 use rom_test::{
-    AMPLE, Found, Holding, Limits, Replayed, Roll, SMALL, is_lawful, lines_of, number_after, places,
+    AMPLE, Found, Holding, Limits, Replayed, Roll, SMALL, is_lawful, lines_of, number_after,
+    places, right,
 };
 use std::alloc::{AllocError, Global};
-use std::process::Abort;
 use std::sync::Wait;
 use std::test::Fail;
 use std::thread::Threads;
@@ -46,7 +46,7 @@ fn queries_of(program: Program) -> &'static [&'static str] {
 
 /// Runs callers who meet at each line, with these scripts, from a heap of this count which holds what the
 /// model does, and asserts that the text is that of one history.
-fn meet<R: Threads + Wait + Sync + AllocGlobal + Abort, M: Replayed>(
+fn meet<R: Threads + Wait + Sync + AllocGlobal, M: Replayed>(
     rt: &R,
     program: Program,
     words: &[&str],
@@ -61,14 +61,18 @@ fn meet<R: Threads + Wait + Sync + AllocGlobal + Abort, M: Replayed>(
     let found = ran(rt, program, words, scripts, device, LIMITS, &gate)?;
     let text = found.text();
     let wrong = gate.differs(true, places(text));
-    assert_eq!(rt; (found.status, wrong), (0, None), "{program:?} {text:?}");
+    right(
+        program.name(),
+        scripts.len(),
+        found.status == 0 && wrong.is_none(),
+    )?;
     let lawful = is_lawful(alloc, model, from, scripts, text)?;
-    assert!(rt; lawful, "{program:?} {text:?}");
+    right("the history of callers", scripts.len(), lawful)?;
     Ok(found)
 }
 
 /// The same of so many callers who have these scripts in turns, from an empty heap.
-fn meet_many<R: Threads + Wait + Sync + AllocGlobal + Abort>(
+fn meet_many<R: Threads + Wait + Sync + AllocGlobal>(
     rt: &R,
     program: Program,
     words: &[&str],
@@ -145,7 +149,7 @@ fn callers_add_in_threads(rt: HostRuntime) -> Result<(), Fail> {
     let heap = added.device.words().to_vec(rt.alloc())?;
     let look = ["run", "heap", "a"];
     let found = ran(&rt, Program::Counter, &look, &["get"], heap, AMPLE, &NoGate)?;
-    assert_eq!(rt; found.text(), "caller 1\nsum 9000 #3000\ncount 3000\n");
+    assert!(rt; found.text() == "caller 1\nsum 9000 #3000\ncount 3000\n");
     Ok(())
 }
 
@@ -238,6 +242,6 @@ fn ranges_beside_a_writer_are_of_one_state(rt: HostRuntime) -> Result<(), Fail> 
         KEYS,
         &mut model,
     )?;
-    assert!(rt; fronts_are_near(found.text()), "{:?}", found.text());
+    assert!(rt; fronts_are_near(found.text()));
     Ok(())
 }

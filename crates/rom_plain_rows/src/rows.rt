@@ -4,14 +4,13 @@ use crate::runner::{Program, ran};
 use crate::{blobs, counters, indexes};
 use rom_device::Device;
 use rom_store::NoGate;
-use rom_test::{AMPLE, SMALL};
-use std::process::Abort;
+use rom_test::{AMPLE, SMALL, right};
 use std::sync::Wait;
 use std::test::Fail;
 use std::thread::Threads;
 
 /// A run, and what it is to tell.
-#[derive(Clone, Copy, Debug)]
+#[derive(Clone, Copy)]
 pub struct Row {
     pub words: &'static [&'static str],
     pub scripts: &'static [&'static str],
@@ -39,14 +38,14 @@ pub const RUN: Row = Row {
 };
 
 /// Runs each row in turn, and asserts that it tells what it is to tell.
-fn try_rows<R: Threads + Wait + Sync + AllocGlobal + Abort>(
+fn try_rows<R: Threads + Wait + Sync + AllocGlobal>(
     rt: &R,
     program: Program,
     rows: &[Row],
 ) -> Result<(), Fail> {
     let alloc = rt.alloc();
     let mut left = Vec::new(alloc);
-    for row in rows {
+    for (at, row) in rows.iter().enumerate() {
         let mut words = left;
         if !row.kept {
             words = vec![in alloc; 0u64; SMALL]?;
@@ -57,11 +56,11 @@ fn try_rows<R: Threads + Wait + Sync + AllocGlobal + Abort>(
             }
         }
         let found = ran(rt, program, row.words, row.scripts, words, AMPLE, &NoGate)?;
-        assert_eq!(rt;
-            (found.status, found.text()),
-            (row.status, row.text),
-            "{program:?} {row:?}"
-        );
+        right(
+            program.name(),
+            at,
+            found.status == row.status && found.text() == row.text,
+        )?;
         left = found.device.words().to_vec(alloc)?;
     }
     Ok(())

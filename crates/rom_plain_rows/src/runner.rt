@@ -1,21 +1,31 @@
 //! Runs a command of one of the programs on a device of words.
 
+use counter::run_counter;
 use rom_blob::run_blob;
 use rom_order::run_order;
 use rom_run::plain_files;
 use rom_store::{Gate, NoGate};
 use rom_test::{AMPLE, Found, Handed, Limits, device_of, hand, lines_in, lines_of, words_of_order};
-use rom_trial::run_counter;
 use std::sync::Wait;
 use std::test::Fail;
 use std::thread::Threads;
 
 /// A program of plain words, by what it keeps.
-#[derive(Clone, Copy, Debug, PartialEq, Eq)]
+#[derive(Clone, Copy, PartialEq, Eq)]
 pub enum Program {
     Counter,
     Blobs,
     Index,
+}
+
+impl Program {
+    pub fn name(self) -> &'static str {
+        match self {
+            Program::Counter => "the counter",
+            Program::Blobs => "keys with bytes",
+            Program::Index => "the index",
+        }
+    }
 }
 
 pub const PROGRAMS: [Program; 3] = [Program::Counter, Program::Blobs, Program::Index];

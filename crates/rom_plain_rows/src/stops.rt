@@ -3,7 +3,7 @@
 use crate::runner::{Program, formatted, ran};
 use rom_device::Device;
 use rom_store::NoGate;
-use rom_test::{AMPLE, Found, Limits, NEVER, SMALL, places};
+use rom_test::{AMPLE, Found, Limits, NEVER, SMALL, places, right};
 use std::process::Abort;
 use std::sync::Wait;
 use std::test::Fail;
@@ -11,7 +11,7 @@ use std::thread::Threads;
 
 /// What is run and stopped, what is asked of the heap that is found, and what it tells before the updates
 /// and after each.
-#[derive(Clone, Copy, Debug)]
+#[derive(Clone, Copy)]
 struct Stopped {
     program: Program,
     script: &'static str,
@@ -59,7 +59,7 @@ static RUNS: [Stopped; 3] = [
 
 /// Which of the states is found in what a stop leaves of a device, each word as the first or as the second
 /// that it may be. `None` where there is no heap.
-fn left<R: Threads + Wait + Sync + AllocGlobal + Abort>(
+fn left<R: Threads + Wait + Sync + AllocGlobal>(
     rt: &R,
     run: &Stopped,
     stopped: Found,
@@ -80,8 +80,10 @@ fn left<R: Threads + Wait + Sync + AllocGlobal + Abort>(
     }
     let text = found.text();
     let state = run.states.iter().position(|state| *state == text);
-    assert!(rt; state.is_some(), "{text:?}");
-    Ok(state.map(|state| state as u64))
+    match state {
+        Some(state) => Ok(Some(state as u64)),
+        None => Err("a stop left another state".into()),
+    }
 }
 
 /// Runs the script after so many calls each one of which fails.
@@ -115,10 +117,7 @@ fn try_stops<R: Threads + Wait + Sync + AllocGlobal + Abort>(
     makes: bool,
 ) -> Result<(), Fail> {
     let whole = run_stopped(rt, run, words, device, NEVER)?;
-    assert_eq!(rt;
-        places(whole.text()).saturating_add(1),
-        run.states.len() as u64
-    );
+    assert!(rt; places(whole.text()).saturating_add(1) == run.states.len() as u64);
     for calls in 0..whole.device.calls_made().saturating_add(1) {
         for choice in [0, 1] {
             let found = run_stopped(rt, run, words, device, calls)?;
@@ -128,7 +127,7 @@ fn try_stops<R: Threads + Wait + Sync + AllocGlobal + Abort>(
                 Some(state) => told <= state && state <= more,
                 None => makes && told == 0,
             };
-            assert!(rt; fits, "{words:?} after {calls}, {choice} of {run:?}");
+            right(run.program.name(), calls as usize, fits)?;
         }
     }
     Ok(())

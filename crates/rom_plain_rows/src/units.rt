@@ -3,7 +3,7 @@
 
 use std::alloc::{AllocError, Global};
 
-#[derive(Clone, Copy, Debug)]
+#[derive(Clone, Copy)]
 struct Held {
     key: u64,
     seed: u64,
@@ -13,7 +13,7 @@ struct Held {
 }
 
 /// What an update is told.
-#[derive(Clone, Copy, Debug)]
+#[derive(Clone, Copy)]
 pub enum Told {
     New,
     Was(usize),

@@ -3,3 +3,9 @@ pub mod Spans
 pub mod Reading
 pub mod Taking
 pub mod Rebuilding
+pub mod Walks
+pub mod Sorted
+pub mod Entries
+pub mod Regions
+pub mod Fits
+pub mod Places

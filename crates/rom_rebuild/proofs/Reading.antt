@@ -10,14 +10,14 @@ use Rattle.rom_model.specs.declared.call.Call.{Call}
 use Rattle.rom_model.specs.declared.call.Query.{Query}
 use Rattle.rom_model.specs.declared.line.Step.{Step}
 use Rattle.rom_model.specs.declared.line.Step.TheVariants.{Update}
-use Rattle.rom_elements.specs.declared.element.Element.{Element}
-use Rattle.rom_elements.specs.declared.element.Element.TheVariants.{Value, Member, Pair}
-use Rattle.rom_elements.specs.Elements.{ElementFits}
-use Rattle.rom_script.specs.Lines.{AreRead, Reads, lines_of, pieces_of, single_line, without_cr}
-use Rattle.rom_text.specs.Lines.{onto_first}
+use Rattle.rom_rebuild.specs.declared.elements.element.Element.{Element}
+use Rattle.rom_rebuild.specs.declared.elements.element.Element.TheVariants.{Value, Member, Pair}
+use Rattle.rom_rebuild.specs.Elements.{ElementFits}
+use Rattle.rom_script.specs.Lines.{Reads, lines_of, pieces_of, single_line, without_cr}
+use Rattle.rom_text.specs.Lines.{AreRead, onto_first}
 use Rattle.rom_text.specs.Text.{line_text}
 use Rattle.rom_text.proofs.Reading.{both, decimal_is_a_word, is_word}
-use Rattle.rom_rebuild.specs.Script.{element_text, script_of, update_of}
+use Rattle.rom_rebuild.specs.Script.{element_text, elements_script, insertion_of}
 
 -- neither LF nor CR is among the bytes
 abbrev is_plain : List ℕ → Bool
@@ -38,7 +38,7 @@ plain_word (b ∷ bs) word =
 digits_plain : (n : ℕ) → is_plain (decimal n) ≡ true
 digits_plain n = plain_word (decimal n) (decimal_is_a_word n)
 
-element_plain : (e : Element) → is_plain (single_line (update_of e)) ≡ true
+element_plain : (e : Element) → is_plain (single_line (insertion_of e)) ≡ true
 element_plain (Value v) = digits_plain v
 element_plain (Member k) = digits_plain k
 element_plain (Pair k v) = plain_append (decimal k) (32 ∷ decimal v) (digits_plain k) (digits_plain v)
@@ -61,28 +61,28 @@ first_line : (line rest : List ℕ) → is_plain line ≡ true → lines_of (lin
 first_line line rest plain = ap lines_of (append_assoc line (10 ∷ []) rest) ∙ ap (map without_cr) (pieces_line line rest plain) ∙ (λ i. without line plain i ∷ lines_of rest)
 
 -- the lines of a script are those of its elements
-pub script_lines : (es : List Element) → lines_of (script_of es) ≡ map (λ e. single_line (update_of e)) es
+pub script_lines : (es : List Element) → lines_of (elements_script es) ≡ map (λ e. single_line (insertion_of e)) es
 script_lines [] = refl
-script_lines (e ∷ es) = ap lines_of (flat_map-cons element_text e es) ∙ first_line (single_line (update_of e)) (script_of es) (element_plain e) ∙ ap (λ ls. single_line (update_of e) ∷ ls) (script_lines es)
+script_lines (e ∷ es) = ap lines_of (flat_map-cons element_text e es) ∙ first_line (single_line (insertion_of e)) (elements_script es) (element_plain e) ∙ ap (λ ls. single_line (insertion_of e) ∷ ls) (script_lines es)
 
-pub lines_many : (es : List Element) → length (lines_of (script_of es)) ≡ length es
-lines_many es = ap length (script_lines es) ∙ length-map es (λ e. single_line (update_of e))
+pub lines_many : (es : List Element) → length (lines_of (elements_script es)) ≡ length es
+lines_many es = ap length (script_lines es) ∙ length-map es (λ e. single_line (insertion_of e))
 
 -- the updates that they ask for
 abbrev pub steps_of : List Element → List (Step Call Query)
-steps_of es = map (λ e. Update (call_of (update_of e))) es
+steps_of es = map (λ e. Update (call_of (insertion_of e))) es
 
-reads : (e : Element) → ElementFits e → Reads (single_line (update_of e)) (Update (call_of (update_of e)))
+reads : (e : Element) → ElementFits e → Reads (single_line (insertion_of e)) (Update (call_of (insertion_of e)))
 reads (Value v) fit = (fit, refl)
 reads (Member k) fit = (fit, refl)
 reads (Pair k v) fit = (fit, refl)
 
-read_each : (es : List Element) → AllByRecursion ElementFits es → AreRead (map (λ e. single_line (update_of e)) es) (steps_of es)
+read_each : (es : List Element) → AllByRecursion ElementFits es → AreRead Reads (map (λ e. single_line (insertion_of e)) es) (steps_of es)
 read_each [] fit = tt
 read_each (e ∷ es) fit = (reads e fit.0, read_each es fit.1)
 
-pub script_read : (es : List Element) → AllByRecursion ElementFits es → AreRead (lines_of (script_of es)) (steps_of es)
-script_read es fit = subst (λ ls. AreRead ls (steps_of es)) (sym (script_lines es)) (read_each es fit)
+pub script_read : (es : List Element) → AllByRecursion ElementFits es → AreRead Reads (lines_of (elements_script es)) (steps_of es)
+script_read es fit = subst (λ ls. AreRead Reads ls (steps_of es)) (sym (script_lines es)) (read_each es fit)
 
 pub steps_append : (xs ys : List Element) → steps_of (xs ++ ys) ≡ steps_of xs ++ steps_of ys
-steps_append xs ys = map-append (λ e. Update (call_of (update_of e))) xs ys
+steps_append xs ys = map-append (λ e. Update (call_of (insertion_of e))) xs ys

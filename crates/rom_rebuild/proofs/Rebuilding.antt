@@ -14,12 +14,12 @@ use Rattle.rom_model.specs.declared.call.Call.{Call}
 use Rattle.rom_model.specs.declared.call.Query.{Query}
 use Rattle.rom_model.specs.declared.line.Step.{Step}
 use Rattle.rom_model.proofs.Contents.{len-rising}
-use Rattle.rom_elements.specs.declared.element.Element.{Element}
-use Rattle.rom_elements.specs.declared.element.Element.TheVariants.{Value, Member}
-use Rattle.rom_elements.specs.Elements.{AreElements, ElementFits}
-use Rattle.rom_elements.proofs.Entries.{first, second}
+use Rattle.rom_rebuild.specs.declared.elements.element.Element.{Element}
+use Rattle.rom_rebuild.specs.declared.elements.element.Element.TheVariants.{Value, Member}
+use Rattle.rom_rebuild.specs.Elements.{AreElements, ElementFits}
+use Rattle.rom_rebuild.proofs.Entries.{first, second}
 use Rattle.rom_rebuild.specs.Rebuilds.{AreEachRead, Rebuilds}
-use Rattle.rom_rebuild.specs.Script.{part_of, parts_of, script_of}
+use Rattle.rom_rebuild.specs.Script.{elements_script, part_of, parts_of}
 use Rattle.rom_rebuild.proofs.Reading.{script_read, steps_append, steps_of}
 use Rattle.rom_rebuild.proofs.Spans.{part_all_fit, parts_all}
 use Rattle.rom_rebuild.proofs.Taking.{NoneFull, after, after_append, none_append, tied, told_many, pair_of, put_over, queue_all, set_all, map_all}
@@ -102,8 +102,8 @@ module _ (n : ℕ) (s : State) (es : List Element) (is : AreElements s es) (fits
       }
 
   -- so does the one script of all elements
-  pub rebuilt_whole : AllByRecursion ElementFits es → Rebuilds n (script_of es ∷ []) s
-  rebuilt_whole fit = rebuilt (script_of es ∷ []) (steps_of es ∷ []) (script_read es fit, tt) (sym (append-nil (steps_of es)))
+  pub rebuilt_whole : AllByRecursion ElementFits es → Rebuilds n (elements_script es ∷ []) s
+  rebuilt_whole fit = rebuilt (elements_script es ∷ []) (steps_of es ∷ []) (script_read es fit, tt) (sym (append-nil (steps_of es)))
 
   -- and so do the scripts of the three parts
   pub rebuilt_parts : AllByRecursion ElementFits es → length es ≤ 61440 → Rebuilds n (parts_of es) s

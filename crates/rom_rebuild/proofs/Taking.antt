@@ -14,15 +14,15 @@ use Rattle.rom_model.specs.Trio.{trio}
 use Rattle.rom_model.specs.declared.call.Reply.TheVariants as reply
 use Rattle.rom_model.specs.declared.call.SingleReply.{SingleReply}
 use Rattle.rom_model.specs.declared.call.SingleReply.TheVariants as told
-use Rattle.rom_elements.specs.declared.element.Element.{Element}
-use Rattle.rom_elements.specs.declared.element.Element.TheVariants.{Value, Member, Pair}
-use Rattle.rom_rebuild.specs.Rebuilds.{after_steps, told_to}
-use Rattle.rom_rebuild.specs.Script.{update_of}
+use Rattle.rom_rebuild.specs.declared.elements.element.Element.{Element}
+use Rattle.rom_rebuild.specs.declared.elements.element.Element.TheVariants.{Value, Member, Pair}
+use Rattle.rom_rebuild.specs.Rebuilds.{after_steps, told_by_steps}
+use Rattle.rom_rebuild.specs.Script.{insertion_of}
 use Rattle.rom_rebuild.proofs.Reading.{steps_of}
 
 -- no reply tells that the heap is full
 abbrev pub NoneFull : ℕ → State → ℕ → List Element → Type 0
-NoneFull n s k es = AllByRecursion (λ r. r ≢ reply.Full) (told_to trio n s k (steps_of es))
+NoneFull n s k es = AllByRecursion (λ r. r ≢ reply.Full) (told_by_steps trio n s k (steps_of es))
 
 -- the state after the updates of some elements
 abbrev pub after : ℕ → State → ℕ → List Element → State
@@ -30,7 +30,7 @@ after n s k es = after_steps trio n s k (steps_of es)
 
 -- the state after one of them
 abbrev next_of : ℕ → State → ℕ → Element → State
-next_of n s k e = (trio.step n s k (call_of (update_of e))).0
+next_of n s k e = (trio.step n s k (call_of (insertion_of e))).0
 
 pub after_append : (n : ℕ) (s : State) (k : ℕ) (xs ys : List Element) → after n s k (xs ++ ys) ≡ after n (after n s k xs) (k + length xs) ys
 after_append n s k [] ys = let e : k ≡ k + 0 = omega arith in ap (λ m. after n s m ys) e
@@ -44,7 +44,7 @@ none_append n s k (e ∷ xs) ys first second =
     let next : k + length (e ∷ xs) ≡ (k + 1) + length xs = omega arith in
     (first.0, none_append n (next_of n s k e) (k + 1) xs ys first.1 (subst (λ m. NoneFull n (after n (next_of n s k e) (k + 1) xs) m ys) next second))
 
-pub told_many : (n : ℕ) (s : State) (k : ℕ) (es : List Element) → length (told_to trio n s k (steps_of es)) ≡ length es
+pub told_many : (n : ℕ) (s : State) (k : ℕ) (es : List Element) → length (told_by_steps trio n s k (steps_of es)) ≡ length es
 told_many n s k [] = refl
 told_many n s k (e ∷ es) = ap suc (told_many n (next_of n s k e) (k + 1) es)
 
@@ -72,7 +72,7 @@ pub record Taken (n : ℕ) (s : State) (k : ℕ) (es : List Element) : Type 0 wh
   pub none : NoneFull n s k es
 
 -- the queue
-queued : (n : ℕ) (s : State) (k v : ℕ) → live s < cap n → (one n s k (update_of (Value v)) ≡ (record s { queue = s.queue ++ v ∷ [] }, told.Queued))
+queued : (n : ℕ) (s : State) (k v : ℕ) → live s < cap n → (one n s k (insertion_of (Value v)) ≡ (record s { queue = s.queue ++ v ∷ [] }, told.Queued))
 queued n s k v lt = ap (λ t. if t then (record s { queue = s.queue ++ v ∷ [] }, told.Queued) else (s, told.Full)) (room n s lt)
 
 pub record Queued (n : ℕ) (s : State) (k : ℕ) (vs : List ℕ) : Type 0 where
@@ -94,12 +94,12 @@ queue_all n s k (v ∷ vs) fits =
     let more : live next ≡ live s + 1 = omega (arith, length-append s.queue (v ∷ [])) in
     let rest = queue_all n next (k + 1) vs (omega (arith, fits, more)) in
     let same : after n s k (map Value (v ∷ vs)) ≡ after n next (k + 1) (map Value vs) = ap (λ (d : State × SingleReply). after n d.0 (k + 1) (map Value vs)) step in
-    let here : (one n s k (update_of (Value v))).1 ≡ told.Queued = ap (λ (d : State × SingleReply). d.1) step in
+    let here : (one n s k (insertion_of (Value v))).1 ≡ told.Queued = ap (λ (d : State × SingleReply). d.1) step in
     record {
       taken = record {
         few = omega (arith, ap live same, rest.taken.few, more);
         none = (
-          not_full (one n s k (update_of (Value v))).1 (λ is. let never : told.Queued ≡ told.Full = sym here ∙ is in cc),
+          not_full (one n s k (insertion_of (Value v))).1 (λ is. let never : told.Queued ≡ told.Full = sym here ∙ is in cc),
           subst (λ (t : State). NoneFull n t (k + 1) (map Value vs)) (sym (ap (λ (d : State × SingleReply). d.0) step)) rest.taken.none,
         );
       };
@@ -121,18 +121,18 @@ insert_there m k has = set.same_set nat_cmp_total finite.nat_cmp-IsAntisymmetric
 
 -- one number is put in
 pub record AddedOne (n : ℕ) (s : State) (c k : ℕ) : Type 0 where
-  pub queue : (one n s c (update_of (Member k))).0.queue ≡ s.queue
-  pub members : (one n s c (update_of (Member k))).0.members ≡ set.insert s.members k
-  pub pairs : (one n s c (update_of (Member k))).0.pairs ≡ s.pairs
-  pub few : live (one n s c (update_of (Member k))).0 ≤ live s + 1
-  pub told : (one n s c (update_of (Member k))).1 ≢ told.Full
+  pub queue : (one n s c (insertion_of (Member k))).0.queue ≡ s.queue
+  pub members : (one n s c (insertion_of (Member k))).0.members ≡ set.insert s.members k
+  pub pairs : (one n s c (insertion_of (Member k))).0.pairs ≡ s.pairs
+  pub few : live (one n s c (insertion_of (Member k))).0 ≤ live s + 1
+  pub told : (one n s c (insertion_of (Member k))).1 ≢ told.Full
 
 added_one : (n : ℕ) (s : State) (c k : ℕ) → live s < cap n → AddedOne n s c k
 added_one n s c k lt = go (set.contains s.members k) refl
   where
     go : (t : Bool) → set.contains s.members k ≡ t → AddedOne n s c k
     go true has =
-        let is : one n s c (update_of (Member k)) ≡ (s, told.Present) = ap (λ (b : Bool). if b then (s, told.Present) else (if has_room n s then (record s { members = set.insert s.members k }, told.Added) else (s, told.Full))) has in
+        let is : one n s c (insertion_of (Member k)) ≡ (s, told.Present) = ap (λ (b : Bool). if b then (s, told.Present) else (if has_room n s then (record s { members = set.insert s.members k }, told.Added) else (s, told.Full))) has in
         record {
           queue = ap (λ (d : State × SingleReply). d.0.queue) is;
           members = ap (λ (d : State × SingleReply). d.0.members) is ∙ sym (insert_there s.members k has);
@@ -141,7 +141,7 @@ added_one n s c k lt = go (set.contains s.members k) refl
           told = λ full. let never : told.Present ≡ told.Full = sym (ap (λ (d : State × SingleReply). d.1) is) ∙ full in cc;
         }
     go false new =
-        let is : one n s c (update_of (Member k)) ≡ (record s { members = set.insert s.members k }, told.Added) =
+        let is : one n s c (insertion_of (Member k)) ≡ (record s { members = set.insert s.members k }, told.Added) =
         ap (λ (b : Bool). if b then (s, told.Present) else (if has_room n s then (record s { members = set.insert s.members k }, told.Added) else (s, told.Full))) new
         ∙ ap (λ (b : Bool). if b then (record s { members = set.insert s.members k }, told.Added) else (s, told.Full)) (room n s lt) in
         let long : set.len (set.insert s.members k) ≡ set.len s.members + 1 = set.len-insert nat_cmp_total s.members k ∙ ap (λ (b : Bool). cond b (set.len s.members) (set.len s.members + 1)) new in
@@ -168,11 +168,11 @@ set_all n s c xs [] are fits = record {
 }
 set_all n s c xs (k ∷ ks) are fits =
     let step = added_one n s c k (omega (arith, fits)) in
-    let next = (one n s c (update_of (Member k))).0 in
+    let next = (one n s c (insertion_of (Member k))).0 in
     let has : next.members ≡ set.from_list (xs ++ k ∷ []) = step.members ∙ ap (λ m. set.insert m k) are ∙ sym (set.from_list_push nat_cmp_total finite.nat_cmp-IsAntisymmetric xs k) in
     let rest = set_all n next (c + 1) (xs ++ k ∷ []) ks has (omega (arith, fits, step.few)) in
     record {
-      taken = record { few = omega (arith, rest.taken.few, step.few); none = (not_full (one n s c (update_of (Member k))).1 step.told, rest.taken.none) };
+      taken = record { few = omega (arith, rest.taken.few, step.few); none = (not_full (one n s c (insertion_of (Member k))).1 step.told, rest.taken.none) };
       queue = rest.queue ∙ step.queue;
       members = rest.members ∙ ap (λ ys. set.from_list ys) (append_assoc xs (k ∷ []) ks);
       pairs = rest.pairs ∙ step.pairs;
@@ -184,11 +184,11 @@ pair_of e = Pair e.0 e.1.value
 
 -- one key is put in
 pub record PutOne (n : ℕ) (s : State) (c k v : ℕ) : Type 0 where
-  pub queue : (one n s c (update_of (Pair k v))).0.queue ≡ s.queue
-  pub members : (one n s c (update_of (Pair k v))).0.members ≡ s.members
-  pub values : (q : ℕ) → value_of (one n s c (update_of (Pair k v))).0 q ≡ cond (eq_by_cmp nat_cmp q k) (Some v) (value_of s q)
-  pub few : live (one n s c (update_of (Pair k v))).0 ≤ live s + 1
-  pub told : (one n s c (update_of (Pair k v))).1 ≢ told.Full
+  pub queue : (one n s c (insertion_of (Pair k v))).0.queue ≡ s.queue
+  pub members : (one n s c (insertion_of (Pair k v))).0.members ≡ s.members
+  pub values : (q : ℕ) → value_of (one n s c (insertion_of (Pair k v))).0 q ≡ cond (eq_by_cmp nat_cmp q k) (Some v) (value_of s q)
+  pub few : live (one n s c (insertion_of (Pair k v))).0 ≤ live s + 1
+  pub told : (one n s c (insertion_of (Pair k v))).1 ≢ told.Full
 
 one_more : (b : Bool) (n : ℕ) → cond b n (n + 1) ≤ n + 1
 one_more true n = omega arith
@@ -204,7 +204,7 @@ put_one n s c k v lt = go (value_of s k) refl
     new : State
     new = record s { pairs = written s.pairs (c + 1) k v }
 
-    by : (reply : SingleReply) → reply ≢ told.Full → one n s c (update_of (Pair k v)) ≡ (record s { pairs = written s.pairs (c + 1) k v }, reply) → PutOne n s c k v
+    by : (reply : SingleReply) → reply ≢ told.Full → one n s c (insertion_of (Pair k v)) ≡ (record s { pairs = written s.pairs (c + 1) k v }, reply) → PutOne n s c k v
     by reply ne is = record {
       queue = ap (λ (d : State × SingleReply). d.0.queue) is;
       members = ap (λ (d : State × SingleReply). d.0.members) is;
@@ -240,10 +240,10 @@ unfolding put_over
 map_all n s c [] fits = record { taken = record { few = omega arith; none = tt }; queue = refl; members = refl; values = λ q. refl }
 map_all n s c (e ∷ es) fits =
     let step = put_one n s c e.0 e.1.value (omega (arith, fits)) in
-    let next = (one n s c (update_of (pair_of e))).0 in
+    let next = (one n s c (insertion_of (pair_of e))).0 in
     let rest = map_all n next (c + 1) es (omega (arith, fits, step.few)) in
     record {
-      taken = record { few = omega (arith, rest.taken.few, step.few); none = (not_full (one n s c (update_of (pair_of e))).1 step.told, rest.taken.none) };
+      taken = record { few = omega (arith, rest.taken.few, step.few); none = (not_full (one n s c (insertion_of (pair_of e))).1 step.told, rest.taken.none) };
       queue = rest.queue ∙ step.queue;
       members = rest.members ∙ step.members;
       values = λ q. rest.values q ∙ same_over es (value_of next) (λ p. cond (eq_by_cmp nat_cmp p e.0) (Some e.1.value) (value_of s p)) q step.values;

@@ -2,3 +2,5 @@
 pub mod Script
 pub mod Parts
 pub mod Rebuilds
+pub mod Chains
+pub mod Elements

@@ -9,7 +9,8 @@ use Rattle.rom_model.specs.declared.call.Query.{Query}
 use Rattle.rom_model.specs.declared.call.Reply.TheVariants.{Full}
 use Rattle.rom_model.specs.declared.line.Step.{Step}
 use Rattle.rom_model.specs.declared.line.Step.TheVariants.{Update, Ask, Unread}
-use Rattle.rom_script.specs.Lines.{AreRead, lines_of}
+use Rattle.rom_text.specs.Lines.{AreRead, lines_of}
+use Rattle.rom_script.specs.Lines.{Reads}
 
 -- Lines that are taken one after another, by one caller, in a heap of this order. An update takes a place; a query does nothing.
 module _ {S C Q R A : Type 0} (machine : Machine S C Q R A) (order : ℕ) where
@@ -21,11 +22,11 @@ module _ {S C Q R A : Type 0} (machine : Machine S C Q R A) (order : ℕ) where
   after_steps s count (Unread ∷ steps) = after_steps s count steps
 
   -- what the updates are told
-  abbrev pub told_to : S → ℕ → List (Step C Q) → List R
-  told_to s count [] = []
-  told_to s count (Update call ∷ steps) = (machine.step order s count call).1 ∷ told_to (machine.step order s count call).0 (count + 1) steps
-  told_to s count (Ask query ∷ steps) = told_to s count steps
-  told_to s count (Unread ∷ steps) = told_to s count steps
+  abbrev pub told_by_steps : S → ℕ → List (Step C Q) → List R
+  told_by_steps s count [] = []
+  told_by_steps s count (Update call ∷ steps) = (machine.step order s count call).1 ∷ told_by_steps (machine.step order s count call).0 (count + 1) steps
+  told_by_steps s count (Ask query ∷ steps) = told_by_steps s count steps
+  told_by_steps s count (Unread ∷ steps) = told_by_steps s count steps
 
 -- Two states have the same elements: the queue, the set, and of each key the value. When a value was written is not among them.
 pub record SameElements (s t : State) : Type 0 where
@@ -36,7 +37,7 @@ pub record SameElements (s t : State) : Type 0 where
 -- each script, read by itself as scripts are read, has these steps
 abbrev pub AreEachRead : List (List ℕ) → List (List (Step Call Query)) → Type 0
 AreEachRead [] [] = Unit {0}
-AreEachRead (bytes ∷ scripts) (steps ∷ each_of) = AreRead (lines_of bytes) steps × AreEachRead scripts each_of
+AreEachRead (bytes ∷ scripts) (steps ∷ each_of) = AreRead Reads (lines_of bytes) steps × AreEachRead scripts each_of
 AreEachRead scripts each_of = ⊥
 
 -- Scripts that are run one after another. The lines of each, read by itself as scripts are read, are updates: together as many as this state has elements. Taken from the empty state in a new heap of this order they give it again, and none is told that the heap is full.
@@ -47,5 +48,5 @@ pub record Rebuilds (order : ℕ) (scripts : List (List ℕ)) (s : State) : Type
   pub in_turn : steps ≡ flat_map (λ xs. xs) each_of
   pub many : length steps ≡ live s
   pub same : SameElements s (after_steps trio order empty 0 steps)
-  pub none_full : AllByRecursion (λ reply. reply ≢ Full) (told_to trio order empty 0 steps)
-  pub answered : length (told_to trio order empty 0 steps) ≡ live s
+  pub none_full : AllByRecursion (λ reply. reply ≢ Full) (told_by_steps trio order empty 0 steps)
+  pub answered : length (told_by_steps trio order empty 0 steps) ≡ live s

@@ -3,8 +3,8 @@ ghost use Rattle.std.specs.Prelude.{◌≡◌, ◌≤◌, decimal, length};
 ghost use Rattle.rom_rebuild.specs.Script.{element_text};
 ghost use Rattle.rom_text.specs.Streams.{Prints};
 
+use crate::elements::Element;
 use itoa::Buffer;
-use rom_elements::Element;
 use rom_text::{IoFailed, Sink, print_pieces};
 
 /// Prints the line of an element.

@@ -1,11 +1,11 @@
 //! The lines of some elements that stand side by side.
 ghost use Rattle.std.specs.Prelude.{◌≡◌, ◌≤◌, length};
-ghost use Rattle.rom_elements.specs.Elements.{elements_in};
-ghost use Rattle.rom_rebuild.specs.Script.{between, script_of};
+ghost use Rattle.rom_rebuild.specs.Elements.{elements_in};
+ghost use Rattle.rom_rebuild.specs.Script.{between, elements_script};
 ghost use Rattle.rom_text.specs.Streams.{Prints};
 
+use crate::elements::Elements;
 use crate::line::{line_len, print_line};
-use rom_elements::Elements;
 use rom_text::{IoFailed, Sink};
 
 /// Prints the lines of the elements from that index on up to the other one.
@@ -18,7 +18,7 @@ pub fn print_lines<O: Sink>(
     requires order { from ≤ to }
     requires within { to ≤ length (elements_in elements.now) }
     ensures prints { Prints O.shown out.old out.new result
-        (script_of (between from to (elements_in elements.now))) }
+        (elements_script (between from to (elements_in elements.now))) }
 {
     for index in from..to {
         print_line(out, elements.at(index))?;
@@ -31,7 +31,7 @@ pub fn lines_len(elements: &Elements, from: u64, to: u64) -> u64
     requires order { from ≤ to }
     requires within { to ≤ length (elements_in elements.now) }
     requires few { to ≤ 61440 }
-    ensures len { result ≡ length (script_of (between from to (elements_in elements.now))) }
+    ensures len { result ≡ length (elements_script (between from to (elements_in elements.now))) }
 {
     let mut total = 0;
     for index in from..to {

@@ -1,18 +1,15 @@
 //! A part of a script.
 ghost use Rattle.std.specs.Prelude.{◌≤◌, length};
-ghost use Rattle.rom_elements.specs.Elements.{elements_in};
+ghost use Rattle.rom_rebuild.specs.Elements.{elements_in};
 
+use crate::elements::Elements;
 use crate::lines::{lines_len, print_lines};
-use rom_elements::Elements;
-use rom_text::{IoFailed, Report, Sink};
+use rom_text::{IoFailed, MAX_BYTES, Report, Sink};
 
 /// How many lines a part has at most. The longest line has 46 bytes, so a part is within a script's limit.
 /// A heap has at most 61,440 elements, which are three parts. Parts measured in bytes might be fewer, but
 /// where one ends would depend on all lines before it.
 const PART: u64 = 20480;
-
-/// The most bytes that a script may have.
-const MOST_BYTES: u64 = 1 << 20;
 
 /// How many parts a script has at most.
 pub const MOST_PARTS: u64 = 3;
@@ -32,8 +29,8 @@ pub struct Part<'a> {
 impl<'a> Part<'a> {
     ghost use Rattle.std.specs.Prelude.{◌≡◌, IsTrue};
     ghost use Rattle.std.specs.Bool.{MatchBool};
-    ghost use Rattle.rom_rebuild.specs.Parts.{IsTooLong, lines_in};
-    ghost use Rattle.rom_rebuild.specs.Script.{part_of, parts_needed, script_of};
+    ghost use Rattle.rom_rebuild.specs.Parts.{AreTooManyBytes, lines_in};
+    ghost use Rattle.rom_rebuild.specs.Script.{elements_script, part_of, parts_needed};
     ghost use Rattle.rom_text.specs.Limits.{IsWithinLimit};
 
     /// All lines of a script. A heap has at most 61,440 elements.
@@ -64,10 +61,10 @@ impl<'a> Part<'a> {
     /// Whether a script may have as many bytes.
     pub fn fits(&self) -> bool
         // `true` comes exactly where the script of these lines has no more bytes than a script may have.
-        ensures { MatchBool result (IsWithinLimit (script_of (lines_in self.now)))
-            (IsTooLong (script_of (lines_in self.now))) }
+        ensures { MatchBool result (IsWithinLimit (elements_script (lines_in self.now)))
+            (AreTooManyBytes (elements_script (lines_in self.now))) }
     {
-        lines_len(self.elements, self.from, self.to) <= MOST_BYTES
+        lines_len(self.elements, self.from, self.to) <= MAX_BYTES as u64
     }
 
     /// How many parts these lines have, where they are a whole script.
@@ -80,10 +77,10 @@ impl<'a> Part<'a> {
 
 impl Report for Part<'_> {
     ghost use Rattle.rom_rebuild.specs.Parts.{lines_in};
-    ghost use Rattle.rom_rebuild.specs.Script.{script_of};
+    ghost use Rattle.rom_rebuild.specs.Script.{elements_script};
 
     ghost shown = { record {
-      text = λ part. script_of (lines_in part);
+      text = λ part. elements_script (lines_in part);
       Fits = λ _. Unit {0};
     } };
 

@@ -1,5 +1,7 @@
 //! Recovery: it makes both regions of a heap the one that counts.
 //!
+//! It knows which region counts, and copies it; it knows nothing of what a region's words mean.
+//!
 //! Under MUTATING back counts and is copied to main; under COPYING main counts and is copied to
 //! back; under IDLE both count, and a difference is refused. The contract of `recover` promises
 //! that it may be stopped at any moment and run again: every image that a stop leaves could be left

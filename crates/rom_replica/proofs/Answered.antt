@@ -8,15 +8,15 @@ use Rattle.rom_model.specs.declared.call.Updated.{Updated}
 use Rattle.rom_model.specs.declared.call.Updated.TheVariants as updated
 use Rattle.rom_rule.specs.Views.{Told}
 use Rattle.rom_text.specs.Streams.{IsAskedOnce, ShownSource}
-use Rattle.rom_stream.specs.Messages.{IsHeard}
-use Rattle.rom_stream.specs.declared.message.Kind.TheVariants as kind
+use Rattle.rom_frame.specs.Messages.{IsMessageHeard}
+use Rattle.rom_frame.specs.declared.stream.message.MessageKind.TheVariants as kind
 use Rattle.rom_frame.specs.declared.frame.Frame.{Frame}
 use Rattle.rom_follow.specs.Followed.{Followed}
-use Rattle.rom_follow.specs.Taking.{Gives, IsFrame, IsNext, IsNoFrame, doing, entry_at, failing, found_at}
-use Rattle.rom_follow.specs.declared.taken.Taken.{Taken}
-use Rattle.rom_follow.specs.declared.taken.Taken.TheVariants as taken
+use Rattle.rom_follow.specs.Taking.{IsFrame, IsNextFrame, IsNoFrame, TakesFrame, doing, entry_at, failing, found_at}
+use Rattle.rom_follow.specs.declared.taken.MessageTaken.{MessageTaken}
+use Rattle.rom_follow.specs.declared.taken.MessageTaken.TheVariants as taken
 use Rattle.rom_replica.specs.Stops.{HasStopped, IsAtCount}
-use Rattle.rom_replica.specs.Tallied.{Adds, Counts, GoesOn, Stops, Turn}
+use Rattle.rom_replica.specs.Tallied.{AddsToTally, CountsFrames, GoesOn, Stops, Turn}
 use Rattle.rom_replica.specs.Turns.{early, known}
 use Rattle.rom_replica.specs.declared.stop.Stop.{Stop}
 use Rattle.rom_replica.specs.declared.stop.Stop.TheVariants.{Broken, DeviceFailed}
@@ -53,11 +53,11 @@ module _ {X : Type 0} (source : ShownSource X) (was now : X) (part : List ℕ) (
     asked_once = asked;
   }
 
-  module _ (old new : Followed) (before after : Tally) (heard : IsHeard source before.bytes part was now kind.Whole) where
+  module _ (old new : Followed) (before after : Tally) (heard : IsMessageHeard source before.bytes part was now kind.Whole) where
     -- a frame is counted by its place
     goes : (f : Frame) → IsFrame f part → (b k e : Bool) → (f.place == old.count) ≡ b → nat_lt f.place old.count ≡ k → nat_lt old.count f.place ≡ e →
         new ≡ (if b then doing old f.call f.reply else old) →
-        Counts (if b then 1 else 0) (if k then 1 else 0) (if e then 1 else 0) (length part) before after →
+        CountsFrames (if b then 1 else 0) (if k then 1 else 0) (if e then 1 else 0) (length part) before after →
         GoesOn source was now old new before after
     goes f is b k e at below above same adds = record {
       next = f;
@@ -110,7 +110,7 @@ module _ {X : Type 0} (source : ShownSource X) (was now : X) (part : List ℕ) (
           by (inl one) = inl (ap this one)
           by (inr one) = inr (ap this one)
 
-      next_turn : (answer : Taken) (stop : Option Stop) → IsNext f old answer new → length old.tried ≤ old.count → new.count ≤ LAST_COUNT → Adds answer (length part) before after stop → Turn source stop was now old new before after
+      next_turn : (answer : MessageTaken) (stop : Option Stop) → IsNextFrame f old answer new → length old.tried ≤ old.count → new.count ≤ LAST_COUNT → AddsToTally answer (length part) before after stop → Turn source stop was now old new before after
       next_turn (taken.Applied place) stop gives many within adds =
           subst (λ (z : Option Stop). Turn source z was now old new before after) (sym adds.1)
           (goes f is true false false (eq-eqb f.place old.count at) not_below not_above gives.1 adds.0)
@@ -165,28 +165,28 @@ module _ {X : Type 0} (source : ShownSource X) (was now : X) (part : List ℕ) (
       next_turn (taken.Early place want) stop gives many within adds = absurd gives
       next_turn taken.NotAFrame stop gives many within adds = absurd gives
 
-    known_turn : (f : Frame) → IsFrame f part → (answer : Taken) (stop : Option Stop) → f.place < old.count → answer ≡ taken.Known f.place → new ≡ old → Adds answer (length part) before after stop → Turn source stop was now old new before after
+    known_turn : (f : Frame) → IsFrame f part → (answer : MessageTaken) (stop : Option Stop) → f.place < old.count → answer ≡ taken.Known f.place → new ≡ old → AddsToTally answer (length part) before after stop → Turn source stop was now old new before after
     known_turn f is answer stop below answered same adds =
-        let counts = subst (λ (z : Taken). Adds z (length part) before after stop) answered adds in
+        let counts = subst (λ (z : MessageTaken). AddsToTally z (length part) before after stop) answered adds in
         subst (λ (z : Option Stop). Turn source z was now old new before after) (sym counts.1)
         (goes f is false true false (ne_eqb f.place old.count (λ at. omega (arith, at, below))) (lt-ltb f.place old.count below) (le-ltb old.count f.place (omega (arith, below))) same counts.0)
 
-    early_turn : (f : Frame) → IsFrame f part → (answer : Taken) (stop : Option Stop) → old.count < f.place → answer ≡ taken.Early f.place old.count → new ≡ old → Adds answer (length part) before after stop → Turn source stop was now old new before after
+    early_turn : (f : Frame) → IsFrame f part → (answer : MessageTaken) (stop : Option Stop) → old.count < f.place → answer ≡ taken.Early f.place old.count → new ≡ old → AddsToTally answer (length part) before after stop → Turn source stop was now old new before after
     early_turn f is answer stop above answered same adds =
-        let counts = subst (λ (z : Taken). Adds z (length part) before after stop) answered adds in
+        let counts = subst (λ (z : MessageTaken). AddsToTally z (length part) before after stop) answered adds in
         subst (λ (z : Option Stop). Turn source z was now old new before after) (sym counts.1)
         (goes f is false false true (ne_eqb f.place old.count (λ at. omega (arith, at, above))) (le-ltb f.place old.count (omega (arith, above))) (lt-ltb old.count f.place above) same counts.0)
 
     -- a message that is no frame is a stop
-    no_frame_turn : IsNoFrame part → (answer : Taken) (stop : Option Stop) → answer ≡ taken.NotAFrame → new ≡ old → Adds answer (length part) before after stop → Turn source stop was now old new before after
+    no_frame_turn : IsNoFrame part → (answer : MessageTaken) (stop : Option Stop) → answer ≡ taken.NotAFrame → new ≡ old → AddsToTally answer (length part) before after stop → Turn source stop was now old new before after
     no_frame_turn none answer stop answered same adds =
-        let counts = subst (λ (z : Taken). Adds z (length part) before after stop) answered adds in
+        let counts = subst (λ (z : MessageTaken). AddsToTally z (length part) before after stop) answered adds in
         subst (λ (z : Option Stop × Followed × Tally). Turn source z.0 was now old z.1 before z.2) (λ i. (sym counts.1 i, sym same i, sym counts.0 i))
         (stops_silent Broken old before (inr (heard, none), refl, refl))
 
     -- the turn of a whole message, by what the follower answers
-    pub whole_turn : (answer : Taken) (stop : Option Stop) → ((f : Frame) × IsFrame f part) ⊎ IsNoFrame part → (IsNoFrame part → (answer ≡ taken.NotAFrame) × (new ≡ old)) → ((f : Frame) → IsFrame f part → Gives f old answer new) →
-        length old.tried ≤ old.count → new.count ≤ LAST_COUNT → Adds answer (length part) before after stop → Turn source stop was now old new before after
+    pub whole_turn : (answer : MessageTaken) (stop : Option Stop) → ((f : Frame) × IsFrame f part) ⊎ IsNoFrame part → (IsNoFrame part → (answer ≡ taken.NotAFrame) × (new ≡ old)) → ((f : Frame) → IsFrame f part → TakesFrame f old answer new) →
+        length old.tried ≤ old.count → new.count ≤ LAST_COUNT → AddsToTally answer (length part) before after stop → Turn source stop was now old new before after
     whole_turn answer stop (inr none) silent gives many within adds = let s = silent none in no_frame_turn none answer stop s.0 s.1 adds
     whole_turn answer stop (inl (f, is)) silent gives many within adds = by (three_ways f.place old.count)
       where

@@ -18,13 +18,13 @@ use Rattle.rom_rule.specs.Views.{Told}
 use Rattle.rom_store.specs.Sessions.{IsStoryOf, SessionSeen}
 use Rattle.rom_text.specs.Streams.{ShownSource}
 use Rattle.rom_follow.specs.Closing.{ArePassesOf}
-use Rattle.rom_replica.specs.Following.{HasClosed, IsFollowed}
+use Rattle.rom_replica.specs.Following.{HasClosed, IsStreamFollowed}
 use Rattle.rom_replica.specs.Tallied.{WasFollowed}
 use Rattle.rom_replica.specs.declared.stop.Stop.{Stop}
 use Rattle.rom_replica.specs.declared.tally.Tally.{Tally}
 
 pub followed_by : {X : Type 0} (source : ShownSource X) (was now : X) (tally : Tally) (stop : Stop) (session : SessionSeen) (story : Story State) →
-    HasClosed source was now tally stop session → IsStoryOf trio Contents session story → IsClosed trio story 1 → IsFollowed source was now tally stop story
+    HasClosed source was now tally stop session → IsStoryOf trio Contents session story → IsClosed trio story 1 → IsStreamFollowed source was now tally stop story
 followed_by source was now tally stop session story left of closed =
     let f = left.follower in
     let d = left.done story.opening story.opening_count of.opening in

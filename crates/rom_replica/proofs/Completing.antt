@@ -25,18 +25,18 @@ use Rattle.rom_run.specs.Complete.{IsAtHand, IsRefusedByName, NoneFailed}
 use Rattle.rom_run.specs.Working.{HasNone, HasSession}
 use Rattle.rom_run.specs.declared.heap.Heap.TheVariants.{Standing}
 use Rattle.rom_run.proofs.Accepted.{at_hand, begins, by_name}
-use Rattle.rom_follow.specs.Closing.{ArePassesOf, Tells}
+use Rattle.rom_follow.specs.Closing.{ArePassesOf, TellsUpdate}
 use Rattle.rom_replica.specs.Following.{IsToldOfStream}
-use Rattle.rom_replica.specs.Promise.{EndsUnfailed, HasNotTaken, HasTaken, OfOne}
-use Rattle.rom_replica.specs.Stops.{HasFailed, HasStopped, number_of}
+use Rattle.rom_replica.specs.Promise.{EndsUnfailed, HasNotTaken, MayHaveFollowed, OfOne}
+use Rattle.rom_replica.specs.Stops.{HasFailed, HasStopped, stop_number}
 use Rattle.rom_replica.specs.Turns.{applied, tries_from}
 use Rattle.rom_replica.specs.declared.stop.Stop.{Stop}
 use Rattle.rom_replica.specs.declared.stop.Stop.TheVariants as stop
 
 -- an update that was told so was told by a pass that has a fault
-faulty : (fate : Fate) (told : Updated (List ℕ)) (before after : ℕ) → (told ≡ updated.Failed) ⊎ (told ≡ updated.Doubt) → Tells fate told → HasFault fate before after → Rose before after
-faulty Published told before after (inl is) tells fault = absurd (subst (Tells Published) is tells)
-faulty Published told before after (inr is) tells fault = absurd (subst (Tells Published) is tells)
+faulty : (fate : Fate) (told : Updated (List ℕ)) (before after : ℕ) → (told ≡ updated.Failed) ⊎ (told ≡ updated.Doubt) → TellsUpdate fate told → HasFault fate before after → Rose before after
+faulty Published told before after (inl is) tells fault = absurd (subst (TellsUpdate Published) is tells)
+faulty Published told before after (inr is) tells fault = absurd (subst (TellsUpdate Published) is tells)
 faulty Failed told before after is tells fault = fault
 faulty Doubt told before after is tells fault = fault
 
@@ -61,7 +61,7 @@ rose order x told (r ∷ rs) (y ∷ ys) s k len faults passes in_order =
 
 -- the stop of this number
 module _ {X : Type 0} (source : ShownSource X) (taken : ℕ) (part : List ℕ) (x y : X) (count many : ℕ) (entries : List Entry) (tries : List Told) where
-  stop_four : (s : Stop) → number_of s ≡ 4 → HasStopped source taken part x y count many s entries tries → ReadFailed source x y
+  stop_four : (s : Stop) → stop_number s ≡ 4 → HasStopped source taken part x y count many s entries tries → ReadFailed source x y
   stop_four stop.StreamFailed is stopped = stopped.0.2
   stop_four stop.End is stopped = let no : 0 ≡ 4 = is in absurd (omega (arith, no))
   stop_four stop.Broken is stopped = let no : 1 ≡ 4 = is in absurd (omega (arith, no))
@@ -70,7 +70,7 @@ module _ {X : Type 0} (source : ShownSource X) (taken : ℕ) (part : List ℕ) (
   stop_four stop.Diverged is stopped = let no : 9 ≡ 4 = is in absurd (omega (arith, no))
   stop_four stop.Spent is stopped = let no : 10 ≡ 4 = is in absurd (omega (arith, no))
 
-  stop_seven : (s : Stop) → number_of s ≡ 7 → HasStopped source taken part x y count many s entries tries → HasFailed source taken part x y count many entries tries
+  stop_seven : (s : Stop) → stop_number s ≡ 7 → HasStopped source taken part x y count many s entries tries → HasFailed source taken part x y count many entries tries
   stop_seven stop.DeviceFailed is stopped = stopped
   stop_seven stop.End is stopped = let no : 0 ≡ 7 = is in absurd (omega (arith, no))
   stop_seven stop.Broken is stopped = let no : 1 ≡ 7 = is in absurd (omega (arith, no))
@@ -84,10 +84,10 @@ module _ {X K : Type 0} (source : ShownSource X) (sink : ShownSink K) (old new :
   IsFollowedBy x y = IsToldOfStream source sink x y old new status story
 
   -- the stop has the status as its number, where that isn't 5
-  numbered : (x y : X) (f : IsFollowedBy x y) (n : ℕ) → status ≡ n → (n ≡ 5 → ⊥) → number_of f.stop ≡ n
+  numbered : (x y : X) (f : IsFollowedBy x y) (n : ℕ) → status ≡ n → (n ≡ 5 → ⊥) → stop_number f.stop ≡ n
   numbered x y f n is other = by f.printed
     where
-      by : {A B : Type 0} → ((status ≡ number_of f.stop) × A) ⊎ ((status ≡ 5) × B) → number_of f.stop ≡ n
+      by : {A B : Type 0} → ((status ≡ stop_number f.stop) × A) ⊎ ((status ≡ 5) × B) → stop_number f.stop ≡ n
       by (inl p) = sym p.0 ∙ is
       by (inr p) = absurd (other (sym is ∙ p.0))
 
@@ -154,7 +154,7 @@ module _ {D X K : Type 0} (shown : ShownDevice D) (source : ShownSource X) (sink
         by None told some = absurd (let no : ⊥ = cc in no)
         by (Some z) told some = let s = told.story.0 in at_hand Contents Rejects earlier shown was tells trio Standing s (told.each s told.story.1).opening
 
-    pub completes : HasTaken status ⊎ HasNotTaken status ⊎ (status ≡ 7) → (HasTaken status → IsSome session) → (HasNotTaken status → IsNone session) → (status ≡ 5 → WriteFailed sink old new) →
+    pub completes : MayHaveFollowed status ⊎ HasNotTaken status ⊎ (status ≡ 7) → (MayHaveFollowed status → IsSome session) → (HasNotTaken status → IsNone session) → (status ≡ 5 → WriteFailed sink old new) →
         IsAtHand Contents earlier Standing (shown.words was) → NoneFailed shown source sink was now inputs left old new → EndsUnfailed status
     completes statuses taken not_taken sink_failed can unfailed = by statuses
       where
@@ -168,7 +168,7 @@ module _ {D X K : Type 0} (shown : ShownDevice D) (source : ShownSource X) (sink
                 let f = four source sink old new status s inputs left (told.told s told.story.1) is in
                 unfailed.of_sources 0 f.0 f.1 (ap (λ (xs : List X). slice_get xs 0) f.2) (ap (λ (xs : List X). slice_get xs 0) f.3) (let once = f.4.once in omega (arith, once))
 
-        by : HasTaken status ⊎ HasNotTaken status ⊎ (status ≡ 7) → EndsUnfailed status
+        by : MayHaveFollowed status ⊎ HasNotTaken status ⊎ (status ≡ 7) → EndsUnfailed status
         by (inl (inl is)) = inl is
         by (inl (inr (inl is))) = inr (inl is)
         by (inl (inr (inr (inl is)))) = absurd (no_four is)
@@ -180,7 +180,7 @@ module _ {D X K : Type 0} (shown : ShownDevice D) (source : ShownSource X) (sink
         by (inr (inl (inr is))) = inr (inr (inl is))
         by (inr (inr is)) = absurd (unfailed.of_device (device_rose session story none is))
 
-    pub refuses : HasTaken status ⊎ HasNotTaken status ⊎ (status ≡ 7) → (HasTaken status → IsSome session) → IsRefusedByName Contents Rejects earlier Standing (shown.words was) → IsUnfailed shown was now → (status ≡ 3) ⊎ (status ≡ 6)
+    pub refuses : MayHaveFollowed status ⊎ HasNotTaken status ⊎ (status ≡ 7) → (MayHaveFollowed status → IsSome session) → IsRefusedByName Contents Rejects earlier Standing (shown.words was) → IsUnfailed shown was now → (status ≡ 3) ⊎ (status ≡ 6)
     refuses (inl is) taken refused unfailed = absurd (begins Contents Rejects earlier Standing (shown.words was) tt (stood (taken is)) refused)
     refuses (inr (inl is)) taken refused unfailed = is
     refuses (inr (inr is)) taken refused unfailed = absurd (unfailed (device_rose session story none is))

@@ -5,14 +5,14 @@ use Rattle.rom_model.specs.Faults.{StopsAtFault}
 use Rattle.rom_model.specs.declared.entry.Entry.{Entry}
 use Rattle.rom_rule.specs.Views.{Told}
 use Rattle.rom_text.specs.Streams.{IsAskedOnce, ShownSource}
-use Rattle.rom_stream.specs.Messages.{GaveOn, IsHeard}
-use Rattle.rom_stream.specs.declared.message.Kind.{Kind}
-use Rattle.rom_stream.specs.declared.message.Kind.TheVariants as kind
-use Rattle.rom_stream.proofs.Hearing.{came_on, failed_on, gave_on}
+use Rattle.rom_frame.specs.Messages.{GaveOn, IsMessageHeard}
+use Rattle.rom_frame.specs.declared.stream.message.MessageKind.{MessageKind}
+use Rattle.rom_frame.specs.declared.stream.message.MessageKind.TheVariants as kind
+use Rattle.rom_frame.proofs.Hearing.{came_on, failed_on, gave_on}
 use Rattle.rom_frame.specs.declared.frame.Frame.{Frame}
 use Rattle.rom_follow.specs.Followed.{Followed}
 use Rattle.rom_replica.specs.Stops.{HasStopped, IsAtCount}
-use Rattle.rom_replica.specs.Tallied.{HasGoneOn, IsTallyOf, Stops, WasFollowed}
+use Rattle.rom_replica.specs.Tallied.{HasGoneOn, IsTallyOfFrames, Stops, WasFollowed}
 use Rattle.rom_replica.specs.Turns.{applied, bytes_of_all}
 use Rattle.rom_replica.specs.declared.stop.Stop.{Stop}
 use Rattle.rom_replica.specs.declared.stop.Stop.TheVariants.{End, Broken, StreamFailed, DeviceFailed, TooLong, Diverged, Spent}
@@ -20,7 +20,7 @@ use Rattle.rom_replica.specs.declared.tally.Tally.{Tally}
 use Rattle.rom_replica.proofs.Turning.{length-tries}
 
 module _ {X : Type 0} (source : ShownSource X) (taken : ℕ) (part : List ℕ) (was mid now : X) (gave : GaveOn source was mid) where
-  heard_since : (k : Kind) → IsHeard source taken part mid now k → IsHeard source taken part was now k
+  heard_since : (k : MessageKind) → IsMessageHeard source taken part mid now k → IsMessageHeard source taken part was now k
   heard_since kind.Whole is = (is.0, is.1, gave_on source was mid now gave is.2)
   heard_since kind.End is = (is.0, came_on source was mid now gave is.1)
   heard_since kind.Broken (within, inl is) = (within, inl (is.0, gave_on source was mid now gave is.1))
@@ -64,6 +64,6 @@ module _ {X : Type 0} (source : ShownSource X) (n0 : ℕ) (was mid now : X) (fra
             (subst (λ (z : ℕ × ℕ × ℕ). HasStopped source z.0 stops.part mid now z.1 z.2 stop stops.entries stops.tries) (λ i. (so.tally_is.bytes_is i, so.count_is i, seq i)) stops.stopped);
         history = stops.history ∙ ap (λ (es : List Entry). es ++ stops.entries) so.history;
         tried = stops.tried ∙ ap (λ (ts : List Told). ts ++ stops.tries) so.tried;
-        tally_is = subst (IsTallyOf n0 frames) (sym stops.tally) so.tally_is;
+        tally_is = subst (IsTallyOfFrames n0 frames) (sym stops.tally) so.tally_is;
         asked_once = asked_since source (length (bytes_of_all frames)) stops.part was mid now so.gave stops.asked_once;
       }

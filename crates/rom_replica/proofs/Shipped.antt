@@ -4,7 +4,7 @@ use Rattle.std.specs.Prelude.{All}
 use Rattle.rom_model.specs.declared.entry.Entry.{Entry}
 use Rattle.rom_frame.specs.Frames.{frame_words}
 use Rattle.rom_follow.specs.Following.{HasWords}
-use Rattle.rom_ship.specs.Shipped.{AreFramed}
+use Rattle.rom_replica.specs.Shipped.{AreFramed}
 
 pub has_words : (place : ℕ) (history : List Entry) → AreFramed place history → HasWords place history
 has_words place [] framed = tt

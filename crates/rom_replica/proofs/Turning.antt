@@ -8,7 +8,7 @@ use Rattle.rom_rule.proofs.Told.{all_append}
 use Rattle.rom_rule.specs.Views.{Told}
 use Rattle.rom_model.specs.declared.entry.Entry.{Entry}
 use Rattle.rom_text.specs.Streams.{ShownSource}
-use Rattle.rom_stream.proofs.Hearing.{gave_on}
+use Rattle.rom_frame.proofs.Hearing.{gave_on}
 use Rattle.rom_frame.specs.Frames.{IsOfWords, frame}
 use Rattle.rom_frame.specs.declared.frame.Frame.{Frame}
 use Rattle.rom_follow.specs.Followed.{Followed}

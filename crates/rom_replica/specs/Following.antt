@@ -12,15 +12,15 @@ use Rattle.rom_model.specs.Trio.{trio}
 use Rattle.rom_model.specs.declared.entry.Entry.{Entry}
 use Rattle.rom_rule.specs.Views.{Told}
 use Rattle.rom_store.specs.Sessions.{SessionSeen}
-use Rattle.rom_text.specs.Runs.{IsCutShort, IsWritten}
+use Rattle.rom_text.specs.Runs.{IsCutShort, IsWhollyWritten}
 use Rattle.rom_text.specs.Streams.{ShownSink, ShownSource}
 use Rattle.rom_text.specs.Text.{line_text}
 use Rattle.rom_frame.specs.Frames.{IsOfWords}
 use Rattle.rom_frame.specs.declared.frame.Frame.{Frame}
 use Rattle.rom_follow.specs.Closing.{ArePassesOf}
-use Rattle.rom_follow.specs.Followed.{Followed, HasDone}
-use Rattle.rom_replica.specs.Stops.{HasStopped, number_of}
-use Rattle.rom_replica.specs.Tallied.{IsTallyOf, WasFollowed}
+use Rattle.rom_follow.specs.Followed.{Followed, HasDoneUpdates}
+use Rattle.rom_replica.specs.Stops.{HasStopped, stop_number}
+use Rattle.rom_replica.specs.Tallied.{IsTallyOfFrames, WasFollowed}
 use Rattle.rom_replica.specs.Turns.{applied, bytes_of_all, entries_from, tries_from}
 use Rattle.rom_replica.specs.declared.stop.Stop.{Stop}
 use Rattle.rom_replica.specs.declared.tally.Tally.{Tally}
@@ -34,12 +34,12 @@ follow_text tally count =
 -- The two lines are printed, and the status is that of the stop; or they are cut short.
 abbrev pub IsFollowText : {K : Type 0} → ShownSink K → Tally → Stop → ℕ → K → K → ℕ → Type 0
 IsFollowText sink tally stop count old new status =
-    ((status ≡ number_of stop) × IsWritten sink old new (follow_text tally count))
+    ((status ≡ stop_number stop) × IsWhollyWritten sink old new (follow_text tally count))
     ⊎ ((status ≡ 5) × IsCutShort sink old new (follow_text tally count))
 
 module _ {X : Type 0} (source : ShownSource X) where
   -- What comes of a stream that was followed up to its first stop.
-  pub record IsFollowed (was now : X) (tally : Tally) (stop : Stop) (story : Story State) : Type 0 where
+  pub record IsStreamFollowed (was now : X) (tally : Tally) (stop : Stop) (story : Story State) : Type 0 where
     -- the frames before the stop, and what was read behind them
     pub frames : List Frame
     pub part : List ℕ
@@ -50,7 +50,7 @@ module _ {X : Type 0} (source : ShownSource X) where
     pub tries : List Told
     pub stopped : (let many = length (applied story.opening_count frames) in HasStopped source (length (bytes_of_all frames)) part was now (story.opening_count + many) many stop entries tries)
     -- how many of them became entries, were known, and came early
-    pub tally_is : IsTallyOf story.opening_count frames tally
+    pub tally_is : IsTallyOfFrames story.opening_count frames tally
     -- the history: each frame whose place was the count gave the entry there, with its call and its reply, as the one caller's
     pub history : story.history ≡ entries_from 0 (applied story.opening_count frames) ++ entries
     pub legal : IsLegal (on_words trio) story.order story.opening story.opening_count story.history
@@ -63,7 +63,7 @@ module _ {X : Type 0} (source : ShownSource X) where
   pub record IsToldOfStream {K : Type 0} (sink : ShownSink K) (was now : X) (old new : K) (status : ℕ) (story : Story State) : Type 0 where
     pub tally : Tally
     pub stop : Stop
-    pub followed : IsFollowed was now tally stop story
+    pub followed : IsStreamFollowed was now tally stop story
     pub printed : IsFollowText sink tally stop (count story) old new status
 
   -- As the follower knows it, whose history and tries are those of its session.
@@ -71,6 +71,6 @@ module _ {X : Type 0} (source : ShownSource X) where
     pub opened : ℕ
     pub follower : Followed
     pub stream : WasFollowed source stop opened was now follower tally
-    pub done : (s : State) (k : ℕ) → Contents session.order session.image s k → (opened ≡ k) × HasDone session.order s k follower
+    pub done : (s : State) (k : ℕ) → Contents session.order session.image s k → (opened ≡ k) × HasDoneUpdates session.order s k follower
     pub history : session.history ≡ follower.history
     pub passes : ArePassesOf session.records follower.tried

@@ -6,3 +6,6 @@ pub mod Stops
 pub mod Tallied
 pub mod Following
 pub mod Promise
+pub mod Shipped
+pub mod Merging
+pub mod Updates

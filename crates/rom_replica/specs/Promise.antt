@@ -19,8 +19,8 @@ use Rattle.rom_run.specs.Use.{Makes, Plays, Read}
 use Rattle.rom_run.specs.Working.{HasNone, HasSession, IsDeviceKept}
 use Rattle.rom_run.specs.declared.heap.Heap.TheVariants.{Standing}
 use Rattle.rom_replica.specs.Following.{IsToldOfStream}
-use Rattle.rom_replica.specs.Words.{Command, Follow, Format, Ship}
-use Rattle.rom_ship.specs.Shipped.{AreFramed, AreShipped}
+use Rattle.rom_replica.specs.Words.{Follow, Format, ReplicaCommand, Ship}
+use Rattle.rom_replica.specs.Shipped.{AreFramed, AreShipped}
 use Rattle.rom_follow.specs.Following.{HasWords}
 use Rattle.rom_model.specs.declared.entry.Entry.{Entry}
 
@@ -30,8 +30,8 @@ OfOne (was ∷ []) (now ∷ []) P = P was now
 OfOne before after P = ⊥
 
 -- the statuses with which a stream was followed; with 7 it may have been, and then the device failed under an update
-abbrev pub HasTaken : ℕ → Type 0
-HasTaken status = (status ≡ 0) ⊎ (status ≡ 1) ⊎ (status ≡ 4) ⊎ (status ≡ 5) ⊎ (status ≡ 8) ⊎ (status ≡ 9) ⊎ (status ≡ 10)
+abbrev pub MayHaveFollowed : ℕ → Type 0
+MayHaveFollowed status = (status ≡ 0) ⊎ (status ≡ 1) ⊎ (status ≡ 4) ⊎ (status ≡ 5) ⊎ (status ≡ 8) ⊎ (status ≡ 9) ⊎ (status ≡ 10)
 
 -- those with which it was not
 abbrev pub HasNotTaken : ℕ → Type 0
@@ -47,8 +47,8 @@ module _ {D X K : Type 0} (shown : ShownDevice D) (source : ShownSource X) (sink
   -- device, of refusals and of sessions both records cite the same definitions.
   pub record FollowPromise (was now : D) (inputs left : Vec X) (old new : K) (status : ℕ) (session : Option SessionSeen) : Type 0 where
     -- the status, and where a session is left
-    pub statuses : HasTaken status ⊎ HasNotTaken status ⊎ (status ≡ 7)
-    pub taken : HasTaken status → IsSome session
+    pub statuses : MayHaveFollowed status ⊎ HasNotTaken status ⊎ (status ≡ 7)
+    pub taken : MayHaveFollowed status → IsSome session
     pub not_taken : HasNotTaken status → IsNone session
     -- and which it is where the heap stands and nothing fails
     pub complete : IsTrue shown.tells_words → IsAtHand Contents earlier Standing (shown.words was) → NoneFailed shown source sink was now inputs.items left.items old new → EndsUnfailed status
@@ -73,7 +73,7 @@ module _ {D X K : Type 0} (shown : ShownDevice D) (source : ShownSource X) (sink
     pub rest : sink.rest new ≡ sink.rest old
 
   -- So of each command. `ship` and `format`, and words that are no command, keep the promise of a program; what `ship` prints are the frames of the history.
-  abbrev pub ReplicaPromise : Option Command → D → D → Vec X → Vec X → K → K → ℕ → Option SessionSeen → Type 0
+  abbrev pub ReplicaPromise : Option ReplicaCommand → D → D → Vec X → Vec X → K → K → ℕ → Option SessionSeen → Type 0
   ReplicaPromise (Some (Follow file stream)) was now inputs left old new status session = FollowPromise was now inputs left old new status session
   ReplicaPromise (Some (Ship file scripts)) was now inputs left old new status session =
       Promise trio Contents Rejects earlier shown source sink (AreScripts Reads source) (AreShipped sink) (Some (Plays Standing Read)) was now inputs left old new status session

@@ -16,15 +16,15 @@ ghost use Rattle.rom_store.specs.Callers.{IsNewCaller};
 ghost use Rattle.rom_store.specs.Closing.{HasLeftSince};
 ghost use Rattle.rom_store.specs.Indexed.{Indexed};
 ghost use Rattle.rom_store.specs.Sessions.{EachStory, HasStory};
-ghost use Rattle.rom_store.specs.Start.{HasStarted, start_of};
+ghost use Rattle.rom_store.specs.Start.{HasStarted, device_start};
 ghost use Rattle.rom_store.specs.Traced.{WentThrough};
 ghost use Rattle.rom_run.specs.Statuses as run;
 ghost use Rattle.rom_run.specs.Working.{HasNone, HasSession, IsDeviceKept};
 ghost use Rattle.rom_run.specs.declared.heap.Heap.TheVariants.{Standing};
 ghost use Rattle.rom_text.specs.Runs.{AreAskedOnce};
 ghost use Rattle.rom_text.specs.Streams.{IsAskedOnce, StopsWriting, WriteFailed};
-ghost use Rattle.rom_replica.specs.Following.{IsToldOfStream, HasClosed, IsFollowText, IsFollowed};
-ghost use Rattle.rom_replica.specs.Promise.{HasNotTaken, HasTaken, OfOne};
+ghost use Rattle.rom_replica.specs.Following.{IsToldOfStream, HasClosed, IsFollowText, IsStreamFollowed};
+ghost use Rattle.rom_replica.specs.Promise.{HasNotTaken, MayHaveFollowed, OfOne};
 
 use crate::stop::Stop;
 use crate::stream::take_frames;
@@ -57,7 +57,7 @@ fn follow_as<D: Device + Send, N: Label, S: Source, R: Wait, G: Gate>(
 ) -> Outcome<D>
     requires table { N.table ≡ opening.table_id }
     requires base { N.base ≡ base_of opening.key }
-    requires started { N.start ≡ start_of D.shown opening.device }
+    requires started { N.start ≡ device_start D.shown opening.device }
     requires since { IsTrue D.shown.tells_images → (t : ℕ) (i : List ℕ) →
         (N.since t i → D.shown.left_since opening.device t i)
         × (D.shown.left_since opening.device t i → N.since t i) }
@@ -125,7 +125,7 @@ fn follow_on<D: Device + Send, S: Source, R: Wait, G: Gate>(
         result.closed.device) }
     ensures went { EachStory trio Contents result.closed.session (λ story. WentThrough D.shown
         Contents (on_words trio) story (HasStarted D.shown (base_of opening.key).faults
-        (start_of D.shown opening.device) (D.shown.left_since opening.device))
+        (device_start D.shown opening.device) (D.shown.left_since opening.device))
         result.closed.device) }
     ensures size { D.shown.size result.closed.device ≡ D.shown.size opening.device }
     ensures outside { IsTrue D.shown.tells_words → WithinHeap (base_of opening.key).order
@@ -147,12 +147,12 @@ fn follow_heap<D: Device + Send, S: Source, O: Sink, R: Wait, G: Gate>(
     gate: &G,
 ) -> Result<Outcome<D>, Worked<D>>
     ensures session { IfOk result (λ f. HasSession trio Contents D.shown Standing device
-        f.closed.device (IsFollowed S.shown stream.old stream.new f.tally f.stop)
+        f.closed.device (IsStreamFollowed S.shown stream.old stream.new f.tally f.stop)
         f.closed.session) }
     ensures kept { IfOk result (λ f. IsDeviceKept D.shown Standing device f.closed.device) }
     ensures unprinted { OnOk result (out.new ≡ out.old) }
     ensures none { IfErr result (λ worked. HasNone trio Contents D.shown O.shown Rejects earlier
-        Standing device worked.device out.old out.new (run.number_of worked.status)) }
+        Standing device worked.device out.old out.new (run.exit_number worked.status)) }
     ensures none_kept { IfErr result (λ worked.
         IsDeviceKept D.shown Standing device worked.device) }
     ensures none_statuses { IfErr result (λ worked. (worked.status ≡ Status.HeapRefused)
@@ -182,11 +182,11 @@ fn follow_only<D: Device + Send, S: Source, O: Sink, R: Wait, G: Gate>(
     requires one { length inputs.old ≡ 1 }
     ensures session { IfOk result (λ f. HasSession trio Contents D.shown Standing device
         f.closed.device (λ story. OfOne inputs.old inputs.new (λ was now.
-        IsFollowed S.shown was now f.tally f.stop story)) f.closed.session) }
+        IsStreamFollowed S.shown was now f.tally f.stop story)) f.closed.session) }
     ensures kept { IfOk result (λ f. IsDeviceKept D.shown Standing device f.closed.device) }
     ensures unprinted { OnOk result (out.new ≡ out.old) }
     ensures none { IfErr result (λ worked. HasNone trio Contents D.shown O.shown Rejects earlier
-        Standing device worked.device out.old out.new (run.number_of worked.status)) }
+        Standing device worked.device out.old out.new (run.exit_number worked.status)) }
     ensures none_kept { IfErr result (λ worked.
         IsDeviceKept D.shown Standing device worked.device) }
     ensures none_statuses { IfErr result (λ worked. (worked.status ≡ Status.HeapRefused)
@@ -204,7 +204,7 @@ fn follow_only<D: Device + Send, S: Source, O: Sink, R: Wait, G: Gate>(
 /// Prints what came of a stream, and gives the status.
 fn tell_followed<O: Sink>(out: &mut O, tally: Tally, stop: Stop, count: u64) -> u8
     ensures printed { IsFollowText O.shown tally stop count out.old out.new result }
-    ensures statuses { HasTaken result ⊎ (result ≡ 7) }
+    ensures statuses { MayHaveFollowed result ⊎ (result ≡ 7) }
     ensures sink_failed { result ≡ 5 → WriteFailed O.shown out.old out.new }
     ensures writing { StopsWriting O.shown out.old out.new }
     ensures rest { O.shown.rest out.new ≡ O.shown.rest out.old }
@@ -226,7 +226,7 @@ fn end_followed<D: Device, S, O: Sink>(
     ensures inputs { result.scripts ≡ inputs }
     ensures printed { EachStory trio Contents followed.closed.session (λ story. IsFollowText O.shown
         followed.tally followed.stop (count story) out.old out.new result.status) }
-    ensures statuses { HasTaken result.status ⊎ (result.status ≡ 7) }
+    ensures statuses { MayHaveFollowed result.status ⊎ (result.status ≡ 7) }
     ensures sink_failed { result.status ≡ 5 → WriteFailed O.shown out.old out.new }
     ensures writing { StopsWriting O.shown out.old out.new }
     ensures rest { O.shown.rest out.new ≡ O.shown.rest out.old }
@@ -258,8 +258,8 @@ pub(crate) fn follow<D: Device + Send, S: Source, O: Sink, R: Wait, G: Gate>(
     gate: &G,
 ) -> Ended<D, S>
     requires one { length inputs.items ≡ 1 }
-    ensures statuses { HasTaken result.status ⊎ HasNotTaken result.status ⊎ (result.status ≡ 7) }
-    ensures taken { HasTaken result.status → IsSome result.session }
+    ensures statuses { MayHaveFollowed result.status ⊎ HasNotTaken result.status ⊎ (result.status ≡ 7) }
+    ensures taken { MayHaveFollowed result.status → IsSome result.session }
     ensures not_taken { HasNotTaken result.status → IsNone result.session }
     ensures story { IfSome result.session (HasSession trio Contents D.shown Standing device
         result.device (λ story. OfOne inputs.items result.scripts.items (λ was now. IsToldOfStream

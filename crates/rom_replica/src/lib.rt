@@ -1,5 +1,8 @@
-//! A replica of a heap over any carrier of bytes: one program writes what it does as frames, and another
-//! does what the frames say on a heap of its own.
+//! A replica of a heap over any carrier of bytes: one command writes what it does as frames, and another does
+//! what the frames say on a heap of its own.
+//!
+//! It knows its commands, makes frames of a history, and does what frames say; it knows no carrier of bytes
+//! but as a source.
 //!
 //! `run_replica` does all that the program does, and its contract carries the promise of the whole. `ship`
 //! plays scripts on a heap with the promise that `run` has, and its text is the frames of the history, in
@@ -16,6 +19,7 @@
 mod counting;
 mod follow;
 mod program;
+mod ship;
 mod stop;
 mod stream;
 mod tally;
@@ -28,4 +32,4 @@ pub use rom_store::{NoGate, Session};
 pub use rom_text::{DeviceWant, Wanted};
 pub use stop::Stop;
 pub use tally::Tally;
-pub use words::{Asked, files_of, read_command};
+pub use words::{ReplicaAsked, files_of, read_command};

@@ -1,13 +1,13 @@
 //! The top call: all that the program does.
 ghost use Rattle.std.specs.Prelude.{◌≡◌, length};
 ghost use Rattle.rom_replica.specs.Promise.{CanBeFollowed, FollowPromise, ReplicaPromise};
-ghost use Rattle.rom_replica.specs.Words.{command, inputs_of};
+ghost use Rattle.rom_replica.specs.Words.{inputs_of, replica_command};
 
 use crate::follow::follow;
-use crate::words::{Asked, read_command};
+use crate::ship::run_primary;
+use crate::words::{ReplicaAsked, read_command};
 use rom_device::Device;
 use rom_run::{Asked as Use, Ended, Heap};
-use rom_ship::run_primary;
 use rom_store::Gate;
 use rom_text::{Names, Sink, Source};
 use std::alloc::Global;
@@ -48,10 +48,10 @@ pub fn run_replica<R: Threads + Wait + Sync, D: Device + Send, S: Source, O: Sin
     out: &mut O,
     gate: &G,
 ) -> Ended<D, S>
-    requires { length inputs.items ≡ length (inputs_of (command words.now)) }
+    requires { length inputs.items ≡ length (inputs_of (replica_command words.now)) }
 
     // What the words ask for is done so, and printed so: the facts are the record's fields.
-    ensures promise { ReplicaPromise D.shown S.shown O.shown (command words.now) device
+    ensures promise { ReplicaPromise D.shown S.shown O.shown (replica_command words.now) device
         result.device inputs result.scripts out.old out.new result.status result.session }
 
     // The history that a primary ships is one that a follower may be sent.
@@ -59,13 +59,13 @@ pub fn run_replica<R: Threads + Wait + Sync, D: Device + Send, S: Source, O: Sin
 {
     match read_command(words) {
         None => run_primary(rt, alloc, None, device, inputs, out, gate),
-        Some(Asked::Ship { .. }) => {
+        Some(ReplicaAsked::Ship { .. }) => {
             let heap = Use::Play(Heap::Standing);
             run_primary(rt, alloc, Some(heap), device, inputs, out, gate)
         }
-        Some(Asked::Format { file: _, order }) => {
+        Some(ReplicaAsked::Format { file: _, order }) => {
             run_primary(rt, alloc, Some(Use::Make(order)), device, inputs, out, gate)
         }
-        Some(Asked::Follow { .. }) => run_follower(rt, alloc, device, inputs, out, gate),
+        Some(ReplicaAsked::Follow { .. }) => run_follower(rt, alloc, device, inputs, out, gate),
     }
 }

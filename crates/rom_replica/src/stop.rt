@@ -1,6 +1,6 @@
 //! Why the following of a stream ended.
 ghost use Rattle.std.specs.Prelude.{◌≡◌};
-ghost use Rattle.rom_replica.specs.Stops.{number_of};
+ghost use Rattle.rom_replica.specs.Stops.{stop_number};
 
 /// What stopped the following of a stream of frames. Its number is the status of the program.
 #[derive(Clone, Copy, Debug, PartialEq, Eq)]
@@ -24,7 +24,7 @@ pub enum Stop {
 impl Stop {
     /// Its number.
     pub fn number(self) -> u8
-        ensures { result ≡ number_of self }
+        ensures { result ≡ stop_number self }
     {
         self as u8
     }

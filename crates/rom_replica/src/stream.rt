@@ -8,8 +8,8 @@ use crate::stop::Stop;
 use crate::tally::Tally;
 use rom_device::Device;
 use rom_follow::Follower;
+use rom_frame::{MOST_BYTES, MessageKind, next_message};
 use rom_store::{Gate, Label};
-use rom_stream::{Kind, MOST_BYTES, next_message};
 use rom_text::Source;
 use std::sync::Wait;
 
@@ -33,11 +33,11 @@ fn take_one<D: Device, N: Label, S: Source, R: Wait, G: Gate>(
     // byte behind the greatest length, so an end, or a first word that no frame has, comes first within it.
     let heard = next_message(stream, tally.bytes, block);
     match heard.kind {
-        Kind::End => Some(Stop::End),
-        Kind::Broken => Some(Stop::Broken),
-        Kind::Failed => Some(Stop::StreamFailed),
-        Kind::TooLong => Some(Stop::TooLong),
-        Kind::Whole => {
+        MessageKind::End => Some(Stop::End),
+        MessageKind::Broken => Some(Stop::Broken),
+        MessageKind::Failed => Some(Stop::StreamFailed),
+        MessageKind::TooLong => Some(Stop::TooLong),
+        MessageKind::Whole => {
             let taken = follower.take(rt, &block[..heard.len], gate);
             tally.add(taken, heard.len)
         }

@@ -1,6 +1,6 @@
 //! How many frames of a stream there were, by what became of them.
 ghost use Rattle.std.specs.Prelude.{◌≡◌, ◌+◌, ◌≤◌};
-ghost use Rattle.rom_stream.specs.declared.message.TheConstants.{MAX_STREAM};
+ghost use Rattle.rom_frame.specs.declared.stream.message.TheConstants.{MAX_STREAM};
 
 /// The frames that were taken of a stream and were no stop, and how many bytes they have.
 #[derive(Clone, Copy, Debug, PartialEq, Eq)]

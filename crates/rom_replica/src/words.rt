@@ -1,10 +1,11 @@
 //! The words of the command line, and what they ask `main` for.
 ghost use Rattle.std.specs.Prelude.{◌≡◌, ◌∷◌, [], IfOk, IfSome};
-ghost use Rattle.rom_replica.specs.Named.{IsWithin, named};
-ghost use Rattle.rom_replica.specs.Words.{IsWanted, command, inputs_of};
+ghost use Rattle.rom_replica.specs.Named.{IsWithin, named_replica};
+ghost use Rattle.rom_replica.specs.Words.{IsReplicaWanted, inputs_of, replica_command};
 ghost use Rattle.rom_replica.specs.Words as language;
 
 use rom_header::Geometry;
+use rom_model::{MAX_ORDER, MIN_ORDER};
 use rom_run::{are_scripts, copy_of, is_name};
 use rom_text::{DeviceWant, Name, Names, Wanted, read_within};
 use std::alloc::{AllocError, Global};
@@ -12,7 +13,7 @@ use std::alloc::{AllocError, Global};
 /// What the words ask for. No name is empty or begins with a dash, there are 1 to 16 scripts, and an order
 /// is 4 to 16.
 #[derive(Clone, Copy, Debug)]
-pub enum Asked<'a> {
+pub enum ReplicaAsked<'a> {
     /// To run these scripts on the heap in this file, and write the frames of what was done.
     Ship { file: &'a Name, scripts: &'a [Name] },
     /// To do on the heap in this file what the frames of this stream say.
@@ -22,36 +23,36 @@ pub enum Asked<'a> {
 }
 
 /// A file, and then the scripts to run on its heap.
-fn read_ship(words: &[Name]) -> Option<Asked<'_>>
-    ensures named { named result ≡ language.ship_of words.now }
+fn read_ship(words: &[Name]) -> Option<ReplicaAsked<'_>>
+    ensures named { named_replica result ≡ language.ship_of words.now }
     ensures within { IfSome result IsWithin }
 {
     let (file, scripts) = words.split_first()?;
     if is_name(file) && are_scripts(scripts) {
-        Some(Asked::Ship { file, scripts })
+        Some(ReplicaAsked::Ship { file, scripts })
     } else {
         None
     }
 }
 
 /// A file, and the stream whose frames its heap takes.
-fn read_follow(words: &[Name]) -> Option<Asked<'_>>
-    ensures named { named result ≡ language.follow_of words.now }
+fn read_follow(words: &[Name]) -> Option<ReplicaAsked<'_>>
+    ensures named { named_replica result ≡ language.follow_of words.now }
     ensures within { IfSome result IsWithin }
 {
     let [file, stream] = words else {
         return None;
     };
     if is_name(file) && is_name(stream) {
-        Some(Asked::Follow { file, stream })
+        Some(ReplicaAsked::Follow { file, stream })
     } else {
         None
     }
 }
 
 /// A file, and the order of the heap that is made there.
-fn read_format(words: &[Name]) -> Option<Asked<'_>>
-    ensures named { named result ≡ language.format_of words.now }
+fn read_format(words: &[Name]) -> Option<ReplicaAsked<'_>>
+    ensures named { named_replica result ≡ language.replica_format words.now }
     ensures within { IfSome result IsWithin }
 {
     let [file, order] = words else {
@@ -60,14 +61,14 @@ fn read_format(words: &[Name]) -> Option<Asked<'_>>
     if !is_name(file) {
         return None;
     }
-    let order = read_within(order.as_str(), 4, 16)? as u32;
-    Some(Asked::Format { file, order })
+    let order = read_within(order.as_str(), MIN_ORDER as u64, MAX_ORDER as u64)? as u32;
+    Some(ReplicaAsked::Format { file, order })
 }
 
 /// The command that the words are. It takes no memory.
-pub fn read_command(words: &Names) -> Option<Asked<'_>>
+pub fn read_command(words: &Names) -> Option<ReplicaAsked<'_>>
     // The answer is the command that the words are, and `None` exactly where they are none.
-    ensures named { named result ≡ command words.now }
+    ensures named { named_replica result ≡ replica_command words.now }
     ensures within { IfSome result IsWithin }
 {
     let (name, words) = words.as_slice().split_first()?;
@@ -90,8 +91,8 @@ fn only(alloc: Global, name: &Name) -> Result<Names, AllocError>
 
 /// What the words ask `main` to hand to `run_replica`: a device, and the scripts in order, or the stream.
 pub fn files_of(alloc: Global, words: &Names) -> Result<Wanted, AllocError>
-    ensures device { IfOk result (λ wanted. IsWanted (command words.now) wanted.device) }
-    ensures inputs { IfOk result (λ wanted. wanted.scripts ≡ inputs_of (command words.now)) }
+    ensures device { IfOk result (λ wanted. IsReplicaWanted (replica_command words.now) wanted.device) }
+    ensures inputs { IfOk result (λ wanted. wanted.scripts ≡ inputs_of (replica_command words.now)) }
 {
     let Some(asked) = read_command(words) else {
         return Ok(Wanted {
@@ -100,15 +101,15 @@ pub fn files_of(alloc: Global, words: &Names) -> Result<Wanted, AllocError>
         });
     };
     let (device, scripts) = match asked {
-        Asked::Ship { file, scripts } => {
+        ReplicaAsked::Ship { file, scripts } => {
             let file = Name::of(alloc, file.as_str())?;
             (DeviceWant::Old(file), copy_of(alloc, scripts)?)
         }
-        Asked::Follow { file, stream } => {
+        ReplicaAsked::Follow { file, stream } => {
             let file = Name::of(alloc, file.as_str())?;
             (DeviceWant::Old(file), only(alloc, stream)?)
         }
-        Asked::Format { file, order } => {
+        ReplicaAsked::Format { file, order } => {
             let file = Name::of(alloc, file.as_str())?;
             let need = Geometry::of_order(order).need();
             (DeviceWant::Made(file, need), Names::new(alloc))

@@ -34,5 +34,5 @@ module _ {Object Call Query Reply Answer : Type 0} where
   MayStart shared (Writes seat) = IsWriterOf shared seat × AtRest (writer_view seat)
 
   -- the job's seat is one of this table, and it may start
-  pub record IsReady (shared : Shared Object Call Query Reply Answer) (job : Job) : Type 0 where
+  pub record IsJobReady (shared : Shared Object Call Query Reply Answer) (job : Job) : Type 0 where
     pub may : MayStart shared job

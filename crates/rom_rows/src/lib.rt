@@ -1,5 +1,7 @@
 //! Tests that need a heap's object and the crates which know no object, together.
 //!
+//! It knows passes and callers with an object; it knows no script's bytes and no text.
+//!
 //! The crates that keep a heap safe are generic in its object, and have none to be tried with. Here
 //! passes run on a heap of `Trio` on devices in memory, which list their calls, fail where they are told
 //! to and are stopped anywhere; then what is left is opened again. Callers post and read in threads of

@@ -8,7 +8,7 @@ ghost use Rattle.rom_lr.specs.Writing.{NobodyReads};
 ghost use Rattle.rom_lr.specs.declared.side.Side.TheVariants.{Main};
 ghost use Rattle.rom_lr.specs.Opening.{AreNew, IsNew};
 ghost use Rattle.rom_lr.specs.Seats.{IsSeatOf, IsWriterOf, view, writer_view};
-ghost use Rattle.rom_rows.specs.Untouched.{AtRest, IsReady};
+ghost use Rattle.rom_rows.specs.Untouched.{AtRest, IsJobReady};
 ghost use Rattle.rom_rule.specs.declared.views.Position.TheVariants.{Out};
 
 use crate::job::Job;
@@ -82,8 +82,8 @@ struct Room<'a> {
 }
 
 fn work<R: Wait>(rt: &R, room: &Room<'_>, job: &mut Job)
-    requires ready { IsReady room.now.shared.now job.old }
-    ensures ready { IsReady room.now.shared.now job.new }
+    requires ready { IsJobReady room.now.shared.now job.old }
+    ensures ready { IsJobReady room.now.shared.now job.new }
 {
     match job {
         Job::Reads(seat, same) => *same = finds_always(room.shared, seat, room.image),
@@ -92,7 +92,7 @@ fn work<R: Wait>(rt: &R, room: &Room<'_>, job: &mut Job)
 }
 
 fn work_all<R: Threads + Wait + Sync>(rt: &R, room: &Room<'_>, jobs: &mut [Job])
-    requires ready { All (λ job. IsReady room.now.shared.now job) jobs.old }
+    requires ready { All (λ job. IsJobReady room.now.shared.now job) jobs.old }
 {
     thread::for_each_mut(rt, jobs, 3, &|_, job| work(rt, room, job));
 }

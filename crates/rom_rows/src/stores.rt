@@ -2,7 +2,7 @@
 ghost use Rattle.std.specs.Prelude.{◌≡◌, ◌≤◌, ◌<◌, [], IfOk, length, vec_capacity, vec_len};
 ghost use Rattle.rom_model.specs.Region.{Contents};
 ghost use Rattle.rom_rule.specs.Views.{base_of};
-ghost use Rattle.rom_store.specs.Callers.{IsNewCaller, IsNumbered};
+ghost use Rattle.rom_store.specs.Callers.{IsNewCaller, IsNumberedCaller};
 ghost use Rattle.rom_store.specs.Indexed.{Indexed};
 ghost use Rattle.rom_rows.specs.Stores.{IsLabelled};
 
@@ -55,8 +55,8 @@ struct Heard {
 fn parted<N: Label>(passes: &mut Vec<Pass>) -> (Pass, Pass)
     requires many { vec_len passes.old ≡ 2 }
     requires new { Indexed (IsNewCaller Contents N.table N.base) passes.old.items }
-    ensures first { IsNumbered Contents N.table N.base 0 result.0 }
-    ensures second { IsNumbered Contents N.table N.base 1 result.1 }
+    ensures first { IsNumberedCaller Contents N.table N.base 0 result.0 }
+    ensures second { IsNumberedCaller Contents N.table N.base 1 result.1 }
     ensures none { passes.new.items ≡ [] }
     ensures room { 2 ≤ vec_capacity passes.new }
 {
@@ -76,8 +76,8 @@ fn close<D: Device, N: Label, R: Wait>(
     requires callers { N.base.callers ≡ 2 }
     requires none { passes.items ≡ [] }
     requires room { 2 ≤ vec_capacity passes }
-    requires first { IsNumbered Contents N.table N.base 0 first }
-    requires second { IsNumbered Contents N.table N.base 1 second }
+    requires first { IsNumberedCaller Contents N.table N.base 0 first }
+    requires second { IsNumberedCaller Contents N.table N.base 1 second }
 {
     passes.push_reserved(first);
     passes.push_reserved(second);
@@ -95,8 +95,8 @@ fn read_counted<D: Device, N: Label, L: Ledger>(
     requires name { blank.name ≡ L.name }
     requires parts { blank.parts ≡ L.parts }
     requires part { 0 < blank.parts }
-    requires first { IsNumbered Contents N.table N.base 0 pass }
-    ensures first { IsNumbered Contents N.table N.base 0 result.0 }
+    requires first { IsNumberedCaller Contents N.table N.base 0 pass }
+    ensures first { IsNumberedCaller Contents N.table N.base 0 result.0 }
 {
     let mut steps = Steps::<L>::of(blank);
     let mut reading = store.enter(pass, &mut steps);
@@ -121,8 +121,8 @@ fn read_beside<D: Device, N: Label>(
     pass: Pass,
     beside: &Beside,
 ) -> (Pass, Heard)
-    requires first { IsNumbered Contents N.table N.base 0 pass }
-    ensures first { IsNumbered Contents N.table N.base 0 result.0 }
+    requires first { IsNumberedCaller Contents N.table N.base 0 pass }
+    ensures first { IsNumberedCaller Contents N.table N.base 0 result.0 }
 {
     read_counted::<D, N, Brand>(Blank::new(1), store, pass, beside)
 }
@@ -134,8 +134,8 @@ fn update_beside<D: Device, N: Label, R: Wait>(
     mut pass: Pass,
     beside: &Beside,
 ) -> (Pass, (bool, Updated<Reply>))
-    requires second { IsNumbered Contents N.table N.base 1 pass }
-    ensures second { IsNumbered Contents N.table N.base 1 result.0 }
+    requires second { IsNumberedCaller Contents N.table N.base 1 pass }
+    ensures second { IsNumberedCaller Contents N.table N.base 1 result.0 }
 {
     let is_beside = wait_for(&beside.entered, 1);
     let told = store.update(rt, &mut pass, &Call::Put(1, 2), beside);
@@ -150,20 +150,20 @@ fn read_and_update<D: Device + Send, N: Label + Send + Sync, R: Threads + Wait +
     two: Pass,
     beside: &Beside,
 ) -> ((Pass, Heard), (Pass, (bool, Updated<Reply>)))
-    requires first { IsNumbered Contents N.table N.base 0 one }
-    requires second { IsNumbered Contents N.table N.base 1 two }
-    ensures first { IsNumbered Contents N.table N.base 0 result.0.0 }
-    ensures second { IsNumbered Contents N.table N.base 1 result.1.0 }
+    requires first { IsNumberedCaller Contents N.table N.base 0 one }
+    requires second { IsNumberedCaller Contents N.table N.base 1 two }
+    ensures first { IsNumberedCaller Contents N.table N.base 0 result.0.0 }
+    ensures second { IsNumberedCaller Contents N.table N.base 1 result.1.0 }
 {
     join(
         rt,
         || -> (Pass, Heard)
-            requires { IsNumbered Contents N.table N.base 0 one }
-            ensures { IsNumbered Contents N.table N.base 0 result.0 }
+            requires { IsNumberedCaller Contents N.table N.base 0 one }
+            ensures { IsNumberedCaller Contents N.table N.base 0 result.0 }
         { read_beside(store, one, beside) },
         || -> (Pass, (bool, Updated<Reply>))
-            requires { IsNumbered Contents N.table N.base 1 two }
-            ensures { IsNumbered Contents N.table N.base 1 result.0 }
+            requires { IsNumberedCaller Contents N.table N.base 1 two }
+            ensures { IsNumberedCaller Contents N.table N.base 1 result.0 }
         { update_beside(rt, store, two, beside) },
     )
 }

@@ -1,6 +1,9 @@
 //! The one rule over the words that callers and the writer share: what stands in the table, what
 //! each seat knows of it, and the kinds of step that a seat makes.
 //!
+//! It knows each shared word and each kind of step; it knows no device but its count of faults, and no object
+//! but by the words of its calls.
+//!
 //! The words are one `atomic_table` table. A caller's seat arrives at a read indicator of its own,
 //! loads which side it is to read, and departs; it posts its calls in a slot of its own. The writer's
 //! seat names the side that readers are sent to, waits at the indicators, changes the other side, and

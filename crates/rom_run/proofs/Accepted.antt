@@ -19,12 +19,12 @@ use Rattle.rom_text.specs.Streams.{ShownSink}
 use Rattle.rom_open.proofs.Holding.{holds_one}
 use Rattle.rom_open.specs.Refusals.{IsRefusal, IsUnfit, IsUnready, named_order}
 use Rattle.rom_open.specs.declared.reasons.Why.{Why}
-use Rattle.rom_upgrade.specs.Upgrading.{IsUnfitOld, IsUpgradeRefusal}
+use Rattle.rom_open.specs.Upgrading.{IsUnfitOld, IsUpgradeRefusal}
 use Rattle.rom_open.specs.declared.reasons.Why.TheVariants.{NotAHeap, BadVersion, BadOrder, BadState, TooSmall, Twins, OldRegion, NewRegion, Malformed, Device, OutOfMemory}
 use Rattle.rom_run.specs.Complete.{IsAtHand, IsRefusedByName}
-use Rattle.rom_run.specs.Keeping.{IsHeapRefused, IsOpening}
+use Rattle.rom_run.specs.Keeping.{IsHeapRefused, IsStoryOpening}
 use Rattle.rom_run.specs.Refusing.{HasName}
-use Rattle.rom_run.specs.Use.{HasOrder}
+use Rattle.rom_run.specs.Use.{IsPlayable}
 use Rattle.rom_run.specs.declared.heap.Heap.{Heap}
 use Rattle.rom_run.specs.declared.heap.Heap.TheVariants.{New, Standing, Upgraded}
 
@@ -105,7 +105,7 @@ AreApart earlier Standing = Unit {0}
 AreApart earlier Upgraded = IsToldApart earlier
 
 -- a heap on which scripts are played is none such
-pub apart_played : {S : Type 0} (earlier : Earlier S) (heap : Heap) → HasOrder heap → AreApart earlier heap
+pub apart_played : {S : Type 0} (earlier : Earlier S) (heap : Heap) → IsPlayable heap → AreApart earlier heap
 apart_played earlier (New order) is = tt
 apart_played earlier Standing is = tt
 apart_played earlier Upgraded is = absurd is
@@ -153,7 +153,7 @@ module _ {S : Type 0} (Contents : ℕ → List ℕ → S → ℕ → Type 0) (Re
     told P is = subst (λ (b : Bool). IfSome (if b then Some (shown.words was) else None) P) tells is
 
     -- where a story began, its heap was at hand
-    pub at_hand : {C Q R A : Type 0} (machine : Machine S C Q R A) (heap : Heap) (story : Story S) → IsOpening machine Contents heap (told_words shown was) story → IsAtHand Contents earlier heap (shown.words was)
+    pub at_hand : {C Q R A : Type 0} (machine : Machine S C Q R A) (heap : Heap) (story : Story S) → IsStoryOpening machine Contents heap (told_words shown was) story → IsAtHand Contents earlier heap (shown.words was)
     at_hand machine (New order) story is = told (λ words. IsFormatAnswer order words (Ok tt)) is.0
     at_hand machine Standing story is = (story.order, story.opening, story.opening_count, told (λ words. Holds Contents story.order words story.opening story.opening_count) is)
     at_hand machine Upgraded story is = absurd is

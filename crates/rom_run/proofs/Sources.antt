@@ -6,8 +6,9 @@ use Rattle.std.proofs.lemmas.Option.{slice_get-get_or}
 use Rattle.std.specs.List.{AllByRecursion}
 use Rattle.std.specs.Io.KnownBytes.{IsAtEnd}
 use Rattle.rom_model.specs.declared.line.Step.{Step}
+use Rattle.rom_lines.proofs.Runs.{all_and_one}
 use Rattle.rom_text.specs.Limits.{EndsReading, FitsScript}
-use Rattle.rom_text.specs.Runs.{AreAskedOnce, AreAtEnd, AreWithin}
+use Rattle.rom_text.specs.Runs.{AreAskedOnce, AreAtEnd, AreNotTooLong}
 use Rattle.rom_text.specs.Lines.{AreScripts, AreStepsOf}
 use Rattle.rom_text.specs.Streams.{ShownSource, IsAskedOnce}
 use Rattle.rom_text.specs.declared.read.ReadRefused.{ReadRefused}
@@ -15,11 +16,6 @@ use Rattle.rom_text.specs.declared.read.ReadRefused.TheVariants as refused
 use Rattle.rom_run.specs.Reading.{IsCause, IsUnreadAt, unread_status}
 use Rattle.rom_run.specs.declared.script.Unread.TheVariants.{Script}
 use Rattle.rom_run.specs.declared.status.Status.TheVariants.{ScriptFailed}
-
--- so of one more
-and_one : {X : Type 0} (P : X → Type 0) (xs : List X) (x : X) → AllByRecursion P xs → P x → AllByRecursion P (xs ++ x ∷ [])
-and_one P [] x all is = (is, tt)
-and_one P (y ∷ xs) x all is = (all.0, and_one P xs x all.1 is)
 
 module _ {S : Type 0} (source : ShownSource S) where
   unasked : (s : S) → IsAskedOnce source s s
@@ -55,7 +51,7 @@ module _ {S C Q : Type 0} (Reads : List ℕ → Step C Q → Type 0) (source : S
   -- The first sources, so many, are read to their ends, and the others are as they were.
   pub record AreReadUpTo (i : ℕ) (before after : List S) (scripts : List (List (Step C Q))) : Type 0 where
     pub read : AreScripts Reads source (take i before) scripts
-    pub within : AreWithin source (take i before)
+    pub within : AreNotTooLong source (take i before)
     pub at_end : AreAtEnd source (take i after)
     pub asked : AreAskedOnce source (take i before) (take i after)
     pub faults : map source.faults (take i after) ≡ map source.faults (take i before)
@@ -123,8 +119,8 @@ module _ {S C Q : Type 0} (Reads : List ℕ → Step C Q → Type 0) (source : S
         AreReadUpTo (i + 1) before (slice_set after i now) (scripts ++ steps ∷ [])
     one_read_more steps read fits ends once same = record {
       read = subst (λ ys. AreScripts Reads source ys (scripts ++ steps ∷ [])) (sym first_before) (one_script_more (take i before) scripts x steps r.read read);
-      within = subst (λ ys. AreWithin source ys) (sym first_before) (and_one _ (take i before) x r.within fits);
-      at_end = subst (λ ys. AreAtEnd source ys) (sym first_after) (and_one _ (take i after) now r.at_end ends);
+      within = subst (λ ys. AreNotTooLong source ys) (sym first_before) (all_and_one _ (take i before) x r.within fits);
+      at_end = subst (λ ys. AreAtEnd source ys) (sym first_after) (all_and_one _ (take i after) now r.at_end ends);
       asked = asked_here once;
       faults = faults_here same;
       others = behind_after;

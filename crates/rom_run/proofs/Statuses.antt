@@ -3,8 +3,8 @@ use Rattle.std.specs.Prelude.{◌≡◌, ◌⊎◌, ℕ, List, Some, Result, Err
 use Rattle.std.proofs.Common.{ap, arith, inl, inr, ⊎_elim}
 use Rattle.rom_text.specs.Runs.{SourceFailed, SourceTooLong}
 use Rattle.rom_text.specs.Streams.{ShownSink, ShownSource}
-use Rattle.rom_run.specs.Reading.{IsUnread}
-use Rattle.rom_run.specs.Statuses.{number_of}
+use Rattle.rom_run.specs.Reading.{AreNotRun}
+use Rattle.rom_run.specs.Statuses.{exit_number}
 use Rattle.rom_run.specs.Use.{Drawn, HasRead, IsStatus, Makes, Plays, Read, Shows, Upgrades, Use}
 use Rattle.rom_run.specs.declared.heap.Heap.{Heap}
 use Rattle.rom_run.specs.declared.status.Status.{Status}
@@ -49,31 +49,31 @@ module _ {P : Type 0} (status : ℕ) (is : (status ≡ 0) ⊎ (status ≡ 1) ⊎
 -- ---- scripts that could not be read
 
 module _ (status : Status) (is : (status ≡ ScriptFailed) ⊎ (status ≡ ScriptTooLong) ⊎ (status ≡ NoMemory)) where
-  unread_number : (number_of status ≡ 4) ⊎ (number_of status ≡ 8) ⊎ (number_of status ≡ 6)
-  unread_number = ⊎_elim (λ one. inl (ap number_of one)) (λ more. inr (⊎_elim (λ two. inl (ap number_of two)) (λ three. inr (ap number_of three)) more)) is
+  unread_number : (exit_number status ≡ 4) ⊎ (exit_number status ≡ 8) ⊎ (exit_number status ≡ 6)
+  unread_number = ⊎_elim (λ one. inl (ap exit_number one)) (λ more. inr (⊎_elim (λ two. inl (ap exit_number two)) (λ three. inr (ap exit_number three)) more)) is
 
-  pub unread_ends : (heap : Heap) → IsStatus (Some (Plays heap Read)) (number_of status)
+  pub unread_ends : (heap : Heap) → IsStatus (Some (Plays heap Read)) (exit_number status)
   unread_ends heap = ⊎_elim (λ four. inr (inr (inr (inl four)))) (λ more. ⊎_elim (λ eight. inr (inr (inr (inr (inr (inr (inr eight))))))) (λ six. inr (inr (inr (inr (inr (inl six)))))) more) unread_number
 
   -- none is that of a heap that was opened or made
-  pub unread_not_run : {P : Type 0} → (number_of status ≡ 0) ⊎ (number_of status ≡ 1) ⊎ (number_of status ≡ 5) → P
+  pub unread_not_run : {P : Type 0} → (exit_number status ≡ 0) ⊎ (exit_number status ≡ 1) ⊎ (exit_number status ≡ 5) → P
   unread_not_run ran = let number = unread_number in absurd (omega (arith, number, ran))
 
-  pub unread_not_read : {P : Type 0} → HasRead (number_of status) → P
+  pub unread_not_read : {P : Type 0} → HasRead (exit_number status) → P
   unread_not_read read = let number = unread_number in absurd (omega (arith, number, read))
 
-  pub unread_not_five : {P : Type 0} → number_of status ≡ 5 → P
+  pub unread_not_five : {P : Type 0} → exit_number status ≡ 5 → P
   unread_not_five five = let number = unread_number in absurd (omega (arith, number, five))
 
-pub unread_four : {A : Type 0} (status : Status) → ◌≡◌ {A = Result A Status} (Err status) (Err ScriptFailed) → number_of status ≡ 4
-unread_four status is = let same : status ≡ ScriptFailed = cc in ap number_of same
+pub unread_four : {A : Type 0} (status : Status) → ◌≡◌ {A = Result A Status} (Err status) (Err ScriptFailed) → exit_number status ≡ 4
+unread_four status is = let same : status ≡ ScriptFailed = cc in ap exit_number same
 
 module _ {X K : Type 0} (source : ShownSource X) (sink : ShownSink K) (before after : List X) (old new : K) where
   -- why, by the status
-  pub unread_failed : (status : Status) → IsUnread source sink status before after old new → number_of status ≡ 4 → SourceFailed source sink before after old new
+  pub unread_failed : (status : Status) → AreNotRun source sink status before after old new → exit_number status ≡ 4 → SourceFailed source sink before after old new
   unread_failed ScriptFailed why four = why
   unread_failed other why four = absurd (omega (arith, four))
 
-  pub unread_too_long : (status : Status) → IsUnread source sink status before after old new → number_of status ≡ 8 → SourceTooLong source sink before after old new
+  pub unread_too_long : (status : Status) → AreNotRun source sink status before after old new → exit_number status ≡ 8 → SourceTooLong source sink before after old new
   unread_too_long ScriptTooLong why eight = why
   unread_too_long other why eight = absurd (omega (arith, eight))

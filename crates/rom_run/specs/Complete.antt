@@ -21,7 +21,7 @@ use Rattle.rom_text.specs.Runs.{SourceTooLong}
 use Rattle.rom_text.specs.Streams.{ShownSink, ShownSource}
 use Rattle.rom_open.specs.Refusals.{IsRefusal}
 use Rattle.rom_open.specs.declared.reasons.Why.{Why}
-use Rattle.rom_upgrade.specs.Upgrading.{IsUpgradeRefusal}
+use Rattle.rom_open.specs.Upgrading.{IsUpgradeRefusal}
 use Rattle.rom_run.specs.Refusing.{HasName}
 use Rattle.rom_run.specs.Use.{Use, heap_of}
 use Rattle.rom_run.specs.declared.heap.Heap.{Heap}
@@ -40,8 +40,8 @@ module _ {S : Type 0} (Contents : ℕ → List ℕ → S → ℕ → Type 0) (ea
   IsAtHand Upgraded words = HoldsSome earlier.Contents words
 
   -- there is a command, and its heap is at hand in these words of the device
-  abbrev pub CanBegin : Option Use → List ℕ → Type 0
-  CanBegin asked words = IsSomeAnd asked (λ does. IsAtHand (heap_of does) words)
+  abbrev pub CanRun : Option Use → List ℕ → Type 0
+  CanRun asked words = IsSomeAnd asked (λ does. IsAtHand (heap_of does) words)
 
 module _ {S : Type 0} (Contents : ℕ → List ℕ → S → ℕ → Type 0) (Rejects : ℕ → List ℕ → Unfit → Type 0) (earlier : Earlier S) where
   -- For a reason that has a name, which no fault and no want of memory is, a heap isn't made in these words, or the one that is to stand in them isn't opened, or isn't upgraded.
@@ -84,7 +84,7 @@ module _ {D X K : Type 0} (shown : ShownDevice D) (source : ShownSource X) (sink
 
     -- Where the device tells its words, the command can begin in them, and no count of faults rises, it ends well.
     abbrev pub IsComplete : {S : Type 0} → (ℕ → List ℕ → S → ℕ → Type 0) → Earlier S → Option Use → ℕ → Type 0
-    IsComplete Contents earlier asked status = IsTrue shown.tells_words → CanBegin Contents earlier asked (shown.words was) → NoneFailed → EndsWell status
+    IsComplete Contents earlier asked status = IsTrue shown.tells_words → CanRun Contents earlier asked (shown.words was) → NoneFailed → EndsWell status
 
 module _ {S C Q R A : Type 0} (machine : Machine S C Q R A) {D : Type 0} (shown : ShownDevice D) where
   -- Of lawful results of the story, whatever they are, each caller's lines that tell of a fault are at most as many as the device's count of faults rose, short of its last value.

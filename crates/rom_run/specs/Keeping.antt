@@ -18,9 +18,9 @@ use Rattle.rom_header.specs.declared.header.HeaderRefused.TheVariants as header
 use Rattle.rom_recover.specs.Recovered.{Mended}
 use Rattle.rom_combine.specs.Costs.{WithinHeap}
 use Rattle.rom_combine.specs.Session.{ImageNow, SessionImage}
-use Rattle.rom_text.specs.Runs.{IsTold}
+use Rattle.rom_text.specs.Runs.{IsLineTold}
 use Rattle.rom_text.specs.Streams.{ShownSink}
-use Rattle.rom_open.specs.Calls.{Calls}
+use Rattle.rom_open.specs.Calls.{OpeningCalls}
 use Rattle.rom_open.specs.Making.{NoneOrHolds}
 use Rattle.rom_open.specs.Refusals.{IsRefusal, named_order}
 use Rattle.rom_open.specs.Within.{HasMadeHeap, HasOpened, MakesNone, WithinMaking, WithinOpening}
@@ -28,17 +28,17 @@ use Rattle.rom_store.specs.Traced.{WentThrough}
 use Rattle.rom_open.specs.declared.new_heap.NotFormatted.TheVariants.{Refused}
 use Rattle.rom_open.specs.declared.reasons.Why.{Why}
 use Rattle.rom_open.specs.declared.reasons.Why.TheVariants.{TooSmall, Twins}
-use Rattle.rom_upgrade.specs.Calls.{WithinUpgrade}
-use Rattle.rom_upgrade.specs.Upgrading.{IsUpgradeRefusal, IsWhole, UpgradeImage}
+use Rattle.rom_open.specs.UpgradeCalls.{WithinUpgrade}
+use Rattle.rom_open.specs.Upgrading.{IsUpgradeRefusal, IsWholeHeap, UpgradeImage}
 use Rattle.rom_run.specs.Refusing.{HasName, refusal_line, unmade_line}
 use Rattle.rom_run.specs.declared.heap.Heap.{Heap}
 use Rattle.rom_run.specs.declared.heap.Heap.TheVariants.{New, Standing, Upgraded}
 
 -- Which words, where they are told, may differ afterwards: those of the heap that is made, or the state and the two regions of the one that the words name, which is opened or upgraded. No word behind is touched.
-abbrev pub IsKept : Heap → List ℕ → List ℕ → Type 0
-IsKept (New order) was now = ChangesOnly 0 (words_needed order) was now
-IsKept Standing was now = WithinHeap (named_order was) was now
-IsKept Upgraded was now = WithinHeap (named_order was) was now
+abbrev pub AreWordsKept : Heap → List ℕ → List ℕ → Type 0
+AreWordsKept (New order) was now = ChangesOnly 0 (words_needed order) was now
+AreWordsKept Standing was now = WithinHeap (named_order was) was now
+AreWordsKept Upgraded was now = WithinHeap (named_order was) was now
 
 module _ {D : Type 0} (shown : ShownDevice D) where
   -- The device is called no more often than to make a heap of that order, to open the one that stands, or to upgrade it.
@@ -50,10 +50,10 @@ module _ {D : Type 0} (shown : ShownDevice D) where
 -- Of an object:
 module _ {S C Q R A : Type 0} (machine : Machine S C Q R A) (Contents : ℕ → List ℕ → S → ℕ → Type 0) where
   -- The story begins with the empty state on a new heap, where none stood and there are words enough, as far as these are told; or with what the words hold. None begins on a heap that is upgraded.
-  abbrev pub IsOpening : Heap → Option (List ℕ) → Story S → Type 0
-  IsOpening (New order) words story = IfSome words (λ told. IsFormatAnswer order told (Ok tt)) × (story.order ≡ order) × (story.opening ≡ machine.empty) × (story.opening_count ≡ 0)
-  IsOpening Standing words story = IfSome words (λ told. Holds Contents story.order told story.opening story.opening_count)
-  IsOpening Upgraded words story = ⊥
+  abbrev pub IsStoryOpening : Heap → Option (List ℕ) → Story S → Type 0
+  IsStoryOpening (New order) words story = IfSome words (λ told. IsFormatAnswer order told (Ok tt)) × (story.order ≡ order) × (story.opening ≡ machine.empty) × (story.opening_count ≡ 0)
+  IsStoryOpening Standing words story = IfSome words (λ told. Holds Contents story.order told story.opening story.opening_count)
+  IsStoryOpening Upgraded words story = ⊥
 
   module _ {D : Type 0} (shown : ShownDevice D) where
     -- What a stop at any moment may leave, where there is no session: a heap that is made isn't there, or holds the empty state and the count 0; in one that stands the same region counts as before; and one that is upgraded holds what it held, in the version before or in this one.
@@ -105,7 +105,7 @@ module _ {D K : Type 0} (shown : ShownDevice D) (sink : ShownSink K) where
     pub refused : IsTrue shown.tells_words → IsFormatAnswer order (shown.words was) (Err why)
     pub sizes : HasTooFewFor order (shown.size was) why
     pub calls : MakesNone shown order (Refused why) was now
-    pub told : IsTold sink old new (unmade_line (Refused why))
+    pub told : IsLineTold sink old new (unmade_line (Refused why))
 
   -- A heap of this order is made where none stood and there are words enough, and no call failed: the device holds the empty state and the count 0, and so does whatever a stop leaves of it.
   pub record IsMade {S : Type 0} (Contents : ℕ → List ℕ → S → ℕ → Type 0) (empty : S) (order : ℕ) (was now : D) (old new : K) : Type 0 where
@@ -114,7 +114,7 @@ module _ {D K : Type 0} (shown : ShownDevice D) (sink : ShownSink K) where
     pub held : IsTrue shown.tells_words → Holds Contents order (shown.words now) empty 0
     pub images : IsTrue shown.tells_images → (i : List ℕ) → shown.leaves now i → Holds Contents order i empty 0
     pub faults : shown.faults now ≡ shown.faults was
-    pub told : IsTold sink old new (codes "formatted order " ++ decimal order)
+    pub told : IsLineTold sink old new (codes "formatted order " ++ decimal order)
 
   -- A heap of the version before, of this order, is made one of this: the device held some state and some count in that version, and holds the same in this one, in both regions, and so does whatever a stop leaves of it now.
   pub record IsUpgraded {S : Type 0} (Contents : ℕ → List ℕ → S → ℕ → Type 0) (earlier : Earlier S) (was now : D) (old new : K) : Type 0 where
@@ -123,13 +123,13 @@ module _ {D K : Type 0} (shown : ShownDevice D) (sink : ShownSink K) where
     pub held : IsTrue shown.tells_words → (state : S) × (count : ℕ) × Holds earlier.Contents order (shown.words was) state count
     pub holds : IsTrue shown.tells_images → (state : S) (count : ℕ) → Holds earlier.Contents order (shown.words was) state count → Holds Contents order (shown.words now) state count
     pub images : IsTrue shown.tells_images → (state : S) (count : ℕ) → Holds earlier.Contents order (shown.words was) state count → (i : List ℕ) → shown.leaves now i → Holds Contents order i state count
-    pub whole : IsTrue shown.tells_images → IsWhole order (shown.words now)
-    pub told : IsTold sink old new (codes "upgraded order " ++ decimal order)
+    pub whole : IsTrue shown.tells_images → IsWholeHeap order (shown.words now)
+    pub told : IsLineTold sink old new (codes "upgraded order " ++ decimal order)
 
   -- Of the device's calls the last one failed, and no other, and the line says so.
   pub record HasDeviceFailed (was now : D) (old new : K) : Type 0 where
     pub failed : FailedLast (shown.faults was) (shown.faults now) (shown.failing now)
-    pub told : IsTold sink old new (codes "device failed")
+    pub told : IsLineTold sink old new (codes "device failed")
 
   -- The heap isn't opened, to be worked on or to be upgraded, likewise: it is as an opening that is refused so leaves it, with no call more. No call failed; or where the regions differ, the last one may have.
   pub record IsUnopened (Refuses : List ℕ → Why → Type 0) (was now : D) (old new : K) : Type 0 where
@@ -137,11 +137,11 @@ module _ {D K : Type 0} (shown : ShownDevice D) (sink : ShownSink K) where
     pub by_name : HasName why
     pub refused : IsTrue shown.tells_words → Refuses (shown.words was) why
     pub sizes : (need have : ℕ) → why ≡ TooSmall need have → HasTooFew (shown.size was) (header.TooSmall need have)
-    pub calls : IsTrue shown.tells_words → Calls {T = Unit {0}} shown (shown.words was) was now (Err why)
+    pub calls : IsTrue shown.tells_words → OpeningCalls {T = Unit {0}} shown (shown.words was) was now (Err why)
     pub within : WithinOpening shown was now
     pub images : IsTrue shown.tells_images → Leaves shown (Mended (named_order (shown.words was)) (shown.words was)) was now
     pub unfailed : ((offset main back : ℕ) → why ≢ Twins offset main back) → shown.faults now ≡ shown.faults was
-    pub told : IsTold sink old new (refusal_line why)
+    pub told : IsLineTold sink old new (refusal_line why)
 
   module _ {S : Type 0} (Contents : ℕ → List ℕ → S → ℕ → Type 0) (Rejects : ℕ → List ℕ → Unfit → Type 0) (earlier : Earlier S) where
     -- why a heap is refused by name: one that is upgraded by what the version before says of the region that counts

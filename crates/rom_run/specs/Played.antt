@@ -7,7 +7,7 @@ use Rattle.rom_model.specs.Story.{Story, count}
 use Rattle.rom_model.specs.declared.entry.Entry.{Entry}
 use Rattle.rom_model.specs.declared.line.LineResult.{LineResult}
 use Rattle.rom_model.specs.declared.line.Step.{Step}
-use Rattle.rom_text.specs.Runs.{IsCutShort, IsWritten}
+use Rattle.rom_text.specs.Runs.{IsCutShort, IsWhollyWritten}
 use Rattle.rom_text.specs.Streams.{ShownSink}
 use Rattle.rom_text.specs.Text.{AreOfType, Texts, text}
 use Rattle.rom_run.specs.Statuses.{status_of}
@@ -22,7 +22,7 @@ pub record ShownOutput (R A : Type 0) : Type 1 where
 -- All of it is printed, and its numbers are of their types, and the status is that of the results; or some of it from its front, where the sink failed.
 abbrev pub IsOutput : {S K R A : Type 0} → ShownSink K → ShownOutput R A → Story S → List (List (LineResult R A)) → K → K → ℕ → Type 0
 IsOutput sink output story results old new status =
-    ((status ≡ status_of results) × output.Fits story.opening_count story.history results × IsWritten sink old new (output.text story.opening_count story.history results))
+    ((status ≡ status_of results) × output.Fits story.opening_count story.history results × IsWhollyWritten sink old new (output.text story.opening_count story.history results))
     ⊎ ((status ≡ 5) × IsCutShort sink old new (output.text story.opening_count story.history results))
 
 -- the text of a run: the results of each caller, and the count of all updates

@@ -8,7 +8,7 @@ use Rattle.rom_model.specs.declared.line.Step.{Step}
 use Rattle.rom_model.specs.declared.line.LineResult.{LineResult}
 use Rattle.rom_model.specs.declared.unfit.Unfit.{Unfit}
 use Rattle.rom_device.specs.Device.{ShownDevice}
-use Rattle.rom_text.specs.Runs.{AreAskedOnce, AreAtEnd, AreWithin, IsTold, SourceFailed, SourceTooLong}
+use Rattle.rom_text.specs.Runs.{AreAskedOnce, AreAtEnd, AreNotTooLong, IsLineTold, SourceFailed, SourceTooLong}
 use Rattle.rom_text.specs.Streams.{ShownSink, ShownSource, StopsWriting, WriteFailed}
 use Rattle.rom_store.specs.Lasting.{HasLasted}
 use Rattle.rom_store.specs.Sessions.{EachStory, SessionSeen}
@@ -54,7 +54,7 @@ module _ {S C Q R A D X K : Type 0} (machine : Machine S C Q R A) (Contents : �
     -- with words that are no command no source is read
     pub unread : status ≡ 2 → left ≡ sources
     -- with 0, 1, 3, 5 and 7 each source that tells its bytes is within a script's limits, and read to its end
-    pub fit : HasRead status → AreWithin source sources.items
+    pub fit : HasRead status → AreNotTooLong source sources.items
     pub read : HasRead status → AreAtEnd source left.items
     -- with 4 the source of the first script that is refused failed, and the line names that script
     pub source_failed : status ≡ 4 → SourceFailed source sink sources.items left.items old new
@@ -63,7 +63,7 @@ module _ {S C Q R A D X K : Type 0} (machine : Machine S C Q R A) (Contents : �
     -- with 8 the first script that is refused is too long, and the line names it
     pub too_long : status ≡ 8 → SourceTooLong source sink sources.items left.items old new
     -- with words that are no command a line says so
-    pub not_a_command_told : status ≡ 2 → IsTold sink old new (codes "not a command")
+    pub not_a_command_told : status ≡ 2 → IsLineTold sink old new (codes "not a command")
     -- with 5 the sink's last write failed, and no other
     pub sink_failed : status ≡ 5 → WriteFailed sink old new
     -- no write of the sink is made after one that failed

@@ -8,16 +8,16 @@ use Rattle.rom_run.specs.declared.status.Status.{Status}
 use Rattle.rom_run.specs.declared.status.Status.TheVariants as status
 
 -- the number with which the program exits
-abbrev pub number_of : Status → ℕ
-number_of status.Done = 0
-number_of status.Unread = 1
-number_of status.NotACommand = 2
-number_of status.HeapRefused = 3
-number_of status.ScriptFailed = 4
-number_of status.SinkFailed = 5
-number_of status.NoMemory = 6
-number_of status.DeviceFailed = 7
-number_of status.ScriptTooLong = 8
+abbrev pub exit_number : Status → ℕ
+exit_number status.Done = 0
+exit_number status.Unread = 1
+exit_number status.NotACommand = 2
+exit_number status.HeapRefused = 3
+exit_number status.ScriptFailed = 4
+exit_number status.SinkFailed = 5
+exit_number status.NoMemory = 6
+exit_number status.DeviceFailed = 7
+exit_number status.ScriptTooLong = 8
 
 -- the line was no command
 abbrev pub is_unread : {R A : Type 0} → LineResult R A → Bool

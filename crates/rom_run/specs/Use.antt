@@ -30,10 +30,10 @@ heap_of Shows = Standing
 heap_of Upgrades = Upgraded
 
 -- scripts are played on a heap that is made of an order that there is, or on one that stands; on none that is only upgraded
-abbrev pub HasOrder : Heap → Type 0
-HasOrder (New order) = IsOrder order
-HasOrder Standing = Unit {0}
-HasOrder Upgraded = ⊥
+abbrev pub IsPlayable : Heap → Type 0
+IsPlayable (New order) = IsOrder order
+IsPlayable Standing = Unit {0}
+IsPlayable Upgraded = ⊥
 
 -- the statuses with which it may end
 abbrev pub IsStatus : Option Use → ℕ → Type 0

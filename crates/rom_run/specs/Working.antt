@@ -8,12 +8,12 @@ use Rattle.rom_device.specs.Device.{Leaves, ShownDevice, told_words}
 use Rattle.rom_header.specs.Held.{Holds}
 use Rattle.rom_header.specs.Layout.{words_needed}
 use Rattle.rom_recover.specs.Recovered.{Mended}
-use Rattle.rom_text.specs.Runs.{IsTold}
+use Rattle.rom_text.specs.Runs.{IsLineTold}
 use Rattle.rom_text.specs.Streams.{ShownSink}
 use Rattle.rom_open.specs.Refusals.{named_order}
 use Rattle.rom_open.specs.Within.{WithinOpening}
 use Rattle.rom_store.specs.Sessions.{EachStory, HasStory, SessionSeen}
-use Rattle.rom_run.specs.Keeping.{CountsFaults, HasDeviceFailed, IsCalledWithin, IsHeapRefused, IsHeldNow, IsKept, IsLeft, IsLeftBySession, IsMade, IsOpening, IsSpared, IsUncalled, IsUpgraded}
+use Rattle.rom_run.specs.Keeping.{AreWordsKept, CountsFaults, HasDeviceFailed, IsCalledWithin, IsHeapRefused, IsHeldNow, IsLeft, IsLeftBySession, IsMade, IsSpared, IsStoryOpening, IsUncalled, IsUpgraded}
 use Rattle.rom_run.specs.Use.{Makes, Plays, Shows, Upgrades, Use}
 use Rattle.rom_run.specs.declared.heap.Heap.{Heap}
 
@@ -21,13 +21,13 @@ module _ {D : Type 0} (shown : ShownDevice D) where
   -- Whatever becomes of it, the device keeps its length and its other words.
   pub record IsDeviceKept (heap : Heap) (was now : D) : Type 0 where
     pub size : shown.size now ≡ shown.size was
-    pub outside : IsTrue shown.tells_words → IsKept heap (shown.words was) (shown.words now)
+    pub outside : IsTrue shown.tells_words → AreWordsKept heap (shown.words was) (shown.words now)
     pub spared : IsSpared shown heap was now
 
 module _ {S C Q R A : Type 0} (machine : Machine S C Q R A) (Contents : ℕ → List ℕ → S → ℕ → Type 0) {D : Type 0} (shown : ShownDevice D) where
   -- A session on this heap: how it began, that its passes are the device's, and what a stop leaves at any moment and at the end. The heap stood, and the first pass began, at one and the same device.
   pub record IsSessionOn (heap : Heap) (was now : D) (story : Story S) : Type 0 where
-    pub opening : IsOpening machine Contents heap (told_words shown was) story
+    pub opening : IsStoryOpening machine Contents heap (told_words shown was) story
     pub fits : words_needed story.order ≤ shown.size was
     pub faults : CountsFaults machine Contents shown heap was now story
     pub since : IsTrue shown.tells_images → IsLeftBySession machine Contents shown heap was faults.went.first now story
@@ -48,7 +48,7 @@ module _ {S C Q R A : Type 0} (machine : Machine S C Q R A) (Contents : ℕ → 
       pub device_failed : status ≡ 7 → HasDeviceFailed shown sink was now old new
       pub unfailed : status ≡ 6 → shown.faults now ≡ shown.faults was
       pub uncalled : status ≡ 6 → IsUncalled shown heap was now
-      pub no_memory : status ≡ 6 → IsTold sink old new (codes "no memory")
+      pub no_memory : status ≡ 6 → IsLineTold sink old new (codes "no memory")
 
 -- A heap that is only shown is as it was: no pass was made on it, so that the session's first device is its last one; its words hold what the story begins with; whatever a stop leaves, the same region counts as before; and the device was called no more often than to open it.
 pub record IsAsBefore {S D : Type 0} (Contents : ℕ → List ℕ → S → ℕ → Type 0) (shown : ShownDevice D) (was now : D) (story : Story S) : Type 0 where

@@ -1,6 +1,6 @@
 //! How a run ended.
 ghost use Rattle.std.specs.Prelude.{◌≡◌};
-ghost use Rattle.rom_run.specs.Statuses.{number_of};
+ghost use Rattle.rom_run.specs.Statuses.{exit_number};
 
 use crate::status::Status;
 use crate::worked::Worked;
@@ -24,7 +24,7 @@ impl<D, S> Ended<D, S> {
     pub fn of(status: Status, device: D, scripts: Vec<S>, session: Option<Session>) -> Ended<D, S>
         // Its status is the number of the one handed in; all else is handed on.
         ensures { result ≡ record {
-          status = number_of status;
+          status = exit_number status;
           device = device;
           scripts = scripts;
           session = session;
@@ -42,7 +42,7 @@ impl<D, S> Ended<D, S> {
     pub fn after(worked: Worked<D>, scripts: Vec<S>) -> Ended<D, S>
         // Its status is the number of the one that the work ended with; all else is handed on.
         ensures { result ≡ record {
-          status = number_of worked.status;
+          status = exit_number worked.status;
           device = worked.device;
           scripts = scripts;
           session = worked.session;

@@ -1,11 +1,11 @@
 //! A new heap on a device.
 ghost use Rattle.std.specs.Prelude.{◌≡◌, ◌≢◌, ◌⊎◌, IsTrue, codes};
 ghost use Rattle.rom_model.specs.Blocks.{IsOrder};
-ghost use Rattle.rom_text.specs.Runs.{IsTold};
+ghost use Rattle.rom_text.specs.Runs.{IsLineTold};
 ghost use Rattle.rom_text.specs.Streams.{StopsWriting};
 ghost use Rattle.rom_open.specs.Within.{WithinMaking};
 ghost use Rattle.rom_run.specs.Keeping.{HasDeviceFailed, IsLeft, IsMade, IsUnmade};
-ghost use Rattle.rom_run.specs.Statuses.{number_of};
+ghost use Rattle.rom_run.specs.Statuses.{exit_number};
 ghost use Rattle.rom_run.specs.Working.{IsDeviceKept};
 ghost use Rattle.rom_run.specs.declared.heap.Heap.TheVariants.{New};
 
@@ -31,28 +31,28 @@ pub fn make_heap<O: Object, D: Device, K: Sink>(
     // the heap is refused.
     ensures kept { IsDeviceKept D.shown (New order) device.old device.new }
     // Want of memory comes before any call of the device.
-    ensures uncalled { number_of result ≡ 6 → device.new ≡ device.old }
+    ensures uncalled { exit_number result ≡ 6 → device.new ≡ device.old }
     // A heap is made (0), refused by name (3), there is no memory (6), or the device failed (7).
-    ensures statuses { (number_of result ≡ 0) ⊎ (number_of result ≡ 3)
-        ⊎ (number_of result ≡ 6) ⊎ (number_of result ≡ 7) }
+    ensures statuses { (exit_number result ≡ 0) ⊎ (exit_number result ≡ 3)
+        ⊎ (exit_number result ≡ 6) ⊎ (exit_number result ≡ 7) }
     // The device is called no more often than it takes to make one heap, and not after a call that failed.
     ensures calls { WithinMaking D.shown order device.old device.new }
     // With 0 the device and whatever a stop leaves hold an empty heap of this order, as far as they are told.
-    ensures made { number_of result ≡ 0 → IsMade D.shown K.shown O.Contents O.machine.empty order
+    ensures made { exit_number result ≡ 0 → IsMade D.shown K.shown O.Contents O.machine.empty order
         device.old device.new out.old out.new }
     // Where images are told, a stop leaves what it could before, or no heap, or an empty one of this order.
     ensures images { IsTrue D.shown.tells_images →
         IsLeft O.machine O.Contents D.shown O.earlier (New order) device.old device.new }
     // With 3 the line, whole or cut short, names why: that is true of the words, where these are told.
-    ensures heap_refused { number_of result ≡ 3 →
+    ensures heap_refused { exit_number result ≡ 3 →
         IsUnmade D.shown K.shown order device.old device.new out.old out.new }
     // With 7 the last call of the device failed, and no other.
-    ensures device_failed { number_of result ≡ 7 →
+    ensures device_failed { exit_number result ≡ 7 →
         HasDeviceFailed D.shown K.shown device.old device.new out.old out.new }
     // With any status but 7 the device's count of faults stays.
-    ensures unfailed { number_of result ≢ 7 →
+    ensures unfailed { exit_number result ≢ 7 →
         D.shown.faults device.new ≡ D.shown.faults device.old }
-    ensures no_memory { number_of result ≡ 6 → IsTold K.shown out.old out.new (codes "no memory") }
+    ensures no_memory { exit_number result ≡ 6 → IsLineTold K.shown out.old out.new (codes "no memory") }
     ensures writing { StopsWriting K.shown out.old out.new }
     ensures rest { K.shown.rest out.new ≡ K.shown.rest out.old }
 {

@@ -1,5 +1,8 @@
 //! What a program does on a heap with words that it has understood: scripts on a heap, or a new heap.
 //!
+//! It knows scripts, heaps and statuses of any object, and the words of plain commands; it knows no object,
+//! and opens no file.
+//!
 //! It is generic in the object, in how its lines are written, and in what is printed of a session
 //! (`Output`), of which the text of a run is one. `run_asked` promises it in one record, `Promise`, by
 //! the use that is made of a heap (scripts that are read and played on a new one of an order, or on the

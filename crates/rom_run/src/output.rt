@@ -10,7 +10,7 @@ ghost use Rattle.rom_run.specs.Played.{ShownOutput, text_output};
 
 use rom_lines::{Results, Script};
 use rom_model::Object;
-use rom_text::{IoFailed, Replies, Sink, Told, print_run};
+use rom_text::{IoFailed, Print, PrintReplies, Sink, print_run};
 use std::marker::PhantomData;
 
 /// What a program prints of scripts that were played on an object. The rest of the promise does not change
@@ -54,9 +54,9 @@ pub struct ResultText<P> {
     replies: PhantomData<P>,
 }
 
-impl<O: Object, P: Replies<O>> Output<O> for ResultText<P>
+impl<O: Object, P: PrintReplies<O>> Output<O> for ResultText<P>
 where
-    O::Answer: Told,
+    O::Answer: Print,
 {
     ghost shown = { text_output (texts_of P.shown O.Answer.shown) };
 

@@ -6,8 +6,8 @@ ghost use Rattle.rom_text.specs.Lines.{AreScripts};
 ghost use Rattle.rom_text.specs.Text.{texts_of};
 ghost use Rattle.rom_run.specs.Asked.{HasSources, IsAskedOf};
 ghost use Rattle.rom_run.specs.Asked as asked;
-ghost use Rattle.rom_run.specs.Named.{AsksForFew, AsksForOrder, named};
-ghost use Rattle.rom_run.specs.Plain.{IsWanted, command, scripts_of, use_of};
+ghost use Rattle.rom_run.specs.Named.{PlainAsksForFew, PlainAsksForOrder, named_plain};
+ghost use Rattle.rom_run.specs.Plain.{IsPlainWanted, plain_command, plain_scripts, plain_use};
 ghost use Rattle.rom_run.specs.Plain as plain;
 ghost use Rattle.rom_run.specs.Played.{IsText};
 ghost use Rattle.rom_run.specs.Promise.{Promise};
@@ -18,18 +18,15 @@ use crate::output::ResultText;
 use crate::program::{Asked, run_asked};
 use rom_device::Device;
 use rom_header::Geometry;
-use rom_model::Object;
+use rom_model::{MAX_CALLERS, MAX_ORDER, MIN_ORDER, Object};
 use rom_store::Gate;
-use rom_text::{DeviceWant, Lines, Name, Names, Sink, Source, Told, Wanted, Whole, read_within};
+use rom_text::{DeviceWant, Lines, Name, Names, Print, Sink, Source, Wanted, Whole, read_within};
 use std::alloc::{AllocError, Global};
 use std::sync::Wait;
 use std::thread::Threads;
 
 /// The order of the heap that `try` makes.
-const TRY_ORDER: u32 = 4;
-
-/// The most scripts that a command takes. Each has a caller of its own.
-const MOST_SCRIPTS: usize = 16;
+const TRY_ORDER: u32 = MIN_ORDER;
 
 /// What plain words ask for. No name is empty or begins with a dash, there are 1 to 16 scripts, and
 /// an order is 4 to 16.
@@ -58,17 +55,17 @@ fn are_names(words: &[Name]) -> bool
 
 /// Whether words name scripts: there are 1 to 16.
 pub fn are_scripts(words: &[Name]) -> bool
-    ensures named { result ≡ plain.are_scripts words.now }
+    ensures named { result ≡ plain.are_script_names words.now }
     ensures few { IsTrue result → (0 < length words.now) × (length words.now ≤ 16) }
 {
-    (1..=MOST_SCRIPTS).contains(&words.len()) && are_names(words)
+    (1..=MAX_CALLERS as usize).contains(&words.len()) && are_names(words)
 }
 
 /// Scripts.
 fn read_try(words: &[Name]) -> Option<Plain<'_>>
-    ensures named { named result ≡ plain.try_of words.now }
-    ensures order { IfSome result AsksForOrder }
-    ensures few { IfSome result AsksForFew }
+    ensures named { named_plain result ≡ plain.plain_try words.now }
+    ensures order { IfSome result PlainAsksForOrder }
+    ensures few { IfSome result PlainAsksForFew }
 {
     if are_scripts(words) {
         Some(Plain::Try(words))
@@ -79,9 +76,9 @@ fn read_try(words: &[Name]) -> Option<Plain<'_>>
 
 /// A file, and then the scripts to run on its heap.
 fn read_run(words: &[Name]) -> Option<Plain<'_>>
-    ensures named { named result ≡ plain.run_of words.now }
-    ensures order { IfSome result AsksForOrder }
-    ensures few { IfSome result AsksForFew }
+    ensures named { named_plain result ≡ plain.plain_run words.now }
+    ensures order { IfSome result PlainAsksForOrder }
+    ensures few { IfSome result PlainAsksForFew }
 {
     let (file, scripts) = words.split_first()?;
     if is_name(file) && are_scripts(scripts) {
@@ -93,9 +90,9 @@ fn read_run(words: &[Name]) -> Option<Plain<'_>>
 
 /// A file, and the order of the heap that is made there.
 fn read_format(words: &[Name]) -> Option<Plain<'_>>
-    ensures named { named result ≡ plain.format_of words.now }
-    ensures order { IfSome result AsksForOrder }
-    ensures few { IfSome result AsksForFew }
+    ensures named { named_plain result ≡ plain.plain_format words.now }
+    ensures order { IfSome result PlainAsksForOrder }
+    ensures few { IfSome result PlainAsksForFew }
 {
     let [file, order] = words else {
         return None;
@@ -103,15 +100,15 @@ fn read_format(words: &[Name]) -> Option<Plain<'_>>
     if !is_name(file) {
         return None;
     }
-    let order = read_within(order.as_str(), 4, 16)? as u32;
+    let order = read_within(order.as_str(), MIN_ORDER as u64, MAX_ORDER as u64)? as u32;
     Some(Plain::Format { file, order })
 }
 
 /// The command that the words are. It takes no memory.
 pub fn read_plain(words: &Names) -> Option<Plain<'_>>
-    ensures named { named result ≡ command words.now }
-    ensures order { IfSome result AsksForOrder }
-    ensures few { IfSome result AsksForFew }
+    ensures named { named_plain result ≡ plain_command words.now }
+    ensures order { IfSome result PlainAsksForOrder }
+    ensures few { IfSome result PlainAsksForFew }
 {
     let (name, words) = words.as_slice().split_first()?;
     match name.as_str() {
@@ -137,8 +134,8 @@ pub fn copy_of(alloc: Global, names: &[Name]) -> Result<Names, AllocError>
 pub fn plain_files(alloc: Global, words: &Names) -> Result<Wanted, AllocError>
     // After `Ok`: `try` wants words in memory, `run` a file that is there, `format` one that is made if need
     // be and lengthened. Words that are no command want none.
-    ensures device { IfOk result (λ wanted. IsWanted (command words.now) wanted.device) }
-    ensures scripts { IfOk result (λ wanted. wanted.scripts ≡ scripts_of (command words.now)) }
+    ensures device { IfOk result (λ wanted. IsPlainWanted (plain_command words.now) wanted.device) }
+    ensures scripts { IfOk result (λ wanted. wanted.scripts ≡ plain_scripts (plain_command words.now)) }
 {
     let none = Names::new(alloc);
     let Some(plain) = read_plain(words) else {
@@ -169,9 +166,9 @@ pub fn plain_files(alloc: Global, words: &Names) -> Result<Wanted, AllocError>
 
 /// What the words ask for, as a use of a heap.
 fn asked_by(words: &Names) -> Option<Asked>
-    ensures uses { asked.use_of result ≡ use_of (command words.now) }
+    ensures uses { asked.asked_use result ≡ plain_use (plain_command words.now) }
     ensures order { IfSome result IsAskedOf }
-    ensures sources { IfSome result (HasSources (length (scripts_of (command words.now)))) }
+    ensures sources { IfSome result (HasSources (length (plain_scripts (plain_command words.now)))) }
 {
     match read_plain(words)? {
         Plain::Try(_) => Some(Asked::Play(Heap::New(TRY_ORDER))),
@@ -208,13 +205,13 @@ pub fn run_plain<
 where
     O::Call: Send + Sync,
     O::Query: Send + Sync,
-    O::Reply: Told + Send + Sync,
-    O::Answer: Told + Send + Sync,
-    requires { length scripts.items ≡ length (scripts_of (command words.now)) }
+    O::Reply: Print + Send + Sync,
+    O::Answer: Print + Send + Sync,
+    requires { length scripts.items ≡ length (plain_scripts (plain_command words.now)) }
     // All that is promised of the command that the words are; the record's fields say it one by one.
     ensures promise { Promise O.machine O.Contents O.Rejects O.earlier D.shown S.shown
         K.shown (AreScripts L.Reads S.shown) (IsText K.shown (texts_of O.Reply.shown O.Answer.shown))
-        (use_of (command words.now)) device result.device scripts result.scripts out.old out.new
+        (plain_use (plain_command words.now)) device result.device scripts result.scripts out.old out.new
         result.status result.session }
 {
     let asked = asked_by(words);

@@ -2,13 +2,13 @@
 ghost use Rattle.std.specs.Prelude.{◌≡◌, ◌⊎◌, ◌<◌, ◌≤◌, All, length, map, codes, IfErr, IfOk, IfSome, IsNone, IsSome, OnOk, None, Some};
 ghost use Rattle.rom_model.specs.History.{LAST_COUNT};
 ghost use Rattle.rom_model.specs.Lawful.{IsLawful};
-ghost use Rattle.rom_text.specs.Runs.{IsTold};
+ghost use Rattle.rom_text.specs.Runs.{IsLineTold};
 ghost use Rattle.rom_text.specs.Streams.{StopsWriting, WriteFailed};
 ghost use Rattle.rom_run.specs.Played.{HavePlayed, IsOutput};
 ghost use Rattle.rom_run.specs.Refusing.{refusal_line, unmade_line};
 ghost use Rattle.rom_run.specs.Refusing as refusing;
-ghost use Rattle.rom_run.specs.Statuses.{number_of};
-ghost use Rattle.rom_run.specs.Use.{HasOrder, HasRun, Plays, Read};
+ghost use Rattle.rom_run.specs.Statuses.{exit_number};
+ghost use Rattle.rom_run.specs.Use.{HasRun, IsPlayable, Plays, Read};
 ghost use Rattle.rom_run.specs.Working.{HasNone, HasSession, IsDeviceKept};
 ghost use Rattle.rom_run.specs.declared.heap.Heap.{Heap};
 ghost use Rattle.rom_store.specs.Sessions.{EachStory};
@@ -41,7 +41,7 @@ pub fn end_without_memory<O: Object, D: Device, K: Sink>(device: D, out: &mut K)
     ensures none { (heap : Heap) → HasNone O.machine O.Contents D.shown K.shown O.Rejects
         O.earlier heap device device out.old out.new 6 }
     ensures kept { (heap : Heap) → IsDeviceKept D.shown heap device device }
-    ensures told { IsTold K.shown out.old out.new (codes "no memory") }
+    ensures told { IsLineTold K.shown out.old out.new (codes "no memory") }
     ensures writing { StopsWriting K.shown out.old out.new }
     ensures rest { K.shown.rest out.new ≡ K.shown.rest out.old }
 {
@@ -60,7 +60,7 @@ fn end_unmade<D: Device, K: Sink>(unmade: Unmade<D>, out: &mut K) -> Worked<D>
       status = refusing.unmade_status unmade.why;
       session = None;
     } }
-    ensures told { IsTold K.shown out.old out.new (unmade_line unmade.why) }
+    ensures told { IsLineTold K.shown out.old out.new (unmade_line unmade.why) }
     ensures writing { StopsWriting K.shown out.old out.new }
     ensures rest { K.shown.rest out.new ≡ K.shown.rest out.old }
 {
@@ -80,7 +80,7 @@ pub(crate) fn end_unopened<D: Device, K: Sink>(refused: Refused<D>, out: &mut K)
       status = refusing.refusal_status refused.why;
       session = None;
     } }
-    ensures told { IsTold K.shown out.old out.new (refusal_line refused.why) }
+    ensures told { IsLineTold K.shown out.old out.new (refusal_line refused.why) }
     ensures writing { StopsWriting K.shown out.old out.new }
     ensures rest { K.shown.rest out.new ≡ K.shown.rest out.old }
 {
@@ -110,7 +110,7 @@ pub fn end_of<O: Object, T: Output<O>, D: Device, K: Sink>(
     ensures played { EachStory O.machine O.Contents played.closed.session (λ story.
         IsLawful O.machine story (map (λ v. v.items) scripts.now)
         (map (λ v. v.items) played.results.items) → HavePlayed O.machine (IsOutput K.shown T.shown)
-        (map (λ v. v.items) scripts.now) out.old out.new (number_of result.status) story) }
+        (map (λ v. v.items) scripts.now) out.old out.new (exit_number result.status) story) }
     // With 5 the sink's last write failed, and no other.
     ensures sink_failed { result.status ≡ Status.SinkFailed → WriteFailed K.shown out.old out.new }
     ensures writing { StopsWriting K.shown out.old out.new }
@@ -149,7 +149,7 @@ where
     O::Query: Send + Sync,
     O::Reply: Send + Sync,
     O::Answer: Send + Sync,
-    requires order { HasOrder heap }
+    requires order { IsPlayable heap }
     requires callers { (0 < length scripts.now) × (length scripts.now ≤ 16) }
     requires few { All (λ v. length v.items ≤ LAST_COUNT) scripts.now }
     // After `Ok` there is a session on this heap, and in each of its stories the results are lawful.
@@ -163,7 +163,7 @@ where
     ensures unprinted { OnOk result (out.new ≡ out.old) }
     // After an error there is no session: what a stop may leave, the most calls of the device, and the cause.
     ensures none { IfErr result (λ worked. HasNone O.machine O.Contents D.shown K.shown O.Rejects
-        O.earlier heap device worked.device out.old out.new (number_of worked.status)) }
+        O.earlier heap device worked.device out.old out.new (exit_number worked.status)) }
     // After an error the device has kept the same.
     ensures none_kept { IfErr result (λ worked.
         IsDeviceKept D.shown heap device worked.device) }
@@ -211,31 +211,31 @@ where
     O::Query: Send + Sync,
     O::Reply: Send + Sync,
     O::Answer: Send + Sync,
-    requires order { HasOrder heap }
+    requires order { IsPlayable heap }
     requires callers { (0 < length scripts.now) × (length scripts.now ≤ 16) }
     requires few { All (λ v. length v.items ≤ LAST_COUNT) scripts.now }
     // The statuses of words and of sources (2, 4, 8) do not come.
-    ensures statuses { (number_of result.status ≡ 0) ⊎ (number_of result.status ≡ 1)
-        ⊎ (number_of result.status ≡ 3) ⊎ (number_of result.status ≡ 5)
-        ⊎ (number_of result.status ≡ 6) ⊎ (number_of result.status ≡ 7) }
+    ensures statuses { (exit_number result.status ≡ 0) ⊎ (exit_number result.status ≡ 1)
+        ⊎ (exit_number result.status ≡ 3) ⊎ (exit_number result.status ≡ 5)
+        ⊎ (exit_number result.status ≡ 6) ⊎ (exit_number result.status ≡ 7) }
     // With 0, 1 or 5 the scripts were played, and a session is left.
-    ensures ran { HasRun (Some (Plays heap Read)) (number_of result.status) →
+    ensures ran { HasRun (Some (Plays heap Read)) (exit_number result.status) →
         IsSome result.session }
     // With 3 or 6 they were not, and none is left. With 7 either may be.
-    ensures not_run { (number_of result.status ≡ 3) ⊎ (number_of result.status ≡ 6) →
+    ensures not_run { (exit_number result.status ≡ 3) ⊎ (exit_number result.status ≡ 6) →
         IsNone result.session }
     // In each story of the session the output of lawful results of the scripts is printed, or with 5 cut
     // short.
     ensures session { IfSome result.session (HasSession O.machine O.Contents D.shown heap device
         result.device (HavePlayed O.machine (IsOutput K.shown T.shown)
-        (map (λ v. v.items) scripts.now) out.old out.new (number_of result.status))) }
+        (map (λ v. v.items) scripts.now) out.old out.new (exit_number result.status))) }
     // Without a session: what a stop may leave, the most calls of the device, and the cause of 3, 6 or 7.
     ensures none { IsNone result.session → HasNone O.machine O.Contents D.shown K.shown O.Rejects
-        O.earlier heap device result.device out.old out.new (number_of result.status) }
+        O.earlier heap device result.device out.old out.new (exit_number result.status) }
     // The device keeps its length and, where it tells its words, those outside of the heap.
     ensures kept { IsDeviceKept D.shown heap device result.device }
     // With 5 the sink's last write failed, and no other.
-    ensures sink_failed { number_of result.status ≡ 5 → WriteFailed K.shown out.old out.new }
+    ensures sink_failed { exit_number result.status ≡ 5 → WriteFailed K.shown out.old out.new }
     ensures writing { StopsWriting K.shown out.old out.new }
     ensures rest { K.shown.rest out.new ≡ K.shown.rest out.old }
 {

@@ -1,12 +1,12 @@
 //! All that a program does once it has understood its words.
 ghost use Rattle.std.specs.Prelude.{◌≡◌, ◌≢◌, ◌⊎◌, length, map, codes, IfSome, IsSome, IsNone, None};
-ghost use Rattle.rom_run.specs.Asked.{HasSources, IsAskedOf, use_of};
+ghost use Rattle.rom_run.specs.Asked.{HasSources, IsAskedOf, asked_use};
 ghost use Rattle.rom_text.specs.Lines.{AreScripts};
 ghost use Rattle.rom_run.specs.Played.{HasReplies, IsOutput};
 ghost use Rattle.rom_run.specs.Promise.{Promise};
 ghost use Rattle.rom_run.specs.Use.{HasNotRun, HasRead, HasRun, IsStatus, heap_of};
 ghost use Rattle.rom_run.specs.Working.{HasMade, HasNone, HasSession, IsDeviceKept, IsStill};
-ghost use Rattle.rom_text.specs.Runs.{AreAskedOnce, AreAtEnd, AreWithin, IsTold, SourceFailed, SourceTooLong};
+ghost use Rattle.rom_text.specs.Runs.{AreAskedOnce, AreAtEnd, AreNotTooLong, IsLineTold, SourceFailed, SourceTooLong};
 ghost use Rattle.rom_text.specs.Streams.{StopsWriting, WriteFailed};
 ghost use Rattle.rom_store.specs.Sessions.{EachStory};
 
@@ -60,27 +60,27 @@ where
     O::Answer: Send + Sync,
     requires order { IfSome asked IsAskedOf }
     requires sources { IfSome asked (HasSources (length scripts.items)) }
-    ensures statuses { IsStatus (use_of asked) result.status }
-    ensures ran { HasRun (use_of asked) result.status → IsSome result.session }
-    ensures not_run { HasNotRun (use_of asked) result.status → IsNone result.session }
-    ensures story { IfSome (use_of asked) (λ does. IfSome result.session (HasSession O.machine
+    ensures statuses { IsStatus (asked_use asked) result.status }
+    ensures ran { HasRun (asked_use asked) result.status → IsSome result.session }
+    ensures not_run { HasNotRun (asked_use asked) result.status → IsNone result.session }
+    ensures story { IfSome (asked_use asked) (λ does. IfSome result.session (HasSession O.machine
         O.Contents D.shown (heap_of does) device result.device (HasReplies O.machine
         (AreScripts L.Reads S.shown) (IsOutput K.shown T.shown) scripts.items out.old out.new
         result.status))) }
     ensures still { IfSome result.session (λ session. EachStory O.machine O.Contents session
-        (IsStill O.Contents D.shown (use_of asked) device result.device)) }
-    ensures none { IfSome (use_of asked) (λ does. IsNone result.session → HasNone O.machine
+        (IsStill O.Contents D.shown (asked_use asked) device result.device)) }
+    ensures none { IfSome (asked_use asked) (λ does. IsNone result.session → HasNone O.machine
         O.Contents D.shown K.shown O.Rejects O.earlier (heap_of does) device result.device out.old
         out.new result.status) }
     ensures made { result.status ≡ 0 → HasMade O.machine O.Contents O.earlier D.shown K.shown
-        (use_of asked) device result.device out.old out.new }
-    ensures kept { IfSome (use_of asked) (λ does.
+        (asked_use asked) device result.device out.old out.new }
+    ensures kept { IfSome (asked_use asked) (λ does.
         IsDeviceKept D.shown (heap_of does) device result.device) }
     ensures uncalled { (result.status ≡ 2) ⊎ (result.status ≡ 4) ⊎ (result.status ≡ 8)
         → result.device ≡ device }
     ensures asked_once { AreAskedOnce S.shown scripts.items result.scripts.items }
     ensures unread { result.status ≡ 2 → result.scripts ≡ scripts }
-    ensures fit { HasRead result.status → AreWithin S.shown scripts.items }
+    ensures fit { HasRead result.status → AreNotTooLong S.shown scripts.items }
     ensures read { HasRead result.status → AreAtEnd S.shown result.scripts.items }
     ensures source_failed { result.status ≡ 4 →
         SourceFailed S.shown K.shown scripts.items result.scripts.items out.old out.new }
@@ -89,7 +89,7 @@ where
     ensures too_long { result.status ≡ 8 →
         SourceTooLong S.shown K.shown scripts.items result.scripts.items out.old out.new }
     ensures not_a_command_told { result.status ≡ 2 →
-        IsTold K.shown out.old out.new (codes "not a command") }
+        IsLineTold K.shown out.old out.new (codes "not a command") }
     ensures sink_failed { result.status ≡ 5 → WriteFailed K.shown out.old out.new }
     ensures writing { StopsWriting K.shown out.old out.new }
     ensures rest { K.shown.rest out.new ≡ K.shown.rest out.old }
@@ -139,7 +139,7 @@ where
     requires sources { IfSome asked (HasSources (length scripts.items)) }
     // All that is promised of this command; the record's fields say it one by one.
     ensures promise { Promise O.machine O.Contents O.Rejects O.earlier D.shown S.shown
-        K.shown (AreScripts L.Reads S.shown) (IsOutput K.shown T.shown) (use_of asked) device result.device scripts result.scripts out.old out.new result.status
+        K.shown (AreScripts L.Reads S.shown) (IsOutput K.shown T.shown) (asked_use asked) device result.device scripts result.scripts out.old out.new result.status
         result.session }
 {
     run_command::<O, L, T, D, S, K, R, G>(rt, alloc, asked, device, scripts, out, gate)

@@ -1,6 +1,6 @@
 //! A heap that was to be opened for callers, and is refused.
 ghost use Rattle.std.specs.Prelude.{◌≡◌, ◌⊎◌, IsNone};
-ghost use Rattle.rom_run.specs.Statuses.{number_of};
+ghost use Rattle.rom_run.specs.Statuses.{exit_number};
 ghost use Rattle.rom_run.specs.Working.{HasNone, IsDeviceKept};
 ghost use Rattle.rom_run.specs.declared.heap.Heap.TheVariants.{Standing};
 ghost use Rattle.rom_text.specs.Streams.{StopsWriting};
@@ -21,7 +21,7 @@ pub fn end_refused<O: Object, D: Device, K: Sink>(refused: Refused<D>, out: &mut
     ensures none { (was : D) →
         HasBeenRefused D.shown O.Contents O.Rejects was refused.device refused.why →
         HasNone O.machine O.Contents D.shown K.shown O.Rejects O.earlier Standing was result.device
-        out.old out.new (number_of result.status) }
+        out.old out.new (exit_number result.status) }
     // If it was refused on `was`: the length stays and, where words are told, those outside of the heap do.
     ensures none_kept { (was : D) →
         HasBeenRefused D.shown O.Contents O.Rejects was refused.device refused.why →

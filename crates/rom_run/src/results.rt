@@ -6,7 +6,7 @@ ghost use Rattle.rom_model.specs.Story.{Story};
 ghost use Rattle.rom_model.specs.Story as stories;
 ghost use Rattle.rom_text.specs.Streams.{StopsWriting, WriteFailed};
 ghost use Rattle.rom_run.specs.Played.{IsOutput};
-ghost use Rattle.rom_run.specs.Statuses.{number_of};
+ghost use Rattle.rom_run.specs.Statuses.{exit_number};
 ghost use Rattle.rom_run.specs.Statuses as statuses;
 
 use crate::output::Output;
@@ -87,7 +87,7 @@ pub fn any_faulted<O: Object>(results: &[Results<O>]) -> bool
 
 /// The status of results that are all printed.
 fn status_of<O: Object>(results: &[Results<O>]) -> Status
-    ensures { number_of result ≡ statuses.status_of (map (λ v. v.items) results.now) }
+    ensures { exit_number result ≡ statuses.status_of (map (λ v. v.items) results.now) }
 {
     let found = Found::among_all(results);
     if found.faulted {
@@ -110,7 +110,7 @@ pub(crate) fn tell_results<O: Object, T: Output<O>, K: Sink>(
     ensures printed { (story : Story O.State) → count ≡ stories.count story →
         IsLawful O.machine story (map (λ v. v.items) scripts.now) (map (λ v. v.items) results.now)
         → IsOutput K.shown T.shown story (map (λ v. v.items) results.now) out.old out.new
-        (number_of result) }
+        (exit_number result) }
     ensures statuses { (result ≡ Status.Done) ⊎ (result ≡ Status.Unread)
         ⊎ (result ≡ Status.SinkFailed) ⊎ (result ≡ Status.DeviceFailed) }
     ensures sink_failed { result ≡ Status.SinkFailed → WriteFailed K.shown out.old out.new }

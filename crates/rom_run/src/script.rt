@@ -3,10 +3,10 @@ ghost use Rattle.std.specs.Prelude.{◌≡◌, ◌≢◌, ◌⊎◌, ◌≤◌, 
 ghost use Rattle.rom_text.specs.declared.read.TheConstants.{MAX_LINES};
 ghost use Rattle.rom_text.specs.Limits.{EndsReading, FitsScript};
 ghost use Rattle.rom_model.specs.History.{LAST_COUNT};
-ghost use Rattle.rom_text.specs.Runs.{AreAskedOnce, AreAtEnd, AreWithin, IsTold};
+ghost use Rattle.rom_text.specs.Runs.{AreAskedOnce, AreAtEnd, AreNotTooLong, IsLineTold};
 ghost use Rattle.rom_text.specs.Lines.{AreScripts, AreStepsOf};
 ghost use Rattle.rom_text.specs.Streams.{StopsWriting};
-ghost use Rattle.rom_run.specs.Reading.{AreUnread, IsUnread, unread_line, unread_status};
+ghost use Rattle.rom_run.specs.Reading.{AreNotRun, AreUnread, unread_line, unread_status};
 
 use crate::status::Status;
 use crate::telling::tell;
@@ -34,7 +34,7 @@ fn read_all<O: Object, L: Lines<O>, S: Source>(
         AreScripts L.Reads S.shown sources.old (map (λ v. v.items) read.items)) }
     ensures few { IfOk result (λ read. All (λ v. length v.items ≤ LAST_COUNT) read.items) }
     ensures each { IfOk result (λ read. length read.items ≡ length sources.old) }
-    ensures fits { OnOk result (AreWithin S.shown sources.old) }
+    ensures fits { OnOk result (AreNotTooLong S.shown sources.old) }
     ensures to_their_ends { OnOk result (AreAtEnd S.shown sources.new) }
     ensures unread { IfErr result (λ unread. AreUnread S.shown unread sources.old sources.new) }
     ensures unfailed { IfErr result (λ unread. unread_status unread ≢ Status.ScriptFailed →
@@ -58,7 +58,7 @@ fn read_all<O: Object, L: Lines<O>, S: Source>(
 /// Prints why no script is run, and gives the status.
 fn tell_unread<O: Sink>(out: &mut O, unread: Unread) -> Status
     ensures status { result ≡ unread_status unread }
-    ensures told { IsTold O.shown out.old out.new (unread_line unread) }
+    ensures told { IsLineTold O.shown out.old out.new (unread_line unread) }
     ensures rest { O.shown.rest out.new ≡ O.shown.rest out.old }
 {
     match unread {
@@ -90,12 +90,12 @@ pub fn read_scripts<O: Object, L: Lines<O>, S: Source, K: Sink>(
     ensures few { IfOk result (λ read. All (λ v. length v.items ≤ LAST_COUNT) read.items) }
     ensures each { IfOk result (λ read. length read.items ≡ length sources.old) }
     ensures unprinted { OnOk result (out.new ≡ out.old) }
-    ensures fits { OnOk result (AreWithin S.shown sources.old) }
+    ensures fits { OnOk result (AreNotTooLong S.shown sources.old) }
     ensures to_their_ends { OnOk result (AreAtEnd S.shown sources.new) }
     ensures statuses { IfErr result (λ status. (status ≡ Status.ScriptFailed)
         ⊎ (status ≡ Status.ScriptTooLong) ⊎ (status ≡ Status.NoMemory)) }
     ensures unread { IfErr result (λ status.
-        IsUnread S.shown K.shown status sources.old sources.new out.old out.new) }
+        AreNotRun S.shown K.shown status sources.old sources.new out.old out.new) }
     ensures unfailed { result ≢ Err Status.ScriptFailed →
         map S.shown.faults sources.new ≡ map S.shown.faults sources.old }
     ensures asked_once { AreAskedOnce S.shown sources.old sources.new }

@@ -2,9 +2,9 @@
 ghost use Rattle.std.specs.Prelude.{◌≡◌, ◌≢◌, ◌⊎◌, ◌<◌, ◌≤◌, length, map, IfSome, IsNone, IsSome, None, Some};
 ghost use Rattle.rom_text.specs.Lines.{AreScripts};
 ghost use Rattle.rom_run.specs.Played.{HasReplies, IsOutput};
-ghost use Rattle.rom_run.specs.Use.{HasNotRun, HasOrder, HasRead, HasRun, IsStatus, Plays, Read};
+ghost use Rattle.rom_run.specs.Use.{HasNotRun, HasRead, HasRun, IsPlayable, IsStatus, Plays, Read};
 ghost use Rattle.rom_run.specs.Working.{HasNone, HasSession, IsDeviceKept};
-ghost use Rattle.rom_text.specs.Runs.{AreAskedOnce, AreAtEnd, AreWithin, SourceFailed, SourceTooLong};
+ghost use Rattle.rom_text.specs.Runs.{AreAskedOnce, AreAtEnd, AreNotTooLong, SourceFailed, SourceTooLong};
 ghost use Rattle.rom_text.specs.Streams.{StopsWriting, WriteFailed};
 
 use crate::ended::Ended;
@@ -46,7 +46,7 @@ where
     O::Query: Send + Sync,
     O::Reply: Send + Sync,
     O::Answer: Send + Sync,
-    requires order { HasOrder heap }
+    requires order { IsPlayable heap }
     requires callers { (0 < length scripts.items) × (length scripts.items ≤ 16) }
     ensures statuses { IsStatus (Some (Plays heap Read)) result.status }
     // With 0, 1 or 5 the scripts were played, and a session is left.
@@ -68,7 +68,7 @@ where
     // No read of a source was made after one that gave no byte.
     ensures asked_once { AreAskedOnce S.shown scripts.items result.scripts.items }
     // With 0, 1, 3, 5 or 7 each script is within a script's limits, where its source tells its bytes.
-    ensures fit { HasRead result.status → AreWithin S.shown scripts.items }
+    ensures fit { HasRead result.status → AreNotTooLong S.shown scripts.items }
     // With these no byte is left in a source that tells its bytes.
     ensures read { HasRead result.status → AreAtEnd S.shown result.scripts.items }
     // With 4 the source of the first script that is refused failed, and the line names it.

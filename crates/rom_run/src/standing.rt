@@ -3,7 +3,7 @@ ghost use Rattle.std.specs.Prelude.{◌≡◌, ◌⊎◌, ℕ, [], IfErr, IfOk, 
 ghost use Rattle.rom_model.specs.Blocks.{IsOrder};
 ghost use Rattle.rom_model.specs.VecSpace.{words_of};
 ghost use Rattle.rom_run.specs.Played.{AreAnswered};
-ghost use Rattle.rom_run.specs.Statuses.{number_of};
+ghost use Rattle.rom_run.specs.Statuses.{exit_number};
 ghost use Rattle.rom_run.specs.Working.{HasNone, HasSession, IsAsBefore, IsDeviceKept};
 ghost use Rattle.rom_run.specs.declared.heap.Heap.TheVariants.{Standing};
 ghost use Rattle.rom_text.specs.Streams.{StopsWriting};
@@ -58,7 +58,7 @@ pub fn open_heap<O: Object, D: Device, K: Sink>(
     ensures unprinted { OnOk result (out.new ≡ out.old) }
     // After an error there is no session: what a stop may leave, the most calls of the device, and the cause.
     ensures none { IfErr result (λ worked. HasNone O.machine O.Contents D.shown K.shown O.Rejects
-        O.earlier Standing device worked.device out.old out.new (number_of worked.status)) }
+        O.earlier Standing device worked.device out.old out.new (exit_number worked.status)) }
     ensures none_kept { IfErr result (λ worked.
         IsDeviceKept D.shown Standing device worked.device) }
     // After an error: the heap is refused by name (3), memory was short (6), or the device failed (7).

@@ -1,5 +1,7 @@
 //! Whole runs of the program, as rows of data.
 //!
+//! It knows rows, and what `romulus` is to tell; no promise stands on it.
+//!
 //! A row has the words of a command, its scripts, the device that it is run on and the sink that it prints
 //! to, and then what it is to tell: its status, its text, the gate's calls, and the heap that is found when
 //! the device is opened again. One runner does each, and a row that differs is printed whole. The texts of

@@ -21,7 +21,7 @@ use Rattle.rom_text.specs.Phrases.{NumbersFit, line_words, phrase_words}
 use Rattle.rom_text.proofs.Phrases.{numbers_are, phrase_read}
 use Rattle.rom_text.proofs.Reading.{is_word}
 use Rattle.rom_script.specs.Asking.{Asks, AsksUpdate, single_phrase, query_phrase}
-use Rattle.rom_script.specs.Lines.{KindFits, QueryFits, Reads, SingleFits, kind_line, members_line, query_line, single_line}
+use Rattle.rom_script.specs.Lines.{CallKindFits, QueryFits, Reads, SingleCallFits, kind_line, members_line, query_line, single_line}
 
 -- the line of an update of one structure is its name and its numbers with spaces between
 single_joined : (c : Single) → single_line c ≡ join_with_byte 32 (phrase_words (single_phrase c).0 (single_phrase c).1)
@@ -70,7 +70,7 @@ query_words : (q : Query) → line_words (query_line q) ≡ phrase_words (query_
 query_words q = ap line_words (query_joined q) ∙ phrase_read (query_phrase q).0 (query_phrase q).1 (query_named q)
 
 -- an update fits where its numbers do
-single_fits : (c : Single) → SingleFits c → NumbersFit (single_phrase c).1
+single_fits : (c : Single) → SingleCallFits c → NumbersFit (single_phrase c).1
 single_fits (single.Enq v) fits = (fits, tt)
 single_fits single.Deq fits = tt
 single_fits (single.Add k) fits = (fits, tt)
@@ -79,7 +79,7 @@ single_fits (single.Put k v) fits = (fits.0, (fits.1, tt))
 single_fits (single.Del k) fits = (fits, tt)
 single_fits (single.Move a b d) fits = (fits.0, (fits.1, (fits.2, tt)))
 
-fits_single : (c : Single) → NumbersFit (single_phrase c).1 → SingleFits c
+fits_single : (c : Single) → NumbersFit (single_phrase c).1 → SingleCallFits c
 fits_single (single.Enq v) fit = fit.0
 fits_single single.Deq fit = tt
 fits_single (single.Add k) fit = fit.0
@@ -124,7 +124,7 @@ query_is_short query.Total = omega arith
 query_is_short (query.Fresh place) = omega arith
 
 -- such an update is asked for by its words alone
-pub update_reads : (line name numbers : List ℕ) (c : Single) → line_words line ≡ phrase_words name numbers → NumbersFit numbers → (name, numbers) ≡ single_phrase c → SingleFits c × (line ≡ single_line c)
+pub update_reads : (line name numbers : List ℕ) (c : Single) → line_words line ≡ phrase_words name numbers → NumbersFit numbers → (name, numbers) ≡ single_phrase c → SingleCallFits c × (line ≡ single_line c)
 update_reads line name numbers c words fit asks = (
   fits_single c (subst NumbersFit (ap (λ p. p.1) asks) fit),
   sym (join_with_byte-slice_split 32 line) ∙ ap (join_with_byte 32) words ∙ ap (λ p. join_with_byte 32 (phrase_words p.0 p.1)) asks ∙ sym (single_joined c),
@@ -138,27 +138,27 @@ phrase_is name numbers (w, ns) fit fit_ns same = λ i. (first_of same i, numbers
     first_of is = search rules
 
 -- words that ask for no update are those of no update's line
-pub no_update_reads : (line name numbers : List ℕ) → line_words line ≡ phrase_words name numbers → NumbersFit numbers → ((c : Single) → (name, numbers) ≢ single_phrase c) → (c : Single) → SingleFits c → line ≢ single_line c
+pub no_update_reads : (line name numbers : List ℕ) → line_words line ≡ phrase_words name numbers → NumbersFit numbers → ((c : Single) → (name, numbers) ≢ single_phrase c) → (c : Single) → SingleCallFits c → line ≢ single_line c
 no_update_reads line name numbers words fit none c fits is = none c (phrase_is name numbers (single_phrase c) fit (single_fits c fits) (sym words ∙ ap line_words is ∙ single_words c))
 
 -- the same of what is found for the numbers of the words
 module _ (line name numbers asked : List ℕ) (o : Option Single) (words : line_words line ≡ phrase_words name numbers) (fit : NumbersFit numbers) (same : asked ≡ numbers) where
-  pub update_of : IfSome o (λ c. (name, asked) ≡ single_phrase c) → IfSome o (λ c. SingleFits c × (line ≡ single_line c))
+  pub update_of : IfSome o (λ c. (name, asked) ≡ single_phrase c) → IfSome o (λ c. SingleCallFits c × (line ≡ single_line c))
   update_of some = by_option o some
     where
-      by_option : (o : Option Single) → IfSome o (λ c. (name, asked) ≡ single_phrase c) → IfSome o (λ c. SingleFits c × (line ≡ single_line c))
+      by_option : (o : Option Single) → IfSome o (λ c. (name, asked) ≡ single_phrase c) → IfSome o (λ c. SingleCallFits c × (line ≡ single_line c))
       by_option None some = some
       by_option (Some c) some = update_reads line name numbers c words fit (subst (λ ns. (name, ns) ≡ single_phrase c) same some)
 
-  pub no_update_of : IfNone o ((c : Single) → (name, asked) ≢ single_phrase c) → IfNone o ((c : Single) → SingleFits c → line ≢ single_line c)
+  pub no_update_of : IfNone o ((c : Single) → (name, asked) ≢ single_phrase c) → IfNone o ((c : Single) → SingleCallFits c → line ≢ single_line c)
   no_update_of none = by_option o none
     where
-      by_option : (o : Option Single) → IfNone o ((c : Single) → (name, asked) ≢ single_phrase c) → IfNone o ((c : Single) → SingleFits c → line ≢ single_line c)
+      by_option : (o : Option Single) → IfNone o ((c : Single) → (name, asked) ≢ single_phrase c) → IfNone o ((c : Single) → SingleCallFits c → line ≢ single_line c)
       by_option None none = no_update_reads line name numbers words fit (subst (λ ns. (c : Single) → (name, ns) ≢ single_phrase c) same none)
       by_option (Some c) none = none
 
 -- and so is a line that is no word with numbers behind it
-pub no_phrase_updates : (line : List ℕ) → ((name numbers : List ℕ) → length numbers ≤ 3 → NumbersFit numbers → line_words line ≢ phrase_words name numbers) → (c : Single) → SingleFits c → line ≢ single_line c
+pub no_phrase_updates : (line : List ℕ) → ((name numbers : List ℕ) → length numbers ≤ 3 → NumbersFit numbers → line_words line ≢ phrase_words name numbers) → (c : Single) → SingleCallFits c → line ≢ single_line c
 no_phrase_updates line none c fits is = none (single_phrase c).0 (single_phrase c).1 (single_is_short c) (single_fits c fits) (ap line_words is ∙ single_words c)
 
 -- no line of a group is such
@@ -166,7 +166,7 @@ abbrev pub NoGroup : List ℕ → Type 0
 NoGroup line = (members : List ℕ) → line ≢ codes "tx " ++ members
 
 -- what is written as no update of one structure, and as no group, is written as no call
-no_call : (line : List ℕ) → NoGroup line → ((c : Single) → SingleFits c → line ≢ single_line c) → (k : Kind Single (List Single)) → KindFits k → line ≢ kind_line k
+no_call : (line : List ℕ) → NoGroup line → ((c : Single) → SingleCallFits c → line ≢ single_line c) → (k : Kind Single (List Single)) → CallKindFits k → line ≢ kind_line k
 no_call line other none (kind.Single c) fits is = none c fits is
 no_call line other none (kind.Several calls) fits is = other (members_line calls) is
 
@@ -174,7 +174,7 @@ no_call line other none (kind.Several calls) fits is = other (members_line calls
 pub asked_reads : (line name numbers : List ℕ) (step : Step Call Query) → NoGroup line → line_words line ≡ phrase_words name numbers → NumbersFit numbers → Asks name numbers step → Reads line step
 asked_reads line name numbers (Update call) other words fit asks = by_kind (kind_of call) asks
   where
-    by_kind : (k : Kind Single (List Single)) → AsksUpdate name numbers k → KindFits k × (line ≡ kind_line k)
+    by_kind : (k : Kind Single (List Single)) → AsksUpdate name numbers k → CallKindFits k × (line ≡ kind_line k)
     by_kind (kind.Single c) is = update_reads line name numbers c words fit is
     by_kind (kind.Several calls) is = absurd is
 asked_reads line name numbers (Ask q) other words fit asks = (

@@ -9,3 +9,4 @@ pub mod Queued
 pub mod Sums
 pub mod Summaries
 pub use Rattle.rom_text.proofs.Prints
+pub mod Showing

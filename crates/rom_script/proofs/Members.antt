@@ -10,7 +10,7 @@ use Rattle.rom_model.specs.declared.call.Single.{Single}
 use Rattle.rom_model.specs.declared.call.Single.TheVariants as single
 use Rattle.rom_model.specs.Groups.{is_size, sized}
 use Rattle.rom_text.proofs.Reading.{both}
-use Rattle.rom_script.specs.Lines.{MembersFit, SingleFits, members_line, single_line, spaced}
+use Rattle.rom_script.specs.Lines.{MembersFit, SingleCallFits, members_line, single_line, spaced}
 use Rattle.rom_script.specs.Members.{behind_line}
 
 -- no semicolon is among the bytes
@@ -27,7 +27,7 @@ decimal_is_clear : (n : ℕ) → n < 2 ^ 64 → is_clear (decimal n) ≡ true
 decimal_is_clear = decimal_by_steps (λ n ds. is_clear ds ≡ true) digit_is_clear (λ n ds much clear. both_clear ds ((48 + n % 10) ∷ []) clear (digit_is_clear (n % 10) (omega arith)))
 
 -- the line of an update has none
-single_is_clear : (c : Single) → SingleFits c → is_clear (single_line c) ≡ true
+single_is_clear : (c : Single) → SingleCallFits c → is_clear (single_line c) ≡ true
 single_is_clear (single.Enq v) fits = decimal_is_clear v fits
 single_is_clear single.Deq fits = refl
 single_is_clear (single.Add k) fits = decimal_is_clear k fits
@@ -73,7 +73,7 @@ first_is (x ∷ xs) (y ∷ ys) b m clear early same =
     still (Some rest) early = omega (arith, early)
 
 -- a text's first member, where it begins with an update's line
-pub member_is : (text member : List ℕ) (m : Option (List ℕ)) (c : Single) (behind : Option (List ℕ)) → SingleFits c → text ≡ member ++ behind_line m →
+pub member_is : (text member : List ℕ) (m : Option (List ℕ)) (c : Single) (behind : Option (List ℕ)) → SingleCallFits c → text ≡ member ++ behind_line m →
     ((front back : List ℕ) → text ≡ front ++ behind_line (Some back) → length member ≤ length front) → text ≡ single_line c ++ behind_line behind → member ≡ single_line c
 member_is text member m c behind fits parts first is = sym (first_is (single_line c) member behind m (single_is_clear c fits) (early behind is) (sym is ∙ parts))
   where
@@ -90,7 +90,7 @@ behind_is (Some more) (Some rest) same = ap Some (ap (drop 3) same)
 -- the updates that a text of one or more members is written as, or none where there is no text
 abbrev pub AreWritten : Option (List ℕ) → List Single → Type 0
 AreWritten None calls = calls ≡ []
-AreWritten (Some members) calls = (calls ≢ []) × AllByRecursion SingleFits calls × (members ≡ members_line calls)
+AreWritten (Some members) calls = (calls ≢ []) × AllByRecursion SingleCallFits calls × (members ≡ members_line calls)
 
 -- the text behind the first member
 abbrev text_of : List Single → Option (List ℕ)
@@ -101,12 +101,12 @@ members_first : (c : Single) (calls : List Single) → members_line (c ∷ calls
 members_first c [] = refl
 members_first c (d ∷ calls) = ap (λ t. single_line c ++ t) (append_assoc (codes " ; ") (single_line d) (flat_map (λ c. codes " ; " ++ single_line c) calls))
 
-text_written : (calls : List Single) → AllByRecursion SingleFits calls → AreWritten (text_of calls) calls
+text_written : (calls : List Single) → AllByRecursion SingleCallFits calls → AreWritten (text_of calls) calls
 text_written [] fits = refl
 text_written (c ∷ calls) fits = ((λ is. search rules), fits, refl)
 
 -- What is read as an update, and the text behind it:
-module _ (members : List ℕ) (c : Single) (behind : Option (List ℕ)) (fits : SingleFits c) (is : members ≡ single_line c ++ behind_line behind) where
+module _ (members : List ℕ) (c : Single) (behind : Option (List ℕ)) (fits : SingleCallFits c) (is : members ≡ single_line c ++ behind_line behind) where
   -- the members are that update and those behind it
   pub with_first : (calls : List Single) → AreWritten behind calls → AreWritten (Some members) (c ∷ calls)
   with_first calls written = by_text behind is calls written
@@ -141,7 +141,7 @@ group_written text calls fits is = ((λ no. omega (arith, leb-true 2 (length cal
 -- There are members to come.
 module _ (text members : List ℕ) (so_far : List Single) (all : AreSoFar text (Some members) so_far) where
   -- one of them is read
-  pub one_more : (c : Single) (behind : Option (List ℕ)) → SingleFits c → members ≡ single_line c ++ behind_line behind → AreSoFar text behind (so_far ++ c ∷ [])
+  pub one_more : (c : Single) (behind : Option (List ℕ)) → SingleCallFits c → members ≡ single_line c ++ behind_line behind → AreSoFar text behind (so_far ++ c ∷ [])
   one_more c behind fits is = record {
     written = λ more written. subst (AreWritten (Some text)) (sym (append_assoc so_far (c ∷ []) more)) (all.written (c ∷ more) (with_first members c behind fits is more written));
     only = λ calls written.
@@ -151,7 +151,7 @@ module _ (text members : List ℕ) (so_far : List Single) (all : AreSoFar text (
   }
 
   -- the next one is none, so the text is no group's
-  pub none_next : ((c : Single) (behind : Option (List ℕ)) → SingleFits c → members ≢ single_line c ++ behind_line behind) → (calls : List Single) → MembersFit calls → text ≢ members_line calls
+  pub none_next : ((c : Single) (behind : Option (List ℕ)) → SingleCallFits c → members ≢ single_line c ++ behind_line behind) → (calls : List Single) → MembersFit calls → text ≢ members_line calls
   none_next none calls fits is = let rest = all.only calls (group_written text calls fits is) in no_first rest.0 rest.1
     where
       no_first : (more : List Single) → AreWritten (Some members) more → ⊥

@@ -4,10 +4,7 @@ pub mod Asking
 pub mod Members
 pub mod Scripts
 pub mod Trio
-pub mod Runs
 pub mod Drill
--- What updates have put into the queue and taken out of it, by words.
-pub mod Queued
 pub mod Summaries
 pub use Rattle.rom_text.specs.Streams
 pub use Rattle.rom_text.specs.Limits
@@ -15,3 +12,4 @@ pub use Rattle.rom_text.specs.Memory
 pub use Rattle.rom_text.specs.Adapts
 pub use Rattle.rom_text.specs.Phrases
 pub use Rattle.rom_text.specs.Text
+pub mod Stat

@@ -1,5 +1,5 @@
 -- What the lines of a script ask for.
-use Rattle.std.specs.Prelude.{◌≡◌, ℕ, ◌^◌, ◌<◌, true, List, ◌++◌, length, codes, Option}
+use Rattle.std.specs.Prelude.{◌≡◌, ℕ, ◌^◌, ◌<◌, true, List, ◌++◌, length, codes}
 use Rattle.std.specs.List.{AllByRecursion, join_by}
 use Rattle.rom_model.specs.Groups.{is_size}
 use Rattle.rom_model.specs.Singles.{kind_of}
@@ -12,8 +12,6 @@ use Rattle.rom_model.specs.declared.call.Query.{Query}
 use Rattle.rom_model.specs.declared.call.Query.TheVariants as query
 use Rattle.rom_model.specs.declared.line.Step.{Step}
 use Rattle.rom_model.specs.declared.line.Step.TheVariants.{Update, Ask, Unread}
-use Rattle.rom_text.specs.Lines as any
-use Rattle.rom_text.specs.Streams.{ShownSource}
 pub use Rattle.rom_text.specs.Lines.{lines_of, pieces_of, spaced, without_cr}
 
 -- how an update of one structure is written
@@ -49,27 +47,27 @@ query_line query.Total = codes "total"
 query_line (query.Fresh place) = codes "fresh" ++ spaced place
 
 -- each number of an update of one structure has at most 64 bits
-abbrev pub SingleFits : Single → Type 0
-SingleFits (single.Enq v) = v < 2 ^ 64
-SingleFits single.Deq = Unit {0}
-SingleFits (single.Add k) = k < 2 ^ 64
-SingleFits (single.Rem k) = k < 2 ^ 64
-SingleFits (single.Put k v) = (k < 2 ^ 64) × (v < 2 ^ 64)
-SingleFits (single.Del k) = k < 2 ^ 64
-SingleFits (single.Move a b d) = (a < 2 ^ 64) × (b < 2 ^ 64) × (d < 2 ^ 64)
+abbrev pub SingleCallFits : Single → Type 0
+SingleCallFits (single.Enq v) = v < 2 ^ 64
+SingleCallFits single.Deq = Unit {0}
+SingleCallFits (single.Add k) = k < 2 ^ 64
+SingleCallFits (single.Rem k) = k < 2 ^ 64
+SingleCallFits (single.Put k v) = (k < 2 ^ 64) × (v < 2 ^ 64)
+SingleCallFits (single.Del k) = k < 2 ^ 64
+SingleCallFits (single.Move a b d) = (a < 2 ^ 64) × (b < 2 ^ 64) × (d < 2 ^ 64)
 
 -- each of two to eight members fits so
 abbrev pub MembersFit : List Single → Type 0
-MembersFit calls = (is_size (length calls) ≡ true) × AllByRecursion SingleFits calls
+MembersFit calls = (is_size (length calls) ≡ true) × AllByRecursion SingleCallFits calls
 
 -- an update fits, of one structure or of several
-abbrev pub KindFits : Kind Single (List Single) → Type 0
-KindFits (kind.Single c) = SingleFits c
-KindFits (kind.Several calls) = MembersFit calls
+abbrev pub CallKindFits : Kind Single (List Single) → Type 0
+CallKindFits (kind.Single c) = SingleCallFits c
+CallKindFits (kind.Several calls) = MembersFit calls
 
 -- each number of a call does, and a group has two to eight members
 abbrev pub CallFits : Call → Type 0
-CallFits call = KindFits (kind_of call)
+CallFits call = CallKindFits (kind_of call)
 
 -- each number of a query has at most 64 bits
 abbrev pub QueryFits : Query → Type 0
@@ -91,15 +89,3 @@ abbrev pub Reads : List ℕ → Step Call Query → Type 0
 Reads line (Update c) = CallFits c × (line ≡ call_line c)
 Reads line (Ask q) = QueryFits q × (line ≡ query_line q)
 Reads line Unread = ((c : Call) → CallFits c → line ≡ call_line c → ⊥) × ((q : Query) → QueryFits q → line ≡ query_line q → ⊥)
-
--- each line is written as its step is
-abbrev pub AreRead : List (List ℕ) → List (Step Call Query) → Type 0
-AreRead = any.AreRead Reads
-
--- the steps are those of a source's lines, where it tells its bytes
-abbrev pub AreStepsOf : Option (List ℕ) → List (Step Call Query) → Type 0
-AreStepsOf = any.AreStepsOf Reads
-
--- the scripts' steps are those of the sources' lines, where these tell their bytes
-abbrev pub AreScripts : {S : Type 0} → ShownSource S → List S → List (List (Step Call Query)) → Type 0
-AreScripts = any.AreScripts Reads

@@ -6,5 +6,5 @@ use Rattle.rom_model.specs.declared.line.Step.{Step}
 use Rattle.rom_script.specs.declared.script.Script.{Script}
 
 -- what a script's lines ask for, in order
-abbrev pub steps_of : Script → List (Step Call Query)
-steps_of script = script.lines.items
+abbrev pub script_steps : Script → List (Step Call Query)
+script_steps script = script.lines.items

@@ -1,12 +1,12 @@
 //! The scripts of a drill: lines made of numbers that follow from its start, the same at each run.
-ghost use Rattle.std.specs.Prelude.{◌≡◌, ◌+◌, ◌*◌, ◌^◌, ◌<◌, ◌≤◌, ◌++◌, All, length, map, IfOk, OnOk};
+ghost use Rattle.std.specs.Prelude.{◌≡◌, ◌+◌, ◌*◌, ◌^◌, ◌<◌, ◌≤◌, [], ◌∷◌, ◌++◌, All, length, map, IfOk, OnOk};
+ghost use Rattle.rom_model.specs.Singles.{call_of};
 ghost use Rattle.rom_model.specs.declared.line.Step.TheVariants.{Ask, Update};
 ghost use Rattle.rom_script.specs.Drill as numbered;
 
-use crate::line::Line;
 use rom_heap::Trio;
 use rom_lines::Script;
-use rom_model::{Call, Query};
+use rom_model::{Args, Query, Single, put_single_words};
 use std::alloc::{AllocError, Global};
 
 /// How many values a number of a drill may have.
@@ -30,24 +30,24 @@ pub fn next(x: u64) -> u64
 }
 
 /// Moves less than 100 from one key of all callers' to another.
-fn move_call(callers: u64, q: u64) -> Call
+fn move_call(callers: u64, q: u64) -> Single
     requires callers { (1 ≤ callers) × (callers ≤ 16) }
-    ensures { result ≡ numbered.move_call callers q }
+    ensures { call_of result ≡ numbered.move_call callers q }
 {
     let keys = 4 * callers;
-    Call::Move(q % keys, q / 64 % keys, q % 100)
+    Single::Move(q % keys, q / 64 % keys, q % 100)
 }
 
 /// Puts one of the caller's own eight numbers into the set, or takes it out.
-fn set_call(caller: u64, q: u64) -> Call
+fn set_call(caller: u64, q: u64) -> Single
     requires caller { (1 ≤ caller) × (caller ≤ 16) }
-    ensures { result ≡ numbered.set_call caller q }
+    ensures { call_of result ≡ numbered.set_call caller q }
 {
     let key = 8 * (caller - 1) + q % 8;
     if q / 8 % 2 == 0 {
-        Call::Add(key)
+        Single::Add(key)
     } else {
-        Call::Rem(key)
+        Single::Rem(key)
     }
 }
 
@@ -65,8 +65,24 @@ fn query(callers: u64, q: u64) -> Query
     }
 }
 
+/// Writes the line of an update. The words of its call go through `room`, whatever stood there: a new list for
+/// each line would be 328 bytes that are cleared.
+fn push_update(script: &mut Script<Trio>, update: Single, room: &mut Args) -> Result<(), AllocError>
+    ensures { OnOk result (script.new.items
+        ≡ script.old.items ++ Update (call_of update) ∷ []) }
+{
+    put_single_words(update, room);
+    script.push_words(room)
+}
+
 /// Writes the lines of the item that a number makes. There are two at most.
-fn push_item(script: &mut Script<Trio>, callers: u64, caller: u64, x: u64) -> Result<(), AllocError>
+fn push_item(
+    script: &mut Script<Trio>,
+    callers: u64,
+    caller: u64,
+    x: u64,
+    room: &mut Args,
+) -> Result<(), AllocError>
     requires caller { (1 ≤ caller) × (caller ≤ callers) × (callers ≤ 16) }
     ensures lines { OnOk result (script.new.items
         ≡ script.old.items ++ numbered.item callers caller x) }
@@ -76,38 +92,38 @@ fn push_item(script: &mut Script<Trio>, callers: u64, caller: u64, x: u64) -> Re
     let q = r / 4;
     match r % 4 {
         0 => {
-            script.push_step(&Line::Update(Call::Enq(q)))?;
-            script.push_step(&Line::Update(Call::Deq))
+            push_update(script, Single::Enq(q), room)?;
+            push_update(script, Single::Deq, room)
         }
-        1 => script.push_step(&Line::Update(move_call(callers, q))),
-        2 => script.push_step(&Line::Update(set_call(caller, q))),
+        1 => push_update(script, move_call(callers, q), room),
+        2 => push_update(script, set_call(caller, q), room),
         _ => script.push_query(query(callers, q)),
     }
 }
 
-/// What gives a key 1000.
-fn put_line(key: u64) -> Line
-    ensures { result ≡ numbered.put_line key }
+/// Writes the line that gives a key 1000.
+fn push_key(script: &mut Script<Trio>, key: u64, room: &mut Args) -> Result<(), AllocError>
+    ensures { OnOk result (script.new.items ≡ script.old.items ++ numbered.put_line key ∷ []) }
 {
-    Line::Update(Call::Put(key, 1000))
+    push_update(script, Single::Put(key, 1000), room)
 }
 
 /// Writes the lines that give each of the caller's own four keys 1000.
-fn push_keys(script: &mut Script<Trio>, caller: u64) -> Result<(), AllocError>
+fn push_keys(script: &mut Script<Trio>, caller: u64, room: &mut Args) -> Result<(), AllocError>
     requires caller { (1 ≤ caller) × (caller ≤ 16) }
     ensures lines { OnOk result (script.new.items ≡ script.old.items ++ numbered.put_lines caller) }
     ensures few { OnOk result (length script.new.items ≤ length script.old.items + 4) }
 {
     let key = 4 * (caller - 1);
-    script.push_step(&put_line(key))?;
-    script.push_step(&put_line(key + 1))?;
-    script.push_step(&put_line(key + 2))?;
-    script.push_step(&put_line(key + 3))?;
+    push_key(script, key, room)?;
+    push_key(script, key + 1, room)?;
+    push_key(script, key + 2, room)?;
+    push_key(script, key + 3, room)?;
     Ok(())
 }
 
 /// The script of one of a drill's callers, who are numbered from 1 on: four lines that give the
-/// caller's own keys 1000, and so many items of one or two lines.
+/// caller's own keys 1000, and so many items of one or two lines. Its memory is taken at once.
 pub fn drill_script(
     alloc: Global,
     start: u64,
@@ -122,12 +138,15 @@ pub fn drill_script(
         script.items ≡ numbered.drill_script start callers calls caller) }
     ensures few { IfOk result (λ script. length script.items ≤ 4 + 2 * calls) }
 {
-    let mut script = Script::new(alloc);
-    push_keys(&mut script, caller)?;
+    // An item has two lines at most, and no more than the four words of a move.
+    let items = calls as usize;
+    let mut script = Script::with_capacity(alloc, 4 + 2 * items, 12 + 4 * items)?;
+    let mut room = Args::new();
+    push_keys(&mut script, caller, &mut room)?;
     let mut x = first(start, caller);
     for _made in 0..calls {
         x = next(x);
-        push_item(&mut script, callers, caller, x)?;
+        push_item(&mut script, callers, caller, x, &mut room)?;
     }
     Ok(script)
 }

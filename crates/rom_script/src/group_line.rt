@@ -1,7 +1,7 @@
 //! The members of a group, as its line has them behind `tx` and a space.
 ghost use Rattle.std.specs.Prelude.{◌≡◌, ◌≢◌, ◌<◌, ◌≤◌, ℕ, List, ◌++◌, length, Option, Some, option_map, IfSome, IfNone};
 ghost use Rattle.rom_model.specs.declared.call.Single.{Single};
-ghost use Rattle.rom_script.specs.Lines.{MembersFit, SingleFits, members_line, single_line};
+ghost use Rattle.rom_script.specs.Lines.{MembersFit, SingleCallFits, members_line, single_line};
 ghost use Rattle.rom_script.specs.Members.{behind_line};
 
 use crate::update_line::read_update;
@@ -27,9 +27,9 @@ fn split_first(text: &[u8]) -> (&[u8], Option<&[u8]>)
 
 /// The first member, and the text of those behind it where there are some.
 fn read_first(text: &[u8]) -> Option<(Single, Option<&[u8]>)>
-    ensures some { IfSome result (λ p. SingleFits p.0
+    ensures some { IfSome result (λ p. SingleCallFits p.0
         × (text.now ≡ single_line p.0 ++ behind_line (option_map (λ b. b.now) p.1))) }
-    ensures none { IfNone result ((c : Single) (behind : Option (List ℕ)) → SingleFits c
+    ensures none { IfNone result ((c : Single) (behind : Option (List ℕ)) → SingleCallFits c
         → text.now ≢ single_line c ++ behind_line behind) }
     ensures less { IfSome result (λ p. IfSome p.1 (λ b. length b.now < length text.now)) }
 {

@@ -12,7 +12,7 @@ use crate::group_line::read_members;
 use crate::update_line::asked_update;
 use rom_heap::Trio;
 use rom_model::{Args, Call, Query, Step, put_call_words, put_single_words, words_call};
-use rom_text::{Asked, Lines, read_phrase};
+use rom_text::{Lines, Parsed, read_phrase};
 
 /// What a script's line asks for.
 pub type Line = Step<Call, Query>;
@@ -35,17 +35,17 @@ fn asked_query(name: &[u8], numbers: &[u64]) -> Option<Query>
 
 /// What a line of one update or query with this first word and these numbers behind it asks for. It makes
 /// `words` those of the update's call. No `Call` is made, since each is as wide as a group.
-fn put_asked(name: &[u8], numbers: &[u64], words: &mut Args) -> Asked<Query>
+fn put_asked(name: &[u8], numbers: &[u64], words: &mut Args) -> Parsed<Query>
     ensures { (step : Step Call Query) × AsksFor codes_of.words_call words.new result step
         × Asks name.now numbers.now step }
 {
     if let Some(update) = asked_update(name, numbers) {
         put_single_words(update, words);
-        return Asked::Update;
+        return Parsed::Update;
     }
     match asked_query(name, numbers) {
-        Some(query) => Asked::Ask(query),
-        None => Asked::Unread,
+        Some(query) => Parsed::Ask(query),
+        None => Parsed::Unread,
     }
 }
 
@@ -53,22 +53,23 @@ fn put_asked(name: &[u8], numbers: &[u64], words: &mut Args) -> Asked<Query>
 /// call.
 #[cold]
 #[inline(never)]
-fn put_group(members: &[u8], words: &mut Args) -> Asked<Query>
+fn put_group(members: &[u8], words: &mut Args) -> Parsed<Query>
     ensures { (step : Step Call Query) × AsksFor codes_of.words_call words.new result step
         × Reads (codes "tx " ++ members.now) step }
 {
     match read_members(members) {
         Some(group) => {
             put_call_words(&Call::Group(group), words);
-            Asked::Update
+            Parsed::Update
         }
-        None => Asked::Unread,
+        None => Parsed::Unread,
     }
 }
 
 /// Reads a line, which comes without its LF. It makes `words` those of its call, where it asks for
-/// one.
-fn read_words(line: &[u8], words: &mut Args) -> Asked<Query>
+/// one. It stands apart from the loop over the lines, where its own loops would take more steps for each byte.
+#[inline(never)]
+fn read_words(line: &[u8], words: &mut Args) -> Parsed<Query>
     ensures reads { (step : Step Call Query) × AsksFor codes_of.words_call words.new result step
         × Reads line.now step }
 {
@@ -77,7 +78,7 @@ fn read_words(line: &[u8], words: &mut Args) -> Asked<Query>
     }
     match read_phrase(line) {
         Some(phrase) => put_asked(phrase.name, &phrase.numbers, words),
-        None => Asked::Unread,
+        None => Parsed::Unread,
     }
 }
 
@@ -88,9 +89,9 @@ pub fn read_line(line: &[u8]) -> Line
 {
     let mut words = Args::new();
     match read_words(line, &mut words) {
-        Asked::Update => Line::Update(words_call(&words).unwrap()),
-        Asked::Ask(query) => Line::Ask(query),
-        Asked::Unread => Line::Unread,
+        Parsed::Update => Line::Update(words_call(&words).unwrap()),
+        Parsed::Ask(query) => Line::Ask(query),
+        Parsed::Unread => Line::Unread,
     }
 }
 
@@ -104,7 +105,7 @@ impl Lines<Trio> for TrioLines {
         read_line(line)
     }
 
-    fn read_words(line: &[u8], words: &mut Args) -> Asked<Query> {
+    fn read_words(line: &[u8], words: &mut Args) -> Parsed<Query> {
         read_words(line, words)
     }
 }

@@ -3,8 +3,9 @@
 ghost use Rattle.std.specs.Prelude.{◌≡◌, ◌≤◌, length, IfOk, IfSome, OnOk, slice_get};
 ghost use Rattle.rom_text.specs.declared.read.TheConstants.{MAX_LINES};
 ghost use Rattle.rom_text.specs.Limits.{EndsReading, FitsScript};
-ghost use Rattle.rom_script.specs.Lines.{AreStepsOf};
-ghost use Rattle.rom_script.specs.Scripts.{steps_of};
+ghost use Rattle.rom_text.specs.Lines.{AreStepsOf};
+ghost use Rattle.rom_script.specs.Lines.{Reads};
+ghost use Rattle.rom_script.specs.Scripts.{script_steps};
 
 use crate::line::{Line, TrioLines};
 use rom_heap::Trio;
@@ -12,7 +13,7 @@ use rom_lines::Script as Small;
 use rom_text::{ReadRefused, Source};
 use std::alloc::{AllocError, Global};
 
-/// The lines of a script, in order. A contract sees them as `steps_of` the script. Each line is as wide as
+/// The lines of a script, in order. A contract sees them as `script_steps` of the script. Each line is as wide as
 /// a group, some 280 bytes: a `rom_lines::Script` has the same lines in less.
 #[derive(Drop)]
 pub struct Script {
@@ -22,28 +23,28 @@ pub struct Script {
 impl Script {
     /// How many lines there are.
     pub fn len(&self) -> u64
-        ensures { result ≡ length (steps_of self.now) }
+        ensures { result ≡ length (script_steps self.now) }
     {
         self.lines.len() as u64
     }
 
     /// The line at an index, counted from 0.
     pub fn at(&self, i: u64) -> Option<Line>
-        ensures { result ≡ slice_get (steps_of self.now) i }
+        ensures { result ≡ slice_get (script_steps self.now) i }
     {
         self.lines.get(i as usize).copied()
     }
 
     /// All lines.
     pub fn lines(&self) -> &[Line]
-        ensures { result.now ≡ steps_of self.now }
+        ensures { result.now ≡ script_steps self.now }
     {
         &self.lines
     }
 
     /// All lines, for whoever keeps them.
     pub fn into_lines(self) -> Vec<Line>
-        ensures { result.items ≡ steps_of self }
+        ensures { result.items ≡ script_steps self }
     {
         let Script { lines } = self;
         lines
@@ -64,8 +65,9 @@ fn whole_lines(alloc: Global, script: &Small<Trio>) -> Result<Vec<Line>, AllocEr
 /// Reads a script to the end of its source. What was taken is lost to the source after an `Err`.
 pub fn read_script<S: Source>(alloc: Global, source: &mut S) -> Result<Script, ReadRefused>
     // After `Ok` the lines are those of the bytes that the source had left, where it tells them.
-    ensures lines { IfOk result (λ script. AreStepsOf (S.shown.left source.old) (steps_of script)) }
-    ensures few { IfOk result (λ script. length (steps_of script) ≤ MAX_LINES) }
+    ensures lines { IfOk result (λ script.
+        AreStepsOf Reads (S.shown.left source.old) (script_steps script)) }
+    ensures few { IfOk result (λ script. length (script_steps script) ≤ MAX_LINES) }
     // After `Ok` these bytes are within a script's limits.
     ensures fits { OnOk result (IfSome (S.shown.left source.old) FitsScript) }
     ensures ends { EndsReading S.shown source.old source.new result }

@@ -3,7 +3,6 @@ ghost use Rattle.std.specs.Prelude.{◌≡◌, ◌-◌, ◌*◌, ◌^◌, ◌<�
 ghost use Rattle.std.specs.List.{flat_map};
 ghost use Rattle.rom_script.specs.Drill.{drill_lines};
 ghost use Rattle.rom_script.specs.Drill as summed;
-ghost use Rattle.rom_script.specs.Queued as words;
 ghost use Rattle.rom_lines.specs.Replies.{IsTold};
 ghost use Rattle.rom_lines.specs.Steps.{IsLine};
 ghost use Rattle.rom_model.specs.Codes.{words_call, words_reply};
@@ -17,45 +16,13 @@ ghost use Rattle.rom_script.specs.Trio.{answer_text};
 
 use itoa::Buffer;
 use rom_heap::Trio;
-use rom_lines::{Line, Results, Script};
-use rom_model::{Answer, Query};
-use rom_text::{IoFailed, Report, Sink, Told, print_gathered, print_pieces, print_text};
+use rom_lines::{Line, Results, Script, Told};
+use rom_model::{Answer, Query, Single, SingleReply, first_single, single_reply};
+use rom_text::{IoFailed, Print, Report, Sink, print_gathered, print_pieces, print_text};
 
-// The words of `enq v` are 1 and v. Those of `queued` are 1, and those of `head v` are 3 and v. Calls and replies
-// of full width would be made anew for each line.
-
-/// What an update with these words has put into the queue, which was told the reply with these.
-fn queued(call: &[u64], reply: &[u64]) -> u64
-    ensures { result ≡ words.queued call.now reply.now }
-{
-    match call {
-        [1, v] => told_queued(*v, reply),
-        _ => 0,
-    }
-}
-
-/// The value, where the reply with these words says that it was queued.
-fn told_queued(v: u64, reply: &[u64]) -> u64
-    ensures { result ≡ words.told_queued v reply.now }
-{
-    match reply {
-        [1] => v,
-        _ => 0,
-    }
-}
-
-/// What an update has taken out of the queue that was told the reply with these words.
-fn taken(reply: &[u64]) -> u64
-    ensures { result ≡ words.taken reply.now }
-{
-    match reply {
-        [3, v] => *v,
-        _ => 0,
-    }
-}
-
-/// What a line has put into the queue. In a drill it is never a group's.
-fn enqueued_by(line: Line<'_, Query>, told: rom_lines::Told<'_, Answer>) -> u64
+/// What a line has put into the queue. In a drill it is never a group's. No `Call` and no `Reply` is made of
+/// its words, since each is as wide as a group.
+fn enqueued_by(line: Line<'_, Query>, told: Told<'_, Answer>) -> u64
     // Whatever the line asks for and was told, by these words.
     ensures { (asks : Step Call Query) (became : LineResult Reply Answer) →
         IsLine words_call asks line.entry → IsTold words_reply became told.entry →
@@ -64,21 +31,30 @@ fn enqueued_by(line: Line<'_, Query>, told: rom_lines::Told<'_, Answer>) -> u64
     let Line::Update(call) = line else {
         return 0;
     };
-    let rom_lines::Told::Done(reply, _) = told else {
+    let Told::Done(reply, _) = told else {
         return 0;
     };
-    queued(call, reply)
+    let Some(Single::Enq(v)) = first_single(call) else {
+        return 0;
+    };
+    match single_reply(reply) {
+        Some(SingleReply::Queued) => v,
+        _ => 0,
+    }
 }
 
 /// What a line has taken out of it.
-fn dequeued_by(told: rom_lines::Told<'_, Answer>) -> u64
+fn dequeued_by(told: Told<'_, Answer>) -> u64
     ensures { (became : LineResult Reply Answer) → IsTold words_reply became told.entry →
         result ≡ summed.dequeued_by became }
 {
-    let rom_lines::Told::Done(reply, _) = told else {
+    let Told::Done(reply, _) = told else {
         return 0;
     };
-    taken(reply)
+    match single_reply(reply) {
+        Some(SingleReply::Head(v)) => v,
+        _ => 0,
+    }
 }
 
 /// The sum of what a caller's lines have put into the queue.

@@ -2,12 +2,13 @@
 ghost use Rattle.std.specs.Prelude.{◌≡◌, ◌≢◌, IfSome, IfNone};
 ghost use Rattle.rom_model.specs.declared.call.Single.{Single};
 ghost use Rattle.rom_script.specs.Asking.{single_phrase};
-ghost use Rattle.rom_script.specs.Lines.{SingleFits, single_line};
+ghost use Rattle.rom_script.specs.Lines.{SingleCallFits, single_line};
 
 use rom_model::Single;
 use rom_text::read_phrase;
 
 /// The update that a line with this first word and these numbers behind it asks for.
+#[inline(always)]
 pub(crate) fn asked_update(name: &[u8], numbers: &[u64]) -> Option<Single>
     ensures some { IfSome result (λ c. (name.now, numbers.now) ≡ single_phrase c) }
     ensures none { IfNone result ((c : Single) → (name.now, numbers.now) ≢ single_phrase c) }
@@ -26,8 +27,8 @@ pub(crate) fn asked_update(name: &[u8], numbers: &[u64]) -> Option<Single>
 
 /// Reads a line, or a group's member.
 pub(crate) fn read_update(line: &[u8]) -> Option<Single>
-    ensures some { IfSome result (λ c. SingleFits c × (line.now ≡ single_line c)) }
-    ensures none { IfNone result ((c : Single) → SingleFits c → line.now ≢ single_line c) }
+    ensures some { IfSome result (λ c. SingleCallFits c × (line.now ≡ single_line c)) }
+    ensures none { IfNone result ((c : Single) → SingleCallFits c → line.now ≢ single_line c) }
 {
     let phrase = read_phrase(line)?;
     asked_update(phrase.name, &phrase.numbers)

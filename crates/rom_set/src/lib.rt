@@ -1,5 +1,7 @@
 //! The set of a heap, in the words of a region.
 //!
+//! It knows the set's words and what blocks they take; it knows no queue, no map and no update as a whole.
+//!
 //! Each number stands in a block of its own, which links to that of the next greater one. A walk along
 //! the chain finds the place of a number, and stops at the first that is not below it; there a new
 //! number's block is put in, and the block of one that goes is taken out. The contracts promise of

@@ -14,7 +14,7 @@ use Rattle.rom_run.specs.declared.heap.Heap.{Heap}
 use Rattle.rom_run.specs.declared.heap.Heap.TheVariants.{New, Standing}
 use Rattle.rom_shell.specs.Drilled.{HaveDrilled}
 use Rattle.rom_shell.specs.Run.{AreRun, IsPrinted}
-use Rattle.rom_shell.specs.Stat.{IsShown}
+use Rattle.rom_shell.specs.Stat.{IsStatShown}
 use Rattle.rom_words.specs.Words.{Stat, Drill}
 
 -- a command with no script has no source
@@ -29,7 +29,7 @@ played_still shown was now heap scripts (Some s) = λ story of. tt
 
 module _ {D S O : Type 0} (shown : ShownDevice D) (source : ShownSource S) (sink : ShownSink O) (was now : D) (sources : List S) (old new : O) (none : sources ≡ []) where
   -- of a heap that was shown, if it was
-  pub shown_session : (file : List ℕ) (status : ℕ) (session : Option SessionSeen) → (status ≢ 0 → IsNone session) → IfSome session (HasSession trio Contents shown Standing was now (IsShown sink old new)) →
+  pub shown_session : (file : List ℕ) (status : ℕ) (session : Option SessionSeen) → (status ≢ 0 → IsNone session) → IfSome session (HasSession trio Contents shown Standing was now (IsStatShown sink old new)) →
       IfSome session (HasSession trio Contents shown Standing was now (HasReplies trio (AreRun source (Some (Stat file))) (IsPrinted sink (Some (Stat file))) sources old new status))
   shown_session file status None left is = tt
   shown_session file zero (Some z) left is = record {

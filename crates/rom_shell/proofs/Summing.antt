@@ -29,7 +29,7 @@ use Rattle.rom_model.specs.Trio.{trio}
 use Rattle.rom_model.proofs.Placed.{history_placed}
 use Rattle.rom_model.proofs.Tags.{group_or_none, replies_or_none}
 use Rattle.rom_script.specs.Drill.{dequeued, dequeued_by, dequeued_of, enqueued, enqueued_by, enqueued_of}
-use Rattle.rom_shell.specs.Drilled.{dequeued_in, enqueued_in, put_by, put_in, taken_by, taken_in}
+use Rattle.rom_shell.specs.Drilled.{dequeued_in, dequeued_with, enqueued_in, put_by, put_in, taken_in}
 
 -- Of entries with their places, by what each counts for:
 module _ (f : ℕ × Entry → ℕ) where
@@ -142,15 +142,15 @@ words_put (Enq v) (All replies) = replies_or_none replies (λ o. put_by (Some (E
 words_put (Enq v) reply = refl
 words_put call reply = refl
 
-words_taken : (reply : Reply) → taken_by (words_reply (reply_words reply)) ≡ taken_by (Some reply)
-words_taken (All replies) = replies_or_none replies (λ o. taken_by o ≡ 0) refl refl
+words_taken : (reply : Reply) → dequeued_with (words_reply (reply_words reply)) ≡ dequeued_with (Some reply)
+words_taken (All replies) = replies_or_none replies (λ o. dequeued_with o ≡ 0) refl refl
 words_taken reply = refl
 
 put_same : (call : Call) (reply : Reply) (place : ℕ) → enqueued_by (line.Update call) (outcome.Update (told.Done reply place)) ≡ put_by (Some call) (Some reply)
 put_same (Enq v) Queued place = refl
 put_same call reply place = refl
 
-taken_same : (reply : Reply) (place : ℕ) → dequeued_by (outcome.Update (told.Done reply place)) ≡ taken_by (Some reply)
+taken_same : (reply : Reply) (place : ℕ) → dequeued_by (outcome.Update (told.Done reply place)) ≡ dequeued_with (Some reply)
 taken_same (Head v) place = refl
 taken_same reply place = refl
 

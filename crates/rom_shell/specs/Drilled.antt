@@ -18,7 +18,7 @@ use Rattle.rom_model.specs.Trio.{trio}
 use Rattle.rom_run.specs.Played.{AreAnswered}
 use Rattle.rom_run.specs.Statuses.{is_faulted}
 use Rattle.rom_script.specs.Drill.{drill_lines, drill_scripts}
-use Rattle.rom_text.specs.Runs.{IsCutShort, IsWritten}
+use Rattle.rom_text.specs.Runs.{IsCutShort, IsWhollyWritten}
 use Rattle.rom_text.specs.Streams.{ShownSink}
 
 -- the state at closing
@@ -31,9 +31,9 @@ put_by (Some (Enq v)) (Some Queued) = v
 put_by call reply = 0
 
 -- what an update with this reply has taken out of the queue
-abbrev pub taken_by : Option Reply → ℕ
-taken_by (Some (Head v)) = v
-taken_by reply = 0
+abbrev pub dequeued_with : Option Reply → ℕ
+dequeued_with (Some (Head v)) = v
+dequeued_with reply = 0
 
 -- what the update of an entry has put into the queue
 abbrev pub put_in : Entry → ℕ
@@ -41,7 +41,7 @@ put_in e = put_by (words_call e.args) (words_reply e.reply)
 
 -- what the update of an entry has taken out of the queue
 abbrev pub taken_in : Entry → ℕ
-taken_in e = taken_by (words_reply e.reply)
+taken_in e = dequeued_with (words_reply e.reply)
 
 -- what all of these updates have put into the queue
 abbrev pub enqueued_in : List Entry → ℕ
@@ -61,7 +61,7 @@ drill_status results = if list_any (λ rs. list_any is_faulted rs) results then 
 
 -- The whole text is printed, and the status is that of the results; or some of it, where the sink failed.
 abbrev pub IsDrillText : {O : Type 0} → ShownSink O → List ℕ → List (List (LineResult Reply Answer)) → O → O → ℕ → Type 0
-IsDrillText sink text results old new status = ((status ≡ drill_status results) × IsWritten sink old new text) ⊎ ((status ≡ 5) × IsCutShort sink old new text)
+IsDrillText sink text results old new status = ((status ≡ drill_status results) × IsWhollyWritten sink old new text) ⊎ ((status ≡ 5) × IsCutShort sink old new text)
 
 -- Results of a drill's scripts are those of one history, which is the story's, and what is told of them is printed.
 pub record HaveDrilled {O : Type 0} (sink : ShownSink O) (start callers calls : ℕ) (old new : O) (status : ℕ) (story : Story State) : Type 0 where

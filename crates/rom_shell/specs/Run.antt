@@ -17,7 +17,7 @@ use Rattle.rom_script.specs.Lines.{Reads}
 use Rattle.rom_text.specs.Streams.{ShownSink, ShownSource}
 use Rattle.rom_script.specs.Trio.{trio_texts}
 use Rattle.rom_shell.specs.Drilled.{IsDrillText, drill_told}
-use Rattle.rom_shell.specs.Stat.{IsPut, stat_text}
+use Rattle.rom_shell.specs.Stat.{IsWrittenOrCutShort, stat_text}
 use Rattle.rom_words.specs.Words.{Command, Try, Run, Format, Stat, Upgrade, Drill}
 
 -- the use that it makes of its device's heap
@@ -46,7 +46,7 @@ IsPrinted sink (Some (Try scripts)) story results old new status = IsText sink t
 IsPrinted sink (Some (Run file scripts)) story results old new status = IsText sink trio_texts story results old new status
 IsPrinted sink (Some (Format file order)) story results old new status = ⊥
 IsPrinted sink (Some (Stat file)) story results old new status =
-    (status ≡ 0) × (results ≡ []) × IsPut sink old new (stat_text story.order story.opening story.opening_count)
+    (status ≡ 0) × (results ≡ []) × IsWrittenOrCutShort sink old new (stat_text story.order story.opening story.opening_count)
 IsPrinted sink (Some (Upgrade file)) story results old new status = ⊥
 IsPrinted sink (Some (Drill start callers calls)) story results old new status = IsDrillText sink (drill_told start callers calls story) results old new status
 IsPrinted sink None story results old new status = ⊥

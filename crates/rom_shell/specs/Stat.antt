@@ -5,9 +5,9 @@ use Rattle.rom_model.specs.Story.{Story}
 use Rattle.rom_model.specs.Trio.{trio}
 use Rattle.rom_run.specs.Played.{AreAnswered}
 use Rattle.rom_text.specs.Streams.{ShownSink}
-pub use Rattle.rom_stat.specs.Stat.{IsPut, stat_text}
+pub use Rattle.rom_script.specs.Stat.{IsWrittenOrCutShort, stat_text}
 
 -- Nothing was done on the heap, and its text is printed.
-pub record IsShown {O : Type 0} (sink : ShownSink O) (old new : O) (story : Story State) : Type 0 where
+pub record IsStatShown {O : Type 0} (sink : ShownSink O) (old new : O) (story : Story State) : Type 0 where
   pub answered : AreAnswered trio story [] []
-  pub printed : IsPut sink old new (stat_text story.order story.opening story.opening_count)
+  pub printed : IsWrittenOrCutShort sink old new (stat_text story.order story.opening story.opening_count)

@@ -6,7 +6,7 @@ ghost use Rattle.rom_heap.specs.Answers.{Rejects, earlier};
 ghost use Rattle.rom_model.specs.Lawful.{IsLawful};
 ghost use Rattle.rom_model.specs.Region.{Contents};
 ghost use Rattle.rom_model.specs.Trio.{trio};
-ghost use Rattle.rom_run.specs.Statuses.{number_of};
+ghost use Rattle.rom_run.specs.Statuses.{exit_number};
 ghost use Rattle.rom_run.specs.Working.{HasNone, HasSession, IsDeviceKept};
 ghost use Rattle.rom_run.specs.declared.heap.Heap.TheVariants.{New};
 ghost use Rattle.rom_script.specs.Drill as drilled;
@@ -29,7 +29,7 @@ use std::thread::Threads;
 
 /// The status of results that are all told of.
 fn status_of(results: &[Results<Trio>]) -> Status
-    ensures status { number_of result ≡ drill_status (map (λ v. v.items) results.now) }
+    ensures status { exit_number result ≡ drill_status (map (λ v. v.items) results.now) }
     ensures statuses { (result ≡ Status.Done) ⊎ (result ≡ Status.DeviceFailed) }
 {
     if any_faulted(results) {
@@ -44,7 +44,7 @@ fn tell_drill<O: Sink>(out: &mut O, told: &Summary, results: &[Results<Trio>]) -
     ensures printed { IsDrillText O.shown (drill_lines told.now.start told.now.callers
         told.now.calls told.now.enqueued told.now.dequeued told.now.sizes
         told.now.total told.now.count)
-        (map (λ v. v.items) results.now) out.old out.new (number_of result) }
+        (map (λ v. v.items) results.now) out.old out.new (exit_number result) }
     ensures statuses { (result ≡ Status.Done) ⊎ (result ≡ Status.SinkFailed)
         ⊎ (result ≡ Status.DeviceFailed) }
     ensures sink_failed { result ≡ Status.SinkFailed → WriteFailed O.shown out.old out.new }
@@ -78,7 +78,7 @@ fn end_of<D: Device, O: Sink>(
     ensures drilled { EachStory trio Contents played.closed.session (λ story.
         IsLawful trio story (drilled.drill_scripts start callers calls)
         (map (λ v. v.items) played.results.items)
-        → HaveDrilled O.shown start callers calls out.old out.new (number_of result.status) story) }
+        → HaveDrilled O.shown start callers calls out.old out.new (exit_number result.status) story) }
     ensures sink_failed { result.status ≡ Status.SinkFailed → WriteFailed O.shown out.old out.new }
     ensures writing { StopsWriting O.shown out.old out.new }
     ensures rest { O.shown.rest out.new ≡ O.shown.rest out.old }
@@ -120,20 +120,20 @@ pub(crate) fn drill_heap<R: Threads + Wait + Sync, D: Device + Send, O: Sink, G:
 ) -> Worked<D>
     requires callers { (1 ≤ callers) × (callers ≤ 16) }
     requires calls { calls ≤ 10000 }
-    ensures statuses { (number_of result.status ≡ 0) ⊎ (number_of result.status ≡ 3)
-        ⊎ (number_of result.status ≡ 5) ⊎ (number_of result.status ≡ 6)
-        ⊎ (number_of result.status ≡ 7) }
-    ensures ran { (number_of result.status ≡ 0) ⊎ (number_of result.status ≡ 5) →
+    ensures statuses { (exit_number result.status ≡ 0) ⊎ (exit_number result.status ≡ 3)
+        ⊎ (exit_number result.status ≡ 5) ⊎ (exit_number result.status ≡ 6)
+        ⊎ (exit_number result.status ≡ 7) }
+    ensures ran { (exit_number result.status ≡ 0) ⊎ (exit_number result.status ≡ 5) →
         IsSome result.session }
-    ensures not_run { (number_of result.status ≡ 3) ⊎ (number_of result.status ≡ 6) →
+    ensures not_run { (exit_number result.status ≡ 3) ⊎ (exit_number result.status ≡ 6) →
         IsNone result.session }
     ensures session { IfSome result.session (HasSession trio Contents D.shown (New 12) device
         result.device (HaveDrilled O.shown start callers calls out.old out.new
-        (number_of result.status))) }
+        (exit_number result.status))) }
     ensures none { IsNone result.session → HasNone trio Contents D.shown O.shown Rejects earlier
-        (New 12) device result.device out.old out.new (number_of result.status) }
+        (New 12) device result.device out.old out.new (exit_number result.status) }
     ensures kept { IsDeviceKept D.shown (New 12) device result.device }
-    ensures sink_failed { number_of result.status ≡ 5 → WriteFailed O.shown out.old out.new }
+    ensures sink_failed { exit_number result.status ≡ 5 → WriteFailed O.shown out.old out.new }
     ensures writing { StopsWriting O.shown out.old out.new }
     ensures rest { O.shown.rest out.new ≡ O.shown.rest out.old }
 {

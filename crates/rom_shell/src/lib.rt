@@ -1,5 +1,8 @@
 //! The commands of the program: from its words, its scripts and a device to a status and a text.
 //!
+//! It knows six commands and what each uses a heap for; it knows no file, and nothing of how a heap keeps its
+//! promise.
+//!
 //! `run` does all that the program does, and its contract carries the promise of the whole: each
 //! printed reply is what one queue, set and map give at its printed place in one history, each
 //! update once and in its caller's order, each read from one committed state. A heap that is made

@@ -8,7 +8,7 @@ ghost use Rattle.rom_run.specs.Promise.{Promise};
 ghost use Rattle.rom_run.specs.Use.{HasNotRun, HasRead, HasRun, IsStatus, heap_of};
 ghost use Rattle.rom_run.specs.Working.{HasMade, HasNone, HasSession, IsDeviceKept, IsStill};
 ghost use Rattle.rom_text.specs.Determines.{TextDetermines};
-ghost use Rattle.rom_text.specs.Runs.{AreAskedOnce, AreAtEnd, AreWithin, IsTold, SourceFailed, SourceTooLong};
+ghost use Rattle.rom_text.specs.Runs.{AreAskedOnce, AreAtEnd, AreNotTooLong, IsLineTold, SourceFailed, SourceTooLong};
 ghost use Rattle.rom_text.specs.Streams.{StopsWriting, WriteFailed};
 ghost use Rattle.rom_script.specs.Trio.{trio_texts};
 ghost use Rattle.rom_shell.specs.Run.{AreRun, IsPrinted, use_of};
@@ -23,7 +23,7 @@ use rom_run::{Ended, Heap, ResultText, Status, make_heap, play_sources, tell, up
 use rom_script::TrioLines;
 use rom_store::Gate;
 use rom_text::{Names, Sink, Source};
-use rom_words::{Asked, TRY_ORDER, read_command};
+use rom_words::{CommandAsked, TRY_ORDER, read_command};
 use std::alloc::Global;
 use std::sync::Wait;
 use std::thread::Threads;
@@ -59,7 +59,7 @@ fn run_command<R: Threads + Wait + Sync, D: Device + Send, S: Source, O: Sink, G
         result.device ≡ device }
     ensures asked_once { AreAskedOnce S.shown scripts.items result.scripts.items }
     ensures unread { result.status ≡ 2 → result.scripts ≡ scripts }
-    ensures fit { HasRead result.status → AreWithin S.shown scripts.items }
+    ensures fit { HasRead result.status → AreNotTooLong S.shown scripts.items }
     ensures read { HasRead result.status → AreAtEnd S.shown result.scripts.items }
     ensures source_failed { result.status ≡ 4 →
         SourceFailed S.shown O.shown scripts.items result.scripts.items out.old out.new }
@@ -68,7 +68,7 @@ fn run_command<R: Threads + Wait + Sync, D: Device + Send, S: Source, O: Sink, G
     ensures too_long { result.status ≡ 8 →
         SourceTooLong S.shown O.shown scripts.items result.scripts.items out.old out.new }
     ensures not_a_command_told { result.status ≡ 2 →
-        IsTold O.shown out.old out.new (codes "not a command") }
+        IsLineTold O.shown out.old out.new (codes "not a command") }
     ensures sink_failed { result.status ≡ 5 → WriteFailed O.shown out.old out.new }
     ensures writing { StopsWriting O.shown out.old out.new }
     ensures rest { O.shown.rest out.new ≡ O.shown.rest out.old }
@@ -78,28 +78,28 @@ fn run_command<R: Threads + Wait + Sync, D: Device + Send, S: Source, O: Sink, G
         return Ended::of(Status::NotACommand, device, scripts, None);
     };
     match asked {
-        Asked::Try(_) => {
+        CommandAsked::Try(_) => {
             let heap = Heap::New(TRY_ORDER);
             play_sources::<Trio, TrioLines, ResultText<TrioLines>, D, S, O, R, G>(
                 rt, alloc, heap, device, scripts, out, gate,
             )
         }
-        Asked::Run { .. } => {
+        CommandAsked::Run { .. } => {
             let heap = Heap::Standing;
             play_sources::<Trio, TrioLines, ResultText<TrioLines>, D, S, O, R, G>(
                 rt, alloc, heap, device, scripts, out, gate,
             )
         }
-        Asked::Format { file: _, order } => {
+        CommandAsked::Format { file: _, order } => {
             let mut device = device;
             let status = make_heap::<Trio, D, O>(alloc, &mut device, order, out);
             Ended::of(status, device, scripts, None)
         }
-        Asked::Stat(_) => Ended::after(show_heap(alloc, device, out), scripts),
-        Asked::Upgrade(_) => {
+        CommandAsked::Stat(_) => Ended::after(show_heap(alloc, device, out), scripts),
+        CommandAsked::Upgrade(_) => {
             Ended::after(upgrade_heap::<Trio, D, O>(alloc, device, out), scripts)
         }
-        Asked::Drill {
+        CommandAsked::Drill {
             start,
             callers,
             calls,
@@ -110,6 +110,8 @@ fn run_command<R: Threads + Wait + Sync, D: Device + Send, S: Source, O: Sink, G
     }
 }
 
+// A `main` has one `run` for each kind of device, never inlined: a compiler takes long over a function of both.
+
 /// Does all that the program does: runs the command that the words are on the device and the
 /// scripts that are handed in, and prints to the sink. `main` hands in what `files_of` of the same
 /// words names. Each script has a caller of its own, in a thread where one can be made; the gate is
@@ -118,6 +120,7 @@ fn run_command<R: Threads + Wait + Sync, D: Device + Send, S: Source, O: Sink, G
 /// All memory is taken before the first update, and scripts are read before the device is called.
 /// Words that are no command, and scripts that can't be read, make no call of it. The device is handed
 /// back whatever comes.
+#[inline(never)]
 pub fn run<R: Threads + Wait + Sync, D: Device + Send, S: Source, O: Sink, G: Gate + Sync>(
     rt: &R,
     alloc: Global,

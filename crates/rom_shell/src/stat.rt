@@ -7,19 +7,18 @@ ghost use Rattle.rom_model.specs.Region.{Contents};
 ghost use Rattle.rom_model.specs.State.{State};
 ghost use Rattle.rom_model.specs.Trio.{trio};
 ghost use Rattle.rom_model.specs.VecSpace.{words_of};
-ghost use Rattle.rom_run.specs.Statuses.{number_of};
+ghost use Rattle.rom_run.specs.Statuses.{exit_number};
 ghost use Rattle.rom_run.specs.Working.{HasNone, HasSession, IsAsBefore, IsDeviceKept};
 ghost use Rattle.rom_run.specs.declared.heap.Heap.TheVariants.{Standing};
 ghost use Rattle.rom_text.specs.Streams.{StopsWriting};
-ghost use Rattle.rom_shell.specs.Stat.{IsPut, IsShown, stat_text};
+ghost use Rattle.rom_shell.specs.Stat.{IsStatShown, IsWrittenOrCutShort, stat_text};
 ghost use Rattle.rom_store.specs.Sessions.{EachStory};
 
 use rom_device::Device;
 use rom_heap::Trio;
 use rom_model::VecSpace;
 use rom_run::{OpenHeap, Status, Worked, open_heap};
-use rom_script::Sink;
-use rom_stat::print_stat;
+use rom_script::{Sink, print_stat};
 use std::alloc::Global;
 
 /// Prints the sizes of the heap in a region.
@@ -27,7 +26,7 @@ fn print_sizes<O: Sink>(space: VecSpace, order: u32, out: &mut O)
     requires order { IsOrder order }
     requires region { (s : State) × (k : ℕ) × Contents order (words_of space) s k }
     ensures printed { (s : State) (k : ℕ) → Contents order (words_of space) s k →
-        IsPut O.shown out.old out.new (stat_text order s k) }
+        IsWrittenOrCutShort O.shown out.old out.new (stat_text order s k) }
     ensures writing { StopsWriting O.shown out.old out.new }
     ensures rest { O.shown.rest out.new ≡ O.shown.rest out.old }
 {
@@ -37,18 +36,18 @@ fn print_sizes<O: Sink>(space: VecSpace, order: u32, out: &mut O)
 
 /// Opens the heap on the device, and prints its sizes or why it is refused.
 pub(crate) fn show_heap<D: Device, O: Sink>(alloc: Global, device: D, out: &mut O) -> Worked<D>
-    ensures statuses { (number_of result.status ≡ 0) ⊎ (number_of result.status ≡ 3)
-        ⊎ (number_of result.status ≡ 6) ⊎ (number_of result.status ≡ 7) }
-    ensures ran { number_of result.status ≡ 0 → IsSome result.session }
-    ensures not_run { number_of result.status ≢ 0 → IsNone result.session }
+    ensures statuses { (exit_number result.status ≡ 0) ⊎ (exit_number result.status ≡ 3)
+        ⊎ (exit_number result.status ≡ 6) ⊎ (exit_number result.status ≡ 7) }
+    ensures ran { exit_number result.status ≡ 0 → IsSome result.session }
+    ensures not_run { exit_number result.status ≢ 0 → IsNone result.session }
     ensures session { IfSome result.session (HasSession trio Contents D.shown Standing device
-        result.device (IsShown O.shown out.old out.new)) }
+        result.device (IsStatShown O.shown out.old out.new)) }
     ensures still { IfSome result.session (λ session. EachStory trio Contents session
         (IsAsBefore Contents D.shown device result.device)) }
     ensures none { IsNone result.session → HasNone trio Contents D.shown O.shown Rejects earlier
-        Standing device result.device out.old out.new (number_of result.status) }
+        Standing device result.device out.old out.new (exit_number result.status) }
     ensures kept { IsDeviceKept D.shown Standing device result.device }
-    ensures unfailed { number_of result.status ≡ 0 →
+    ensures unfailed { exit_number result.status ≡ 0 →
         D.shown.faults result.device ≡ D.shown.faults device }
     ensures writing { StopsWriting O.shown out.old out.new }
     ensures rest { O.shown.rest out.new ≡ O.shown.rest out.old }

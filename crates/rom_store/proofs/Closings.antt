@@ -28,9 +28,9 @@ use Rattle.rom_rule.specs.declared.law.Key.{Key}
 use Rattle.rom_rule.specs.declared.views.Base.{Base}
 use Rattle.rom_rule.specs.declared.views.Plan.{Plan}
 use Rattle.rom_rule.specs.declared.views.View.{View}
-use Rattle.rom_store.specs.Callers.{Caller, IsNumbered}
+use Rattle.rom_store.specs.Callers.{Caller, IsNumberedCaller}
 use Rattle.rom_store.specs.Closing.{HasLeftSince, joined_of, kept_in}
-use Rattle.rom_store.specs.Held.{IsHeld, story_at}
+use Rattle.rom_store.specs.Held.{IsBehindLock, story_at}
 use Rattle.rom_store.specs.Indexed.{Indexed}
 use Rattle.rom_store.specs.Sessions.{EachStory, HasStory, SessionSeen}
 use Rattle.rom_store.specs.Start.{HasStarted, Start}
@@ -60,7 +60,7 @@ module _ {S C Q R A D : Type 0} (m : Machine S C Q R A) (Contents : ℕ → List
   -- So at the closing: what was behind the lock, the writer's view there, the same with the callers taken in, and after the look at the records.
   pub ended : ((order : ℕ) (words : List ℕ) (s t : S) (j k : ℕ) → Contents order words s j → Contents order words t k → (s ≡ t) × (j ≡ k)) →
       (table : TableId) (base : Base) (start : Start) (test : ℕ → List ℕ → Type 0) (c : Locked D) (t : Seen D) (v v' w : View) (ps : List Caller) →
-      IsHeld shown Contents (on_words m) table base start test c → t ≡ c.twin → v ≡ c.view → IsAtRest shown Contents (on_words m) t v →
+      IsBehindLock shown Contents (on_words m) table base start test c → t ≡ c.twin → v ≡ c.view → IsAtRest shown Contents (on_words m) t v →
       v' ≡ record v { joined = v.joined ++ joined_of ps; steps = v'.steps } → w ≡ planned v' (plan_of v') →
       AllByRecursion (λ x. 0 < x.number → told_to (plan_of w).told x.number ≡ x.told) w.joined →
       AllByRecursion (λ x. (0 < x.0.caller) × (x.0.caller ≤ w.base.callers)) (plan_of w).told →
@@ -100,11 +100,11 @@ module _ {S C Q R A D : Type 0} (m : Machine S C Q R A) (Contents : ℕ → List
     ended_closed callers many = on_session (λ story. IsClosed m story callers) (each_story m Contents base p t.phase (λ story. IsClosed m story callers)
         (λ s k doubt op in_doubt. subst (IsClosed m (story_of base p s k doubt)) (sym many) (is_closed m Contents base p s k doubt t.phase in_doubt (e.recorded s k op).0 e.known)))
 
-    pub ended_kept : (table : TableId) → Indexed (IsNumbered Contents table base) ps → EachStory m Contents session (λ story. Indexed (λ _ v. IsKept m story v) (map kept_in ps))
+    pub ended_kept : (table : TableId) → Indexed (IsNumberedCaller Contents table base) ps → EachStory m Contents session (λ story. Indexed (λ _ v. IsKept m story v) (map kept_in ps))
     ended_kept table numbered = on_session (λ story. Indexed (λ _ v. IsKept m story v) (map kept_in ps)) (each_story m Contents base p t.phase (λ story. Indexed (λ _ v. IsKept m story v) (map kept_in ps))
-        (λ s k doubt op in_doubt. map_at (IsNumbered Contents table base) (λ _ v. IsKept m (story_of base p s k doubt) v) kept_in ps (λ i q at is_numbered. kept s k doubt op i q at is_numbered) numbered))
+        (λ s k doubt op in_doubt. map_at (IsNumberedCaller Contents table base) (λ _ v. IsKept m (story_of base p s k doubt) v) kept_in ps (λ i q at is_numbered. kept s k doubt op i q at is_numbered) numbered))
       where
-        kept : (s : S) (k : ℕ) (doubt : Option (List Entry)) → Contents base.order base.image s k → (i : ℕ) (q : Caller) → slice_get ps i ≡ Some q → IsNumbered Contents table base i q → IsKept m (story_of base p s k doubt) (kept_in q)
+        kept : (s : S) (k : ℕ) (doubt : Option (List Entry)) → Contents base.order base.image s k → (i : ℕ) (q : Caller) → slice_get ps i ≡ Some q → IsNumberedCaller Contents table base i q → IsKept m (story_of base p s k doubt) (kept_in q)
         kept s k doubt op i q at numbered = let x = e.recorded s k op in let number = numbered.number in
             is_kept m Contents base p s k doubt (kept_in q) x.0 (joined_at (rule.IsKept k (book_in p)) ps i q at x.1)
             (joined_at (λ v. 0 < v.number → told_to p.told v.number ≡ v.told) ps i q at e.told (omega (arith, number)))
@@ -113,7 +113,7 @@ module _ {S C Q R A D : Type 0} (m : Machine S C Q R A) (Contents : ℕ → List
     ended_now tells = on_session (λ story. (i : List ℕ) → shown.leaves t.device i → ImageNow Contents (on_words m) story i) (each_story m Contents base p t.phase (λ story. (i : List ℕ) → shown.leaves t.device i → ImageNow Contents (on_words m) story i)
         (λ s k doubt op in_doubt i left. image_now m Contents base p s k doubt t.phase in_doubt i (e.images tells s k op i left)))
 
-    pub ended_since : (table : TableId) (start : Start) (test : ℕ → List ℕ → Type 0) (c : Locked D) → IsHeld shown Contents (on_words m) table base start test c → t ≡ c.twin → p ≡ plan_of c.view → IsTrue shown.tells_images →
+    pub ended_since : (table : TableId) (start : Start) (test : ℕ → List ℕ → Type 0) (c : Locked D) → IsBehindLock shown Contents (on_words m) table base start test c → t ≡ c.twin → p ≡ plan_of c.view → IsTrue shown.tells_images →
         EachStory m Contents session (λ story. HasLeftSince shown start test (SessionImage Contents (on_words m) story) t.device)
     ended_since table start test c held twin_is plan_is tells = on_session (λ story. HasLeftSince shown start test (SessionImage Contents (on_words m) story) t.device)
         (each_story m Contents base p t.phase (λ story. HasLeftSince shown start test (SessionImage Contents (on_words m) story) t.device) (λ s k doubt op in_doubt.
@@ -124,7 +124,7 @@ module _ {S C Q R A D : Type 0} (m : Machine S C Q R A) (Contents : ℕ → List
           keeps = held.keeps tells;
         }))
 
-    pub ended_went : (table : TableId) (start : Start) (test : ℕ → List ℕ → Type 0) (c : Locked D) → IsHeld shown Contents (on_words m) table base start test c → t ≡ c.twin → p ≡ plan_of c.view →
+    pub ended_went : (table : TableId) (start : Start) (test : ℕ → List ℕ → Type 0) (c : Locked D) → IsBehindLock shown Contents (on_words m) table base start test c → t ≡ c.twin → p ≡ plan_of c.view →
         EachStory m Contents session (λ story. WentThrough shown Contents (on_words m) story (HasStarted shown base.faults start test) t.device)
     ended_went table start test c held twin_is plan_is = let First = HasStarted shown base.faults start test in
         on_session (λ story. WentThrough shown Contents (on_words m) story First t.device)

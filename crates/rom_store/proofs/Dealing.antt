@@ -9,16 +9,16 @@ use Rattle.rom_model.specs.Machine.{Machine}
 use Rattle.rom_lines.specs.Replies.{HasRoomFor, Reserved}
 use Rattle.rom_rule.specs.Views.{fresh_view}
 use Rattle.rom_rule.specs.declared.views.Base.{Base}
-use Rattle.rom_store.specs.Callers.{Caller, IsNewCaller, IsNumbered}
+use Rattle.rom_store.specs.Callers.{Caller, IsNewCaller, IsNumberedCaller}
 use Rattle.rom_store.specs.Closing.{kept_in}
-use Rattle.rom_store.specs.Working.{IsFirst, IsRoom, IsNext, IsPast, HasDone, script_of}
+use Rattle.rom_store.specs.Working.{HasSeenNothing, HasReservedRoom, IsNext, IsPast, HasDone, script_of}
 
-first_of : (base : Base) (i : ℕ) (pass : Caller) → pass.view ≡ record (fresh_view base) { number = i + 1 } → IsFirst (kept_in pass)
+first_of : (base : Base) (i : ℕ) (pass : Caller) → pass.view ≡ record (fresh_view base) { number = i + 1 } → HasSeenNothing (kept_in pass)
 first_of base i pass bare = record { seen = ap (λ v. v.seen) bare; fronts = ap (λ v. v.fronts) bare; told = ap (λ v. v.outcomes) bare }
 
 module _ {S : Type 0} (Contents : ℕ → List ℕ → S → ℕ → Type 0) (table : TableId) (base : Base) where
   pub next_job : {C Q T : Type 0} (call_words : C → List ℕ) (scripts : List (List (Step C Q))) (i k j : ℕ) (pass : Caller) (results : Reserved T) →
-      IsNewCaller Contents table base i pass → IsRoom call_words scripts k results → k ≡ i → i + 1 + j ≡ length scripts → IsNext Contents call_words table base scripts j pass results
+      IsNewCaller Contents table base i pass → HasReservedRoom call_words scripts k results → k ≡ i → i + 1 + j ≡ length scripts → IsNext Contents call_words table base scripts j pass results
   next_job call_words scripts i k j pass results new is same place =
       let number = new.numbered.number in
       let at : k + 1 ≡ pass.view.number = ap (λ n. n + 1) same ∙ sym number in
@@ -35,7 +35,7 @@ module _ {S : Type 0} (Contents : ℕ → List ℕ → S → ℕ → Type 0) (ta
       }
 
   module _ {C Q R A : Type 0} (m : Machine S C Q R A) (scripts : List (List (Step C Q))) (i j : ℕ) (pass : Caller) (results : List (LineResult R A)) where
-    pub past_number : IsPast m Contents base table scripts j pass results → j + i + 1 ≡ length scripts → IsNumbered Contents table base i pass
+    pub past_number : IsPast m Contents base table scripts j pass results → j + i + 1 ≡ length scripts → IsNumberedCaller Contents table base i pass
     past_number past place = let here = past.place in record { of = past.of; number = omega arith }
 
     pub past_done : IsPast m Contents base table scripts j pass results → j + i + 1 ≡ length scripts → HasDone m Contents base pass (script_of scripts (i + 1)) results

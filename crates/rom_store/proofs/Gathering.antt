@@ -12,7 +12,7 @@ use Rattle.rom_model.specs.Leaving.{IsKept, HasLeft, HaveLeft}
 use Rattle.rom_lines.specs.Replies.{Reserved}
 use Rattle.rom_rule.specs.declared.views.Base.{Base}
 use Rattle.rom_store.specs.Indexed.{Indexed, Both}
-use Rattle.rom_store.specs.Callers.{Caller, IsCallerOf, IsNumbered}
+use Rattle.rom_store.specs.Callers.{Caller, IsCallerOf, IsNumberedCaller}
 use Rattle.rom_store.specs.Closing.{kept_in}
 use Rattle.rom_store.specs.Working.{IsNext, IsPast, HasDone, script_of}
 
@@ -52,7 +52,7 @@ module _ {S C Q R A : Type 0} (m : Machine S C Q R A) (Contents : ℕ → List �
     go n (p ∷ ps) (l ∷ ls) [] many told each = absurd (omega arith)
 
     pub all_left : (ps : List Caller) (ts : List T) → length ps ≡ length scripts → length ts ≡ length scripts → Contents base.order base.image story.opening story.opening_count → story.order ≡ base.order →
-        Indexed (IsNumbered Contents table base) ps → Both (λ i pass t. HasDone m Contents base pass (script_of scripts (i + 1)) (told_by t)) ps ts → Indexed (λ i v. IsKept m story v) (map kept_in ps) → HaveLeft m story 1 (map kept_in ps) scripts (map told_by ts)
+        Indexed (IsNumberedCaller Contents table base) ps → Both (λ i pass t. HasDone m Contents base pass (script_of scripts (i + 1)) (told_by t)) ps ts → Indexed (λ i v. IsKept m story v) (map kept_in ps) → HaveLeft m story 1 (map kept_in ps) scripts (map told_by ts)
     all_left ps ts many told at order numbered done kept = go 1 ps scripts ts many told (λ i p l t here there then. record {
       number = (numbered.at i p here).number ∙ (let one : i + 1 ≡ 1 + i = omega arith in one);
       heard = subst (λ (z : ℕ × List (Step C Q)). HasHeard m z.0 story.opening story.opening_count (kept_in p) z.1 (told_by t)) (λ j. (sym order j, script_at i l there j)) ((done.at i p t here then).heard story.opening story.opening_count at);

@@ -42,9 +42,9 @@ use Rattle.rom_rule.specs.declared.views.Base.{Base}
 use Rattle.rom_rule.specs.declared.views.Plan.{Plan}
 use Rattle.rom_rule.specs.declared.views.Request.{Request}
 use Rattle.rom_rule.specs.declared.views.View.{View}
-use Rattle.rom_store.specs.Held.{IsHeld, story_at}
+use Rattle.rom_store.specs.Held.{IsBehindLock, story_at}
 use Rattle.rom_store.specs.Start.{HasStarted, Start}
-use Rattle.rom_store.specs.Traced.{ArePassesOn, HasCause, IsPassOn, MayMake, PassImage, WentThrough}
+use Rattle.rom_store.specs.Traced.{ArePassesOn, HasPassCause, IsPassOn, MayMake, PassImage, WentThrough}
 use Rattle.rom_store.proofs.Tracing.{passes_on, passes_stay, state_stays}
 
 -- The device failed before COPYING was to be written, with no more writes and syncs than come before it.
@@ -286,7 +286,7 @@ module _ {S : Type 0} (Contents : ℕ → List ℕ → S → ℕ → Type 0) (st
   made_by outcome.Published e may i holds = holds_whole Contents step b s k q i (subst (λ (l : List Entry). HoldsHistory Contents step b s k l i) (sym (x.history ∙ ap (λ (o : Outcome). p.history ++ published (fate_of o) x.more) e)) holds)
 
   cause_by : (o : Outcome) → r.outcome ≡ o → (r.outcome ≡ outcome.Failed → FailsEarly shown b.order p.main t u) → (r.outcome ≡ outcome.Doubt → FailsAtCommit shown t.phase b.order p.main t.device u.device)
-      → HasCause shown Contents step Story' (fate_of o) t.phase p.main t.device u.device
+      → HasPassCause shown Contents step Story' (fate_of o) t.phase p.main t.device u.device
   cause_by outcome.Nothing e failed doubt = tt
   cause_by outcome.Published e failed doubt = tt
   cause_by outcome.Failed e failed doubt = failed e
@@ -405,7 +405,7 @@ clean_needs_none ph clean (inr (inr redo)) = let no : phase.Clean ≡ phase.Redo
 module _ {S : Type 0} (Contents : ℕ → List ℕ → S → ℕ → Type 0) (step : ℕ → S → ℕ → List ℕ → Option (S × List ℕ)) {D : Type 0} (shown : ShownDevice D) (start : Start) (test : ℕ → List ℕ → Type 0)
     (c d : Locked D) (callers : ℕ) (r : Passed) where
   -- What the lock keeps is kept by a pass.
-  pub held_on : IsHeld shown Contents step c.table_id c.view.base start test c
+  pub held_on : IsBehindLock shown Contents step c.table_id c.view.base start test c
       → (d.table_id ≡ c.table_id) × (d.id ≡ c.id) × (d.view.base ≡ c.view.base) × (d.twin.order ≡ c.twin.order)
       → d.view ≡ record c.view { plan = Some (plan_of d.view); steps = d.view.steps }
       → (x : IsPass Contents step c.view.base (plan_of c.view) (plan_of d.view) callers (shown.faults c.twin.device) (shown.faults d.twin.device) r)
@@ -420,7 +420,7 @@ module _ {S : Type 0} (Contents : ℕ → List ℕ → S → ℕ → Type 0) (st
       → SpendsAtMost shown (batch_writes c.twin.phase c.twin.order (region_len c.twin.order)) (batch_syncs c.twin.phase) c.twin.device d.twin.device
       → (r.outcome ≡ outcome.Failed → FailsEarly shown c.twin.order (plan_of c.view).main c.twin d.twin)
       → (r.outcome ≡ outcome.Doubt → FailsAtCommit shown c.twin.phase c.twin.order (plan_of c.view).main c.twin.device d.twin.device)
-      → IsHeld shown Contents step c.table_id c.view.base start test d
+      → IsBehindLock shown Contents step c.table_id c.view.base start test d
   held_on h same kept x runs certain spent untouched repaired failed now_is writes began undone most failed_by doubt_by = record {
     table_is = same.0;
     base_is = same.2;

@@ -49,7 +49,7 @@ module _ (D O N C Q R A : RattleType) (g : Device.Ghosts D.Denot) (g' : Label.Gh
   pub store_sync : IsSync (Store.the_row D O N C Q R A g g' g'' c a a' e)
   store_sync =
       let t = Store.the_type D O N C Q R A g g' g'' c a a' e in
-      recorded_sync (Struct (shape t)) t.D t.to t.to_one (struct_sync (shape t) (words_sync, (lock_sync, (begun_sync, (pace_sync, tt)))))
+      recorded_sync (Struct (shape t)) t.D t.to t.to_one (struct_sync (shape t) (words_sync, (pace_sync, (search (sendable, crosses) depth 20, (lock_sync, (begun_sync, tt))))))
 
   pub room_sync : (ℓ : NamedLft) (G : RattleType) → IsSync G → IsSync (Room.the_row ℓ D O N G C Q R A g g' g'' c a a' e)
   room_sync ℓ G s = search (sendable, crosses, store_sync, script.the_sync) depth 20

@@ -7,7 +7,7 @@ use Rattle.rom_device.specs.Device.{ShownDevice, Leaves}
 use Rattle.rom_header.specs.Held.{Holds}
 use Rattle.rom_combine.specs.Session.{SessionImage}
 use Rattle.rom_store.specs.Closing.{HasLeftSince}
-use Rattle.rom_store.specs.Start.{HasStarted, Start, start_of}
+use Rattle.rom_store.specs.Start.{HasStarted, Start, device_start}
 
 -- each image of the one and then of the other has R
 pub leaves_both : {D : Type 0} (shown : ShownDevice D) (P Q R : List ℕ → Type 0) (a b c : D) → ((i : List ℕ) → P i → R i) → ((i : List ℕ) → Q i → R i) → Leaves shown P a b → Leaves shown Q b c → Leaves shown R a c
@@ -37,7 +37,7 @@ leaves_first shown start test faults P first now told same left = record {
 }
 
 -- what a stop left by a start it left by one that has started so
-pub leaves_until : {D : Type 0} (shown : ShownDevice D) (faults : ℕ) (P : List ℕ → Type 0) (was at first : D) → IsTrue shown.tells_images → HasStarted shown faults (start_of shown at) (shown.left_since at) first → Leaves shown P was at → Leaves shown P was first
+pub leaves_until : {D : Type 0} (shown : ShownDevice D) (faults : ℕ) (P : List ℕ → Type 0) (was at first : D) → IsTrue shown.tells_images → HasStarted shown faults (device_start shown at) (shown.left_since at) first → Leaves shown P was at → Leaves shown P was first
 leaves_until shown faults P was at first told same left = record {
   later = subst (λ (n : ℕ). shown.clock was ≤ n) (sym same.clock) left.later;
   nothing_else = λ t i le is. left.nothing_else t i le ((same.left told t i).1 is);

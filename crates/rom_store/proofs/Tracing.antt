@@ -15,7 +15,7 @@ use Rattle.rom_combine.specs.Session.{HoldsAfter}
 use Rattle.rom_rule.specs.declared.views.Base.{Base}
 use Rattle.rom_rule.specs.declared.views.Plan.{Plan}
 use Rattle.rom_store.specs.Held.{story_at}
-use Rattle.rom_store.specs.Traced.{ArePassesOn, HasCause, IsPassOn, MayMake, PassImage, WentThrough}
+use Rattle.rom_store.specs.Traced.{ArePassesOn, HasPassCause, IsPassOn, MayMake, PassImage, WentThrough}
 
 -- Where a history goes on, the states so far are the same.
 pub state_stays : {S : Type 0} (step : ℕ → S → ℕ → List ℕ → Option (S × List ℕ)) (b : Base) (s : S) (k : ℕ) (p q : Plan) (more : List Entry) → q.history ≡ p.history ++ more → (len : ℕ) → len ≤ length p.history
@@ -38,7 +38,7 @@ module _ {D S : Type 0} (shown : ShownDevice D) (Contents : ℕ → List ℕ →
       made_stays fate.Failed r reached i none = none
       made_stays fate.Doubt r reached i holds = subst (λ (y : S). let n = x.opening_count + r.len in let l = batch step x.order y n r.found in HoldsIn Contents x.order (after step x.order y n l) (n + length l) i) (same r.len reached) holds
 
-      cause_stays : (f : Fate) (at : Phase) (region : List ℕ) (was now : D) → HasCause shown Contents step x f at region was now → HasCause shown Contents step On f at region was now
+      cause_stays : (f : Fate) (at : Phase) (region : List ℕ) (was now : D) → HasPassCause shown Contents step x f at region was now → HasPassCause shown Contents step On f at region was now
       cause_stays fate.Published at region was now none = tt
       cause_stays fate.Failed at region was now why = why
       cause_stays fate.Doubt at region was now why = why

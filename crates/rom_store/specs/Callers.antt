@@ -33,13 +33,13 @@ module _ {S : Type 0} (Contents : ℕ → List ℕ → S → ℕ → Type 0) whe
     pub knows : (s : S) (k : ℕ) → Contents base.order base.image s k → KnowsEntries base.callers k p.view
 
   -- so, and the one at this place, which has the next number; callers are numbered from 1
-  pub record IsNumbered (table : TableId) (base : Base) (i : ℕ) (p : Caller) : Type 0 where
+  pub record IsNumberedCaller (table : TableId) (base : Base) (i : ℕ) (p : Caller) : Type 0 where
     pub of : IsCallerOf table base p
     pub number : p.view.number ≡ i + 1
 
   -- so, and it has seen and done nothing
   pub record IsNewCaller (table : TableId) (base : Base) (i : ℕ) (p : Caller) : Type 0 where
-    pub numbered : IsNumbered table base i p
+    pub numbered : IsNumberedCaller table base i p
     pub bare : p.view ≡ record (fresh_view base) { number = i + 1 }
 
   module _ (step : ℕ → S → ℕ → List ℕ → Option (S × List ℕ)) where

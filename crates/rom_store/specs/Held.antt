@@ -22,7 +22,7 @@ abbrev pub story_at : {S : Type 0} → Base → S → ℕ → Plan → Story S
 story_at base s k p = record { order = base.order; opening = s; opening_count = k; opening_faults = base.faults; history = p.history; records = records_of p; in_doubt = None }
 
 -- What the lock keeps of a store with this table, this opening and this start of its device; the test tells which images a stop at some moment since another one might have left by the start.
-pub record IsHeld {D S : Type 0} (shown : ShownDevice D) (Contents : ℕ → List ℕ → S → ℕ → Type 0) (step : ℕ → S → ℕ → List ℕ → Option (S × List ℕ)) (table : TableId) (base : Base) (start : Start) (test : ℕ → List ℕ → Type 0) (c : Locked D) : Type 0 where
+pub record IsBehindLock {D S : Type 0} (shown : ShownDevice D) (Contents : ℕ → List ℕ → S → ℕ → Type 0) (step : ℕ → S → ℕ → List ℕ → Option (S × List ℕ)) (table : TableId) (base : Base) (start : Start) (test : ℕ → List ℕ → Type 0) (c : Locked D) : Type 0 where
   pub table_is : c.table_id ≡ table
   pub base_is : c.view.base ≡ base
   pub order_is : c.twin.order ≡ base.order

@@ -6,7 +6,7 @@ use Rattle.rom_model.specs.declared.unfit.Unfit.{Unfit}
 use Rattle.rom_device.specs.Device.{IsSynced, Leaves, ShownDevice}
 use Rattle.rom_header.specs.Regions.{IsCurrentRegion}
 use Rattle.rom_recover.specs.Recovered.{IsDone, Mended}
-use Rattle.rom_open.specs.Calls.{Calls, HasFaults, is_late}
+use Rattle.rom_open.specs.Calls.{HasOpeningFaults, OpeningCalls, is_late}
 use Rattle.rom_open.specs.Refusals.{IsRefusal, NamesTooFew, named_order}
 use Rattle.rom_open.specs.Within.{WithinOpening}
 use Rattle.rom_open.specs.declared.reasons.Why.{Why}
@@ -52,6 +52,6 @@ pub record HasBeenRefused {D S : Type 0} (shown : ShownDevice D) (Contents : ℕ
   pub recovered : IsTrue shown.tells_words → IsTrue (is_late why) → IsDone (named_order (shown.words was)) (shown.words was) (shown.words now)
   pub certain : IsTrue (is_late why) → IsSynced shown now
   -- it was called as often as an opening calls it that ends so, which is no more than any does, and not after a call that failed
-  pub calls : IsTrue shown.tells_words → Calls {T = Unit {0}} shown (shown.words was) was now (Err why)
+  pub calls : IsTrue shown.tells_words → OpeningCalls {T = Unit {0}} shown (shown.words was) was now (Err why)
   pub within : WithinOpening shown was now
-  pub faults : HasFaults {T = Unit {0}} (Err why) (shown.faults was) (shown.faults now) (shown.failing now)
+  pub faults : HasOpeningFaults {T = Unit {0}} (Err why) (shown.faults was) (shown.faults now) (shown.failing now)

@@ -21,16 +21,16 @@ use Rattle.rom_store.specs.Closing.{ClosedSeen}
 use Rattle.rom_store.specs.Indexed.{Indexed}
 use Rattle.rom_store.specs.Openings.{HasBeenRefused}
 use Rattle.rom_store.specs.Sessions.{EachStory, HasStory, IsStoryOf}
-use Rattle.rom_store.specs.Start.{HasStarted, start_of}
+use Rattle.rom_store.specs.Start.{HasStarted, device_start}
 use Rattle.rom_store.specs.Traced.{WentThrough}
-use Rattle.rom_store.specs.Working.{IsRoom}
+use Rattle.rom_store.specs.Working.{HasReservedRoom}
 use Rattle.rom_store.specs.declared.playing.Unplayed.{Unplayed}
 use Rattle.rom_store.specs.declared.playing.Unplayed.TheVariants.{NoRoom, Unopened}
 
 -- For each script there are no results yet and room for one of each of its lines, and room for a job.
 pub record HasRooms {C Q T J : Type 0} (call_words : C → List ℕ) (scripts : List (Items (Step C Q))) (results : Vec (Reserved T)) (jobs : Vec J) : Type 0 where
   pub many : vec_len results ≡ length scripts
-  pub fits : Indexed (IsRoom call_words (map (λ v. v.items) scripts)) results.items
+  pub fits : Indexed (HasReservedRoom call_words (map (λ v. v.items) scripts)) results.items
   pub none : (jobs.items ≡ []) × (length scripts ≤ vec_capacity jobs)
 
 -- What is asked before scripts are played: the heap of this table is opened for as many callers as there are scripts, the callers are new, there is room for all results, and no script has more lines than a caller may post updates.
@@ -58,7 +58,7 @@ module _ {D S C Q R A : Type 0} (shown : ShownDevice D) (machine : Machine S C Q
 
   -- So, and it began with this opening, on this device, which no other call was made of in between: each image since then could be left before or is one of the session, and of the device's words only the state and the two regions differ.
   pub record IsPlayed (base : Base) (was : D) (closed : ClosedSeen D) : Type 0 where
-    pub session : IsSession (HasStarted shown base.faults (start_of shown was) (shown.left_since was)) closed
+    pub session : IsSession (HasStarted shown base.faults (device_start shown was) (shown.left_since was)) closed
     pub order : closed.session.order ≡ base.order
     pub image : closed.session.image ≡ base.image
     pub opening_faults : closed.session.faults ≡ base.faults

@@ -13,8 +13,8 @@ pub record Start : Type 0 where
 
 module _ {D : Type 0} (shown : ShownDevice D) where
   -- that of this device
-  abbrev pub start_of : D → Start
-  start_of device = record {
+  abbrev pub device_start : D → Start
+  device_start device = record {
     size = shown.size device;
     words = shown.words device;
     clock = shown.clock device;

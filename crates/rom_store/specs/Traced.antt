@@ -29,10 +29,10 @@ module _ {D S : Type 0} (shown : ShownDevice D) (Contents : ℕ → List ℕ →
   PassImage len r i = HoldsAfter Contents step story len [] i ⊎ MayMake r.fate r i
 
   -- Why a pass that began in this phase, on this region, and ended so failed, if it did: before COPYING was to be written, with no more writes and syncs than come before it; or at it.
-  abbrev pub HasCause : Fate → Phase → List ℕ → D → D → Type 0
-  HasCause Published phase region was now = Unit {0}
-  HasCause Failed phase region was now = FailsBeforeCommit shown phase story.order region was now × SpendsAtMost shown (writes_before_commit phase story.order (region_len story.order)) (syncs_before_commit phase) was now
-  HasCause Doubt phase region was now = FailsAtCommit shown phase story.order region was now
+  abbrev pub HasPassCause : Fate → Phase → List ℕ → D → D → Type 0
+  HasPassCause Published phase region was now = Unit {0}
+  HasPassCause Failed phase region was now = FailsBeforeCommit shown phase story.order region was now × SpendsAtMost shown (writes_before_commit phase story.order (region_len story.order)) (syncs_before_commit phase) was now
+  HasPassCause Doubt phase region was now = FailsAtCommit shown phase story.order region was now
 
   -- The pass of this record, which found the history at this length and the device so, and left it so.
   pub record IsPassOn (len : ℕ) (r : PassRecord) (was now : D) : Type 0 where
@@ -45,7 +45,7 @@ module _ {D S : Type 0} (shown : ShownDevice D) (Contents : ℕ → List ℕ →
     pub region : List ℕ
     pub began : BeginsIn shown phase story.order region was
     pub needed : NeedsRepair phase → Rose story.opening_faults (shown.faults was)
-    pub cause : HasCause r.fate phase region was now
+    pub cause : HasPassCause r.fate phase region was now
     -- nothing is read, and no more is called than one batch takes, with the repair before it where that phase needs one
     pub unread : shown.reads now ≡ shown.reads was
     pub most : SpendsAtMost shown (batch_writes phase story.order (region_len story.order)) (batch_syncs phase) was now

@@ -17,13 +17,13 @@ abbrev pub script_of : {X : Type 0} → List (List X) → ℕ → List X
 script_of scripts number = unwrap_or (slice_get scripts (number - 1)) []
 
 -- what a caller keeps that has seen nothing
-pub record IsFirst (v : Kept) : Type 0 where
+pub record HasSeenNothing (v : Kept) : Type 0 where
   pub seen : v.seen ≡ []
   pub fronts : v.fronts ≡ []
   pub told : v.told ≡ []
 
 -- No results stand at this place, and there is room for one of each line of its script.
-pub record IsRoom {C Q T : Type 0} (call_words : C → List ℕ) (scripts : List (List (Step C Q))) (i : ℕ) (results : Reserved T) : Type 0 where
+pub record HasReservedRoom {C Q T : Type 0} (call_words : C → List ℕ) (scripts : List (List (Step C Q))) (i : ℕ) (results : Reserved T) : Type 0 where
   pub none : results.items ≡ []
   pub fits : HasRoomFor call_words (script_of scripts (i + 1)) results
 
@@ -32,7 +32,7 @@ pub record HasNotBegun {S C Q T : Type 0} (Contents : ℕ → List ℕ → S →
   pub of : IsCallerOf Contents table base pass
   pub from_one : 0 < pass.view.number
   pub known : pass.view.number ≤ length scripts
-  pub first : IsFirst (kept_in pass)
+  pub first : HasSeenNothing (kept_in pass)
   pub none : results.items ≡ []
   pub fits : HasRoomFor call_words (script_of scripts pass.view.number) results
 

@@ -6,7 +6,7 @@ ghost use Rattle.rom_model.specs.Passes.{faults_after};
 ghost use Rattle.rom_combine.specs.Costs.{WithinHeap};
 ghost use Rattle.rom_combine.specs.Session.{ImageNow, SessionImage};
 ghost use Rattle.rom_lr.specs.Seats.{IsSameWriter, IsWriterOf, opened_with, steps_of, writer_view};
-ghost use Rattle.rom_store.specs.Callers.{IsCallerOf, IsNumbered};
+ghost use Rattle.rom_store.specs.Callers.{IsCallerOf, IsNumberedCaller};
 ghost use Rattle.rom_store.specs.Closing.{HasLeftSince, joined_of, kept_in};
 ghost use Rattle.rom_store.specs.Indexed.{Indexed};
 ghost use Rattle.rom_store.specs.Sessions.{EachStory, HasStory};
@@ -44,7 +44,7 @@ impl<D: Device, O: Object, N: Label> Store<D, O, N> {
     /// session. A note that is still out is of no use afterwards. It takes no memory. It does not wait, but
     /// takes `rt` as a closing that had to wait would.
     pub fn close<R: Wait>(self, _rt: &R, passes: Vec<Pass>) -> Closed<D, O>
-        requires passes { Indexed (IsNumbered O.Contents N.table N.base) passes.items }
+        requires passes { Indexed (IsNumberedCaller O.Contents N.table N.base) passes.items }
         requires all { length passes.items ≡ N.base.callers }
         ensures order { result.session.order ≡ N.base.order }
         ensures image { result.session.image ≡ N.base.image }
@@ -86,9 +86,10 @@ impl<D: Device, O: Object, N: Label> Store<D, O, N> {
     {
         let Store {
             shared,
+            pace: _,
+            apart: _,
             held,
             begun,
-            pace: _,
         } = self;
         let (twin, mut seat) = held.into_inner().into_core().into_parts();
         // What a caller knew and what the records told it must stand in one view, the writer's. So all

@@ -1,5 +1,7 @@
 //! A heap on a device that callers share: its opening, their reads and updates, and its closing.
 //!
+//! It knows callers, scripts and one heap on a device; it knows no object but by `Object`, and no text.
+//!
 //! [`open_store`] opens a heap for 1 to 16 callers, and [`Opening::start`] makes the [`Store`] that they
 //! share and a [`Pass`] for each. A caller reads by `query`, by `read`, which counts its steps, or by
 //! `enter`, `ask` and `leave`, without a lock; it updates by `update`, or by `update_words` where it has the
@@ -46,8 +48,9 @@ pub use playing_new::{Unmade, play_new};
 pub use reading::Reading;
 pub use rom_combine::{Gate, NoGate};
 pub use rom_lr::{Note, Steps};
-pub use rom_open::{NotFormatted, Opened, Refused, Why, format_device, open_device, write_heap};
-pub use rom_upgrade::upgrade_device;
+pub use rom_open::{
+    NotFormatted, Opened, Refused, Why, format_device, open_device, upgrade_device, write_heap,
+};
 pub use running::Played;
 pub use session::Session;
 pub use store::Store;

@@ -9,8 +9,8 @@ ghost use Rattle.rom_header.specs.Regions.{IsHeap};
 ghost use Rattle.rom_lr.specs.Opening.{dealt_view};
 ghost use Rattle.rom_lr.specs.Seats.{IsWriterOf, opened_with, writer_view};
 ghost use Rattle.rom_recover.specs.Recovered.{Mended};
-ghost use Rattle.rom_open.specs.AtRest.{IsAtRest};
-ghost use Rattle.rom_open.specs.Calls.{Calls};
+ghost use Rattle.rom_open.specs.AtRest.{IsHeapAtRest};
+ghost use Rattle.rom_open.specs.Calls.{OpeningCalls};
 ghost use Rattle.rom_open.specs.Refusals.{named_order};
 ghost use Rattle.rom_open.specs.Within.{CallsOfOrder, WithinOpening};
 ghost use Rattle.rom_combine.specs.AtRest.{IsReady};
@@ -20,7 +20,7 @@ ghost use Rattle.rom_rule.specs.Views.{base_of};
 ghost use Rattle.rom_store.specs.Callers.{IsNewCaller};
 ghost use Rattle.rom_store.specs.Indexed.{Indexed};
 ghost use Rattle.rom_store.specs.Openings.{HasBeenRefused};
-ghost use Rattle.rom_store.specs.Start.{start_of};
+ghost use Rattle.rom_store.specs.Start.{device_start};
 
 use crate::begun::Begun;
 use crate::held::Held;
@@ -116,7 +116,7 @@ impl<D: Device, O: Object> Opening<D, O> {
     pub fn start<N: Label>(self) -> (Store<D, O, N>, Vec<Pass>)
         requires table { N.table ≡ self.table_id }
         requires base { N.base ≡ base_of self.key }
-        requires started { N.start ≡ start_of D.shown self.device }
+        requires started { N.start ≡ device_start D.shown self.device }
         // What a stop might have left by now is the same by the label `N` as by the device.
         requires since { IsTrue D.shown.tells_images → (t : ℕ) (i : List ℕ) →
             (N.since t i → D.shown.left_since self.device t i)
@@ -134,9 +134,10 @@ impl<D: Device, O: Object> Opening<D, O> {
         (
             Store {
                 shared,
+                pace,
+                apart: [0; 8],
                 held,
                 begun,
-                pace,
             },
             passes,
         )
@@ -198,10 +199,10 @@ pub fn open_store<D: Device + Send, O: Object>(
 
     // The device is at rest: its state is IDLE, and both regions are the image.
     ensures rest { IsTrue D.shown.tells_words → IfOk result (λ o. let b = base_of o.key in
-        IsAtRest b.order b.image (D.shown.words o.device)) }
+        IsHeapAtRest b.order b.image (D.shown.words o.device)) }
     // The device was called exactly as an opening of these words calls it: under IDLE, no write and one sync.
     ensures calls { IsTrue D.shown.tells_words → IfOk result (λ o.
-        Calls {T = Unit {0}} D.shown (D.shown.words device) device o.device (Ok tt)) }
+        OpeningCalls {T = Unit {0}} D.shown (D.shown.words device) device o.device (Ok tt)) }
     // The device was called no more than one opening calls it, and under IDLE every word stays.
     ensures within { IfOk result (λ o. WithinOpening D.shown device o.device) }
     // Also where words are not told, the device was called no more than the longest opening of a heap of this

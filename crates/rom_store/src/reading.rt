@@ -12,7 +12,7 @@ ghost use Rattle.rom_rule.specs.Readers.{Stands};
 ghost use Rattle.rom_rule.specs.Views.{front_of, image_of, is_reading};
 ghost use Rattle.rom_rule.specs.declared.views.Position.TheVariants.{Out};
 ghost use Rattle.rom_store.specs.Callers.{IsCallerOf, IsReaderOf, IsSameCaller};
-ghost use Rattle.rom_store.specs.Reading.{HasCounted};
+ghost use Rattle.rom_store.specs.Reading.{HasCountedSteps};
 
 use crate::label::Label;
 use crate::pass::Pass;
@@ -79,7 +79,7 @@ impl<D: Device, O: Object, N: Label> Store<D, O, N> {
           steps = pass.new.view.steps;
         } }
         // The counter rises by the steps that the caller makes.
-        ensures counted { HasCounted pass.old.view pass.new.view steps.old steps.new }
+        ensures counted { HasCountedSteps pass.old.view pass.new.view steps.old steps.new }
         // The read makes at most five steps more than the query costs in that state.
         ensures most { (s : O.State) (k : ℕ) → O.Contents N.base.order N.base.image s k →
             steps.new ≤ steps.old + O.machine.cost N.base.order
@@ -203,7 +203,7 @@ impl<D: Device, O: Object, N: Label> Store<D, O, N> {
           steps = reading.new.view.steps;
         } }
         // The counter rises by the steps that the caller makes.
-        ensures counted { HasCounted reading.old.view reading.new.view steps.old steps.new }
+        ensures counted { HasCountedSteps reading.old.view reading.new.view steps.old steps.new }
         // The call makes at most one step more than the query costs in that state.
         ensures most { (s : O.State) (k : ℕ) → O.Contents N.base.order N.base.image s k →
             steps.new ≤ steps.old + O.machine.cost N.base.order
@@ -250,7 +250,7 @@ impl<D: Device, O: Object, N: Label> Store<D, O, N> {
             O.Contents v.base.order v.base.image s k →
             result.0 ≡ O.machine.tell (after (on_words O.machine) v.base.order s k v.seen)
             query.now }
-        ensures counted { HasCounted (view seat.old) (view seat.new) steps.old steps.new }
+        ensures counted { HasCountedSteps (view seat.old) (view seat.new) steps.old steps.new }
         ensures most { let v = view seat.old in (s : O.State) (k : ℕ) →
             O.Contents v.base.order v.base.image s k → steps.new ≤ steps.old + O.machine.cost
             v.base.order (after (on_words O.machine) v.base.order s k v.seen) query.now + 1 }

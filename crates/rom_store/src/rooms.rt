@@ -1,9 +1,9 @@
 //! Room for what callers are told, and who takes it to work.
 ghost use Rattle.std.specs.Prelude.{◌≡◌, ◌+◌, ◌≤◌, [], length, map, IfOk, vec_len, vec_capacity};
-ghost use Rattle.rom_store.specs.Callers.{IsNewCaller, IsNumbered};
+ghost use Rattle.rom_store.specs.Callers.{IsNewCaller, IsNumberedCaller};
 ghost use Rattle.rom_store.specs.Indexed.{Both, Indexed};
 ghost use Rattle.rom_store.specs.Playing.{HasRooms};
-ghost use Rattle.rom_store.specs.Working.{HasDone, IsNext, IsPast, IsRoom, script_of};
+ghost use Rattle.rom_store.specs.Working.{HasDone, HasReservedRoom, IsNext, IsPast, script_of};
 
 use crate::label::Label;
 use crate::pass::Pass;
@@ -22,7 +22,7 @@ pub(crate) struct Rooms<O: Object> {
 // Room for a result of each line.
 fn reserve<O: Object>(alloc: Global, scripts: &[Script<O>]) -> Result<Vec<Results<O>>, AllocError>
     ensures many { IfOk result (λ rooms. vec_len rooms ≡ length scripts.now) }
-    ensures rooms { IfOk result (λ rooms. Indexed (IsRoom O.machine.call_words
+    ensures rooms { IfOk result (λ rooms. Indexed (HasReservedRoom O.machine.call_words
         (map (λ v. v.items) scripts.now)) rooms.items) }
 {
     let mut rooms = Vec::with_capacity(alloc, scripts.len())?;
@@ -57,7 +57,7 @@ pub(crate) fn deal<O: Object, N: Label>(
     requires none { jobs.old.items ≡ [] }
     requires space { length scripts.now ≤ vec_capacity jobs.old }
     requires fresh { Indexed (IsNewCaller O.Contents N.table N.base) passes.old.items }
-    requires rooms { Indexed (IsRoom O.machine.call_words (map (λ v. v.items) scripts.now))
+    requires rooms { Indexed (HasReservedRoom O.machine.call_words (map (λ v. v.items) scripts.now))
         rooms.old.items }
     ensures many { vec_len jobs.new ≡ length scripts.now }
     ensures jobs { Indexed (λ j job. IsNext O.Contents O.machine.call_words N.table N.base
@@ -91,7 +91,7 @@ pub(crate) fn gather<O: Object, N: Label>(
     requires results { (results.old.items ≡ []) × (length scripts.now ≤ vec_capacity results.old) }
     ensures passes_many { length passes.new.items ≡ length scripts.now }
     ensures results_many { length results.new.items ≡ length scripts.now }
-    ensures passes { Indexed (IsNumbered O.Contents N.table N.base) passes.new.items }
+    ensures passes { Indexed (IsNumberedCaller O.Contents N.table N.base) passes.new.items }
     ensures done { Both (λ i pass told. HasDone O.machine O.Contents N.base pass
         (script_of (map (λ v. v.items) scripts.now) (i + 1)) told.items)
         passes.new.items results.new.items }

@@ -9,7 +9,7 @@ ghost use Rattle.rom_rule.specs.Views.{base_of};
 ghost use Rattle.rom_store.specs.Closing.{HasLeftSince};
 ghost use Rattle.rom_store.specs.Playing.{CanPlay, IsPlayed};
 ghost use Rattle.rom_store.specs.Sessions.{EachStory, HasStory};
-ghost use Rattle.rom_store.specs.Start.{HasStarted, start_of};
+ghost use Rattle.rom_store.specs.Start.{HasStarted, device_start};
 ghost use Rattle.rom_store.specs.Traced.{WentThrough};
 
 use crate::closed::Closed;
@@ -47,7 +47,7 @@ where
     O::Answer: Send + Sync,
     requires table { N.table ≡ opening.table_id }
     requires base { N.base ≡ base_of opening.key }
-    requires started { N.start ≡ start_of D.shown opening.device }
+    requires started { N.start ≡ device_start D.shown opening.device }
     requires since { IsTrue D.shown.tells_images → (t : ℕ) (i : List ℕ) →
         (N.since t i → D.shown.left_since opening.device t i)
         × (D.shown.left_since opening.device t i → N.since t i) }

@@ -16,9 +16,12 @@ use std::sync::Mutex;
 /// Updates are posted, and whoever has the lock does all that are posted in one batch.
 pub struct Store<D: Device, O: Object, N: Label> {
     pub(crate) shared: Shared<O>,
+    pub(crate) pace: Pace,
+    // Callers load the fields above at each step, and each look at the lock writes its word, with which `held`
+    // begins. Fields lie in the order in which they stand here today, so no cache line has both.
+    pub(crate) apart: [u64; 8],
     pub(crate) held: Mutex<Held<D, O, N>>,
     pub(crate) begun: Begun,
-    pub(crate) pace: Pace,
     ghost named: { shared.table.shared.table_id ≡ N.table },
     ghost based: { opened_with shared ≡ N.base },
     ghost ordered: { begun.order ≡ N.base.order },

@@ -6,6 +6,7 @@ ghost use Rattle.rom_model.specs.Lawful.{as_words};
 ghost use Rattle.rom_model.specs.Machine.{on_words};
 ghost use Rattle.rom_model.specs.Seen.{StartsWith, next_call};
 ghost use Rattle.rom_model.specs.declared.call.Updated.{Updated};
+ghost use Rattle.rom_model.specs.declared.words.TheConstants.{CALL_WORDS};
 ghost use Rattle.rom_lines.specs.Replies.{IsReplied, updated_as};
 ghost use Rattle.rom_lines.specs.declared.results.Became.{Became};
 ghost use Rattle.rom_lines.specs.declared.results.Undone.{Undone};
@@ -111,14 +112,13 @@ impl<D: Device, O: Object, N: Label> Store<D, O, N> {
         let mut words = Args::new();
         let mut told = Back::new();
         O::put_call_words(call, &mut words);
-        // An `Args` has room for no more.
-        prove!(words.len() <= 40);
         let became = self.update_words(rt, pass, words.as_slice(), &mut told, gate);
         updated_by::<O>(became, &told)
     }
 
-    /// As [`update`](Store::update), by the words of the call, at most 40, which may stand anywhere. It makes
-    /// `told` the words of the reply, whatever they were, and leaves none where the update was not done.
+    /// As [`update`](Store::update), by the words of the call, at most `CALL_WORDS`, which may stand anywhere.
+    /// It makes `told` the words of the reply, whatever they were, and leaves none where the update was not
+    /// done.
     pub fn update_words<R: Wait, G: Gate>(
         &self,
         rt: &R,
@@ -129,7 +129,7 @@ impl<D: Device, O: Object, N: Label> Store<D, O, N> {
     ) -> Became
         requires of { IsCallerOf O.Contents N.table N.base pass.old }
         requires call { IsSome (O.machine.words_call words.now) }
-        requires few { length words.now ≤ 40 }
+        requires few { length words.now ≤ CALL_WORDS }
         ensures of { IsCallerOf O.Contents N.table N.base pass.new }
         ensures same { IsSameCaller pass.old pass.new }
         // What the caller has now seen begins with all that it had seen.

@@ -7,7 +7,7 @@ ghost use Rattle.rom_lines.specs.Steps.{IsLine, need};
 ghost use Rattle.rom_store.specs.Callers.{IsCallerOf};
 ghost use Rattle.rom_store.specs.Closing.{kept_in};
 ghost use Rattle.rom_store.specs.Indexed.{Indexed};
-ghost use Rattle.rom_store.specs.Working.{HasDone, HasNotBegun, HasTaken, IsFirst, IsNext, IsPast, script_of};
+ghost use Rattle.rom_store.specs.Working.{HasDone, HasNotBegun, HasSeenNothing, HasTaken, IsNext, IsPast, script_of};
 
 use crate::label::Label;
 use crate::pass::Pass;
@@ -16,7 +16,7 @@ use rom_combine::Gate;
 use rom_device::Device;
 use rom_lines::{Line, Results, Script};
 use rom_lr::Steps;
-use rom_model::{Back, Object};
+use rom_model::{Back, MAX_CALLERS, Object};
 use std::marker::Brand;
 use std::sync::Wait;
 use std::sync::ledger::{Blank, Ledger};
@@ -86,7 +86,7 @@ fn take_lines<D: Device, O: Object, N: Label, R: Wait, G: Gate, L: Ledger>(
     requires of { IsCallerOf O.Contents N.table N.base pass.old }
     requires opened { (s : O.State) × (k : ℕ) × O.Contents N.base.order N.base.image s k }
     requires few { length script.now.items ≤ LAST_COUNT }
-    requires first { IsFirst (kept_in pass.old) }
+    requires first { HasSeenNothing (kept_in pass.old) }
     requires none { results.old.items ≡ [] }
     requires fits { HasRoomFor O.machine.call_words script.now.items results.old }
     ensures of { IsCallerOf O.Contents N.table N.base pass.new }
@@ -115,7 +115,7 @@ fn take_counted<D: Device, O: Object, N: Label, R: Wait, G: Gate, L: Ledger>(
     requires of { IsCallerOf O.Contents N.table N.base pass.old }
     requires opened { (s : O.State) × (k : ℕ) × O.Contents N.base.order N.base.image s k }
     requires few { length script.now.items ≤ LAST_COUNT }
-    requires first { IsFirst (kept_in pass.old) }
+    requires first { HasSeenNothing (kept_in pass.old) }
     requires none { results.old.items ≡ [] }
     requires fits { HasRoomFor O.machine.call_words script.now.items results.old }
     ensures of { IsCallerOf O.Contents N.table N.base pass.new }
@@ -180,7 +180,8 @@ where
         slice_get jobs.new i ≡ Some c → HasDone O.machine O.Contents N.base c.pass
         (script_of (map (λ v. v.items) room.now.scripts.now) a.pass.view.number) c.results.items }
 {
-    thread::for_each_mut(rt, jobs, 16, &|_, job| work(rt, room, job));
+    let most = MAX_CALLERS as usize;
+    thread::for_each_mut(rt, jobs, most, &|_, job| work(rt, room, job));
 }
 
 /// Has each caller work on its script, in a thread of its own where one can be made.

@@ -1,12 +1,12 @@
 -- Numbers within bounds, as words spell them.
-use Rattle.std.proofs.Common.{◌≡◌, ◌&&◌, cond, ℕ, ◌<◌, ◌≤◌, ◌^◌, List, Bool, true, false, Some, None, decimal, refl, sym, ap, ◌∙◌, arith}
+use Rattle.std.proofs.Common.{◌≡◌, ◌&&◌, cond, ℕ, ◌<◌, ◌≤◌, ◌^◌, List, length, Bool, true, false, Some, None, decimal, refl, sym, ap, ◌∙◌, arith}
 use Rattle.std.specs.Prelude.{nat_le}
 use Rattle.std.specs.Str.{bytes_eq}
 use Rattle.std.specs.Str.Parse.{digits_value}
 use Rattle.std.proofs.lemmas.Bool.{le-leb}
 use Rattle.std.proofs.lemmas.Bool.Decides.{nat_tests}
 use Rattle.std.proofs.lemmas.Slice.Eq.{bytes_eq-Decides}
-use Rattle.std.proofs.lemmas.Fmt.{digits_value-decimal}
+use Rattle.std.proofs.lemmas.Fmt.{digits_value-decimal, length-decimal-le}
 use Rattle.rom_text.specs.Phrases.{number_within}
 use Rattle.rom_text.proofs.Digits.{numerals}
 
@@ -33,3 +33,7 @@ number_outside least most word n small e out = go (tested least most word n) ref
     go : (b : Bool) → tested least most word n ≡ b → None ≡ number_within least most word
     go false t = sym (by_test least most word n false (value_of word n small e) t)
     go true t = absurd (out (grind (arith, nat_tests)))
+
+-- a number has at most twenty digits
+pub number_short : (n : ℕ) → n < 2 ^ 64 → length (decimal n) ≤ 20
+number_short n lt = length-decimal-le 20 n (omega arith) (omega (arith, lt)) lt

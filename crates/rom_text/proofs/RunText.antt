@@ -2,9 +2,10 @@
 use Rattle.std.specs.Prelude.{◌≡◌, ◌⊎◌, ℕ, ◌+◌, ◌<◌, ◌≤◌, List, [], ◌∷◌, ◌++◌, codes, decimal, length, take, drop, map, min, slice_get, Option, Some, None, IfSome}
 use Rattle.std.proofs.Common.{inl, inr, suc, refl, sym, ap, ◌∙◌, arith, append_assoc, append-nil, get_or, subst, take-append-drop}
 use Rattle.std.proofs.lemmas.List.{drop_more, flat_map_more, length-map, length-take, map-append, take_more}
-use Rattle.std.proofs.lemmas.Option.{get_or_from_slice_get, slice_get_cases, slice_get_within}
+use Rattle.std.proofs.lemmas.Option.{slice_get_cases}
 use Rattle.std.specs.List.{AllByRecursion, flat_map}
 use Rattle.rom_model.specs.declared.line.LineResult.{LineResult}
+use Rattle.rom_lines.proofs.Runs.{all_and_one, at_before}
 use Rattle.rom_text.specs.Text.{Texts, AreOfType, ResultFits, callers_text, line_text, results_text}
 
 -- the end of the text
@@ -55,11 +56,7 @@ module _ {R A : Type 0} (texts : Texts R A) where
     -- the numbers of one caller more are of their types
     pub one_of_type_more : AreOfType texts (map f (take i xs)) → AllByRecursion (ResultFits texts) (f (get_or xs i d)) → AreOfType texts (map f (take (i + 1) xs))
     one_of_type_more all own =
-        subst (λ ys. AreOfType texts ys) (sym (map-append f (take i xs) (get_or xs i d ∷ [])) ∙ ap (map f) (sym (take_more xs i d lt))) (and_one (map f (take i xs)) all)
-      where
-        and_one : (rows : List (List (LineResult R A))) → AreOfType texts rows → AreOfType texts (rows ++ f (get_or xs i d) ∷ [])
-        and_one [] every = (own, tt)
-        and_one (row ∷ rows) every = (every.0, and_one rows every.1)
+        subst (λ ys. AreOfType texts ys) (sym (map-append f (take i xs) (get_or xs i d ∷ [])) ∙ ap (map f) (sym (take_more xs i d lt))) (all_and_one (λ rs. AllByRecursion (ResultFits texts) rs) (map f (take i xs)) (f (get_or xs i d)) all own)
 
 -- what is told, and behind it a mark and digits up to the line's end
 pub placed : (told mark digits : List ℕ) → told ++ line_text (mark ++ digits) ≡ line_text (told ++ mark ++ digits)
@@ -87,20 +84,13 @@ found_at xs i lt = inside (slice_get_cases xs i).1
 
 -- Of a list with this element at the index i:
 module _ {X : Type 0} (xs : List X) (i : ℕ) (x : X) (at : slice_get xs i ≡ Some x) where
-  next_of : take (i + 1) xs ≡ take i xs ++ x ∷ []
-  next_of = take_more xs i x (slice_get_within xs i x at) ∙ ap (λ y. take i xs ++ y ∷ []) (get_or_from_slice_get xs i x x at)
-
   -- the text of the elements before it, and its own
   pub text_more : (f : X → List ℕ) → flat_map f (take i xs) ++ f x ≡ flat_map f (take (i + 1) xs)
-  text_more f = flat_map_more f [] (take i xs) x ∙ ap (flat_map f) (sym next_of)
+  text_more f = flat_map_more f [] (take i xs) x ∙ ap (flat_map f) (sym (at_before xs i x at))
 
   -- what holds of the elements before it, and of it
   pub all_more : (P : X → Type 0) → AllByRecursion P (take i xs) → P x → AllByRecursion P (take (i + 1) xs)
-  all_more P all own = subst (AllByRecursion P) (sym next_of) (and_one (take i xs) all)
-    where
-      and_one : (ys : List X) → AllByRecursion P ys → AllByRecursion P (ys ++ x ∷ [])
-      and_one [] every = (own, tt)
-      and_one (y ∷ ys) every = (every.0, and_one ys every.1)
+  all_more P all own = subst (AllByRecursion P) (sym (at_before xs i x at)) (all_and_one P (take i xs) x all own)
 
 -- a text, and then a space, a mark and digits, which are printed as pieces
 pub marked : (told : List ℕ) (mark : ℕ) (digits : List ℕ) → told ++ (32 ∷ mark ∷ (digits ++ [])) ≡ told ++ 32 ∷ mark ∷ [] ++ digits

@@ -5,11 +5,11 @@ use Rattle.std.proofs.lemmas.List.{take-append-le}
 use Rattle.std.specs.Io.KnownBytes.{Consumes}
 use Rattle.std.proofs.KnownBytes.{Consumes-trans}
 use Rattle.rom_model.specs.Faults.{counted}
-use Rattle.rom_text.specs.Streams.{Takes}
+use Rattle.rom_text.specs.Streams.{TakesBytes}
 
 -- a further read took these bytes
 pub takes_more : (Such : List ℕ → Type 0) (a b c : Option (List ℕ)) (bytes piece : List ℕ) →
-    Consumes a b bytes → Consumes b c piece → Such (bytes ++ piece) → Takes Such a c
+    Consumes a b bytes → Consumes b c piece → Such (bytes ++ piece) → TakesBytes Such a c
 takes_more Such a b c bytes piece so_far now such = record { bytes = bytes ++ piece; consumed = Consumes-trans a b c bytes piece so_far now; such = such }
 
 -- what was read stands at the front of a longer block

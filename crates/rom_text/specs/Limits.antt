@@ -6,7 +6,7 @@ use Rattle.rom_text.specs.declared.read.TheConstants.{MAX_BYTES, MAX_LINES}
 use Rattle.rom_text.specs.declared.read.ReadRefused.{ReadRefused}
 use Rattle.rom_text.specs.declared.read.ReadRefused.TheVariants.{Failed, TooLong}
 use Rattle.rom_text.specs.Lines.{lines_of}
-use Rattle.rom_text.specs.Streams.{ShownSource, IsAskedOnce, ReadFailed, Takes}
+use Rattle.rom_text.specs.Streams.{ShownSource, IsAskedOnce, ReadFailed, TakesBytes}
 
 -- the bytes are no more than a script may have
 abbrev pub IsWithinLimit : List ℕ → Type 0
@@ -41,13 +41,13 @@ module _ {S : Type 0} (shown : ShownSource S) where
 
   -- The first bytes that are too many were taken, some by each read.
   pub record HasTooManyBytes (old new : S) : Type 0 where
-    pub takes : Takes IsFirstTooMany (shown.left old) (shown.left new)
+    pub takes : TakesBytes IsFirstTooMany (shown.left old) (shown.left new)
     pub unbroken : shown.idle new ≡ shown.idle old
 
   -- All bytes were taken up to the end. They are no more than a script may have, but their lines are.
   pub record HasTooManyLines (old new : S) : Type 0 where
     pub ended : CameToEnd old new
-    pub takes : Takes (λ bytes. IsWithinLimit bytes × HasManyLines bytes) (shown.left old) (shown.left new)
+    pub takes : TakesBytes (λ bytes. IsWithinLimit bytes × HasManyLines bytes) (shown.left old) (shown.left new)
 
   -- a source has given more than a script may hold
   abbrev pub IsTooLong : S → S → Type 0
@@ -56,7 +56,7 @@ module _ {S : Type 0} (shown : ShownSource S) where
   -- A source failed before it had given more bytes than a script may have.
   pub record FailedEarly (old new : S) : Type 0 where
     pub cause : ReadFailed shown old new
-    pub takes : Takes IsWithinLimit (shown.left old) (shown.left new)
+    pub takes : TakesBytes IsWithinLimit (shown.left old) (shown.left new)
 
   -- How the reading of a source to its end ends, if this is what makes it too long. Each refusal has its cause, and no read follows one that gave no byte.
   pub record EndsUnless (IsTooMuch : S → S → Type 0) {T : Type 0} (old new : S) (result : Result T ReadRefused) : Type 0 where
@@ -64,7 +64,7 @@ module _ {S : Type 0} (shown : ShownSource S) where
     pub failed : result ≡ Err Failed → FailedEarly old new
     pub unfailed : result ≢ Err Failed → shown.faults new ≡ shown.faults old
     pub too_long : result ≡ Err TooLong → IsTooMuch old new
-    pub takes : Takes IsReadAtMost (shown.left old) (shown.left new)
+    pub takes : TakesBytes IsReadAtMost (shown.left old) (shown.left new)
     pub asked_once : IsAskedOnce shown old new
 
   -- of its bytes, whatever their lines are

@@ -2,8 +2,8 @@
 use Rattle.std.specs.Prelude.{◌≡◌, ℕ, ◌-◌, ◌==◌, List, [], ◌∷◌, length, take, map, decimal, slice_index, if◌then◌else◌, Option, Some, IfSome}
 use Rattle.rom_model.specs.declared.line.Step.{Step}
 use Rattle.rom_model.specs.declared.line.Step.TheVariants as step
-use Rattle.rom_text.specs.declared.lines.Asked.{Asked}
-use Rattle.rom_text.specs.declared.lines.Asked.TheVariants as asked
+use Rattle.rom_text.specs.declared.lines.Parsed.{Parsed}
+use Rattle.rom_text.specs.declared.lines.Parsed.TheVariants as asked
 use Rattle.rom_text.specs.Streams.{ShownSource}
 
 -- the byte goes onto the first piece
@@ -29,7 +29,7 @@ abbrev pub spaced : ℕ → List ℕ
 spaced n = 32 ∷ decimal n
 
 -- What is asked for is this step, where the words are those of its call.
-abbrev pub AsksFor : {C Q : Type 0} → (List ℕ → Option C) → List ℕ → Asked Q → Step C Q → Type 0
+abbrev pub AsksFor : {C Q : Type 0} → (List ℕ → Option C) → List ℕ → Parsed Q → Step C Q → Type 0
 AsksFor {C = C} words_call words asked.Update asks = (call : C) × (asks ≡ step.Update call) × (words_call words ≡ Some call)
 AsksFor words_call words (asked.Ask query) asks = asks ≡ step.Ask query
 AsksFor words_call words asked.Unread asks = asks ≡ step.Unread

@@ -15,8 +15,8 @@ abbrev pub piece_of : Bytes → ℕ
 piece_of b = b.piece
 
 -- the numbers of the reads that fail, counted from 1
-abbrev pub trips_of : Bytes → List ℕ
-trips_of b = b.trips.items
+abbrev pub failing_reads : Bytes → List ℕ
+failing_reads b = b.trips.items
 
 -- how many reads were made
 abbrev pub reads_of : Bytes → ℕ
@@ -24,7 +24,7 @@ reads_of b = b.reads
 
 -- whether a read of this number fails
 abbrev pub trips_at : Bytes → ℕ → Bool
-trips_at b read = list_any (λ trip. trip == read) (trips_of b)
+trips_at b read = list_any (λ trip. trip == read) (failing_reads b)
 
 -- bytes in memory as a source, which tells those that are left
 abbrev pub shown_bytes : ShownSource Bytes
@@ -40,7 +40,7 @@ pub record IsUnread (b : Bytes) : Type 0 where
 -- A read keeps the pieces and the trips, and is counted.
 pub record ReadsOn (old new : Bytes) : Type 0 where
   pub piece : piece_of new ≡ piece_of old
-  pub trips : trips_of new ≡ trips_of old
+  pub trips : failing_reads new ≡ failing_reads old
   pub reads : reads_of new ≡ counted (reads_of old)
 
 -- the bytes that were taken
@@ -48,8 +48,8 @@ abbrev pub bytes_taken : Collect → List ℕ
 bytes_taken c = c.bytes.items
 
 -- how many bytes it takes in all
-abbrev pub room_of : Collect → ℕ
-room_of c = c.room
+abbrev pub bytes_room : Collect → ℕ
+bytes_room c = c.room
 
 -- how many bytes a write takes at most
 abbrev pub write_piece_of : Collect → ℕ
@@ -67,4 +67,4 @@ pub record IsUnwritten (c : Collect) : Type 0 where
 
 -- a write keeps the room and the pieces
 abbrev pub KeepsRoom : Collect → Collect → Type 0
-KeepsRoom old new = (room_of new ≡ room_of old) × (write_piece_of new ≡ write_piece_of old)
+KeepsRoom old new = (bytes_room new ≡ bytes_room old) × (write_piece_of new ≡ write_piece_of old)

@@ -8,8 +8,8 @@ use Rattle.rom_text.specs.Text.{line_text}
 
 module _ {S : Type 0} (source : ShownSource S) where
   -- each source that tells its bytes has no more than a script may hold
-  abbrev pub AreWithin : List S → Type 0
-  AreWithin sources = AllByRecursion (λ s. IfSome (source.left s) FitsScript) sources
+  abbrev pub AreNotTooLong : List S → Type 0
+  AreNotTooLong sources = AllByRecursion (λ s. IfSome (source.left s) FitsScript) sources
 
   -- no byte is left in a source that tells its bytes
   abbrev pub AreAtEnd : List S → Type 0
@@ -26,22 +26,22 @@ module _ {S : Type 0} (source : ShownSource S) where
   pub record IsFirstToFail (script : ℕ) (was now : S) (before after : List S) : Type 0 where
     pub stood : slice_get before script ≡ Some was
     pub stands : slice_get after script ≡ Some now
-    pub others_fit : AreWithin (take script before)
+    pub others_fit : AreNotTooLong (take script before)
     pub others_read : AreAtEnd (take script after)
     pub others_left : drop (script + 1) after ≡ drop (script + 1) before
 
 module _ {O : Type 0} (sink : ShownSink O) where
   -- the text is written, and no write failed
-  abbrev pub IsWritten : O → O → List ℕ → Type 0
-  IsWritten old new text = Appends (sink.taken old) (sink.taken new) text × (sink.faults new ≡ sink.faults old)
+  abbrev pub IsWhollyWritten : O → O → List ℕ → Type 0
+  IsWhollyWritten old new text = Appends (sink.taken old) (sink.taken new) text × (sink.faults new ≡ sink.faults old)
 
   -- some of it is written, from its front, and then the last write failed, and no other
   abbrev pub IsCutShort : O → O → List ℕ → Type 0
   IsCutShort old new text = AppendsFront (sink.taken old) (sink.taken new) text × WriteFailed sink old new
 
   -- the line is printed, or cut short
-  abbrev pub IsTold : O → O → List ℕ → Type 0
-  IsTold old new line = IsWritten old new (line_text line) ⊎ IsCutShort old new (line_text line)
+  abbrev pub IsLineTold : O → O → List ℕ → Type 0
+  IsLineTold old new line = IsWhollyWritten old new (line_text line) ⊎ IsCutShort old new (line_text line)
 
 module _ {S O : Type 0} (source : ShownSource S) (sink : ShownSink O) where
   -- The first script that is refused has a source that failed, and the line names it.
@@ -51,7 +51,7 @@ module _ {S O : Type 0} (source : ShownSource S) (sink : ShownSink O) where
     pub now : S
     pub first : IsFirstToFail source script was now before after
     pub failed : FailedEarly source was now
-    pub told : IsTold sink old new (codes "script " ++ decimal (script + 1) ++ codes " failed")
+    pub told : IsLineTold sink old new (codes "script " ++ decimal (script + 1) ++ codes " failed")
 
   -- The first script that is refused is too long, and the line names it.
   pub record SourceTooLong (before after : List S) (old new : O) : Type 0 where
@@ -60,4 +60,4 @@ module _ {S O : Type 0} (source : ShownSource S) (sink : ShownSink O) where
     pub now : S
     pub first : IsFirstToFail source script was now before after
     pub too_long : IsTooLong source was now
-    pub told : IsTold sink old new (codes "script " ++ decimal (script + 1) ++ codes " too long")
+    pub told : IsLineTold sink old new (codes "script " ++ decimal (script + 1) ++ codes " too long")

@@ -30,7 +30,7 @@ is_idle (Ok n) = n == 0
 is_idle (Err e) = true
 
 -- such bytes were taken from a source
-pub record Takes (Such : List ℕ → Type 0) (old new : Option (List ℕ)) : Type 0 where
+pub record TakesBytes (Such : List ℕ → Type 0) (old new : Option (List ℕ)) : Type 0 where
   pub bytes : List ℕ
   pub consumed : Consumes old new bytes
   pub such : Such bytes

@@ -7,7 +7,7 @@ use Rattle.rom_model.specs.declared.line.LineResult.{LineResult}
 use Rattle.rom_model.specs.declared.line.LineResult.TheVariants as outcome
 
 -- What a type's values are printed as.
-pub record ShownTold (T : Type 0) : Type 1 where
+pub record ShownText (T : Type 0) : Type 1 where
   -- the text
   pub text : T → List ℕ
   -- the numbers are of their types
@@ -21,7 +21,7 @@ pub record Texts (R A : Type 0) : Type 1 where
   pub AnswerFits : A → Type 0
 
 -- those of two types that show how they are printed
-abbrev pub texts_of : {R A : Type 0} → ShownTold R → ShownTold A → Texts R A
+abbrev pub texts_of : {R A : Type 0} → ShownText R → ShownText A → Texts R A
 texts_of reply answer = record { reply = reply.text; answer = answer.text; ReplyFits = reply.Fits; AnswerFits = answer.Fits }
 
 -- each line ends with LF

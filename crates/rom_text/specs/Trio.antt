@@ -9,7 +9,7 @@ use Rattle.rom_model.specs.declared.call.SingleReply.{SingleReply}
 use Rattle.rom_model.specs.declared.call.SingleReply.TheVariants as reply
 use Rattle.rom_model.specs.declared.call.Answer.{Answer}
 use Rattle.rom_model.specs.declared.call.Answer.TheVariants as answer
-use Rattle.rom_text.specs.Text.{ShownTold}
+use Rattle.rom_text.specs.Text.{ShownText}
 
 -- the text of a reply to an update of one structure
 abbrev pub single_text : SingleReply → List ℕ
@@ -86,13 +86,13 @@ AnswerFits (answer.Total t) = t < 2 ^ 128
 AnswerFits (answer.Fresh c) = c < 2 ^ 64
 
 -- how a reply to an update of one structure is printed
-abbrev pub shown_single : ShownTold SingleReply
+abbrev pub shown_single : ShownText SingleReply
 shown_single = record { text = single_text; Fits = SingleFits }
 
 -- how a reply is printed
-abbrev pub shown_reply : ShownTold Reply
+abbrev pub shown_reply : ShownText Reply
 shown_reply = record { text = reply_text; Fits = ReplyFits }
 
 -- how an answer is printed
-abbrev pub shown_answer : ShownTold Answer
+abbrev pub shown_answer : ShownText Answer
 shown_answer = record { text = answer_text; Fits = AnswerFits }

@@ -4,8 +4,8 @@ ghost use Rattle.arrayvec.specs.ArrayVec.{array_vec_len};
 ghost use Rattle.rom_text.specs.Gathered.{Grown, Grown-prop, Hands};
 ghost use Rattle.rom_text.specs.Streams.{Prints};
 
+use crate::printing::Report;
 use crate::streams::{IoFailed, Sink};
-use crate::told::Report;
 use arrayvec::ArrayVec;
 use std::snapshot::Snapshot;
 

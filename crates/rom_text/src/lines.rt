@@ -15,7 +15,7 @@ use std::alloc::{AllocError, Global};
 
 /// What a line asks for, where the words of its call stand beside it.
 #[derive(Clone, Copy, Debug, PartialEq, Eq)]
-pub enum Asked<Q> {
+pub enum Parsed<Q> {
     Update,
     Ask(Q),
     /// The line is no command; it makes no call.
@@ -33,7 +33,7 @@ pub trait Lines<O: Object> {
 
     /// What a line asks for, as `read_line` does. It makes `words` those of the line's call, where it
     /// asks for one. A script is read by this, so that a language can do without a call of full width.
-    fn read_words(line: &[u8], words: &mut Args) -> Asked<O::Query>
+    fn read_words(line: &[u8], words: &mut Args) -> Parsed<O::Query>
         // What is answered, with the words that then stand in `words`, is a step that the line is read as.
         ensures reads { (step : Step O.Call O.Query)
             × AsksFor O.machine.words_call words.new result step × Reads line.now step }
@@ -41,10 +41,10 @@ pub trait Lines<O: Object> {
         match Self::read_line(line) {
             Step::Update(call) => {
                 O::put_call_words(&call, words);
-                Asked::Update
+                Parsed::Update
             }
-            Step::Ask(query) => Asked::Ask(query),
-            Step::Unread => Asked::Unread,
+            Step::Ask(query) => Parsed::Ask(query),
+            Step::Unread => Parsed::Unread,
         }
     }
 }
@@ -90,9 +90,9 @@ fn push_line<O: Object, L: Lines<O>>(
         × (lines.new.items ≡ lines.old.items ++ step ∷ [])) }
 {
     match L::read_words(line, words) {
-        Asked::Update => lines.push_words(words),
-        Asked::Ask(query) => lines.push_query(query),
-        Asked::Unread => lines.push_unread(),
+        Parsed::Update => lines.push_words(words),
+        Parsed::Ask(query) => lines.push_query(query),
+        Parsed::Unread => lines.push_unread(),
     }
 }
 
@@ -108,7 +108,10 @@ pub fn lines_in<O: Object, L: Lines<O>>(
     ensures too_long { result ≡ Err TooLong → HasManyLines bytes.now }
     ensures unfailed { result ≢ Err Failed }
 {
-    let mut lines = Script::new(alloc);
+    // Hardly a line has fewer than four bytes, so no line moves as others come. The words of a script of short
+    // numbers may move once.
+    let many = MAX_LINES.min(bytes.len() / 4);
+    let mut lines = Script::with_capacity(alloc, many, many)?;
     // All lines use the same words: a new list for each would be 328 bytes that are cleared.
     let mut words = Args::new();
     let mut start = 0;

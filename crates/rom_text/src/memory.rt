@@ -23,7 +23,7 @@ pub struct Bytes {
 
 impl Bytes {
     ghost use Rattle.std.specs.Prelude.{false};
-    ghost use Rattle.rom_text.specs.Memory.{IsUnread, bytes_left, piece_of, trips_of};
+    ghost use Rattle.rom_text.specs.Memory.{IsUnread, bytes_left, failing_reads, piece_of};
 
     /// A source that has this text left. Each read gives at most `piece` bytes, and the reads
     /// whose numbers, counted from 1, are among the trips fail.
@@ -31,7 +31,7 @@ impl Bytes {
         requires { 0 < piece }
         ensures left { bytes_left result ≡ content.items }
         ensures piece { piece_of result ≡ piece }
-        ensures trips { trips_of result ≡ trips.items }
+        ensures trips { failing_reads result ≡ trips.items }
         ensures counts { IsUnread result }
     {
         Bytes {
@@ -109,13 +109,13 @@ pub struct Collect {
 
 impl Collect {
     ghost use Rattle.std.specs.Prelude.{false};
-    ghost use Rattle.rom_text.specs.Memory.{IsUnwritten, bytes_taken, room_of, write_piece_of};
+    ghost use Rattle.rom_text.specs.Memory.{IsUnwritten, bytes_room, bytes_taken, write_piece_of};
 
     /// A sink that has taken nothing. It takes at most `piece` bytes at a time and `room` bytes in
     /// all; a write with no room left fails.
     pub fn with_room(alloc: Global, room: u64, piece: u64) -> Result<Collect, AllocError>
         requires { 0 < piece }
-        ensures room { IfOk result (λ c. room_of c ≡ room) }
+        ensures room { IfOk result (λ c. bytes_room c ≡ room) }
         ensures piece { IfOk result (λ c. write_piece_of c ≡ piece) }
         ensures unwritten { IfOk result IsUnwritten }
     {
@@ -132,7 +132,7 @@ impl Collect {
     /// The bytes taken.
     pub fn bytes(&self) -> &[u8]
         ensures bytes { result.now ≡ bytes_taken self.now }
-        ensures within { length result.now ≤ room_of self.now }
+        ensures within { length result.now ≤ bytes_room self.now }
     {
         &self.bytes
     }
@@ -141,7 +141,7 @@ impl Collect {
 impl Sink for Collect {
     ghost use Rattle.std.specs.Prelude.{IsErr, ◌↔◌};
     ghost use Rattle.std.specs.Io.KnownBytes.{WriteAppends};
-    ghost use Rattle.rom_text.specs.Memory.{KeepsRoom, bytes_taken, room_of, shown_collect, write_piece_of};
+    ghost use Rattle.rom_text.specs.Memory.{KeepsRoom, bytes_room, bytes_taken, shown_collect, write_piece_of};
     ghost use Rattle.rom_text.specs.Streams.{CountsWrite};
 
     ghost shown = { shown_collect };
@@ -155,7 +155,7 @@ impl Sink for Collect {
         ensures counts { CountsWrite shown_collect self.old self.new result }
 
         ensures room { KeepsRoom self.old self.new }
-        ensures fails { IsErr result ↔ (length (bytes_taken self.old) ≡ room_of self.old) }
+        ensures fails { IsErr result ↔ (length (bytes_taken self.old) ≡ bytes_room self.old) }
         ensures piece { IfOk result (λ n. n ≤ write_piece_of self.old) }
     {
         let free = self.room - self.bytes.len();

@@ -83,6 +83,7 @@ fn first_word(line: &[u8]) -> (&[u8], &[u8])
 
 /// The words of a line, or `None` where one behind the first is no number or there are more than
 /// three of these.
+#[inline(always)]
 pub fn read_phrase(line: &[u8]) -> Option<Phrase<'_>>
     // Where it is `Some`, the words of the line are the name, and then the numbers in digits.
     ensures words { IfSome result (λ p.

@@ -17,6 +17,10 @@ pub const MAX_LINES: usize = 1 << 17;
 /// How many bytes a read asks for, unless fewer may still come.
 const BLOCK: usize = 4096;
 
+/// How many bytes there is room for at once, also for a script of one line. A longer script moves three times at
+/// most as it grows, where one that began with no room would move nine times.
+const ROOM: usize = 1 << 18;
+
 /// Why a script was not read.
 #[derive(Clone, Copy, Debug, PartialEq, Eq)]
 pub enum ReadRefused {
@@ -58,7 +62,7 @@ pub fn read_bytes<S: Source>(alloc: Global, source: &mut S) -> Result<Vec<u8>, R
     // one byte too many is taken, and no read follows one that gave none.
     ensures ends { EndsReadingBytes S.shown source.old source.new result }
 {
-    let mut bytes = Vec::new(alloc);
+    let mut bytes = Vec::with_capacity(alloc, ROOM)?;
     let mut block = [0; BLOCK];
     while bytes.len() <= MAX_BYTES {
         // One byte past the greatest number tells that there are too many.

@@ -1,18 +1,18 @@
 //! Replies, printed from the words that stand for them.
 ghost use Rattle.std.specs.Prelude.{ℕ, ◌≤◌, List, length, IsSome, IfSome, OnOk};
-ghost use Rattle.rom_lines.specs.Steps.{REPLY_WORDS};
+ghost use Rattle.rom_model.specs.declared.words.TheConstants.{REPLY_WORDS};
 ghost use Rattle.rom_text.specs.Streams.{Prints};
-ghost use Rattle.rom_text.specs.Text.{ShownTold};
+ghost use Rattle.rom_text.specs.Text.{ShownText};
 
+use crate::printing::Print;
 use crate::streams::{IoFailed, Sink};
-use crate::told::Told;
 use rom_model::{Back, Object};
 
 /// How the replies of an object are printed, which results keep as words. `Whole` serves any object. One
 /// whose runs are to be quick has its own, which makes no reply of full width.
-pub trait Replies<O: Object> {
+pub trait PrintReplies<O: Object> {
     /// What a reply shows of itself: its text, and that its numbers are of their types.
-    ghost shown: { ShownTold O.Reply };
+    ghost shown: { ShownText O.Reply };
 
     /// Prints the reply that has these words, without a line's end. The words may go through `room`,
     /// whatever stood there. It takes no memory. After `IoFailed` the sink has taken some of the text, from
@@ -29,9 +29,9 @@ pub trait Replies<O: Object> {
 /// Replies that are read from their words, and then print themselves.
 pub struct Whole;
 
-impl<O: Object> Replies<O> for Whole
+impl<O: Object> PrintReplies<O> for Whole
 where
-    O::Reply: Told,
+    O::Reply: Print,
 {
     ghost shown = { O.Reply.shown };
 

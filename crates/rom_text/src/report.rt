@@ -4,32 +4,33 @@
 ghost use Rattle.std.specs.Prelude.{◌≡◌, ◌<◌, ◌≤◌, ◌++◌, codes, decimal, length, map, slice_get, IsSome, IfSome, OnOk};
 ghost use Rattle.std.specs.List.{AllByRecursion};
 ghost use Rattle.rom_lines.specs.Replies.{undone_as};
-ghost use Rattle.rom_lines.specs.Steps.{REPLY_WORDS};
+ghost use Rattle.rom_model.specs.declared.words.TheConstants.{REPLY_WORDS};
 ghost use Rattle.rom_model.specs.declared.call.Updated.TheVariants.{Done};
 ghost use Rattle.rom_text.specs.Streams.{Prints};
 ghost use Rattle.rom_text.specs.Text.{AreOfType, ResultFits, callers_text, line_text, read_text, result_text, results_text, text, texts_of, update_text};
 
 use crate::gathered::print_gathered;
-use crate::print::{print_pieces, print_text};
-use crate::replies::Replies;
+use crate::print::{print_between, print_pieces, print_text};
+use crate::printing::{Print, Report};
+use crate::replies::PrintReplies;
 use crate::streams::{IoFailed, Sink};
-use crate::told::{Report, Told};
 use itoa::Buffer;
-use rom_lines::{Results, Undone};
+use rom_lines::{Results, Told, Undone};
 use rom_model::{Back, Object};
 use std::marker::PhantomData;
 
 /// Prints a mark, a number and the line's end, behind what was told.
+#[inline(always)]
 fn print_place<S: Sink>(out: &mut S, mark: &str, number: u64) -> Result<(), IoFailed>
+    requires short { length mark.now ≤ 8 }
     ensures prints { Prints S.shown out.old out.new result (line_text (mark.now ++ decimal number)) }
 {
-    print_pieces(out, &[mark, Buffer::new().format(number)])?;
-    print_text(out, "\n")
+    print_between(out, mark, number, "\n")
 }
 
 /// Prints the line of an update that was done at a place, and told the reply whose words these are. They
 /// may go through `room`, whatever stood there.
-fn print_reply<O: Object, P: Replies<O>, S: Sink>(
+fn print_reply<O: Object, P: PrintReplies<O>, S: Sink>(
     out: &mut S,
     words: &[u64],
     place: u64,
@@ -47,7 +48,10 @@ fn print_reply<O: Object, P: Replies<O>, S: Sink>(
 }
 
 /// Prints the line of an update that was not done.
-fn print_undone<O: Object, P: Replies<O>, S: Sink>(out: &mut S, why: Undone) -> Result<(), IoFailed>
+fn print_undone<O: Object, P: PrintReplies<O>, S: Sink>(
+    out: &mut S,
+    why: Undone,
+) -> Result<(), IoFailed>
     ensures prints { Prints S.shown out.old out.new result
         (line_text (update_text P.shown.text (undone_as why))) }
 {
@@ -59,7 +63,7 @@ fn print_undone<O: Object, P: Replies<O>, S: Sink>(out: &mut S, why: Undone) -> 
 }
 
 /// Prints the line of an answer and its front.
-fn print_read<A: Told, S: Sink>(out: &mut S, answer: &A, front: u64) -> Result<(), IoFailed>
+fn print_read<A: Print, S: Sink>(out: &mut S, answer: &A, front: u64) -> Result<(), IoFailed>
     ensures prints { Prints S.shown out.old out.new result
         (line_text (read_text A.shown.text answer.now front)) }
     ensures fits { OnOk result (A.shown.Fits answer.now) }
@@ -70,14 +74,14 @@ fn print_read<A: Told, S: Sink>(out: &mut S, answer: &A, front: u64) -> Result<(
 
 /// Prints the line of what a line was told, by its index. The words of a reply
 /// may go through `room`, whatever stood there.
-fn print_line<O: Object, P: Replies<O>, S: Sink>(
+fn print_line<O: Object, P: PrintReplies<O>, S: Sink>(
     out: &mut S,
     results: &Results<O>,
     i: usize,
     room: &mut Back,
 ) -> Result<(), IoFailed>
 where
-    O::Answer: Told,
+    O::Answer: Print,
     requires { i < length results.now.items }
     ensures prints { IfSome (slice_get results.now.items i) (λ told.
         Prints S.shown out.old out.new result
@@ -86,20 +90,20 @@ where
         (ResultFits (texts_of P.shown O.Answer.shown))) }
 {
     match results.at(i) {
-        rom_lines::Told::Unread => print_text(out, "unread\n"),
-        rom_lines::Told::Done(words, place) => print_reply::<O, P, S>(out, words, place, room),
-        rom_lines::Told::Undone(why) => print_undone::<O, P, S>(out, why),
-        rom_lines::Told::Read(answer, front) => print_read(out, &answer, front),
+        Told::Unread => print_text(out, "unread\n"),
+        Told::Done(words, place) => print_reply::<O, P, S>(out, words, place, room),
+        Told::Undone(why) => print_undone::<O, P, S>(out, why),
+        Told::Read(answer, front) => print_read(out, answer, front),
     }
 }
 
 /// Prints the lines of one caller's results.
-fn print_results<O: Object, P: Replies<O>, S: Sink>(
+fn print_results<O: Object, P: PrintReplies<O>, S: Sink>(
     out: &mut S,
     results: &Results<O>,
 ) -> Result<(), IoFailed>
 where
-    O::Answer: Told,
+    O::Answer: Print,
     ensures prints { Prints S.shown out.old out.new result
         (results_text (texts_of P.shown O.Answer.shown) results.now.items) }
     ensures of_type { OnOk result
@@ -114,13 +118,13 @@ where
 }
 
 /// Prints a caller's number, and the lines of its results.
-fn print_caller<O: Object, P: Replies<O>, S: Sink>(
+fn print_caller<O: Object, P: PrintReplies<O>, S: Sink>(
     out: &mut S,
     caller: u64,
     results: &Results<O>,
 ) -> Result<(), IoFailed>
 where
-    O::Answer: Told,
+    O::Answer: Print,
     ensures prints { Prints S.shown out.old out.new result
         (line_text (codes "caller " ++ decimal caller)
         ++ results_text (texts_of P.shown O.Answer.shown) results.now.items) }
@@ -132,12 +136,12 @@ where
 }
 
 /// Prints the results of all callers.
-fn print_callers<O: Object, P: Replies<O>, S: Sink>(
+fn print_callers<O: Object, P: PrintReplies<O>, S: Sink>(
     out: &mut S,
     results: &[Results<O>],
 ) -> Result<(), IoFailed>
 where
-    O::Answer: Told,
+    O::Answer: Print,
     ensures prints { Prints S.shown out.old out.new result
         (callers_text (texts_of P.shown O.Answer.shown) 1 (map (λ v. v.items) results.now)) }
     ensures of_type { OnOk result (AreOfType (texts_of P.shown O.Answer.shown)
@@ -150,13 +154,13 @@ where
 }
 
 /// Prints the whole text, piece by piece.
-fn print_whole<O: Object, P: Replies<O>, S: Sink>(
+fn print_whole<O: Object, P: PrintReplies<O>, S: Sink>(
     out: &mut S,
     results: &[Results<O>],
     count: u64,
 ) -> Result<(), IoFailed>
 where
-    O::Answer: Told,
+    O::Answer: Print,
     ensures prints { Prints S.shown out.old out.new result
         (text (texts_of P.shown O.Answer.shown) (map (λ v. v.items) results.now) count) }
     ensures of_type { OnOk result (AreOfType (texts_of P.shown O.Answer.shown)
@@ -168,15 +172,15 @@ where
 
 /// The text of a run: the results of each caller in order, and the count at closing.
 #[derive(Drop)]
-struct RunText<'a, O: Object, P: Replies<O>> {
+struct RunText<'a, O: Object, P: PrintReplies<O>> {
     results: &'a [Results<O>],
     count: u64,
     replies: PhantomData<P>,
 }
 
-impl<O: Object, P: Replies<O>> Report for RunText<'_, O, P>
+impl<O: Object, P: PrintReplies<O>> Report for RunText<'_, O, P>
 where
-    O::Answer: Told,
+    O::Answer: Print,
 {
     ghost shown = { record {
       text = λ t. text (texts_of P.shown O.Answer.shown) (map (λ v. v.items) t.results.now) t.count;
@@ -191,13 +195,13 @@ where
 /// Prints the text of a run: the results of each caller in order, and the count at closing. It leaves
 /// in blocks of 4,096 bytes, and nothing of it waits after the call. It takes no memory. After
 /// `IoFailed` the sink has taken some of the text, from its front.
-pub fn print_run<O: Object, P: Replies<O>, S: Sink>(
+pub fn print_run<O: Object, P: PrintReplies<O>, S: Sink>(
     out: &mut S,
     results: &[Results<O>],
     count: u64,
 ) -> Result<(), IoFailed>
 where
-    O::Answer: Told,
+    O::Answer: Print,
     // After `Ok` the sink has taken the whole text, as far as it tells. After `IoFailed` it has taken a
     // first part, and its last write failed and no other.
     ensures prints { Prints S.shown out.old out.new result

@@ -5,36 +5,35 @@ ghost use Rattle.std.specs.List.{AllByRecursion, flat_map};
 ghost use Rattle.rom_text.specs.Streams.{Prints};
 ghost use Rattle.rom_text.specs.Trio.{SingleFits, all_text, next_text, shown_answer, shown_reply, shown_single};
 
-use crate::print::{print_pieces, print_text};
+use crate::print::{print_between, print_pieces, print_text};
+use crate::printing::Print;
 use crate::streams::{IoFailed, Sink};
-use crate::told::Told;
 use itoa::Buffer;
 use rom_model::{Answer, Kind, Reply, SingleReply};
 
-impl Told for SingleReply {
+impl Print for SingleReply {
     ghost shown = { shown_single };
 
     fn print<O: Sink>(&self, out: &mut O) -> Result<(), IoFailed> {
-        let mut digits = Buffer::new();
         match self {
             SingleReply::Queued => print_text(out, "queued"),
             SingleReply::Full => print_text(out, "full"),
-            SingleReply::Head(v) => print_pieces(out, &["head ", digits.format(*v)]),
+            SingleReply::Head(v) => print_between(out, "head ", *v, ""),
             SingleReply::Empty => print_text(out, "empty"),
             SingleReply::Added => print_text(out, "added"),
             SingleReply::Present => print_text(out, "present"),
             SingleReply::Removed => print_text(out, "removed"),
             SingleReply::Absent => print_text(out, "absent"),
             SingleReply::NoPrior => print_text(out, "none"),
-            SingleReply::Was(v) => print_pieces(out, &["was ", digits.format(*v)]),
+            SingleReply::Was(v) => print_between(out, "was ", *v, ""),
             SingleReply::Moved => print_text(out, "moved"),
-            SingleReply::Short(v) => print_pieces(out, &["short ", digits.format(*v)]),
+            SingleReply::Short(v) => print_between(out, "short ", *v, ""),
             SingleReply::Over => print_text(out, "over"),
         }
     }
 }
 
-impl Told for Reply {
+impl Print for Reply {
     ghost shown = { shown_reply };
 
     fn print<O: Sink>(&self, out: &mut O) -> Result<(), IoFailed> {
@@ -78,28 +77,28 @@ fn print_all<O: Sink>(out: &mut O, replies: &[SingleReply]) -> Result<(), IoFail
     print_listed(out, more)
 }
 
-impl Told for Answer {
+impl Print for Answer {
     ghost shown = { shown_answer };
 
     fn print<O: Sink>(&self, out: &mut O) -> Result<(), IoFailed> {
-        let mut digits = Buffer::new();
         match self {
             Answer::Yes => print_text(out, "yes"),
             Answer::No => print_text(out, "no"),
-            Answer::Value(v) => print_pieces(out, &["value ", digits.format(*v)]),
+            Answer::Value(v) => print_between(out, "value ", *v, ""),
             Answer::Missing => print_text(out, "none"),
-            Answer::Head(v) => print_pieces(out, &["head ", digits.format(*v)]),
+            Answer::Head(v) => print_between(out, "head ", *v, ""),
             Answer::Empty => print_text(out, "empty"),
             Answer::Sizes { queue, set, map } => {
+                let mut of_queue = Buffer::new();
                 let mut of_set = Buffer::new();
                 let mut of_map = Buffer::new();
-                let queue = digits.format(*queue);
+                let queue = of_queue.format(*queue);
                 let set = of_set.format(*set);
                 let map = of_map.format(*map);
                 print_pieces(out, &["queue ", queue, " set ", set, " map ", map])
             }
-            Answer::Total(t) => print_pieces(out, &["total ", digits.format(*t)]),
-            Answer::Fresh(c) => print_pieces(out, &["fresh ", digits.format(*c)]),
+            Answer::Total(t) => print_pieces(out, &["total ", Buffer::new().format(*t)]),
+            Answer::Fresh(c) => print_between(out, "fresh ", *c, ""),
         }
     }
 }

@@ -1,6 +1,7 @@
 //! Devices in memory: words that are kept, calls that fail, and what a stop leaves.
 
 use crate::devices::{Failing, Step, device, takes};
+use crate::right::right;
 use rom_device::CallKind::{Read, Sync, Write};
 use rom_device::{Device, Fuse, Memory, Ram};
 use std::alloc::Global;
@@ -174,6 +175,16 @@ fn used(alloc: Global, row: &Row) -> Result<Fuse<Memory>, Fail> {
     Ok(fuse)
 }
 
+/// Whether a row ends with its words and counts.
+fn does(alloc: Global, row: &Row) -> Result<bool, Fail> {
+    let fuse = used(alloc, row)?;
+    let (faults, alone, calls) = row.counts;
+    let counted = fuse.fault_count() == faults;
+    let memory = fuse.inner();
+    let counted = counted && memory.fault_count() == alone && memory.calls_made() == calls;
+    Ok(counted && memory.words() == row.words)
+}
+
 /// Calls of three words in memory that never fail.
 const READ_BACK: [Step; 5] = [
     Step::Write(1, u64::MAX, true),
@@ -186,12 +197,7 @@ const READ_BACK: [Step; 5] = [
 #[test]
 fn calls_are_done_or_fail(rt: HostRuntime) -> Result<(), Fail> {
     for (at, row) in ROWS.iter().enumerate() {
-        let fuse = used(rt.alloc(), row)?;
-        let faults = fuse.fault_count();
-        let memory = fuse.inner();
-        let counts = (faults, memory.fault_count(), memory.calls_made());
-        assert_eq!(rt; counts, row.counts, "at row {at}");
-        assert_eq!(rt; memory.words(), row.words, "at row {at}");
+        right("device", at, does(rt.alloc(), row)?)?;
     }
     takes(rt.alloc(), &mut Ram::zeroed(rt.alloc(), 3)?, &READ_BACK)
 }
@@ -207,9 +213,9 @@ fn a_crash_leaves_what_is_chosen(rt: HostRuntime) -> Result<(), Fail> {
         (&WRITTEN, &[5], &[13, 20, 30]),
         (&WRITTEN, &[], &[11, 20, 30]),
     ];
-    for (row, choice, left) in rows {
+    for (at, (row, choice, left)) in rows.iter().enumerate() {
         let memory = used(rt.alloc(), row)?.inner();
-        assert_eq!(rt; memory.crash(choice).as_slice(), left, "at {choice:?}");
+        right("crash", at, memory.crash(choice).as_slice() == *left)?;
     }
     Ok(())
 }

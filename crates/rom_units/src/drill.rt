@@ -1,5 +1,6 @@
 //! The scripts of drills, line by line, and their five lines.
 
+use crate::right::right;
 use crate::told::{Told, results_of, script_of};
 use rom_model::{Answer, Call, LineResult, Query, Reply, Updated};
 use rom_script::{
@@ -29,14 +30,14 @@ const SCRIPTS: [(u64, u64, u64, &[u8]); 3] = [
 
 #[test]
 fn scripts_follow_from_their_start(rt: HostRuntime) -> Result<(), Fail> {
-    for (start, caller, callers, lines) in SCRIPTS {
-        assert!(rt; 1 <= caller && caller <= callers && callers <= 16);
-        let script = drill_script(rt.alloc(), start, caller, callers, 4)?;
+    for (row, (start, caller, callers, lines)) in SCRIPTS.iter().enumerate() {
+        assert!(rt; 1 <= *caller && *caller <= *callers && *callers <= 16);
+        let script = drill_script(rt.alloc(), *start, *caller, *callers, 4)?;
         let mut source = Bytes::new(lines.to_vec(rt.alloc())?, 4096, Vec::new(rt.alloc()));
         let wanted = read_script(rt.alloc(), &mut source)?;
-        assert_eq!(rt; script.len() as u64, wanted.len(), "from {start}");
+        right("lines", row, script.len() as u64 == wanted.len())?;
         for i in 0..script.len() {
-            assert_eq!(rt; Some(script.whole(i)), wanted.at(i as u64), "from {start}");
+            right("line", i, Some(script.whole(i)) == wanted.at(i as u64))?;
         }
     }
     Ok(())
@@ -105,14 +106,14 @@ fn a_drill_has_five_lines(rt: HostRuntime) -> Result<(), Fail> {
         } else {
             Ok(())
         };
-        assert_eq!(rt; printed, wanted, "with room for {room}");
-        assert!(rt; out.bytes() == &FIVE_LINES[..room], "with room for {room}");
+        right("printed", room, printed == wanted)?;
+        right("bytes", room, out.bytes() == &FIVE_LINES[..room])?;
     }
     // What was not put in and what was not taken out is not summed.
     let scripts = [script_of(alloc, &LINES)?, script_of(alloc, &LINES)?];
     let results = [results_of(alloc, &RESULTS)?, results_of(alloc, &RESULTS)?];
     let twice = 36893488147419103230;
-    let sums = (sum_enqueued(&scripts, &results), sum_dequeued(&results));
-    assert_eq!(rt; sums, (twice, twice));
+    assert!(rt; sum_enqueued(&scripts, &results) == twice);
+    assert!(rt; sum_dequeued(&results) == twice);
     Ok(())
 }

@@ -2,6 +2,7 @@
 
 use crate::devices::{Step, takes};
 use crate::files::{device_over, zeroed};
+use crate::right::right;
 use rom_device::{Device, FileDevice};
 use std::fs;
 use std::fs::OpenOptions;
@@ -154,22 +155,32 @@ const ROWS: [(&str, Row); 5] = [
     ("read_only", READ_ONLY),
 ];
 
+/// A file of this name has the row's length and bytes in the end.
+fn keeps(rt: &HostRuntime, name: &str, row: &Row) -> Result<(), Fail> {
+    let path = zeroed(rt, name, row.bytes)?;
+    {
+        let mut device = device_over(rt, &path, row.written, row.told)?;
+        right(
+            "words of a file of",
+            row.bytes,
+            device.len() == row.told / 8,
+        )?;
+        takes(rt.alloc(), &mut device, row.steps)?;
+    }
+    let bytes = fs::read(rt, path.as_path())?;
+    right("bytes of a file of", row.bytes, bytes.len() == row.len)?;
+    for (at, part) in row.left {
+        let there = bytes.get(*at..at.saturating_add(8));
+        right("bytes at", *at, there == Some(part.as_slice()))?;
+    }
+    fs::remove_file(rt, path.as_path())?;
+    Ok(())
+}
+
 #[test]
 fn files_keep_their_words(rt: HostRuntime) -> Result<(), Fail> {
-    for (name, row) in ROWS {
-        let path = zeroed(&rt, name, row.bytes)?;
-        {
-            let mut device = device_over(&rt, &path, row.written, row.told)?;
-            assert_eq!(rt; device.len(), row.told / 8);
-            takes(rt.alloc(), &mut device, row.steps)?;
-        }
-        let bytes = fs::read(&rt, path.as_path())?;
-        assert_eq!(rt; bytes.len(), row.len);
-        for (at, part) in row.left {
-            let there = bytes.get(*at..at.saturating_add(8));
-            assert_eq!(rt; there, Some(part.as_slice()), "at {at}");
-        }
-        fs::remove_file(&rt, path.as_path())?;
+    for (name, row) in &ROWS {
+        keeps(&rt, name, row)?;
     }
     Ok(())
 }

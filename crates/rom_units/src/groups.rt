@@ -1,11 +1,13 @@
 //! Groups of updates: their words, and what they do on a heap of order 4.
 
 use crate::heap::apply_all;
+use crate::right::right;
 use rom_heap::Trio;
 use rom_model::{
     Args, Back, Call, Group, Replies, Reply, Single, SingleReply, call_words, new_region,
     reply_words, words_call, words_reply,
 };
+use std::alloc::Global;
 use std::test::Fail;
 
 /// Words that stand for no call.
@@ -37,39 +39,41 @@ const NO_REPLY: [&[u64]; 5] = [
 ];
 
 #[test]
-fn groups_and_their_replies_have_the_words_of_the_tables(rt: HostRuntime) {
+fn groups_and_their_replies_have_the_words_of_the_tables(rt: HostRuntime) -> Result<(), Fail> {
     let calls = [Single::Move(1, 2, 3); 9];
     for (many, fits) in [(0, false), (1, false), (2, true), (8, true), (9, false)] {
         let group = Group::of(&calls[..many.min(9)]);
-        assert_eq!(rt; group.is_some(), fits, "at {many}");
+        right("members", many, group.is_some() == fits)?;
     }
     let members = [Single::Deq, Single::Put(5, 6), Single::Rem(7)];
     let group = Group::of(&members).expect(&rt, "three members");
     let words = call_words(&Call::Group(group));
     assert!(rt; words.as_slice() == [8, 3, 2, 5, 5, 6, 4, 7].as_slice());
-    assert_eq!(rt; words_call(&words), Some(Call::Group(group)));
+    assert!(rt; words_call(&words) == Some(Call::Group(group)));
     // Eight members of four words each.
     let widest = Group::of(&calls[..8]).expect(&rt, "eight members");
-    assert_eq!(rt; call_words(&Call::Group(widest)).len(), 34);
+    assert!(rt; call_words(&Call::Group(widest)).len() == 34);
 
     let mut replies = Replies::new();
     replies.push(SingleReply::Was(9));
     replies.push(SingleReply::Moved);
     let words = reply_words(&Reply::All(replies));
     assert!(rt; words.as_slice() == [14, 2, 10, 9, 11].as_slice());
-    assert_eq!(rt; words_reply(&words), Some(Reply::All(replies)));
+    assert!(rt; words_reply(&words) == Some(Reply::All(replies)));
+    Ok(())
 }
 
 #[test]
-fn other_words_are_no_call_and_no_reply(rt: HostRuntime) {
-    for words in NO_CALL {
+fn other_words_are_no_call_and_no_reply(rt: HostRuntime) -> Result<(), Fail> {
+    for (row, words) in NO_CALL.iter().enumerate() {
         assert!(rt; words.len() <= 40);
-        assert_eq!(rt; words_call(&Args::of(words)), None, "at {words:?}");
+        right("call", row, words_call(&Args::of(words)).is_none())?;
     }
-    for words in NO_REPLY {
+    for (row, words) in NO_REPLY.iter().enumerate() {
         assert!(rt; words.len() <= 20);
-        assert_eq!(rt; words_reply(&Back::of(words)), None, "at {words:?}");
+        right("reply", row, words_reply(&Back::of(words)).is_none())?;
     }
+    Ok(())
 }
 
 /// How many values the queue has first, each of them 1; the members of a group; and what they are
@@ -163,24 +167,31 @@ const GROUPS: [(usize, &[Single], &[SingleReply]); 17] = [
     (7, &[Single::Enq(2); 8], &[SingleReply::Queued; 8]),
 ];
 
+/// Whether a group on a heap with so many values is told this.
+fn is_told(
+    alloc: Global,
+    many: usize,
+    members: &[Single],
+    wanted: &[SingleReply],
+) -> Result<bool, Fail> {
+    let group = Group::of(members).ok_or("not two to eight members")?;
+    let values = &[Single::Enq(1); 15][..many.min(15)];
+    let mut space = new_region::<Trio>(alloc, 4)?;
+    match apply_all(&mut space, values, &Call::Group(group)) {
+        Reply::All(replies) => Ok(replies.as_slice() == wanted),
+        told => {
+            // A call that is full changes the count alone, and so does a refused group.
+            let mut alone = new_region::<Trio>(alloc, 4)?;
+            apply_all(&mut alone, values, &Call::Rem(0));
+            Ok(told == Reply::Full && wanted.is_empty() && space.words() == alone.words())
+        }
+    }
+}
+
 #[test]
 fn groups_on_a_heap_with_so_many_values(rt: HostRuntime) -> Result<(), Fail> {
-    for (many, members, wanted) in GROUPS {
-        let group = Group::of(members).expect(&rt, "two to eight members");
-        let values = &[Single::Enq(1); 15][..many.min(15)];
-        let mut space = new_region::<Trio>(rt.alloc(), 4)?;
-        match apply_all(&mut space, values, &Call::Group(group)) {
-            Reply::All(replies) => {
-                assert!(rt; replies.as_slice() == wanted, "at {members:?}");
-            }
-            told => {
-                assert!(rt; told == Reply::Full && wanted.is_empty(), "at {members:?}");
-                // A call that is full changes the count alone, and so does a refused group.
-                let mut alone = new_region::<Trio>(rt.alloc(), 4)?;
-                apply_all(&mut alone, values, &Call::Rem(0));
-                assert!(rt; space.words() == alone.words(), "at {members:?}");
-            }
-        }
+    for (row, (many, members, wanted)) in GROUPS.iter().enumerate() {
+        right("group", row, is_told(rt.alloc(), *many, members, wanted)?)?;
     }
     Ok(())
 }

@@ -3,14 +3,25 @@
 use crate::devices::{AMPLE, Failing, device};
 use crate::files::{bytes_of, device_over, zeroed};
 use crate::regions::{FRESH, MAGIC, change, heap};
+use crate::right::right;
 use rom_device::CallKind::{Read, Sync, Write};
 use rom_header::{FormatRefused, HeaderRefused, State, read_header, write_new};
+use std::alloc::{AllocError, Global};
 use std::fs;
 use std::test::Fail;
 
 /// How many words there are, what they are, the first one, and calls that fail. Then whether a heap is
 /// made, and what the first word is. The magic is written by write 232, between syncs 2 and 3.
-const MADE: [(usize, u64, u64, &[Failing], Result<(), FormatRefused>, u64); 16] = [
+type Made = (
+    usize,
+    u64,
+    u64,
+    &'static [Failing],
+    Result<(), FormatRefused>,
+    u64,
+);
+
+const MADE: [Made; 16] = [
     (232, 0, 0, &[], Ok(()), MAGIC),
     (235, 0, 0, &[], Ok(()), MAGIC),
     (235, 7, 7, &[], Ok(()), MAGIC),
@@ -109,22 +120,26 @@ const MADE: [(usize, u64, u64, &[Failing], Result<(), FormatRefused>, u64); 16] 
     ),
 ];
 
+/// Whether a heap is made of a row, or refused, as it is wanted.
+fn is_none_or_whole(alloc: Global, row: &Made) -> Result<bool, AllocError> {
+    let (len, word, first, failing, want, left) = *row;
+    let mut words = vec![in alloc; word; len]?;
+    change(words.as_mut_slice(), &[(0, first)]);
+    let mut memory = device(alloc, words.as_slice(), AMPLE, failing)?;
+    let made = write_new(&mut memory, 4, &FRESH);
+    let word = memory.words().first().copied().unwrap_or(left);
+    if made.is_err() {
+        return Ok(made == want && word == left);
+    }
+    let behind = words.get(232..).unwrap_or(&[]);
+    let whole = heap(alloc, 0, &FRESH, &FRESH, behind)?;
+    Ok(made == want && word == left && memory.words() == whole.as_slice())
+}
+
 #[test]
 fn a_new_heap_is_none_or_whole(rt: HostRuntime) -> Result<(), Fail> {
-    let alloc = rt.alloc();
-    for (len, word, first, failing, want, left) in MADE {
-        let mut words = vec![in alloc; word; len]?;
-        change(words.as_mut_slice(), &[(0, first)]);
-        let mut memory = device(alloc, words.as_slice(), AMPLE, failing)?;
-        let made = write_new(&mut memory, 4, &FRESH);
-        assert_eq!(rt; made, want, "of {len}, {failing:?}");
-        let word = memory.words().first().copied().unwrap_or(left);
-        assert_eq!(rt; word, left, "of {len}, {failing:?}");
-        if made.is_ok() {
-            let behind = words.get(232..).unwrap_or(&[]);
-            let whole = heap(alloc, 0, &FRESH, &FRESH, behind)?;
-            assert_eq!(rt; memory.words(), whole.as_slice());
-        }
+    for (at, row) in MADE.iter().enumerate() {
+        right("a new heap", at, is_none_or_whole(rt.alloc(), row)?)?;
     }
     Ok(())
 }
@@ -134,9 +149,9 @@ fn a_file_becomes_a_heap(rt: HostRuntime) -> Result<(), Fail> {
     let path = zeroed(&rt, "header", 1856)?;
     {
         let mut device = device_over(&rt, &path, true, 1856)?;
-        assert_eq!(rt; write_new(&mut device, 4, &FRESH), Ok(()));
+        assert!(rt; write_new(&mut device, 4, &FRESH).is_ok());
         let header = read_header(&mut device).ok().ok_or("no header")?;
-        assert_eq!(rt; (header.geometry.order(), header.state), (4, State::Idle));
+        assert!(rt; header.geometry.order() == 4 && header.state == State::Idle);
     }
     let bytes = fs::read(&rt, path.as_path())?;
     let words = heap(rt.alloc(), 0, &FRESH, &FRESH, &[])?;
@@ -188,12 +203,11 @@ fn a_header_is_refused_by_its_first_wrong_word(rt: HostRuntime) -> Result<(), Fa
             Some(HeaderRefused::Device),
         ),
     ];
-    for (at, value, failing, want) in rows {
+    for (row, (at, value, failing, want)) in rows.iter().enumerate() {
         let mut words = heap(alloc, 0, &FRESH, &FRESH, &[])?;
-        change(words.as_mut_slice(), &[(at, value)]);
+        change(words.as_mut_slice(), &[(*at, *value)]);
         let mut memory = device(alloc, words.as_slice(), AMPLE, failing)?;
-        let refused = read_header(&mut memory).err();
-        assert_eq!(rt; refused, want, "at {at}, {value}, {failing:?}");
+        right("header", row, read_header(&mut memory).err() == *want)?;
     }
     Ok(())
 }

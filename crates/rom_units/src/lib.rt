@@ -1,5 +1,7 @@
 //! Tests of the lower layers, by what their crates show to all.
 //!
+//! It knows the public calls of single crates; it knows no heap that callers share.
+//!
 //! Contracts say what each call does. Here the definitions that they cite are held against words, bytes
 //! and lines that were worked out by hand, and each public call is made once with ample memory. Most
 //! tests are rows of data with one runner. No crate stands on this one, and the crates that it asks have
@@ -35,6 +37,8 @@ mod recover;
 mod regions;
 #[cfg(test)]
 mod renew;
+#[cfg(test)]
+mod right;
 #[cfg(test)]
 mod rule;
 #[cfg(test)]

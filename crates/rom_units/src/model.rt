@@ -1,7 +1,9 @@
 //! The words of calls and replies, buckets and sizes.
 
+use crate::right::right;
 use rom_heap::Trio;
 use rom_model::{Call, Object, Reply, blocks_at, bucket, power_of_two, region_len};
+use std::test::Fail;
 
 const CALLS: [(Call, &[u64]); 8] = [
     (Call::Enq(0), &[1, 0]),
@@ -31,28 +33,29 @@ const REPLIES: [(Reply, &[u64]); 13] = [
 ];
 
 #[test]
-fn calls_and_replies_have_the_words_of_the_tables(rt: HostRuntime) {
-    for (call, wanted) in CALLS {
-        let words = Trio::call_words(&call);
-        assert!(rt; words.as_slice() == wanted, "at {call:?}");
-        assert_eq!(rt; Trio::words_call(&words), Some(call));
+fn calls_and_replies_have_the_words_of_the_tables() -> Result<(), Fail> {
+    for (row, (call, wanted)) in CALLS.iter().enumerate() {
+        let words = Trio::call_words(call);
+        right("words", row, words.as_slice() == *wanted)?;
+        right("call", row, Trio::words_call(&words) == Some(*call))?;
     }
-    for (reply, wanted) in REPLIES {
-        let words = Trio::reply_words(&reply);
-        assert!(rt; words.as_slice() == wanted, "at {reply:?}");
-        assert_eq!(rt; Trio::words_reply(&words), Some(reply));
+    for (row, (reply, wanted)) in REPLIES.iter().enumerate() {
+        let words = Trio::reply_words(reply);
+        right("words of a reply", row, words.as_slice() == *wanted)?;
+        right("reply", row, Trio::words_reply(&words) == Some(*reply))?;
     }
+    Ok(())
 }
 
 #[test]
-fn keys_and_regions_have_the_numbers_of_the_tables(rt: HostRuntime) {
-    for (key, number) in [(0, 0), (1, 2), (2, 0), (3, 3), (4, 1), (5, 0)] {
-        assert_eq!(rt; bucket(4, key), number, "at {key}");
+fn keys_and_regions_have_the_numbers_of_the_tables(rt: HostRuntime) -> Result<(), Fail> {
+    for (key, number) in [0, 2, 0, 3, 1, 0].iter().enumerate() {
+        right("bucket", key, bucket(4, key as u64) == *number)?;
     }
     // The product of the greatest key and the factor is 2^64 less the factor: 0x61C8_8646...
-    assert_eq!(rt; bucket(4, u64::MAX), 1);
-    assert_eq!(rt; bucket(16, u64::MAX), 0x61C8 >> 2);
-    assert_eq!(rt; bucket(16, 1), 0x9E37 >> 2);
+    assert!(rt; bucket(4, u64::MAX) == 1);
+    assert!(rt; bucket(16, u64::MAX) == 0x61C8 >> 2);
+    assert!(rt; bucket(16, 1) == 0x9E37 >> 2);
     // The order, its units, the words of the region, and where the blocks begin.
     let rows = [
         (4, 16, 112, 48),
@@ -61,8 +64,13 @@ fn keys_and_regions_have_the_numbers_of_the_tables(rt: HostRuntime) {
         (16, 65_536, 393_232, 131_088),
     ];
     for (order, units, len, first) in rows {
-        let sizes = (power_of_two(order), region_len(order), blocks_at(order));
-        assert_eq!(rt; sizes, (units, len, first), "at {order}");
+        let sized = region_len(order) == len && blocks_at(order) == first;
+        right(
+            "order",
+            order as usize,
+            sized && power_of_two(order) == units,
+        )?;
     }
-    assert_eq!(rt; power_of_two(0), 1);
+    assert!(rt; power_of_two(0) == 1);
+    Ok(())
 }

@@ -3,13 +3,13 @@
 use crate::devices::{AMPLE, Failing, choice, device};
 use crate::files::{bytes_of, device_over, path};
 use crate::regions::{change, heap, region};
+use crate::right::right;
 use rom_device::CallKind::{Read, Sync, Write};
 use rom_device::{Device, Fuse, Resumed};
 use rom_header::{State, read_header};
 use rom_recover::{RecoverRefused, Recovered, recover};
 use std::alloc::{AllocError, Global};
 use std::fs;
-use std::process::Abort;
 use std::test::Fail;
 
 /// How many calls it takes to read the header.
@@ -72,15 +72,15 @@ fn recovered<D: Device>(device: &mut D) -> Option<Result<Recovered, RecoverRefus
 
 /// Stops recovery of these words after so many calls, and recovers what is left. Each word that may be
 /// one of several is that of the choice.
-fn recovers_once_stopped<R: Abort + AllocGlobal>(
-    rt: &R,
+fn recovers_once_stopped(
+    alloc: Global,
     row: &Row,
     words: &[u64],
     left: &[u64],
     calls: u64,
     kind: u64,
 ) -> Result<(), Fail> {
-    let mut fuse = Fuse::new(device(rt.alloc(), words, AMPLE, &[])?, calls);
+    let mut fuse = Fuse::new(device(alloc, words, AMPLE, &[])?, calls);
     let want = if calls < HEADER_CALLS {
         None
     } else if calls < row.calls {
@@ -88,15 +88,16 @@ fn recovers_once_stopped<R: Abort + AllocGlobal>(
     } else {
         Some(Ok(Recovered { found: row.found }))
     };
-    assert_eq!(rt; recovered(&mut fuse), want, "after {calls} calls");
+    right(
+        "stopped after calls",
+        calls as usize,
+        recovered(&mut fuse) == want,
+    )?;
     let stop = fuse.inner().crash(&choice(kind));
-    let mut memory = device(rt.alloc(), stop.as_slice(), AMPLE, &[])?;
+    let mut memory = device(alloc, stop.as_slice(), AMPLE, &[])?;
     let again = recovered(&mut memory).is_some_and(|again| again.is_ok());
-    assert!(rt;
-        again && memory.words() == left,
-        "after {calls} calls, {kind}"
-    );
-    Ok(())
+    let same = again && memory.words() == left;
+    right("recovered after calls", calls as usize, same)
 }
 
 #[test]
@@ -111,7 +112,7 @@ fn both_regions_become_the_one_that_counts(rt: HostRuntime) -> Result<(), Fail> 
         let words = among_others(alloc, row.state, &main, &back)?;
         for kind in 0..4 {
             for calls in 0..236 {
-                recovers_once_stopped(&rt, row, words.as_slice(), left.as_slice(), calls, kind)?;
+                recovers_once_stopped(alloc, row, words.as_slice(), left.as_slice(), calls, kind)?;
             }
         }
         // The same in a file, which is not stopped.
@@ -123,7 +124,7 @@ fn both_regions_become_the_one_that_counts(rt: HostRuntime) -> Result<(), Fail> 
         let found = row.found;
         {
             let mut device = device_over(&rt, &path, true, 1880)?;
-            assert_eq!(rt; recovered(&mut device), Some(Ok(Recovered { found })));
+            assert!(rt; recovered(&mut device) == Some(Ok(Recovered { found })));
         }
         let bytes = fs::read(&rt, path.as_path())?;
         assert!(rt; bytes.as_slice() == bytes_of(alloc, left.as_slice())?.as_slice());
@@ -144,32 +145,29 @@ const IN_DOUBT: [(u64, u64, bool, bool); 4] = [
 
 /// Stops recovery of words whose state is in doubt after so many calls, and recovers what is left: both
 /// regions are then the one that counted, or by the older state the one that it tells.
-fn loses_nothing<R: Abort + AllocGlobal>(
-    rt: &R,
+fn loses_nothing(
+    alloc: Global,
     words: &[u64],
     older: u64,
     left: (&[u64], &[u64]),
     calls: u64,
     kind: u64,
 ) -> Result<(), Fail> {
-    let memory = device(rt.alloc(), words, AMPLE, &[])?;
+    let memory = device(alloc, words, AMPLE, &[])?;
     let mut fuse = Fuse::new(
-        Resumed::new(memory, with_state(rt.alloc(), words, older)?),
+        Resumed::new(memory, with_state(alloc, words, older)?),
         calls,
     );
     let done = recovered(&mut fuse).is_some_and(|done| done.is_ok());
     let stop = fuse.inner().crash(&choice(kind / 2), &[kind % 2 == 0; 8]);
     // The older state is among what a stop leaves.
     let is_older = stop.as_slice().get(3) == Some(&older);
-    assert!(rt;
-        is_older || calls > 0 || kind % 2 == 1,
-        "after no call, {kind}"
-    );
-    let mut memory = device(rt.alloc(), stop.as_slice(), AMPLE, &[])?;
+    let older_stays = is_older || calls > 0 || kind % 2 == 1;
+    right("the older state, of kind", kind as usize, older_stays)?;
+    let mut memory = device(alloc, stop.as_slice(), AMPLE, &[])?;
     let again = recovered(&mut memory).is_some_and(|again| again.is_ok());
     let same = memory.words() == left.0 || !done && memory.words() == left.1;
-    assert!(rt; again && same, "after {calls} calls, {kind}");
-    Ok(())
+    right("in doubt after calls", calls as usize, again && same)
 }
 
 /// These words under another state.
@@ -194,7 +192,7 @@ fn a_state_in_doubt_loses_nothing(rt: HostRuntime) -> Result<(), Fail> {
         let left = (left.as_slice(), before.as_slice());
         for kind in 0..4 {
             for stop in 0..34 {
-                loses_nothing(&rt, words.as_slice(), *on_disk, left, 7 * stop, kind)?;
+                loses_nothing(alloc, words.as_slice(), *on_disk, left, 7 * stop, kind)?;
             }
         }
     }
@@ -206,7 +204,9 @@ type Changed = Option<&'static [(usize, u64)]>;
 
 /// Regions under a state, and a call that fails. Then why the heap is not recovered, the faults, and how
 /// many words of main are those of back by then. No other word is another.
-const REFUSED: [(u64, Changed, Changed, Failing, RecoverRefused, u64, usize); 12] = [
+type Refused = (u64, Changed, Changed, Failing, RecoverRefused, u64, usize);
+
+const REFUSED: [Refused; 12] = [
     (
         0,
         Some(&[(2, 5), (111, 6)]),
@@ -339,20 +339,25 @@ fn words_of(changed: Changed) -> [u64; 112] {
     }
 }
 
+/// Whether the heap of a row is refused so.
+fn is_refused(alloc: Global, row: &Refused) -> Result<bool, AllocError> {
+    let (state, main, back, failing, why, faults, copied) = *row;
+    let mut main = words_of(main);
+    let back = words_of(back);
+    let words = among_others(alloc, state, &main, &back)?;
+    let mut memory = device(alloc, words.as_slice(), AMPLE, &[failing])?;
+    let told = recovered(&mut memory) == Some(Err(why)) && memory.fault_count() == faults;
+    for (word, other) in main.iter_mut().zip(back.iter()).take(copied) {
+        *word = *other;
+    }
+    let left = among_others(alloc, state, &main, &back)?;
+    Ok(told && memory.words() == left.as_slice())
+}
+
 #[test]
 fn what_comes_first_is_answered(rt: HostRuntime) -> Result<(), Fail> {
-    for (state, main, back, failing, why, faults, copied) in REFUSED {
-        let mut main = words_of(main);
-        let back = words_of(back);
-        let words = among_others(rt.alloc(), state, &main, &back)?;
-        let mut memory = device(rt.alloc(), words.as_slice(), AMPLE, &[failing])?;
-        assert_eq!(rt; recovered(&mut memory), Some(Err(why)), "at {failing:?}");
-        assert_eq!(rt; memory.fault_count(), faults, "at {failing:?}");
-        for (word, other) in main.iter_mut().zip(back.iter()).take(copied) {
-            *word = *other;
-        }
-        let left = among_others(rt.alloc(), state, &main, &back)?;
-        assert_eq!(rt; memory.words(), left.as_slice(), "at {failing:?}");
+    for (at, row) in REFUSED.iter().enumerate() {
+        right("refused", at, is_refused(rt.alloc(), row)?)?;
     }
     Ok(())
 }

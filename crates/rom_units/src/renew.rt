@@ -7,6 +7,7 @@ ghost use Rattle.rom_model.specs.State.{State};
 ghost use Rattle.rom_model.specs.VecSpace.{words_of};
 
 use crate::regions::{FRESH, NEW_PAIRS, OLD, OLD_PAIRS, change, region};
+use crate::right::right;
 use rom_heap::Trio;
 use rom_model::{
     Call, Object, Renew, Unfit, VERSION, VecSpace, blocks_at, bucket, new_region, power_of_two,
@@ -39,14 +40,11 @@ fn regions_are_renewed_word_for_word(rt: HostRuntime) -> Result<(), Fail> {
         // Words of free blocks stay.
         (&[OLD, (60, 7), (111, 9)], &[(60, 7), (111, 9)]),
     ];
-    for (old, new) in rows {
+    for (row, (old, new)) in rows.iter().enumerate() {
         let renewed = renewed(alloc, region(false, old).to_vec(alloc)?, 4)?;
-        assert!(rt; renewed.is_some(), "at {old:?}");
         let words = region(false, new);
-        assert!(rt;
-            renewed.is_some_and(|found| found.as_slice() == words.as_slice()),
-            "at {old:?}"
-        );
+        let same = renewed.is_some_and(|found| found.as_slice() == words.as_slice());
+        right("renewed", row, same)?;
     }
     assert!(rt; renewed(alloc, FRESH.to_vec(alloc)?, 4)?.is_none());
     Ok(())
@@ -127,20 +125,19 @@ fn long_chains_and_a_full_heap_are_renewed(rt: HostRuntime) -> Result<(), Fail> 
     for (order, many, in_one_bucket) in [(4, 15, true), (9, 480, true), (16, 61_440, false)] {
         assert!(rt; 4 <= order && order <= 16);
         let keys = keys_of(alloc, order, many, in_one_bucket)?;
-        assert_eq!(rt; keys.len(), many, "at {order}");
+        right("keys at order", order as usize, keys.len() == many)?;
         let mut new = grown(alloc, order, &keys)?.words().to_vec(alloc)?;
         let old = aged(alloc, new.as_mut_slice(), order, &keys)?;
-        assert_eq!(rt; old.len() as u64, region_len(order), "at {order}");
-        assert_eq!(rt;
-            Trio::inspect(alloc, &old, order),
-            Err(Unfit::Old),
-            "at {order}"
-        );
+        assert!(rt; old.len() as u64 == region_len(order));
+        let told = Trio::inspect(alloc, &old, order);
+        right(
+            "inspected at order",
+            order as usize,
+            told == Err(Unfit::Old),
+        )?;
         let found = renewed(alloc, old, order)?;
-        assert!(rt;
-            found.is_some_and(|found| found.as_slice() == new.as_slice()),
-            "at {order}"
-        );
+        let same = found.is_some_and(|found| found.as_slice() == new.as_slice());
+        right("renewed at order", order as usize, same)?;
     }
     Ok(())
 }

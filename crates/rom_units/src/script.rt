@@ -1,5 +1,6 @@
 //! Lines that are read and lines that are not, where lines end, and scripts in pieces.
 
+use crate::right::right;
 use rom_model::{Call, Group, Query, Single};
 use rom_script::{Bytes, Line, ReadRefused, line_end, read_bytes, read_line, read_script};
 use std::test::Fail;
@@ -106,18 +107,19 @@ const GROUPS: [(&[u8], &[Single]); 3] = [
 ];
 
 #[test]
-fn lines_are_read_or_unread(rt: HostRuntime) {
-    for (line, wanted) in LINES {
-        assert_eq!(rt; read_line(line), wanted, "at {line:?}");
+fn lines_are_read_or_unread() -> Result<(), Fail> {
+    for (row, (line, wanted)) in LINES.iter().enumerate() {
+        right("line", row, read_line(line) == *wanted)?;
     }
-    for (line, members) in GROUPS {
-        let group = Group::of(members).expect(&rt, "two to eight members");
-        assert_eq!(rt;
-            read_line(line),
-            Line::Update(Call::Group(group)),
-            "at {line:?}"
-        );
+    for (row, (line, members)) in GROUPS.iter().enumerate() {
+        let group = Group::of(members).ok_or("not two to eight members")?;
+        right(
+            "group",
+            row,
+            read_line(line) == Line::Update(Call::Group(group)),
+        )?;
     }
+    Ok(())
 }
 
 /// Texts and their lines.
@@ -137,18 +139,28 @@ const ENDS: [(&[u8], &[&[u8]]); 13] = [
     (b"a\n\r", &[b"a", b""]),
 ];
 
-#[test]
-fn lines_end_at_lf_without_one_cr(rt: HostRuntime) {
-    for (text, lines) in ENDS {
-        let mut start = 0;
-        for line in lines {
-            assert!(rt; start < text.len() as u64, "at {text:?}");
-            let (end, next) = line_end(text, start);
-            assert!(rt; &text[start as usize..end as usize] == *line, "at {text:?}");
-            start = next;
+/// Whether these are the text's lines.
+fn ends(text: &[u8], lines: &[&[u8]]) -> bool {
+    let mut start = 0;
+    for line in lines {
+        if start >= text.len() as u64 {
+            return false;
         }
-        assert_eq!(rt; start, text.len() as u64, "at {text:?}");
+        let (end, next) = line_end(text, start);
+        if &text[start as usize..end as usize] != *line {
+            return false;
+        }
+        start = next;
     }
+    start == text.len() as u64
+}
+
+#[test]
+fn lines_end_at_lf_without_one_cr() -> Result<(), Fail> {
+    for (row, (text, lines)) in ENDS.iter().enumerate() {
+        right("text", row, ends(text, lines))?;
+    }
+    Ok(())
 }
 
 const SCRIPT: &[u8] = b"enq 7\r\n\ndeq\nPUT 1 1\npeek\r\r\ndeq \npeek";
@@ -170,19 +182,27 @@ fn scripts_are_read_in_pieces(rt: HostRuntime) -> Result<(), Fail> {
     for piece in [1, 3, 4096] {
         let mut source = Bytes::new(SCRIPT.to_vec(alloc)?, piece, Vec::new(alloc));
         let script = read_script(alloc, &mut source)?;
-        assert_eq!(rt; script.lines(), READ.as_slice(), "in pieces of {piece}");
-        assert_eq!(rt; (script.len(), script.at(6)), (7, Some(PEEK)));
+        right(
+            "in pieces of",
+            piece as usize,
+            script.lines() == READ.as_slice(),
+        )?;
+        assert!(rt; script.len() == 7 && script.at(6) == Some(PEEK));
     }
     // Of pieces of three bytes one read fails, counted from 1: twelve give the script, and one more tells
     // its end.
     for trip in 1..=13 {
         let mut source = Bytes::new(SCRIPT.to_vec(alloc)?, 3, [trip].to_vec(alloc)?);
-        let failed = read_script(alloc, &mut source);
-        assert!(rt; matches!(failed, Err(ReadRefused::Failed)), "at {trip}");
+        let failed = matches!(read_script(alloc, &mut source), Err(ReadRefused::Failed));
+        right("failing read", trip as usize, failed)?;
         // What came before the failure is gone, and the rest is still there.
         let rest = read_bytes(alloc, &mut source)?;
         let gone = 36.min(3 * (trip - 1)) as usize;
-        assert_eq!(rt; Some(rest.as_slice()), SCRIPT.get(gone..), "at {trip}");
+        right(
+            "rest",
+            trip as usize,
+            Some(rest.as_slice()) == SCRIPT.get(gone..),
+        )?;
     }
     Ok(())
 }
@@ -214,7 +234,7 @@ fn scripts_have_at_most_1048576_bytes_and_131072_lines(rt: HostRuntime) -> Resul
             Err(ReadRefused::TooLong) => Err(read_bytes(alloc, &mut source)?.len()),
             Err(_) => return Err("no script".into()),
         };
-        assert_eq!(rt; told, want, "of {many} bytes");
+        right("bytes", many, told == want)?;
     }
     Ok(())
 }

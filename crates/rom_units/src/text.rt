@@ -2,6 +2,7 @@
 ghost use Rattle.std.specs.Prelude.{◌<◌, None};
 
 use crate::files::path;
+use crate::right::right;
 use crate::told::{Told, results_of};
 use rom_heap::Trio;
 use rom_lines::Results;
@@ -12,7 +13,6 @@ use rom_script::{
 };
 use std::alloc::{AllocError, Global};
 use std::fs::File;
-use std::process::Abort;
 use std::test::Fail;
 use std::{env, fs};
 
@@ -100,36 +100,37 @@ const ANSWERS: [(Answer, u64, &str); 10] = [
     (Answer::Fresh(12), 30, "fresh 12 #30"),
 ];
 
-/// Asserts what is printed of an update.
-fn prints<R: Abort + AllocGlobal>(
-    rt: &R,
-    updated: &Updated<Reply>,
-    text: &str,
-) -> Result<(), Fail> {
-    let mut out = Collect::with_room(rt.alloc(), 1000, 2)?;
+/// Whether this is printed of an update.
+fn prints(alloc: Global, updated: &Updated<Reply>, text: &str) -> Result<bool, Fail> {
+    let mut out = Collect::with_room(alloc, 1000, 2)?;
     print_update(&mut out, updated)?;
-    assert!(rt; out.bytes() == text.as_bytes(), "at {text}");
-    Ok(())
+    Ok(out.bytes() == text.as_bytes())
+}
+
+/// What the members of a group are told, of which there are at most eight.
+fn replies_of(told: &[SingleReply]) -> Replies {
+    let mut replies = Replies::new();
+    for reply in told {
+        if replies.len() < 8 {
+            replies.push(*reply);
+        }
+    }
+    replies
 }
 
 #[test]
 fn replies_and_answers_have_their_texts(rt: HostRuntime) -> Result<(), Fail> {
-    for (updated, text) in UPDATES {
-        prints(&rt, &updated, text)?;
+    for (row, (updated, text)) in UPDATES.iter().enumerate() {
+        right("update", row, prints(rt.alloc(), updated, text)?)?;
     }
-    for (told, text) in GROUPS {
-        let mut replies = Replies::new();
-        for reply in told {
-            if replies.len() < 8 {
-                replies.push(*reply);
-            }
-        }
-        prints(&rt, &Updated::Done(Reply::All(replies), 7), text)?;
+    for (row, (told, text)) in GROUPS.iter().enumerate() {
+        let updated = Updated::Done(Reply::All(replies_of(told)), 7);
+        right("group", row, prints(rt.alloc(), &updated, text)?)?;
     }
-    for (answer, front, text) in ANSWERS {
+    for (row, (answer, front, text)) in ANSWERS.iter().enumerate() {
         let mut out = Collect::with_room(rt.alloc(), 1000, 2)?;
-        print_answer(&mut out, &answer, front)?;
-        assert!(rt; out.bytes() == text.as_bytes(), "at {text}");
+        print_answer(&mut out, answer, *front)?;
+        right("answer", row, out.bytes() == text.as_bytes())?;
     }
     let mut out = Collect::with_room(rt.alloc(), 1000, 2)?;
     print_number(&mut out, u128::MAX)?;
@@ -208,8 +209,8 @@ fn callers_of(alloc: Global, callers: &[&[Row]]) -> Result<Vec<Results<Trio>>, A
 }
 
 /// Prints a run to sinks that take so many bytes at a time, with room for each number of the text's bytes.
-fn prints_the_front<R: Abort + AllocGlobal>(
-    rt: &R,
+fn prints_the_front(
+    alloc: Global,
     results: &[Results<Trio>],
     count: u64,
     text: &[u8],
@@ -218,22 +219,20 @@ fn prints_the_front<R: Abort + AllocGlobal>(
     requires { 0 < piece }
 {
     for room in 0..=text.len() {
-        let mut out = Collect::with_room(rt.alloc(), room as u64, piece)?;
+        let mut out = Collect::with_room(alloc, room as u64, piece)?;
         let printed = print_run::<Trio, TrioLines, Collect>(&mut out, results, count).is_ok();
-        assert!(rt;
-            printed == (room == text.len()) && out.bytes() == &text[..room],
-            "with room for {room}"
-        );
+        let front = out.bytes() == &text[..room];
+        right("room", room, front && printed == (room == text.len()))?;
     }
     Ok(())
 }
 
 #[test]
 fn a_sink_without_room_has_the_front_of_the_text(rt: HostRuntime) -> Result<(), Fail> {
-    for (callers, count, text) in RUNS {
+    for (callers, count, text) in &RUNS {
         let results = callers_of(rt.alloc(), callers)?;
         for piece in [1, 5, 7, 4096] {
-            prints_the_front(&rt, &results, count, text.as_bytes(), piece)?;
+            prints_the_front(rt.alloc(), &results, *count, text.as_bytes(), piece)?;
         }
     }
     Ok(())
@@ -290,7 +289,7 @@ fn texts_of_runs_leave_in_whole_blocks(rt: HostRuntime) -> Result<(), Fail> {
         };
         let results = callers_of(alloc, &[unread.as_slice()])?;
         print_run::<Trio, TrioLines, Widths>(&mut out, &results, 5)?;
-        assert!(rt; out.widths.as_slice() == widths, "at {lines} lines");
+        right("lines", lines, out.widths.as_slice() == widths)?;
     }
     Ok(())
 }
@@ -308,13 +307,13 @@ fn files_are_sources_and_sinks(rt: HostRuntime) -> Result<(), Fail> {
     assert!(rt; bytes.as_slice() == FILLED_TEXT.as_bytes());
 
     // The file is open for reading alone.
-    assert_eq!(rt; print_text(&mut source, "x"), Err(IoFailed));
+    assert!(rt; print_text(&mut source, "x").is_err());
 
     let mut folder = Adapted::new(fs::open(&rt, env::temp_dir(&rt)?)?);
     assert!(rt; matches!(read_bytes(alloc, &mut folder), Err(ReadRefused::Failed)));
     let mut missing = Adapted::<File>::missing();
     let script = read_script(alloc, &mut missing);
     assert!(rt; matches!(script, Err(ReadRefused::Failed)));
-    assert_eq!(rt; print_text(&mut missing, "x"), Err(IoFailed));
+    assert!(rt; print_text(&mut missing, "x").is_err());
     Ok(())
 }

@@ -8,6 +8,7 @@ ghost use Rattle.rom_twin.specs.Seen.{committed};
 
 use crate::devices::{AMPLE, Failing, device};
 use crate::regions::heap;
+use crate::right::right;
 use rom_device::CallKind::{Sync, Write};
 use rom_device::{Device, Failed, Memory};
 use rom_header::{Geometry, write_new};
@@ -15,7 +16,6 @@ use rom_model::{Look, Space, VecSpace};
 use rom_ranges::Range;
 use rom_twin::{Phase, Twin};
 use std::alloc::{AllocError, Global};
-use std::process::Abort;
 use std::test::Fail;
 
 /// How many calls it takes to make the heap: a read, a write of each of its words, and 3 syncs.
@@ -96,16 +96,10 @@ fn mend<D: Device, M: Look>(twin: &mut Twin<D>, old: &mut M, new: &mut M) -> Res
     }
 }
 
-/// Asserts that the heap has this state, and both regions these words.
-fn holds<R: Abort + AllocGlobal>(
-    rt: &R,
-    device: &Memory,
-    state: u64,
-    region: &[u64],
-) -> Result<(), Fail> {
-    let want = heap(rt.alloc(), state, region, region, &BEHIND)?;
-    assert_eq!(rt; device.words(), want.as_slice());
-    Ok(())
+/// Whether the heap has this state, and both regions these words.
+fn holds(alloc: Global, device: &Memory, state: u64, region: &[u64]) -> Result<bool, AllocError> {
+    let want = heap(alloc, state, region, region, &BEHIND)?;
+    Ok(device.words() == want.as_slice())
 }
 
 #[test]
@@ -114,11 +108,12 @@ fn a_batch_makes_227_writes_and_4_syncs(rt: HostRuntime) -> Result<(), Fail> {
         panic!(rt; "no heap was made");
     };
     let mut image = VecSpace::of(vec![in rt.alloc(); 9u64; 112]?);
-    assert_eq!(rt; run_batch(&mut twin, &WHOLE, &mut image), Ok(()));
-    assert_eq!(rt; twin.phase(), Phase::Clean);
+    assert!(rt; run_batch(&mut twin, &WHOLE, &mut image).is_ok());
+    assert!(rt; twin.phase() == Phase::Clean);
     let device = twin.into_device();
-    assert_eq!(rt; device.calls_made(), MADE + 227 + 4);
-    holds(&rt, &device, 0, image.words())
+    assert!(rt; device.calls_made() == MADE + 227 + 4);
+    assert!(rt; holds(rt.alloc(), &device, 0, image.words())?);
+    Ok(())
 }
 
 #[test]
@@ -136,11 +131,12 @@ fn ranges_that_do_not_touch_are_written_alone(rt: HostRuntime) -> Result<(), Fai
             end: 112,
         },
     ];
-    assert_eq!(rt; run_batch(&mut twin, &ranges, &mut image), Ok(()));
+    assert!(rt; run_batch(&mut twin, &ranges, &mut image).is_ok());
     let device = twin.into_device();
     // Two words and one, to main and to back.
-    assert_eq!(rt; device.calls_made(), MADE + 3 + 6 + 4);
-    holds(&rt, &device, 0, image.words())
+    assert!(rt; device.calls_made() == MADE + 3 + 6 + 4);
+    assert!(rt; holds(rt.alloc(), &device, 0, image.words())?);
+    Ok(())
 }
 
 /// Calls that fail. The batch fails at the first, which leaves this phase; then a first repair, which may
@@ -149,7 +145,9 @@ fn ranges_that_do_not_touch_are_written_alone(rt: HostRuntime) -> Result<(), Fai
 ///
 /// The state is word 3, main is words 8 to 119, and back the same behind it. The making of the heap takes
 /// the first write of the state, 112 writes to each region, and 3 syncs.
-const FAULTS: [(&[Failing], Phase, bool, u64, u64); 13] = [
+type Fault = (&'static [Failing], Phase, bool, u64, u64);
+
+const FAULTS: [Fault; 13] = [
     (&[(Write, 3, 4, 2, false)], Phase::Undo, true, 0, 7),
     (&[(Sync, 0, 1, 4, false)], Phase::Undo, true, 0, 7),
     (&[(Write, 8, 120, 162, false)], Phase::Undo, true, 0, 7),
@@ -190,25 +188,31 @@ const FAULTS: [(&[Failing], Phase, bool, u64, u64); 13] = [
     ),
 ];
 
+/// Whether a row's fault leaves its phase, and is repaired.
+fn is_repaired(alloc: Global, row: &Fault) -> Result<bool, AllocError> {
+    let (failing, phase, repaired, state, word) = *row;
+    let Some(mut twin) = fresh_twin(alloc, failing)? else {
+        return Ok(false);
+    };
+    let mut old = VecSpace::of(vec![in alloc; 7u64; 112]?);
+    let mut new = VecSpace::of(vec![in alloc; 9u64; 112]?);
+    let failed = run_batch(&mut twin, &WHOLE, &mut new).is_err();
+    let mut well = failed && twin.phase() == phase;
+    // A repair that fails leaves the phase as it was.
+    let mended = mend(&mut twin, &mut old, &mut new).is_ok();
+    well = well && mended == repaired;
+    if !mended {
+        well = well && twin.phase() == phase;
+        well = mend(&mut twin, &mut old, &mut new).is_ok() && well;
+    }
+    well = well && twin.phase() == Phase::Clean;
+    Ok(well && holds(alloc, &twin.into_device(), state, &[word; 112])?)
+}
+
 #[test]
 fn a_fault_leaves_its_phase_and_is_repaired(rt: HostRuntime) -> Result<(), Fail> {
-    for (failing, phase, repaired, state, word) in FAULTS {
-        let Some(mut twin) = fresh_twin(rt.alloc(), failing)? else {
-            panic!(rt; "no heap was made");
-        };
-        let mut old = VecSpace::of(vec![in rt.alloc(); 7u64; 112]?);
-        let mut new = VecSpace::of(vec![in rt.alloc(); 9u64; 112]?);
-        let failed = run_batch(&mut twin, &WHOLE, &mut new).is_err();
-        assert_eq!(rt; (failed, twin.phase()), (true, phase), "at {failing:?}");
-        // A repair that fails leaves the phase as it was.
-        let mended = mend(&mut twin, &mut old, &mut new).is_ok();
-        assert_eq!(rt; mended, repaired, "at {failing:?}");
-        if !mended {
-            assert_eq!(rt; twin.phase(), phase, "at {failing:?}");
-            assert_eq!(rt; mend(&mut twin, &mut old, &mut new), Ok(()));
-        }
-        assert_eq!(rt; twin.phase(), Phase::Clean, "at {failing:?}");
-        holds(&rt, &twin.into_device(), state, &[word; 112])?;
+    for (at, row) in FAULTS.iter().enumerate() {
+        right("fault", at, is_repaired(rt.alloc(), row)?)?;
     }
     Ok(())
 }

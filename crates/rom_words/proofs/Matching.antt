@@ -8,8 +8,8 @@ use Rattle.std.proofs.lemmas.Slice.Eq.{bytes_eq-Decides}
 use Rattle.clap.specs.Walk.{Row, Text, all_of, nothing_held, walk_from}
 use Rattle.clap.specs.Simple.{Shape, subcommand_of}
 use Rattle.clap.specs.Takes.{takes}
-use Rattle.rom_words.specs.CommandLine.{HasValue, HasWords, command_line}
-use Rattle.rom_words.specs.Words.{Command, Try, Run, Format, Stat, Upgrade, Drill, are_scripts, both_of, command, command_of, drill_from, drill_of, file_alone, format_of, is_full, number_within, run_of, said, stat_of, try_of, upgrade_of}
+use Rattle.rom_words.specs.CommandLine.{HasNamedWords, HasValue, command_line}
+use Rattle.rom_words.specs.Words.{Command, Try, Run, Format, Stat, Upgrade, Drill, are_scripts, both_of, command, command_of, drill_from, drill_of, file_alone, format_of, has_bytes, number_within, run_of, said, stat_of, try_of, upgrade_of}
 use Rattle.rom_words.specs.Words as spec
 use Rattle.rom_words.proofs.Many.{Later, Then, later_ends, later_option, later_plain, then_ends, then_option, then_plain}
 use Rattle.rom_words.proofs.One.{Each, IsFirst, IsOption, One, one_begins, one_ends, one_option, one_plain, said_as, Want}
@@ -23,7 +23,7 @@ pub record Matches (c : Command) (words : List Text) : Type 0 where
   pub takes : takes command_line words ≡ true
   pub rows : List Row
   pub its : option_map (λ p. p.1) (subcommand_of command_line words) ≡ Some rows
-  pub has : HasWords c rows
+  pub has : HasNamedWords c rows
 
 nothing_rests : (s : Shape) → Rests s nothing_held []
 nothing_rests s = record { rows_are = refl; settles = refl }
@@ -32,7 +32,7 @@ nothing_rests s = record { rows_are = refl; settles = refl }
 
 -- a command of this name that takes a file alone
 file_found : (name : Text) (c : Command) (words : List Text) (f : Text) → HasSub command_line name (leaf name) → IsFirst (leaf name) (its_rule name 0) f →
-    ((rows : List Row) → all_of (its_rule name 0).id rows ≡ Some (f ∷ []) → HasWords c rows) → said words None ≡ Some (record { plain = f ∷ []; options = [] }) → Matches c (name ∷ words)
+    ((rows : List Row) → all_of (its_rule name 0).id rows ≡ Some (f ∷ []) → HasNamedWords c rows) → said words None ≡ Some (record { plain = f ∷ []; options = [] }) → Matches c (name ∷ words)
 file_found name c words f has first gives e =
     let s = leaf name in
     let p = its_rule name 0 in
@@ -66,7 +66,7 @@ format_found words f v n e is =
 -- the options of a drill, in this order
 drill_in_order : (words : List Text) (f a b : Text) (x y : Want) (start callers calls : ℕ) → said words None ≡ Some (record { plain = f ∷ []; options = said_as x ∷ said_as y ∷ [] }) →
     Each (IsOption (leaf (codes "drill")) (its_rule (codes "drill") 0) f) (x ∷ y ∷ []) → bytes_eq x.0.id y.0.id ≡ false →
-    ((rows : List Row) → HasValue rows (codes "START") f → HasValue rows x.0.id x.1 → HasValue rows y.0.id y.1 → HasWords (Drill start callers calls) rows) →
+    ((rows : List Row) → HasValue rows (codes "START") f → HasValue rows x.0.id x.1 → HasValue rows y.0.id y.1 → HasNamedWords (Drill start callers calls) rows) →
     Matches (Drill start callers calls) (codes "drill" ∷ words)
 drill_in_order words f a b x y start callers calls e options apart gives =
     let s = leaf (codes "drill") in
@@ -103,7 +103,7 @@ two_of false b c e = cc
 
 few_scripts : (words : List Text) → are_scripts words ≡ true → (1 ≤ length words) × (length words ≤ 16)
 few_scripts words e =
-    let two = two_of (nat_lt 0 (length words)) (nat_lt (length words) 17) (list_all is_full words) e in
+    let two = two_of (nat_lt 0 (length words)) (nat_lt (length words) 17) (list_all has_bytes words) e in
     (grind (arith, nat_tests, two.0), grind (arith, nat_tests, two.1))
 
 try_found : (words scripts : List Text) → said words None ≡ Some (record { plain = scripts; options = [] }) → 1 ≤ length scripts → length scripts ≤ 16 →
@@ -168,7 +168,7 @@ from_run : (words plain : List Text) (options : List (Text × Text)) (c : Comman
     Matches c (codes "run" ∷ words)
 from_run words [] options c e is = cc
 from_run words (f ∷ fs) (o ∷ os) c e is = cc
-from_run words (f ∷ fs) [] c e is = go (is_full f) (are_scripts fs) refl is
+from_run words (f ∷ fs) [] c e is = go (has_bytes f) (are_scripts fs) refl is
   where
     go : (a b : Bool) → are_scripts fs ≡ b → cond (a && b) (Some (Run f fs)) None ≡ Some c → Matches c (codes "run" ∷ words)
     go false b t is = cc
@@ -181,7 +181,7 @@ from_format words [] options c e is = cc
 from_format words (f ∷ g ∷ gs) options c e is = cc
 from_format words (f ∷ []) [] c e is = cc
 from_format words (f ∷ []) (o ∷ p ∷ ps) c e is = cc
-from_format words (f ∷ []) (o ∷ []) c e is = go (is_full f) (bytes_eq o.0 (codes "order")) (number_within 4 16 o.1) refl refl is
+from_format words (f ∷ []) (o ∷ []) c e is = go (has_bytes f) (bytes_eq o.0 (codes "order")) (number_within 4 16 o.1) refl refl is
   where
     go : (a b : Bool) (n : Option ℕ) → bytes_eq o.0 (codes "order") ≡ b → number_within 4 16 o.1 ≡ n → cond (a && b) (option_map (Format f) n) None ≡ Some c → Matches c (codes "format" ∷ words)
     go false b n t m is = cc
@@ -198,7 +198,7 @@ from_file : (make : Text → Command) (name : Text) (words plain : List Text) (o
 from_file make name words [] options c found e is = cc
 from_file make name words (f ∷ g ∷ gs) options c found e is = cc
 from_file make name words (f ∷ []) (o ∷ os) c found e is = cc
-from_file make name words (f ∷ []) [] c found e is = go (is_full f) is
+from_file make name words (f ∷ []) [] c found e is = go (has_bytes f) is
   where
     go : (a : Bool) → option_map make (cond a (Some f) None) ≡ Some c → Matches c (name ∷ words)
     go false is = cc

@@ -9,7 +9,7 @@ use Rattle.std.proofs.lemmas.Bool.{lt-ltb}
 use Rattle.std.proofs.lemmas.Bool.Decides.{nat_tests}
 use Rattle.rom_words.specs.declared.said.Said.{Said}
 use Rattle.rom_words.specs.Wanted.{sort_at, texts, told}
-use Rattle.rom_words.specs.Words.{begins_with_dash, said, said_by, with_plain, with_option, Command, Run, Stat, Upgrade, Drill, are_scripts, both_of, command, command_of, drill_from, drill_of, file_alone, format_of, is_full, number_within, run_of, try_of}
+use Rattle.rom_words.specs.Words.{begins_with_dash, said, said_by, with_plain, with_option, Command, Run, Stat, Upgrade, Drill, are_scripts, both_of, command, command_of, drill_from, drill_of, file_alone, format_of, has_bytes, number_within, run_of, try_of}
 use Rattle.rom_words.specs.Words as spec
 
 -- what stands before, and then what is said
@@ -132,13 +132,13 @@ scripts_many words many = go (nat_lt (length words) 17) refl
   where
     go : (b : Bool) → nat_lt (length words) 17 ≡ b → are_scripts words ≡ false
     go true e = absurd (grind (arith, nat_tests))
-    go false e = ap (λ b. nat_lt 0 (length words) && b && list_all is_full words) e ∙ not_and (nat_lt 0 (length words)) (list_all is_full words)
+    go false e = ap (λ b. nat_lt 0 (length words) && b && list_all has_bytes words) e ∙ not_and (nat_lt 0 (length words)) (list_all has_bytes words)
 
 -- 1 to 16 words name scripts where none is empty
-pub scripts_few : (words : List (Bor (List ℕ))) → 0 < length words → length words ≤ 16 → list_all (λ w. is_full w.now) words ≡ are_scripts (texts words)
+pub scripts_few : (words : List (Bor (List ℕ))) → 0 < length words → length words ≤ 16 → list_all (λ w. has_bytes w.now) words ≡ are_scripts (texts words)
 scripts_few words some few =
     let len : length (texts words) ≡ length words = length-map words (λ w. w.now) in
-    sym (rw (lt-ltb 0 (length (texts words)) (omega (arith, len, some)), lt-ltb (length (texts words)) 17 (omega (arith, len, few))) (list_all-map is_full (λ w. w.now) words))
+    sym (rw (lt-ltb 0 (length (texts words)) (omega (arith, len, some)), lt-ltb (length (texts words)) 17 (omega (arith, len, few))) (list_all-map has_bytes (λ w. w.now) words))
 
 -- more plain words or more options than any command has
 abbrev pub IsTooMuch : List (List ℕ) → List (List ℕ × List ℕ) → Type 0
@@ -152,7 +152,7 @@ try_none plain [] (inr h) = absurd (omega (arith, h))
 run_none : (plain : List (List ℕ)) (options : List (List ℕ × List ℕ)) → IsTooMuch plain options → run_of plain options ≡ None
 run_none [] options h = refl
 run_none (f ∷ fs) (o ∷ os) h = refl
-run_none (f ∷ fs) [] (inl h) = go (is_full f)
+run_none (f ∷ fs) [] (inl h) = go (has_bytes f)
   where
     go : (b : Bool) → cond (b && are_scripts fs) (Some (Run f fs)) None ≡ None
     go true = rw (scripts_many fs (omega (arith, h)))

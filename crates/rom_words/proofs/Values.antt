@@ -8,7 +8,7 @@ use Rattle.clap.specs.declared.parser.matches.Found.{Found}
 use Rattle.clap.proofs.WalkLemmas.{first_value-rows, raw_values-rows}
 use Rattle.rom_words.specs.CommandLine.{HasAsked, HasNumber, HasValue, values_at}
 use Rattle.rom_words.specs.Wanted.{named}
-use Rattle.rom_words.specs.declared.words.Asked.{Asked}
+use Rattle.rom_words.specs.declared.words.CommandAsked.{CommandAsked}
 use Rattle.rom_words.specs.Words.{number_within}
 
 pub is_there : {X : Type 0} (o : Option X) (x : X) → o ≡ Some x → IsSome o
@@ -35,5 +35,5 @@ pub values_all : (f : Found) (id : Text) (vs : List Text) → all_of id (rows_of
 values_all f id vs e = raw_values-rows f id ∙ e
 
 -- what is asked for, where it is known which command it is
-pub asked_for : (f : Found) (a b : Asked) → a ≡ b → HasAsked (named (Some a)) (rows_of f) → HasAsked (named (Some b)) (rows_of f)
+pub asked_for : (f : Found) (a b : CommandAsked) → a ≡ b → HasAsked (named (Some a)) (rows_of f) → HasAsked (named (Some b)) (rows_of f)
 asked_for f a b e has = subst (λ a. HasAsked (named (Some a)) (rows_of f)) e has

@@ -47,19 +47,19 @@ abbrev pub HasNumber : List Row → Text → ℕ → ℕ → ℕ → Type 0
 HasNumber rows id least most n = (text : Text) × HasValue rows id text × (number_within least most text ≡ Some n)
 
 -- the matches have what the command names
-abbrev pub HasWords : Command → List Row → Type 0
-HasWords (Try scripts) rows = all_of (codes "SCRIPT") rows ≡ Some scripts
-HasWords (Run file scripts) rows = HasValue rows (codes "FILE") file × (all_of (codes "SCRIPT") rows ≡ Some scripts)
-HasWords (Format file order) rows = HasValue rows (codes "FILE") file × HasNumber rows (codes "order") 4 16 order
-HasWords (Stat file) rows = HasValue rows (codes "FILE") file
-HasWords (Upgrade file) rows = HasValue rows (codes "FILE") file
-HasWords (Drill start callers calls) rows =
+abbrev pub HasNamedWords : Command → List Row → Type 0
+HasNamedWords (Try scripts) rows = all_of (codes "SCRIPT") rows ≡ Some scripts
+HasNamedWords (Run file scripts) rows = HasValue rows (codes "FILE") file × (all_of (codes "SCRIPT") rows ≡ Some scripts)
+HasNamedWords (Format file order) rows = HasValue rows (codes "FILE") file × HasNumber rows (codes "order") 4 16 order
+HasNamedWords (Stat file) rows = HasValue rows (codes "FILE") file
+HasNamedWords (Upgrade file) rows = HasValue rows (codes "FILE") file
+HasNamedWords (Drill start callers calls) rows =
     HasNumber rows (codes "START") 0 18446744073709551615 start × HasNumber rows (codes "callers") 1 16 callers × HasNumber rows (codes "calls") 1 10000 calls
 
 -- there are matches, and they have what the command names
 abbrev pub MatchesHave : Command → Option (List Row) → Type 0
 MatchesHave c None = ⊥
-MatchesHave c (Some rows) = HasWords c rows
+MatchesHave c (Some rows) = HasNamedWords c rows
 
 -- the matches of an argument, as text
 abbrev pub values_at : Found → Text → Option (List Text)
@@ -68,4 +68,4 @@ values_at f id = option_map raw_values (matched_of f id)
 -- the matches have what is asked for
 abbrev pub HasAsked : Option Command → List Row → Type 0
 HasAsked None rows = ⊥
-HasAsked (Some c) rows = HasWords c rows
+HasAsked (Some c) rows = HasNamedWords c rows

@@ -3,8 +3,8 @@ use Rattle.std.specs.Prelude.{Bool, if◌then◌else◌, ◌≡◌, ◌<◌, ◌
 use Rattle.std.specs.Borrow.{Bor}
 use Rattle.rom_model.specs.Blocks.{IsOrder}
 use Rattle.rom_header.specs.Layout.{words_needed}
-use Rattle.rom_words.specs.declared.words.Asked.{Asked}
-use Rattle.rom_words.specs.declared.words.Asked.TheVariants as asked
+use Rattle.rom_words.specs.declared.words.CommandAsked.{CommandAsked}
+use Rattle.rom_words.specs.declared.words.CommandAsked.TheVariants as asked
 use Rattle.rom_text.specs.declared.wanted.DeviceWant.{DeviceWant}
 use Rattle.rom_text.specs.declared.wanted.DeviceWant.TheVariants.{Nothing, Fresh, Old, Made}
 use Rattle.rom_words.specs.declared.words.Matched.{Matched}
@@ -36,7 +36,7 @@ abbrev pub told : Said → spec.Said
 told s = record { plain = texts s.plain.items; options = map (λ o. (o.0.now, o.1.now)) s.options.items }
 
 -- the command that was read, if one was
-abbrev pub named : Option Asked → Option Command
+abbrev pub named : Option CommandAsked → Option Command
 named (Some (asked.Try scripts)) = Some (Try (texts scripts.items))
 named (Some (asked.Run file scripts)) = Some (Run file.now (texts scripts.items))
 named (Some (asked.Format file order)) = Some (Format file.now order)
@@ -46,13 +46,13 @@ named (Some (asked.Drill start callers calls)) = Some (Drill start callers calls
 named None = None
 
 -- the command whose names and numbers were found
-abbrev pub given : Matched → Command
-given (matched.Try scripts) = Try scripts
-given (matched.Run file scripts) = Run file scripts
-given (matched.Format file order) = Format file order
-given (matched.Stat file) = Stat file
-given (matched.Upgrade file) = Upgrade file
-given (matched.Drill start callers calls) = Drill start callers calls
+abbrev pub matched_command : Matched → Command
+matched_command (matched.Try scripts) = Try scripts
+matched_command (matched.Run file scripts) = Run file scripts
+matched_command (matched.Format file order) = Format file order
+matched_command (matched.Stat file) = Stat file
+matched_command (matched.Upgrade file) = Upgrade file
+matched_command (matched.Drill start callers calls) = Drill start callers calls
 
 -- an order that was found is one that there is
 abbrev pub GivesOrder : Matched → Type 0
@@ -73,7 +73,7 @@ GivesFew (matched.Upgrade file) = Unit {0}
 GivesFew (matched.Drill start callers calls) = (0 < callers) × (callers ≤ 16) × (0 < calls) × (calls ≤ 10000)
 
 -- an order that is asked for is one that there is
-abbrev pub AsksForOrder : Asked → Type 0
+abbrev pub AsksForOrder : CommandAsked → Type 0
 AsksForOrder (asked.Try scripts) = Unit {0}
 AsksForOrder (asked.Run file scripts) = Unit {0}
 AsksForOrder (asked.Format file order) = IsOrder order
@@ -82,7 +82,7 @@ AsksForOrder (asked.Upgrade file) = Unit {0}
 AsksForOrder (asked.Drill start callers calls) = Unit {0}
 
 -- where scripts or callers are asked for, there are 1 to 16, and each caller has 1 to 10,000 calls
-abbrev pub AsksForFew : Asked → Type 0
+abbrev pub AsksForFew : CommandAsked → Type 0
 AsksForFew (asked.Try scripts) = (0 < length (texts scripts.items)) × (length (texts scripts.items) ≤ 16)
 AsksForFew (asked.Run file scripts) = (0 < length (texts scripts.items)) × (length (texts scripts.items) ≤ 16)
 AsksForFew (asked.Format file order) = Unit {0}

@@ -93,8 +93,8 @@ said (word ∷ words) (Some name) = if begins_with_dash word then None else with
 -- ---- commands
 
 -- whether a word isn't empty
-abbrev pub is_full : List ℕ → Bool
-is_full word = nat_lt 0 (length word)
+abbrev pub has_bytes : List ℕ → Bool
+has_bytes word = nat_lt 0 (length word)
 
 -- how many scripts there may be: each has a caller of its own
 abbrev pub MOST_SCRIPTS : ℕ
@@ -102,7 +102,7 @@ MOST_SCRIPTS = 16
 
 -- the words name scripts: there are 1 to 16, and none is empty
 abbrev pub are_scripts : List (List ℕ) → Bool
-are_scripts words = nat_lt 0 (length words) && nat_lt (length words) (MOST_SCRIPTS + 1) && list_all is_full words
+are_scripts words = nat_lt 0 (length words) && nat_lt (length words) (MOST_SCRIPTS + 1) && list_all has_bytes words
 
 -- what plain words and options behind `try` ask for
 abbrev pub try_of : List (List ℕ) → List (List ℕ × List ℕ) → Option Command
@@ -111,18 +111,18 @@ try_of scripts (option ∷ options) = None
 
 -- behind `run`
 abbrev pub run_of : List (List ℕ) → List (List ℕ × List ℕ) → Option Command
-run_of (file ∷ scripts) [] = if is_full file && are_scripts scripts then Some (Run file scripts) else None
+run_of (file ∷ scripts) [] = if has_bytes file && are_scripts scripts then Some (Run file scripts) else None
 run_of plain options = None
 
 -- behind `format`
 abbrev pub format_of : List (List ℕ) → List (List ℕ × List ℕ) → Option Command
 format_of (file ∷ []) (option ∷ []) =
-    if is_full file && bytes_eq option.0 (codes "order") then option_map (Format file) (number_within 4 16 option.1) else None
+    if has_bytes file && bytes_eq option.0 (codes "order") then option_map (Format file) (number_within 4 16 option.1) else None
 format_of plain options = None
 
 -- the file that is the one plain word, where there is no option
 abbrev pub file_alone : List (List ℕ) → List (List ℕ × List ℕ) → Option (List ℕ)
-file_alone (file ∷ []) [] = if is_full file then Some file else None
+file_alone (file ∷ []) [] = if has_bytes file then Some file else None
 file_alone plain options = None
 
 -- behind `stat`

@@ -10,6 +10,7 @@ ghost use Rattle.rom_words.specs.Words.{Command as Asks, command};
 
 use clap::error::ErrorKind;
 use clap::{Arg, ArgAction, ArgMatches, Command, Error};
+use rom_model::MAX_CALLERS;
 use rom_text::{Name, Names};
 use std::alloc::{AllocError, Global};
 
@@ -20,7 +21,7 @@ fn scripts<'a>(alloc: Global) -> Arg<'a>
 {
     Arg::new(alloc, "SCRIPT")
         .action(ArgAction::Set)
-        .num_args(1..=16)
+        .num_args(1..=MAX_CALLERS as usize)
 }
 
 /// An option that has a value.

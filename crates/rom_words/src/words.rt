@@ -6,30 +6,28 @@ ghost use Rattle.rom_header.specs.Layout.{words_needed};
 ghost use Rattle.clap.specs.Words.{first_value, found_of};
 ghost use Rattle.clap.specs.Walk.{rows_of};
 ghost use Rattle.rom_words.specs.CommandLine.{HasAsked};
-ghost use Rattle.rom_words.specs.Wanted.{AsksForFew, AsksForOrder, GivesFew, GivesOrder, IsWanted, given, named, texts, told};
-ghost use Rattle.rom_words.specs.Words.{both_of, command, drill_of, file_alone, format_of, is_full, number_within, run_of, scripts_of, stat_of, try_of, upgrade_of};
+ghost use Rattle.rom_words.specs.Wanted.{AsksForFew, AsksForOrder, GivesFew, GivesOrder, IsWanted, matched_command, named, texts, told};
+ghost use Rattle.rom_words.specs.Words.{both_of, command, drill_of, file_alone, format_of, has_bytes, number_within, run_of, scripts_of, stat_of, try_of, upgrade_of};
 ghost use Rattle.rom_words.specs.Words as spec;
 
 use crate::command_line::{found_in, matches_of, name_at, names_at, text_at, texts_of};
 use crate::said::{Plain, Said, read_said};
 use clap::ArgMatches;
 use rom_header::Geometry;
+use rom_model::{MAX_CALLERS, MAX_ORDER, MIN_ORDER};
 use rom_text::{DeviceWant, Name, Names, Wanted, read_within};
 use std::alloc::{AllocError, Global};
 
 /// The order of the heap that `try` makes.
-pub const TRY_ORDER: u32 = 4;
+pub const TRY_ORDER: u32 = MIN_ORDER;
 
 /// The order of the heap that a drill runs on.
 pub const DRILL_ORDER: u32 = 12;
 
-/// The most scripts that a command takes. Each has a caller of its own.
-const MOST_SCRIPTS: usize = 16;
-
 /// What words that are a command ask for. An order is 4 to 16, there are 1 to 16 scripts or callers,
 /// and a caller has 1 to 10,000 calls.
 #[derive(Drop)]
-pub enum Asked<'a> {
+pub enum CommandAsked<'a> {
     /// To run these scripts on a new heap.
     Try(Plain<'a>),
     /// To run these scripts on the heap in this file.
@@ -55,7 +53,7 @@ pub enum Asked<'a> {
 }
 
 fn are_full(words: &[&str]) -> bool
-    ensures { result ≡ list_all (λ w. is_full w.now) words.now }
+    ensures { result ≡ list_all (λ w. has_bytes w.now) words.now }
 {
     words.iter().all(|word| !word.is_empty())
 }
@@ -65,11 +63,11 @@ fn are_scripts(words: &[&str]) -> bool
     ensures named { result ≡ spec.are_scripts (texts words.now) }
     ensures few { IsTrue result → (0 < length words.now) × (length words.now ≤ 16) }
 {
-    (1..=MOST_SCRIPTS).contains(&words.len()) && are_full(words)
+    (1..=MAX_CALLERS as usize).contains(&words.len()) && are_full(words)
 }
 
 /// Scripts.
-fn read_try(said: Said<'_>) -> Option<Asked<'_>>
+fn read_try(said: Said<'_>) -> Option<CommandAsked<'_>>
     ensures named { named result ≡ try_of (told said.entry).plain (told said.entry).options }
     ensures order { IfSome result AsksForOrder }
     ensures few { IfSome result AsksForFew }
@@ -78,11 +76,11 @@ fn read_try(said: Said<'_>) -> Option<Asked<'_>>
     if !options.is_empty() || !are_scripts(&plain) {
         return None;
     }
-    Some(Asked::Try(plain))
+    Some(CommandAsked::Try(plain))
 }
 
 /// A file, and then the scripts to run on its heap.
-fn read_run(said: Said<'_>) -> Option<Asked<'_>>
+fn read_run(said: Said<'_>) -> Option<CommandAsked<'_>>
     ensures named { named result ≡ run_of (told said.entry).plain (told said.entry).options }
     ensures order { IfSome result AsksForOrder }
     ensures few { IfSome result AsksForFew }
@@ -93,11 +91,11 @@ fn read_run(said: Said<'_>) -> Option<Asked<'_>>
     if !options.is_empty() || file.is_empty() || !are_scripts(&scripts) {
         return None;
     }
-    Some(Asked::Run { file, scripts })
+    Some(CommandAsked::Run { file, scripts })
 }
 
 /// A file, and the order of the heap that is made there.
-fn read_format(said: Said<'_>) -> Option<Asked<'_>>
+fn read_format(said: Said<'_>) -> Option<CommandAsked<'_>>
     ensures named { named result ≡ format_of (told said.entry).plain (told said.entry).options }
     ensures order { IfSome result AsksForOrder }
     ensures few { IfSome result AsksForFew }
@@ -108,8 +106,8 @@ fn read_format(said: Said<'_>) -> Option<Asked<'_>>
     if file.is_empty() || *name != "order" {
         return None;
     }
-    let order = read_within(value, 4, 16)? as u32;
-    Some(Asked::Format { file: *file, order })
+    let order = read_within(value, MIN_ORDER as u64, MAX_ORDER as u64)? as u32;
+    Some(CommandAsked::Format { file: *file, order })
 }
 
 /// A file alone.
@@ -124,21 +122,21 @@ fn read_file(said: Said<'_>) -> Option<&str>
 }
 
 /// The file whose heap's sizes are printed.
-fn read_stat(said: Said<'_>) -> Option<Asked<'_>>
+fn read_stat(said: Said<'_>) -> Option<CommandAsked<'_>>
     ensures named { named result ≡ stat_of (told said.entry).plain (told said.entry).options }
     ensures order { IfSome result AsksForOrder }
     ensures few { IfSome result AsksForFew }
 {
-    Some(Asked::Stat(read_file(said)?))
+    Some(CommandAsked::Stat(read_file(said)?))
 }
 
 /// The file whose heap gets a region of version 2.
-fn read_upgrade(said: Said<'_>) -> Option<Asked<'_>>
+fn read_upgrade(said: Said<'_>) -> Option<CommandAsked<'_>>
     ensures named { named result ≡ upgrade_of (told said.entry).plain (told said.entry).options }
     ensures order { IfSome result AsksForOrder }
     ensures few { IfSome result AsksForFew }
 {
-    Some(Asked::Upgrade(read_file(said)?))
+    Some(CommandAsked::Upgrade(read_file(said)?))
 }
 
 /// The values of two options of these names, in either order.
@@ -163,7 +161,7 @@ fn read_both<'a>(
 }
 
 /// Where the drawing starts, and how many callers make how many calls each.
-fn read_drill(said: Said<'_>) -> Option<Asked<'_>>
+fn read_drill(said: Said<'_>) -> Option<CommandAsked<'_>>
     ensures named { named result ≡ drill_of (told said.entry).plain (told said.entry).options }
     ensures order { IfSome result AsksForOrder }
     ensures few { IfSome result AsksForFew }
@@ -172,15 +170,15 @@ fn read_drill(said: Said<'_>) -> Option<Asked<'_>>
         return None;
     };
     let (callers, calls) = read_both("callers", "calls", said.options.as_slice())?;
-    Some(Asked::Drill {
+    Some(CommandAsked::Drill {
         start: read_within(start, 0, u64::MAX)?,
-        callers: read_within(callers, 1, 16)?,
+        callers: read_within(callers, 1, MAX_CALLERS as u64)?,
         calls: read_within(calls, 1, 10_000)?,
     })
 }
 
 /// The command that the words are. It takes no memory.
-pub fn read_command(words: &Names) -> Option<Asked<'_>>
+pub fn read_command(words: &Names) -> Option<CommandAsked<'_>>
     ensures named { named result ≡ command words.now }
     ensures order { IfSome result AsksForOrder }
     ensures few { IfSome result AsksForFew }
@@ -241,32 +239,32 @@ fn fresh_of(order: u32) -> DeviceWant
 /// What the matches of the command that is asked for name.
 fn read_found(
     alloc: Global,
-    asked: &Asked<'_>,
+    asked: &CommandAsked<'_>,
     found: &ArgMatches<'_>,
 ) -> Result<Matched, AllocError>
     requires matched { HasAsked (named (Some asked.now)) (rows_of (found_of found.now)) }
     requires few { AsksForFew asked.now }
-    ensures named { IfOk result (λ m. Some (given m) ≡ named (Some asked.now)) }
+    ensures named { IfOk result (λ m. Some (matched_command m) ≡ named (Some asked.now)) }
     ensures order { IfOk result GivesOrder }
     ensures few { IfOk result GivesFew }
 {
     match asked {
-        Asked::Try(_) => Ok(Matched::Try(names_at(alloc, found, "SCRIPT")?)),
-        Asked::Run { .. } => {
+        CommandAsked::Try(_) => Ok(Matched::Try(names_at(alloc, found, "SCRIPT")?)),
+        CommandAsked::Run { .. } => {
             let file = name_at(alloc, found, "FILE")?;
             let scripts = names_at(alloc, found, "SCRIPT")?;
             Ok(Matched::Run { file, scripts })
         }
-        Asked::Format { .. } => {
+        CommandAsked::Format { .. } => {
             let file = name_at(alloc, found, "FILE")?;
-            let order = number_at(found, "order", 4, 16) as u32;
+            let order = number_at(found, "order", MIN_ORDER as u64, MAX_ORDER as u64) as u32;
             Ok(Matched::Format { file, order })
         }
-        Asked::Stat(_) => Ok(Matched::Stat(name_at(alloc, found, "FILE")?)),
-        Asked::Upgrade(_) => Ok(Matched::Upgrade(name_at(alloc, found, "FILE")?)),
-        Asked::Drill { .. } => {
+        CommandAsked::Stat(_) => Ok(Matched::Stat(name_at(alloc, found, "FILE")?)),
+        CommandAsked::Upgrade(_) => Ok(Matched::Upgrade(name_at(alloc, found, "FILE")?)),
+        CommandAsked::Drill { .. } => {
             let start = number_at(found, "START", 0, u64::MAX);
-            let callers = number_at(found, "callers", 1, 16);
+            let callers = number_at(found, "callers", 1, MAX_CALLERS as u64);
             let calls = number_at(found, "calls", 1, 10_000);
             Ok(Matched::Drill {
                 start,
@@ -278,10 +276,14 @@ fn read_found(
 }
 
 /// The names and the numbers of words that are a command, as the matches of `clap` give them.
-fn read_matches(alloc: Global, words: &Names, asked: &Asked<'_>) -> Result<Matched, AllocError>
+fn read_matches(
+    alloc: Global,
+    words: &Names,
+    asked: &CommandAsked<'_>,
+) -> Result<Matched, AllocError>
     requires named { named (Some asked.now) ≡ command words.now }
     requires few { AsksForFew asked.now }
-    ensures named { IfOk result (λ m. Some (given m) ≡ command words.now) }
+    ensures named { IfOk result (λ m. Some (matched_command m) ≡ command words.now) }
     ensures order { IfOk result GivesOrder }
     ensures few { IfOk result GivesFew }
 {

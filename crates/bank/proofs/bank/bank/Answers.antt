@@ -7,7 +7,7 @@ use Rattle.rom_model.specs.Story.{Story}
 use Rattle.rom_model.specs.Trio.{trio}
 use Rattle.rom_model.specs.declared.entry.Entry.{Entry}
 use Rattle.rom_rule.specs.declared.views.View.{View}
-use Rattle.rom_store.specs.Callers.{Caller, IsCallerOf, IsNewCaller, IsNumbered}
+use Rattle.rom_store.specs.Callers.{Caller, IsCallerOf, IsNewCaller, IsNumberedCaller}
 use Rattle.rom_store.specs.Closing.{ClosedSeen, kept_in}
 use Rattle.rom_store.specs.Indexed.{Indexed}
 use Rattle.rom_store.specs.Sessions.{EachStory, HasStory, SessionSeen}
@@ -112,7 +112,7 @@ close-closed-requires-clause-passes g c =
     let last : m.view.number ≡ 5 = c.note-4.ensures.same.2 ∙ (c.note-3.ensures.same.2 ∙ (c.note-2.ensures.same.2 ∙ (c.note.ensures.same.2 ∙ (c.pay_in-put_in.ensures.number ∙ at4.0.numbered.number)))) in
     let knows : m.view.seen ≡ seen = ap (λ (v : View). v.seen) c.note-4.ensures.still ∙ (ap (λ (v : View). v.seen) c.note-3.ensures.still ∙ (ap (λ (v : View). v.seen) c.note-2.ensures.still ∙ ap (λ (v : View). v.seen) c.note.ensures.still)) in
     let all : c.push_reserved-5.new.self.items ≡ a.pass ∷ b.pass ∷ c'.pass ∷ d.pass ∷ m ∷ [] = back_again _ _ _ _ _ _ a.pass b.pass c'.pass d.pass m (none_left _ at0.2) c.push_reserved.ensures.items c.push_reserved-2.ensures.items c.push_reserved-3.ensures.items c.push_reserved-4.ensures.items c.push_reserved-5.ensures.items in
-    subst (Indexed (IsNumbered Contents table base)) (sym all) (numbered_five table base a.pass b.pass c'.pass d.pass m (record { of = is0.of; number = number0 }) (record { of = is1.of; number = number1 })
+    subst (Indexed (IsNumberedCaller Contents table base)) (sym all) (numbered_five table base a.pass b.pass c'.pass d.pass m (record { of = is0.of; number = number0 }) (record { of = is1.of; number = number1 })
     (record { of = is2.of; number = number2 }) (record { of = is3.of; number = number3 }) (record { of = c.note-4.ensures.of; number = last }))
 
 pub total_in-requires : goal.total_in-requires

@@ -5,7 +5,7 @@ use Rattle.rom_model.specs.Trio.{trio}
 use Rattle.rom_open.specs.declared.reasons.Why.TheVariants.{Device, OutOfMemory}
 use Rattle.rom_rule.specs.Views.{base_of}
 use Rattle.rom_store.specs.Sessions.{EachStory}
-use Rattle.bank.specs.Promise.{HasOpened}
+use Rattle.bank.specs.Promise.{HasBegunWith}
 use Rattle.bank.proofs.Refusing.{as_told, goes_on, no_value, refused_held}
 use Rattle.bank.proofs.bank.run_bank.Goals as goal
 
@@ -21,7 +21,7 @@ returns-in_err-opening-clause-made g c = λ tells long zero.
     let words = g.D.Device.shown.words c.make_where_new.new.device in
     let held = c.in_default.ensures.made tells long zero in
     let why = refused_held Contents 5 words trio.empty 0 held c.in_err-opening.ensures.refused tells refl in
-    (as_told (λ refused. (refused.why ≡ Device) ⊎ (refused.why ≡ OutOfMemory)) c.from_residual.result c.from_residual.ensures.1 (λ e same. subst (λ refused. (refused.why ≡ Device) ⊎ (refused.why ≡ OutOfMemory)) (sym same) why), no_value _ (λ books. EachStory trio Contents books.closed.session (HasOpened 5 trio.empty 0)) c.from_residual.result c.from_residual.ensures.1)
+    (as_told (λ refused. (refused.why ≡ Device) ⊎ (refused.why ≡ OutOfMemory)) c.from_residual.result c.from_residual.ensures.1 (λ e same. subst (λ refused. (refused.why ≡ Device) ⊎ (refused.why ≡ OutOfMemory)) (sym same) why), no_value _ (λ books. EachStory trio Contents books.closed.session (HasBegunWith 5 trio.empty 0)) c.from_residual.result c.from_residual.ensures.1)
 
 pub returns-clause-made : goal.returns-clause-made
 returns-clause-made g c = λ tells long zero.

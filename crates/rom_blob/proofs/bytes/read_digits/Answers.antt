@@ -3,7 +3,7 @@ use Rattle.std.specs.Prelude.{IfNone}
 use Rattle.std.specs.List.{flat_map}
 use Rattle.rom_blob_region.specs.Texts.{AreBytes, digits_of}
 use Rattle.rom_blob.proofs.Digits.{all_read, not_more, not_one, not_none}
-use Rattle.rom_bytes.proofs.Carried.{all_zeros}
+use Rattle.rom_blob_region.proofs.Carried.{all_zeros}
 use Rattle.std.proofs.lemmas.Bool.{eqb-true, eqb-false}
 use Rattle.rom_blob.proofs.bytes.read_digits.Goals as goal
 

@@ -1,6 +1,6 @@
 use Rattle.std.proofs.Common.{◌∷◌, ◌++◌, [], List, ℕ, length, sym, ap, ◌∙◌, arith, add-one}
-use Rattle.rom_bytes.specs.Bytes.{words_of}
-use Rattle.rom_bytes.specs.Packed.{words_long}
+use Rattle.rom_blob_region.specs.Bytes.{words_from_bytes}
+use Rattle.rom_blob_region.specs.Packed.{words_long}
 use Rattle.rom_blob.proofs.codes.put_set_words.Goals as goal
 
 pub extend-requires-in-loop-i : goal.extend-requires-in-loop-i
@@ -11,7 +11,7 @@ loop-i-preserved c =
     let bytes = c.args.bytes.now in
     let front : List ℕ → List ℕ = λ ws. 1 ∷ c.args.key ∷ length bytes ∷ ws in
     record {
-      so_far = c.extend-in-loop-i.ensures ∙ ap (λ ws. ws ++ c.word.result ∷ []) c.loop-i.invariant.so_far ∙ ap (λ x. front (words_of bytes c.loop-i.i ++ x ∷ [])) c.word.ensures.word ∙ ap (λ k. front (words_of bytes k)) (sym (add-one c.loop-i.i));
+      so_far = c.extend-in-loop-i.ensures ∙ ap (λ ws. ws ++ c.word.result ∷ []) c.loop-i.invariant.so_far ∙ ap (λ x. front (words_from_bytes bytes c.loop-i.i ++ x ∷ [])) c.word.ensures.word ∙ ap (λ k. front (words_from_bytes bytes k)) (sym (add-one c.loop-i.i));
       within = omega arith;
       small = λ _ k. c.word.ensures.bytes k;
     }

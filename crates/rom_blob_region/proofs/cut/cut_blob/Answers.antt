@@ -7,9 +7,9 @@ use Rattle.rom_bucket.proofs.Finding.{own_within}
 use Rattle.rom_bucket.proofs.Keys.{holds_bucket}
 use Rattle.rom_bucket.proofs.Places.{before_node, link_inside, link_high}
 use Rattle.rom_bucket.proofs.Removed.{size_some}
-use Rattle.rom_bytes.specs.Packed.{long_at}
+use Rattle.rom_blob_region.specs.Packed.{long_at}
 use Rattle.rom_blob_region.specs.State.{BlobState, cut_blob}
-use Rattle.rom_blob_region.specs.Region.{Contents, len_at, data_at, blob_at}
+use Rattle.rom_blob_region.specs.Region.{BlobContents, len_at, data_at, blob_at}
 use Rattle.rom_blob_region.specs.Calls.{BodyGiven}
 use Rattle.rom_blob_region.specs.declared.call.BlobReply.TheVariants as reply
 use Rattle.rom_blob_region.proofs.Fetching.{looked, stays, gone, spot, has, inside, small, len_is, data_is}
@@ -29,7 +29,7 @@ returns-then-place-eq0-clause-done g c s k held =
     let none = gone c.requires.order held.1 c.find-place.ensures c.if-place-eq0.true in
     let same = stays c.requires.order held.1 c.find-place.ensures in
     let after = sym (ap (λ o. cut_blob s c.args.key o) none) in
-    (ap (λ a. a.1) after, subst (λ (x : BlobState). Contents c.args.order (g.M.Look.shown.image c.find-place.new.space) x k) (ap (λ a. a.0) after) (subst (λ (v : List ℕ). Contents c.args.order v s k) (sym same) held))
+    (ap (λ a. a.1) after, subst (λ (x : BlobState). BlobContents c.args.order (g.M.Look.shown.image c.find-place.new.space) x k) (ap (λ a. a.0) after) (subst (λ (v : List ℕ). BlobContents c.args.order v s k) (sym same) held))
 
 pub returns-then-place-eq0-clause-stores : goal.returns-then-place-eq0-clause-stores
 returns-then-place-eq0-clause-stores g c = stores_most 36 (omega arith) (looked c.requires.order c.requires.region.2.1 c.find-place.ensures).costs
@@ -152,7 +152,7 @@ returns-clause-done g c s k held =
     let after = sym (ap (λ o. cut_blob s c.args.key o) (has o is found c.if-place-eq0.false)) in
     let told : c.load-len.result ≡ length (blob_at n w t.block).bytes = len ∙ sym (long_at w (data_at n w t.block) (len_at n w t.block)) in (
       ap (λ m. reply.Was m) told ∙ ap (λ a. a.1) after,
-      subst (λ (x : BlobState). Contents n new x k) (ap (λ a. a.0) after) (less o is t un, region),
+      subst (λ (x : BlobState). BlobContents n new x k) (ap (λ a. a.0) after) (less o is t un, region),
     )
 
 pub returns-clause-stores : goal.returns-clause-stores

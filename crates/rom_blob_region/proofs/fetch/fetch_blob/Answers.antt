@@ -4,7 +4,7 @@ use Rattle.rom_model.proofs.Looks.{looks_most, looks_more, looks_then}
 use Rattle.rom_bucket.specs.Buckets.{keys_beside}
 use Rattle.rom_bucket.proofs.Finding.{own_within}
 use Rattle.rom_bucket.proofs.Keys.{holds_bucket}
-use Rattle.rom_bytes.specs.Bytes.{bytes_at, EndsInZeros}
+use Rattle.rom_blob_region.specs.Bytes.{bytes_at, EndsInZeros}
 use Rattle.rom_blob_region.specs.State.{bytes_told}
 use Rattle.rom_blob_region.specs.Region.{len_at, data_at}
 use Rattle.rom_blob_region.specs.declared.call.BlobAnswer.TheVariants as answer

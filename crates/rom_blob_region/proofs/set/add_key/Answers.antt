@@ -1,8 +1,8 @@
 use Rattle.std.proofs.Common.{◌*◌, ◌^◌, ℕ, List, ◌++◌, ◌-◌, arith, refl, sym, ap, subst, ◌∙◌}
 use Rattle.rom_model.specs.Space.{ChangesOnly}
-use Rattle.rom_bytes.specs.Bytes.{bytes_at, words_for, EndsInZeros}
+use Rattle.rom_blob_region.specs.Bytes.{bytes_at, words_for, EndsInZeros}
 use Rattle.rom_blob_region.specs.State.{BlobState, some_block, taken_with}
-use Rattle.rom_blob_region.specs.Region.{Contents}
+use Rattle.rom_blob_region.specs.Region.{BlobContents}
 use Rattle.rom_blob_region.proofs.Keeping.{held}
 use Rattle.rom_blob_region.proofs.Giving.{may_give_body, given_back}
 use Rattle.rom_blob_region.proofs.Reserving.{Reserved, reserved}
@@ -19,7 +19,7 @@ returns-in_default-clause-done g c s k held_now =
     let w = g.M.Look.shown.image c.args.space.now in
     let none = c.in_default.ensures.taken (taken_with (held n w held_now.0)) is.apart.disjoint is.tree in
     let told = sym (told_full is c.args.bytes.now o.least c.args.key (sym c.len-len.ensures.many) none) in
-    (ap (λ a. a.1) told, subst (λ (x : BlobState). Contents n (g.M.Look.shown.image c.take_body.new.space) x k) (ap (λ a. a.0) told) (subst (λ (v : List ℕ). Contents n v s k) (sym c.in_default.ensures.none.image) held_now))
+    (ap (λ a. a.1) told, subst (λ (x : BlobState). BlobContents n (g.M.Look.shown.image c.take_body.new.space) x k) (ap (λ a. a.0) told) (subst (λ (v : List ℕ). BlobContents n v s k) (sym c.in_default.ensures.none.image) held_now))
 
 -- no unit for the node
 pub give_body-requires-clause-holds : goal.give_body-requires-clause-holds
@@ -47,7 +47,7 @@ returns-in_default-take-clause-done g c s k held_now =
     let none = c.in_default-take.ensures.taken (taken_with (some_block r.body ++ xs)) r.apart.disjoint r.tree in
     let told = sym (told_no_unit is c.args.bytes.now o.least c.args.key (sym c.len-len.ensures.many) r none) in
     let region = given_back o.least (with_body is o moved only) (g.M.Look.shown.image c.give_body.new.space) c.give_body.ensures.given c.give_body.ensures.others in
-    (ap (λ a. a.1) told, subst (λ (x : BlobState). Contents n (g.M.Look.shown.image c.give_body.new.space) x k) (ap (λ a. a.0) told) (held_now.0, region))
+    (ap (λ a. a.1) told, subst (λ (x : BlobState). BlobContents n (g.M.Look.shown.image c.give_body.new.space) x k) (ap (λ a. a.0) told) (held_now.0, region))
 
 -- both are there
 pub store-requires-clause-within : goal.store-requires-clause-within
@@ -148,4 +148,4 @@ returns-clause-done g c s k held_now =
     } in
     let told = sym (told_new is c.args.bytes.now o.least c.args.key many r takes.node takes.lowest) in
     let region = new_key is o r c.in-Some.ensures.others c.len-len.ensures.within takes c.in-Some-take.ensures.others stored c.args.key (c.requires.absent s k held_now) c.link_first.ensures.linked in
-    (ap (λ a. a.1) told, subst (λ (x : BlobState). Contents n (g.M.Look.shown.image c.link_first.new.space) x k) (ap (λ a. a.0) told) region)
+    (ap (λ a. a.1) told, subst (λ (x : BlobState). BlobContents n (g.M.Look.shown.image c.link_first.new.space) x k) (ap (λ a. a.0) told) region)

@@ -2,10 +2,10 @@ use Rattle.std.proofs.Common.{◌≡◌, ◌+◌, ◌-◌, ◌*◌, ◌^◌, ◌
 use Rattle.rom_model.specs.Space.{ChangesOnly}
 use Rattle.rom_model.specs.Blocks.{AreWords}
 use Rattle.rom_model.proofs.Nodes.{pow_small}
-use Rattle.rom_bytes.specs.Bytes.{words_for}
-use Rattle.rom_bytes.specs.Packed.{long_at}
+use Rattle.rom_blob_region.specs.Bytes.{words_for}
+use Rattle.rom_blob_region.specs.Packed.{long_at}
 use Rattle.rom_blob_region.specs.State.{BlobState, taken_with, set_again}
-use Rattle.rom_blob_region.specs.Region.{Contents, len_at, data_at, blob_at}
+use Rattle.rom_blob_region.specs.Region.{BlobContents, len_at, data_at, blob_at}
 use Rattle.rom_blob_region.specs.Calls.{IsFilled, BodyTaken, BodyGiven, stay_there}
 use Rattle.rom_blob_region.specs.declared.call.BlobReply.TheVariants as reply
 use Rattle.rom_blob_region.proofs.Keeping.{held}
@@ -105,7 +105,7 @@ returns-then-stays_there-clause-done g c key bucket s k is t =
     let region = kept_bytes o is t c.args.bytes.now new (omega (arith, many, c.len-len.ensures.within)) all.0 all.1 all.2 filled in
     let after = sym (told_was o is t c.args.bytes.now ∙ ap (set_again s key c.args.bytes.now (blob_at n w t.block)) (told_kept is t.block c.args.bytes.now test)) in
     let told : c.load-was.result ≡ length (blob_at n w t.block).bytes = was ∙ sym (long_at w (data_at n w t.block) (len_at n w t.block)) in
-    (ap (λ m. reply.Was m) told ∙ ap (λ a. a.1) after, subst (λ (x : BlobState). Contents n new x k) (ap (λ a. a.0) after) region)
+    (ap (λ m. reply.Was m) told ∙ ap (λ a. a.1) after, subst (λ (x : BlobState). BlobContents n new x k) (ap (λ a. a.0) after) region)
 
 -- there is no block for them
 pub returns-in_default-clause-done : goal.returns-in_default-clause-done
@@ -120,7 +120,7 @@ returns-in_default-clause-done g c key bucket s k is t =
     let test : stay_there (len_at n w t.block) (length c.args.bytes.now) ≡ false = ap (λ m. stay_there m (length c.args.bytes.now)) (sym was) ∙ ap (λ m. stay_there c.load-was.result m) (sym many) ∙ sym c.stays_there.ensures ∙ c.if-stays_there.false in
     let none = c.in_default.ensures.taken (taken_with xs) is.apart.disjoint (subst (λ (v : List ℕ). AreWords n (taken_with xs) v) (sym same) is.tree) in
     let after = sym (told_was o is t c.args.bytes.now ∙ ap (set_again s key c.args.bytes.now (blob_at n w t.block)) (told_moved is t.block c.args.bytes.now test ∙ no_room n c.len-len.result xs c.args.bytes.now w o.least is.apart is.tree (sym many) none)) in
-    (ap (λ a. a.1) after, subst (λ (x : BlobState). Contents n (g.M.Look.shown.image c.take_body.new.space) x k) (ap (λ a. a.0) after) (subst (λ (v : List ℕ). Contents n v s k) (sym (c.in_default.ensures.none.image ∙ same)) (bucket, is)))
+    (ap (λ a. a.1) after, subst (λ (x : BlobState). BlobContents n (g.M.Look.shown.image c.take_body.new.space) x k) (ap (λ a. a.0) after) (subst (λ (v : List ℕ). BlobContents n v s k) (sym (c.in_default.ensures.none.image ∙ same)) (bucket, is)))
 
 -- they go to another
 pub fill_key-requires-2-clause-node : goal.fill_key-requires-2-clause-node
@@ -209,4 +209,4 @@ returns-clause-done g c key bucket s k is t =
     let region = given_back o.least (moved_bytes o is t (sym many) c.len-len.ensures.within r only (g.M.Look.shown.image c.fill_key-2.new.space) c.fill_key-2.ensures.filled) new given c.give_body.ensures.others in
     let after = sym (told_was o is t c.args.bytes.now ∙ ap (set_again s key c.args.bytes.now (blob_at n w t.block)) (told_moved is t.block c.args.bytes.now test ∙ r.chosen)) in
     let told : c.load-was.result ≡ length (blob_at n w t.block).bytes = was ∙ sym (long_at w (data_at n w t.block) (len_at n w t.block)) in
-    (ap (λ m. reply.Was m) told ∙ ap (λ a. a.1) after, subst (λ (x : BlobState). Contents n new x k) (ap (λ a. a.0) after) (bucket, region))
+    (ap (λ m. reply.Was m) told ∙ ap (λ a. a.1) after, subst (λ (x : BlobState). BlobContents n new x k) (ap (λ a. a.0) after) (bucket, region))

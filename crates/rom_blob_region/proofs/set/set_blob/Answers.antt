@@ -5,7 +5,7 @@ use Rattle.rom_bucket.specs.Buckets.{There}
 use Rattle.rom_bucket.proofs.Finding.{own_within}
 use Rattle.rom_bucket.proofs.Keys.{holds_bucket}
 use Rattle.rom_blob_region.specs.State.{BlobState, set_blob}
-use Rattle.rom_blob_region.specs.Region.{Contents, IsBlobs}
+use Rattle.rom_blob_region.specs.Region.{BlobContents, IsBlobs}
 use Rattle.rom_blob_region.proofs.Fetching.{looked, stays, gone, spot}
 use Rattle.rom_blob_region.proofs.Bounding.{full_bound}
 use Rattle.rom_blob_region.proofs.Ranges.{contents_ranged}
@@ -21,12 +21,12 @@ find-place-requires-clause-bucket g c = holds_bucket c.requires.region.2.1.keys 
 pub add_key-requires-clause-region : goal.add_key-requires-clause-region
 add_key-requires-clause-region g c =
     let r = c.requires.region in
-    (r.0, r.1, subst (λ (v : List ℕ). Contents c.args.order v r.0 r.1) (sym (stays c.requires.order r.2.1 c.find-place.ensures)) r.2)
+    (r.0, r.1, subst (λ (v : List ℕ). BlobContents c.args.order v r.0 r.1) (sym (stays c.requires.order r.2.1 c.find-place.ensures)) r.2)
 
 pub add_key-requires-clause-absent : goal.add_key-requires-clause-absent
 add_key-requires-clause-absent g c s k held =
     let r = c.requires.region in
-    let was = subst (λ (v : List ℕ). Contents c.args.order v s k) (stays c.requires.order r.2.1 c.find-place.ensures) held in
+    let was = subst (λ (v : List ℕ). BlobContents c.args.order v s k) (stays c.requires.order r.2.1 c.find-place.ensures) held in
     gone c.requires.order was.1 c.find-place.ensures c.if-place-eq0.true
 
 pub add_key-requires-clause-room : goal.add_key-requires-clause-room
@@ -37,9 +37,9 @@ returns-then-place-eq0-clause-done g c s k held =
     let o = c.requires.order in
     let n = c.args.order in
     let none = gone o held.1 c.find-place.ensures c.if-place-eq0.true in
-    let done = c.add_key.ensures.done s k (subst (λ (v : List ℕ). Contents n v s k) (sym (stays o held.1 c.find-place.ensures)) held) in
+    let done = c.add_key.ensures.done s k (subst (λ (v : List ℕ). BlobContents n v s k) (sym (stays o held.1 c.find-place.ensures)) held) in
     let same = sym (ap (λ x. set_blob n s c.args.key c.args.bytes.now x) none) in
-    (done.0 ∙ ap (λ a. a.1) same, subst (λ (x : BlobState). Contents n (g.M.Look.shown.image c.add_key.new.space) x k) (ap (λ a. a.0) same) done.1)
+    (done.0 ∙ ap (λ a. a.1) same, subst (λ (x : BlobState). BlobContents n (g.M.Look.shown.image c.add_key.new.space) x k) (ap (λ a. a.0) same) done.1)
 
 pub returns-then-place-eq0-clause-stores : goal.returns-then-place-eq0-clause-stores
 returns-then-place-eq0-clause-stores g c = stores_then 72 (omega arith) (looked c.requires.order c.requires.region.2.1 c.find-place.ensures).costs c.add_key.ensures.stores

@@ -12,7 +12,7 @@ use Rattle.rom_ranges.specs.Log.{Logged}
 use Rattle.rom_ranges.specs.declared.range.Range.{Range}
 use Rattle.rom_ranges.specs.Ranges.{AreWithin, held_count}
 use Rattle.rom_combine.specs.Images.{BeforeCommit, Counting, Committable, MayPublish}
-use Rattle.rom_combine.specs.Histories.{PassMakes}
+use Rattle.rom_combine.specs.Histories.{PassMakes, batch_found}
 use Rattle.rom_twin.specs.Seen.{Seen, committed}
 use Rattle.rom_rule.specs.Readers.{Held}
 use Rattle.rom_model.specs.declared.record.Fate.{Fate}
@@ -40,7 +40,7 @@ use Rattle.rom_combine.specs.Answering.{HasGiven}
 use Rattle.rom_combine.specs.Applying.{IsApplied}
 use Rattle.rom_combine.proofs.Limits.{batch_fits}
 use Rattle.rom_combine.proofs.Publishes.{can_publish, is_left}
-use Rattle.rom_combine.proofs.Bridge.{batch_now, all_held, same_held, list_before, list_committed}
+use Rattle.rom_combine.proofs.Bridge.{all_held, same_held, list_before, list_committed}
 use Rattle.rom_combine.proofs.Refusing.{is_refused, may_know}
 use Rattle.rom_combine.proofs.Ends.{doubt_not_nothing, failed_not_doubt, failed_not_nothing, published_not_doubt, published_not_failed, published_not_nothing}
 use Rattle.rom_combine.proofs.Writing.{seat_by, seat_then}
@@ -94,7 +94,7 @@ since_committed : (g : Over) (u : View) {v₁ v₂ v₃ : View} {found : List Po
     → Runs g.D.Device.shown (Becomes (Counting t.order (committed g.D.Device.shown t))) t.device t₁.device
     → Runs g.D.Device.shown (Becomes (Committable t₂.phase t₁.order (committed g.D.Device.shown t₁) (plan_of v₂).main)) t₁.device t₂.device
     → (s : g.O.Object.State) (n : ℕ) → g.O.Object.Contents u.base.order u.base.image s n
-    → Runs g.D.Device.shown (Becomes (PassMakes g.O.Object.Contents (on_words g.O.Object.machine) u.base s n f (plan_of u).history (batch_now g.O.Object.Contents (on_words g.O.Object.machine) u.base s n (plan_of u)))) t.device t₂.device
+    → Runs g.D.Device.shown (Becomes (PassMakes g.O.Object.Contents (on_words g.O.Object.machine) u.base s n f (plan_of u).history (batch_found g.O.Object.Contents (on_words g.O.Object.machine) u.base s n (plan_of u)))) t.device t₂.device
 since_committed g u {v₁} {v₂} {v₃} {found} {items} it f t t₁ t₂ place h order_is committed_is order₁ committed₁ may first second s n op =
     let b : Base = u.base in let p : Plan = plan_of u in let m₂ : List ℕ = (plan_of v₂).main in
     let here = same_held g.O.Object.Contents (on_words g.O.Object.machine) b s n h.0 h.1 p.history p.main (g.met.O.Object.one_contents b.order b.image s h.0 n h.1 op h.2) h.3 in
@@ -102,7 +102,7 @@ since_committed g u {v₁} {v₂} {v₃} {found} {items} it f t t₁ t₂ place 
     let one : Runs g.D.Device.shown (Becomes (Counting t.order p.main)) t.device t₁.device = subst (λ (z : List ℕ). Runs g.D.Device.shown (Becomes (Counting t.order z)) t.device t₁.device) committed_is first in
     let two : Runs g.D.Device.shown (Becomes (Committable t₂.phase t.order p.main m₂)) t₁.device t₂.device
     = subst (λ (q : ℕ × List ℕ). Runs g.D.Device.shown (Becomes (Committable t₂.phase q.0 q.1 m₂)) t₁.device t₂.device) (λ i. (order₁ i, (committed₁ ∙ committed_is) i)) second in
-    list_committed g.O.Object.Contents (on_words g.O.Object.machine) b s n g.D.Device.shown f t₂.phase p.history (batch_now g.O.Object.Contents (on_words g.O.Object.machine) b s n p) t.order p.main m₂ t.device t₁.device t₂.device order_is may here done one two
+    list_committed g.O.Object.Contents (on_words g.O.Object.machine) b s n g.D.Device.shown f t₂.phase p.history (batch_found g.O.Object.Contents (on_words g.O.Object.machine) b s n p) t.order p.main m₂ t.device t₁.device t₂.device order_is may here done one two
 
 -- how the plan stands at the three ends behind the commit, and the device's phase at two of them
 took_ok : (g : Over) (c : goal.After-switch g) → Taken g c.args.seat.now.token.me.0 c.begin_on.new.seat.token.me.0 c.apply_all.new.seat.token.me.0 c.commit_on.new.seat.token.me.0 c.args.found.now c.apply_all.new.answers.items
@@ -139,13 +139,17 @@ returns-then-is_err-clause-left g c = let u : View = c.args.seat.now.token.me.0 
     (may_know g.O.Object.Contents (on_words g.O.Object.machine) b fate.Failed p c.args.before now h.0 h.1 (λ (e : fate.Failed ≡ fate.Published). cc) c.requires.ready.unmade c.requires.ready.fresh c.requires.ready.counts (omega (arith, c.requires.ready.before_is, c.begin_on.ensures.device.later)) rose h.2)
     c.requires.ready.rising c.requires.ready.fresh c.requires.found c.refuse.ensures)
 
-pub returns-then-is_err-clause-since : goal.returns-then-is_err-clause-since
-returns-then-is_err-clause-since g c told s n op = let u : View = c.args.seat.now.token.me.0 in let b : Base = u.base in let p : Plan = plan_of u in let h = c.requires.ready.held in
-    let v₁ : View = c.begin_on.new.seat.token.me.0 in let one : plan_of v₁ ≡ p = ap plan_of c.begin_on.ensures.same.2 in let base₁ : v₁.base ≡ b = ap (λ (z : View). z.base) c.begin_on.ensures.same.2 in
-    let o : ℕ = c.args.twin.now.order in let x = c.args.twin.now.device in let y = c.begin_on.new.twin.device in let same = g.met.O.Object.one_contents b.order b.image s h.0 n h.1 op h.2 in
-    let here = same_held g.O.Object.Contents (on_words g.O.Object.machine) b s n h.0 h.1 p.history p.main same h.3 in
-    let first : Runs g.D.Device.shown (Becomes (Counting o p.main)) x y = subst (λ (z : List ℕ). Runs g.D.Device.shown (Becomes (Counting o z)) x y) (c.requires.ready.committed_is told) (c.begin_on.ensures.since told) in
-    list_before g.O.Object.Contents (on_words g.O.Object.machine) b s n g.D.Device.shown fate.Failed p.history (batch_now g.O.Object.Contents (on_words g.O.Object.machine) b s n p) o p.main x y c.requires.ready.order_is here first
+pub returns-then-is_err-clause-stops : goal.returns-then-is_err-clause-stops
+returns-then-is_err-clause-stops g c = record {
+  images = λ told. c.begin_on.ensures.kept.images told;
+  since = λ told s n op. let u : View = c.args.seat.now.token.me.0 in let b : Base = u.base in let p : Plan = plan_of u in let h = c.requires.ready.held in
+      let v₁ : View = c.begin_on.new.seat.token.me.0 in let one : plan_of v₁ ≡ p = ap plan_of c.begin_on.ensures.same.2 in let base₁ : v₁.base ≡ b = ap (λ (z : View). z.base) c.begin_on.ensures.same.2 in
+      let o : ℕ = c.args.twin.now.order in let x = c.args.twin.now.device in let y = c.begin_on.new.twin.device in let same = g.met.O.Object.one_contents b.order b.image s h.0 n h.1 op h.2 in
+      let here = same_held g.O.Object.Contents (on_words g.O.Object.machine) b s n h.0 h.1 p.history p.main same h.3 in
+      let first : Runs g.D.Device.shown (Becomes (Counting o p.main)) x y = subst (λ (z : List ℕ). Runs g.D.Device.shown (Becomes (Counting o z)) x y) (c.requires.ready.committed_is told) (c.begin_on.ensures.since told) in
+      list_before g.O.Object.Contents (on_words g.O.Object.machine) b s n g.D.Device.shown fate.Failed p.history (batch_found g.O.Object.Contents (on_words g.O.Object.machine) b s n p) o p.main x y c.requires.ready.order_is here first;
+  doubted = λ told e. absurd (failed_not_doubt e);
+}
 
 pub apply_all-requires-clause-fresh : goal.apply_all-requires-clause-fresh
 apply_all-requires-clause-fresh g c = let u : View = c.args.seat.now.token.me.0 in let b : Base = u.base in let p : Plan = plan_of u in let h = c.requires.ready.held in
@@ -172,33 +176,15 @@ returns-then-is_ok-clause-left g c = let u : View = c.args.seat.now.token.me.0 i
     (batch_fits (on_words g.O.Object.machine) b.order (after (on_words g.O.Object.machine) b.order it.start it.count p.history) (it.count + length p.history) (take (length c.args.found.now) (map found_of p.requests)) (omega (arith, counts, place, below)))
     (subst (λ (z : Base × Plan). IsBatch g.O.Object.Contents (on_words g.O.Object.machine) z.0 z.1 sw.0 sw.1) (λ j. (it.base₃ j, it.three j)) sw.2) (subst (TellsEach fate.Published sw.0 sw.1) it.three sw.3))
 
-pub returns-then-is_ok-clause-few : goal.returns-then-is_ok-clause-few
-returns-then-is_ok-clause-few g c is = let u : View = c.args.seat.now.token.me.0 in let b : Base = u.base in let p : Plan = plan_of u in let h = c.requires.ready.held in
-    let step : ℕ → g.O.Object.State → ℕ → List ℕ → Option (g.O.Object.State × List ℕ) = on_words g.O.Object.machine in let weight : List ℕ → ℕ = weight_on_words g.O.Object.machine in
-    let m₂ : List ℕ = (plan_of c.apply_all.new.seat.token.me.0).main in let calls : List (List ℕ) = map (λ (one : Posted). one.args) c.args.found.now in
-    let it = took_ok g c in
-    let sw = c.switch.ensures.switched in let v₄ : View = c.switch.new.seat.token.me.0 in
-    let four : (plan_of v₄).history ≡ p.history ++ sw.1 = ap (λ (z : View). (plan_of z).history) sw.4.2 ∙ ap (λ (z : Plan). z.history ++ sw.1) it.three in
-    let one = g.met.O.Object.one_contents b.order b.image h.0 it.start h.1 it.count h.2 it.opened in let counts = one.1 in let place = h.4 in
-    let batched = subst (λ (z : Base × Plan). IsBatch g.O.Object.Contents step z.0 z.1 sw.0 sw.1) (λ j. (it.base₃ j, it.three j)) sw.2 it.start it.count it.opened in
-    let done = all_held g.O.Object.Contents step b it.start it.count it.start it.count p m₂ (length c.args.found.now) c.apply_all.new.answers.items (refl, refl) it.long it.applied in
-    let count : slice_index m₂ 2 ≡ it.count + length (p.history ++ batch_now g.O.Object.Contents step b it.start it.count p) = (g.met.O.Object.contents_within b.order m₂ _ _ done).1 in
-    let now : batch_now g.O.Object.Contents step b it.start it.count p ≡ sw.1 = sym (batched.1 ∙ ap (λ (k : ℕ). batch step b.order (after step b.order it.start it.count p.history) k (map found_of p.requests)) batched.0) in
-    let grown : slice_index m₂ 2 - c.args.place ≡ length sw.1 = omega (arith, count, length-append p.history (batch_now g.O.Object.Contents step b it.start it.count p), ap length now, counts, place) in
-    let args : map (λ (f : Found). f.args) (map found_of p.requests) ≡ calls = posted_args weight p c.args.found.now c.requires.found in
-    let same : map (λ (e : Entry). e.args) sw.1 ≡ take (length sw.1) calls
-    = ap (map (λ (e : Entry). e.args)) batched.1 ∙ (first_found step b.order (after step b.order it.start it.count p.history) sw.0 (map found_of p.requests) ∙ (λ j. take (length (sym batched.1 j)) (args j))) in
-    let sum : weights_added weight p.history (plan_of v₄).history ≡ weights weight (take (slice_index m₂ 2 - c.args.place) calls)
-    = added_weights weight p.history sw.1 (plan_of v₄).history calls four same ∙ ap (λ (n : ℕ). weights weight (take n calls)) (sym grown) in
-    let held : held_count c.apply_all.new.log.ranges ≤ c.apply_all.new.log.added = c.apply_all.ensures.logged.few in
-    subst (λ (n : ℕ). held_count c.apply_all.new.log.ranges ≤ g.O.Object.STORES * n) (sym sum) (omega (arith, held, c.apply_all.ensures.few))
-
-pub returns-then-is_ok-clause-since : goal.returns-then-is_ok-clause-since
-returns-then-is_ok-clause-since g c told s n op =
-    let u : View = c.args.seat.now.token.me.0 in
-    since_committed g u (took_ok g c)
-    fate.Published c.args.twin.now c.begin_on.new.twin c.commit_on.new.twin c.args.place c.requires.ready.held c.requires.ready.order_is (c.requires.ready.committed_is told)
-    c.begin_on.ensures.kept.order (c.begin_on.ensures.kept.committed_is told) (λ _. tt) (c.begin_on.ensures.since told) (c.commit_on.ensures.since told) s n op
+pub returns-then-is_ok-clause-stops : goal.returns-then-is_ok-clause-stops
+returns-then-is_ok-clause-stops g c = record {
+  images = λ told. c.commit_on.ensures.kept.images told;
+  since = λ told s n op. let u : View = c.args.seat.now.token.me.0 in
+      since_committed g u (took_ok g c)
+      fate.Published c.args.twin.now c.begin_on.new.twin c.commit_on.new.twin c.args.place c.requires.ready.held c.requires.ready.order_is (c.requires.ready.committed_is told)
+      c.begin_on.ensures.kept.order (c.begin_on.ensures.kept.committed_is told) (λ _. tt) (c.begin_on.ensures.since told) (c.commit_on.ensures.since told) s n op;
+  doubted = λ told e. absurd (published_not_doubt e);
+}
 
 pub returns-then-eq-clause-left : goal.returns-then-eq-clause-left
 returns-then-eq-clause-left g c = let u : View = c.args.seat.now.token.me.0 in let b : Base = u.base in let p : Plan = plan_of u in let h = c.requires.ready.held in
@@ -211,12 +197,25 @@ returns-then-eq-clause-left g c = let u : View = c.args.seat.now.token.me.0 in l
     (may_know g.O.Object.Contents (on_words g.O.Object.machine) b fate.Doubt p c.args.before now h.0 h.1 (λ (e : fate.Doubt ≡ fate.Published). cc) c.requires.ready.unmade c.requires.ready.fresh c.requires.ready.counts (omega (arith, c.requires.ready.before_is, c.begin_on.ensures.device.later, c.commit_on.ensures.device.later)) rose h.2)
     c.requires.ready.rising c.requires.ready.fresh c.requires.found c.refuse-then-eq.ensures)
 
-pub returns-then-eq-clause-since : goal.returns-then-eq-clause-since
-returns-then-eq-clause-since g c told s n op =
-    let u : View = c.args.seat.now.token.me.0 in
-    since_committed g u (took_doubt g c)
-    fate.Doubt c.args.twin.now c.begin_on.new.twin c.commit_on.new.twin c.args.place c.requires.ready.held c.requires.ready.order_is (c.requires.ready.committed_is told)
-    c.begin_on.ensures.kept.order (c.begin_on.ensures.kept.committed_is told) (λ _. tt) (c.begin_on.ensures.since told) (c.commit_on.ensures.since told) s n op
+pub returns-then-eq-clause-stops : goal.returns-then-eq-clause-stops
+returns-then-eq-clause-stops g c = record {
+  images = λ told. c.commit_on.ensures.kept.images told;
+  since = λ told s n op. let u : View = c.args.seat.now.token.me.0 in
+      since_committed g u (took_doubt g c)
+      fate.Doubt c.args.twin.now c.begin_on.new.twin c.commit_on.new.twin c.args.place c.requires.ready.held c.requires.ready.order_is (c.requires.ready.committed_is told)
+      c.begin_on.ensures.kept.order (c.begin_on.ensures.kept.committed_is told) (λ _. tt) (c.begin_on.ensures.since told) (c.commit_on.ensures.since told) s n op;
+  doubted = λ told is_doubt s n op i left. let u : View = c.args.seat.now.token.me.0 in let b : Base = u.base in let p : Plan = plan_of u in let h = c.requires.ready.held in
+      let m₂ : List ℕ = (plan_of c.apply_all.new.seat.token.me.0).main in
+      let it = took_doubt g c in
+      let o : ℕ = c.args.twin.now.order in let x = c.args.twin.now.device in let y = c.begin_on.new.twin.device in let same = g.met.O.Object.one_contents b.order b.image s h.0 n h.1 op h.2 in
+      let here = same_held g.O.Object.Contents (on_words g.O.Object.machine) b s n h.0 h.1 p.history p.main same h.3 in
+      let first : Runs g.D.Device.shown (Becomes (Counting o p.main)) x y = subst (λ (z : List ℕ). Runs g.D.Device.shown (Becomes (Counting o z)) x y) (c.requires.ready.committed_is told) (c.begin_on.ensures.since told) in
+      let z = c.commit_on.new.twin.device in let ph : Phase = c.commit_on.new.twin.phase in
+      let done = all_held g.O.Object.Contents (on_words g.O.Object.machine) b s n it.start it.count p m₂ (length c.args.found.now) c.apply_all.new.answers.items (g.met.O.Object.one_contents b.order b.image s it.start n it.count op it.opened) it.long it.applied in
+      let second : Runs g.D.Device.shown (Becomes (Committable ph o p.main m₂)) y z = subst (λ (q : ℕ × List ℕ). Runs g.D.Device.shown (Becomes (Committable ph q.0 q.1 m₂)) y z) (λ i. (c.begin_on.ensures.kept.order i, (c.begin_on.ensures.kept.committed_is told ∙ c.requires.ready.committed_is told) i)) (c.commit_on.ensures.since told) in
+      let now = subst (λ (q : ℕ × List ℕ). Committable ph q.0 q.1 m₂ i) (λ j. ((c.begin_on.ensures.kept.order ∙ c.requires.ready.order_is) j, (c.begin_on.ensures.kept.committed_is told ∙ c.requires.ready.committed_is told) j)) (c.commit_on.ensures.now told i left) in
+      ⊎_elim (λ counts. inl (record { region = p.main; current = counts; contents = here })) (λ both. inr (tt, record { region = m₂; current = both.1; contents = done })) now;
+}
 
 pub returns-clause-left : goal.returns-clause-left
 returns-clause-left g c = let u : View = c.args.seat.now.token.me.0 in let b : Base = u.base in let p : Plan = plan_of u in let h = c.requires.ready.held in
@@ -229,26 +228,16 @@ returns-clause-left g c = let u : View = c.args.seat.now.token.me.0 in let b : B
     (may_know g.O.Object.Contents (on_words g.O.Object.machine) b fate.Failed p c.args.before now h.0 h.1 (λ (e : fate.Failed ≡ fate.Published). cc) c.requires.ready.unmade c.requires.ready.fresh c.requires.ready.counts (omega (arith, c.requires.ready.before_is, c.begin_on.ensures.device.later, c.commit_on.ensures.device.later)) rose h.2)
     c.requires.ready.rising c.requires.ready.fresh c.requires.found c.refuse-2.ensures)
 
-pub returns-clause-since : goal.returns-clause-since
-returns-clause-since g c told s n op =
-    let u : View = c.args.seat.now.token.me.0 in
-    let undo : c.commit_on.new.twin.phase ≡ phase.Undo = is_undone g c in
-    since_committed g u (took_failed g c)
-    fate.Failed c.args.twin.now c.begin_on.new.twin c.commit_on.new.twin c.args.place c.requires.ready.held c.requires.ready.order_is (c.requires.ready.committed_is told)
-    c.begin_on.ensures.kept.order (c.begin_on.ensures.kept.committed_is told) (λ other. absurd (other undo)) (c.begin_on.ensures.since told) (c.commit_on.ensures.since told) s n op
-
-pub returns-then-eq-clause-doubted : goal.returns-then-eq-clause-doubted
-returns-then-eq-clause-doubted g c told is_doubt s n op i left = let u : View = c.args.seat.now.token.me.0 in let b : Base = u.base in let p : Plan = plan_of u in let h = c.requires.ready.held in
-    let m₂ : List ℕ = (plan_of c.apply_all.new.seat.token.me.0).main in
-    let it = took_doubt g c in
-    let o : ℕ = c.args.twin.now.order in let x = c.args.twin.now.device in let y = c.begin_on.new.twin.device in let same = g.met.O.Object.one_contents b.order b.image s h.0 n h.1 op h.2 in
-    let here = same_held g.O.Object.Contents (on_words g.O.Object.machine) b s n h.0 h.1 p.history p.main same h.3 in
-    let first : Runs g.D.Device.shown (Becomes (Counting o p.main)) x y = subst (λ (z : List ℕ). Runs g.D.Device.shown (Becomes (Counting o z)) x y) (c.requires.ready.committed_is told) (c.begin_on.ensures.since told) in
-    let z = c.commit_on.new.twin.device in let ph : Phase = c.commit_on.new.twin.phase in
-    let done = all_held g.O.Object.Contents (on_words g.O.Object.machine) b s n it.start it.count p m₂ (length c.args.found.now) c.apply_all.new.answers.items (g.met.O.Object.one_contents b.order b.image s it.start n it.count op it.opened) it.long it.applied in
-    let second : Runs g.D.Device.shown (Becomes (Committable ph o p.main m₂)) y z = subst (λ (q : ℕ × List ℕ). Runs g.D.Device.shown (Becomes (Committable ph q.0 q.1 m₂)) y z) (λ i. (c.begin_on.ensures.kept.order i, (c.begin_on.ensures.kept.committed_is told ∙ c.requires.ready.committed_is told) i)) (c.commit_on.ensures.since told) in
-    let now = subst (λ (q : ℕ × List ℕ). Committable ph q.0 q.1 m₂ i) (λ j. ((c.begin_on.ensures.kept.order ∙ c.requires.ready.order_is) j, (c.begin_on.ensures.kept.committed_is told ∙ c.requires.ready.committed_is told) j)) (c.commit_on.ensures.now told i left) in
-    ⊎_elim (λ counts. inl (record { region = p.main; current = counts; contents = here })) (λ both. inr (tt, record { region = m₂; current = both.1; contents = done })) now
+pub returns-clause-stops : goal.returns-clause-stops
+returns-clause-stops g c = record {
+  images = λ told. c.commit_on.ensures.kept.images told;
+  since = λ told s n op. let u : View = c.args.seat.now.token.me.0 in
+      let undo : c.commit_on.new.twin.phase ≡ phase.Undo = is_undone g c in
+      since_committed g u (took_failed g c)
+      fate.Failed c.args.twin.now c.begin_on.new.twin c.commit_on.new.twin c.args.place c.requires.ready.held c.requires.ready.order_is (c.requires.ready.committed_is told)
+      c.begin_on.ensures.kept.order (c.begin_on.ensures.kept.committed_is told) (λ other. absurd (other undo)) (c.begin_on.ensures.since told) (c.commit_on.ensures.since told) s n op;
+  doubted = λ told e. absurd (failed_not_doubt e);
+}
 
 pub returns-then-is_err-clause-calls : goal.returns-then-is_err-clause-calls
 returns-then-is_err-clause-calls g c = let u : View = c.args.seat.now.token.me.0 in let p : Plan = plan_of u in let v₁ : View = c.begin_on.new.seat.token.me.0 in let one : plan_of v₁ ≡ p = ap plan_of c.begin_on.ensures.same.2 in
@@ -262,38 +251,26 @@ returns-then-is_ok-clause-calls g c = let u : View = c.args.seat.now.token.me.0 
     let four : plan_of v₄ ≡ switched 0 (making fate.Published c.args.before now sw.0 sw.1 (record p { main = m₂ })) = ap plan_of sw.4.2 ∙ (λ j. switched 0 (making fate.Published c.args.before (now_is j) sw.0 sw.1 (three j))) in
     (ap (λ (z : Plan). z.scanned) four, ap (λ (z : Plan). map found_of z.requests) four)
 
--- a pass that failed before the commit
-pub returns-clause-failed_cause : goal.returns-clause-failed_cause
-returns-clause-failed_cause g c failed_is =
-    let shown = g.D.Device.shown in let t = c.args.twin.now in let n : ℕ = t.order in let w : List ℕ = (plan_of c.args.seat.now.token.me.0).main in
-    let b = c.begin_on.new.twin.device in let d = c.commit_on.new.twin.device in
-    let undo : c.commit_on.new.twin.phase ≡ phase.Undo = is_undone g c in let cause = (c.commit_on.ensures.undo undo).1 in
-    record {
-      rose = omega (arith, cause.rose, c.begin_on.ensures.device.later);
-      last = cause.last;
-      images = λ told. before_on shown t.phase n w t.device b d
-          (subst (λ (z : List ℕ). Runs shown (Becomes (BeforeCommit t.phase n z)) t.device b) (c.requires.ready.committed_is told) (c.begin_on.ensures.before told))
-          (subst (λ (z : ℕ × List ℕ). Runs shown (Becomes (HasBack z.0 z.1)) b d) (λ j. (c.begin_on.ensures.kept.order j, (c.begin_on.ensures.kept.committed_is told ∙ c.requires.ready.committed_is told) j)) (cause.images told));
-    }
-
 -- and at it
-pub returns-then-eq-clause-doubt_cause : goal.returns-then-eq-clause-doubt_cause
-returns-then-eq-clause-doubt_cause g c doubt_is =
-    let shown = g.D.Device.shown in let t = c.args.twin.now in let n : ℕ = t.order in let w : List ℕ = (plan_of c.args.seat.now.token.me.0).main in
-    let b = c.begin_on.new.twin.device in
-    let doubt : c.commit_on.new.twin.phase ≡ phase.Doubt = in_doubt g c in let cause = c.commit_on.ensures.doubt doubt in
-    record {
-      at = cause.at;
-      later = omega (arith, cause.later, c.begin_on.ensures.device.later);
-      before = λ told. before_on shown t.phase n w t.device b cause.at
-          (subst (λ (z : List ℕ). Runs shown (Becomes (BeforeCommit t.phase n z)) t.device b) (c.requires.ready.committed_is told) (c.begin_on.ensures.before told))
-          (subst (λ (z : ℕ × List ℕ). Runs shown (Becomes (HasBack z.0 z.1)) b cause.at) (λ j. (c.begin_on.ensures.kept.order j, (c.begin_on.ensures.kept.committed_is told ∙ c.requires.ready.committed_is told) j)) (cause.before told));
-      mutating = λ told i left. subst (λ (z : ℕ × List ℕ). HasBack z.0 z.1 i) (λ j. (c.begin_on.ensures.kept.order j, (c.begin_on.ensures.kept.committed_is told ∙ c.requires.ready.committed_is told) j)) (cause.mutating told i left);
-      does = cause.does;
-      failed = cause.failed;
-      written = cause.written;
-      synced = cause.synced;
-    }
+pub returns-then-eq-clause-doubt : goal.returns-then-eq-clause-doubt
+returns-then-eq-clause-doubt g c is = record {
+  phase = in_doubt g c;
+  cause = let shown = g.D.Device.shown in let t = c.args.twin.now in let n : ℕ = t.order in let w : List ℕ = (plan_of c.args.seat.now.token.me.0).main in
+      let b = c.begin_on.new.twin.device in
+      let doubt : c.commit_on.new.twin.phase ≡ phase.Doubt = in_doubt g c in let cause = c.commit_on.ensures.doubt doubt in
+      record {
+        at = cause.at;
+        later = omega (arith, cause.later, c.begin_on.ensures.device.later);
+        before = λ told. before_on shown t.phase n w t.device b cause.at
+            (subst (λ (z : List ℕ). Runs shown (Becomes (BeforeCommit t.phase n z)) t.device b) (c.requires.ready.committed_is told) (c.begin_on.ensures.before told))
+            (subst (λ (z : ℕ × List ℕ). Runs shown (Becomes (HasBack z.0 z.1)) b cause.at) (λ j. (c.begin_on.ensures.kept.order j, (c.begin_on.ensures.kept.committed_is told ∙ c.requires.ready.committed_is told) j)) (cause.before told));
+        mutating = λ told i left. subst (λ (z : ℕ × List ℕ). HasBack z.0 z.1 i) (λ j. (c.begin_on.ensures.kept.order j, (c.begin_on.ensures.kept.committed_is told ∙ c.requires.ready.committed_is told) j)) (cause.mutating told i left);
+        does = cause.does;
+        failed = cause.failed;
+        written = cause.written;
+        synced = cause.synced;
+      };
+}
 
 pub returns-then-is_ok-clause-device : goal.returns-then-is_ok-clause-device
 returns-then-is_ok-clause-device g c =
@@ -317,15 +294,59 @@ held_whole g u v w order log base same s k contents logged few =
     let long : length (plan_of w).main ≡ region_len order = (g.met.O.Object.contents_within v.base.order (plan_of w).main s k contents).0 ∙ ap region_len (ap (λ (z : Base). z.order) base ∙ sym same) in
     held_in_region (plan_of v).back (plan_of w).main log (region_len order) long logged few
 
-pub returns-then-is_ok-clause-within : goal.returns-then-is_ok-clause-within
-returns-then-is_ok-clause-within g c is = held_whole g c.args.seat.now.token.me.0 c.begin_on.new.seat.token.me.0 c.apply_all.new.seat.token.me.0 c.args.twin.now.order c.apply_all.new.log (ap (λ (z : View). z.base) c.begin_on.ensures.same.2) c.requires.ready.order_is _ _ c.apply_all.ensures.applied.3.held c.apply_all.ensures.logged c.list.ensures.few
-
 -- the log holds no more offsets than the calls that were found may store words
 held_most : (g : Over) (p : Plan) (found : List Posted) (log : Logged) → found ≡ map posted_of p.requests → log.added ≤ g.O.Object.STORES * weights (weight_on_words g.O.Object.machine) (map (λ (one : Posted). one.args) found) → held_count log.ranges ≤ log.added → held_count log.ranges ≤ g.O.Object.STORES * weights_found (weight_on_words g.O.Object.machine) p
 held_most g p found log is most few = let added = stores_found (weight_on_words g.O.Object.machine) g.O.Object.STORES log.added p found is most in omega (arith, added, few)
 
-pub returns-then-is_ok-clause-held_most : goal.returns-then-is_ok-clause-held_most
-returns-then-is_ok-clause-held_most g c is = held_most g (plan_of c.args.seat.now.token.me.0) c.args.found.now c.apply_all.new.log c.requires.found c.apply_all.ensures.most c.apply_all.ensures.logged.few
+pub returns-then-is_ok-clause-published : goal.returns-then-is_ok-clause-published
+returns-then-is_ok-clause-published g c is =
+    let u : View = c.args.seat.now.token.me.0 in let b : Base = u.base in let p : Plan = plan_of u in let h = c.requires.ready.held in
+    let step : ℕ → g.O.Object.State → ℕ → List ℕ → Option (g.O.Object.State × List ℕ) = on_words g.O.Object.machine in let weight : List ℕ → ℕ = weight_on_words g.O.Object.machine in
+    let m₂ : List ℕ = (plan_of c.apply_all.new.seat.token.me.0).main in let calls : List (List ℕ) = map (λ (one : Posted). one.args) c.args.found.now in
+    let it = took_ok g c in
+    let sw = c.switch.ensures.switched in let v₄ : View = c.switch.new.seat.token.me.0 in
+    let now_is : c.fault_count-now.result ≡ g.D.Device.shown.faults c.commit_on.new.twin.device = c.fault_count-now.ensures in
+    let plan_is : plan_of v₄ ≡ switched 0 (making fate.Published c.args.before (g.D.Device.shown.faults c.commit_on.new.twin.device) sw.0 sw.1 (record p { main = m₂ }))
+    = ap plan_of sw.4.2 ∙ (λ j. switched 0 (making fate.Published c.args.before (now_is j) sw.0 sw.1 (it.three j))) in
+    let four : (plan_of v₄).history ≡ p.history ++ sw.1 = ap (λ (z : Plan). z.history) plan_is in
+    let one = g.met.O.Object.one_contents b.order b.image h.0 it.start h.1 it.count h.2 it.opened in let counts = one.1 in let place = h.4 in
+    let batch_is : IsBatch g.O.Object.Contents step b p sw.0 sw.1 = subst (λ (z : Base × Plan). IsBatch g.O.Object.Contents step z.0 z.1 sw.0 sw.1) (λ j. (it.base₃ j, it.three j)) sw.2 in
+    let batched = batch_is it.start it.count it.opened in
+    let done = all_held g.O.Object.Contents step b it.start it.count it.start it.count p m₂ (length c.args.found.now) c.apply_all.new.answers.items (refl, refl) it.long it.applied in
+    let count : slice_index m₂ 2 ≡ it.count + length (p.history ++ batch_found g.O.Object.Contents step b it.start it.count p) = (g.met.O.Object.contents_within b.order m₂ _ _ done).1 in
+    let now : batch_found g.O.Object.Contents step b it.start it.count p ≡ sw.1 = sym (batched.1 ∙ ap (λ (k : ℕ). batch step b.order (after step b.order it.start it.count p.history) k (map found_of p.requests)) batched.0) in
+    let grown : slice_index m₂ 2 - c.args.place ≡ length sw.1 = omega (arith, count, length-append p.history (batch_found g.O.Object.Contents step b it.start it.count p), ap length now, counts, place) in
+    let args : map (λ (f : Found). f.args) (map found_of p.requests) ≡ calls = posted_args weight p c.args.found.now c.requires.found in
+    let same : map (λ (e : Entry). e.args) sw.1 ≡ take (length sw.1) calls
+    = ap (map (λ (e : Entry). e.args)) batched.1 ∙ (first_found step b.order (after step b.order it.start it.count p.history) sw.0 (map found_of p.requests) ∙ (λ j. take (length (sym batched.1 j)) (args j))) in
+    let sum : weights_added weight p.history (plan_of v₄).history ≡ weights weight (take (slice_index m₂ 2 - c.args.place) calls)
+    = added_weights weight p.history sw.1 (plan_of v₄).history calls four same ∙ ap (λ (n : ℕ). weights weight (take n calls)) (sym grown) in
+    let held : held_count c.apply_all.new.log.ranges ≤ c.apply_all.new.log.added = c.apply_all.ensures.logged.few in
+    let main_is : (plan_of v₄).main ≡ m₂ = ap (λ (z : Plan). z.main) plan_is in
+    let history_is : (plan_of v₄).history ≡ p.history ++ batch_found g.O.Object.Contents step b it.start it.count p = four ∙ ap (λ (l : List Entry). p.history ++ l) (sym now) in
+    record {
+      phase = search rules;
+      main = λ told. search rules;
+      back = λ told. search rules;
+      published = record {
+        front = sw.0;
+        more = sw.1;
+        batch = batch_is;
+        history = four;
+        records = ap (λ (z : Plan). z.records) plan_is;
+        mine = ap (λ (z : Plan). z.mine) plan_is;
+        told = ap (λ (z : Plan). z.told) plan_is;
+        side = ap (λ (z : Plan). z.side) plan_is;
+        passes = ap (λ (z : Plan). z.passes) plan_is;
+        dealt = ap (λ (z : Plan). z.dealt) plan_is;
+      };
+      held = (it.start, it.count, it.opened, subst (λ (z : List ℕ × List Entry). Held g.O.Object.Contents step b it.start it.count z.0 z.1) (λ j. (sym main_is j, sym history_is j)) done);
+      logged = search rules;
+      few = subst (λ (n : ℕ). held_count c.apply_all.new.log.ranges ≤ g.O.Object.STORES * n) (sym sum) (omega (arith, held, c.apply_all.ensures.few));
+      held_most = held_most g (plan_of c.args.seat.now.token.me.0) c.args.found.now c.apply_all.new.log c.requires.found c.apply_all.ensures.most c.apply_all.ensures.logged.few;
+      within = held_whole g c.args.seat.now.token.me.0 c.begin_on.new.seat.token.me.0 c.apply_all.new.seat.token.me.0 c.args.twin.now.order c.apply_all.new.log (ap (λ (z : View). z.base) c.begin_on.ensures.same.2) c.requires.ready.order_is _ _ c.apply_all.ensures.applied.3.held c.apply_all.ensures.logged c.list.ensures.few;
+      spends = search rules;
+    }
 
 pub returns-then-is_ok-clause-whole : goal.returns-then-is_ok-clause-whole
 returns-then-is_ok-clause-whole g c =
@@ -352,20 +373,29 @@ returns-clause-whole g c =
     let held : held_count c.list.result.now ≤ region_len c.args.twin.now.order = subst (λ (rs : List Range). held_count rs ≤ (region_len c.args.twin.now.order)) (sym c.list.ensures.ranges) (held_whole g c.args.seat.now.token.me.0 c.begin_on.new.seat.token.me.0 c.apply_all.new.seat.token.me.0 c.args.twin.now.order c.apply_all.new.log (ap (λ (z : View). z.base) c.begin_on.ensures.same.2) c.requires.ready.order_is _ _ c.apply_all.ensures.applied.3.held c.apply_all.ensures.logged c.list.ensures.few) in
     tried_most g.D.Device.shown c.args.twin.now.phase c.args.twin.now.order (region_len c.args.twin.now.order) (held_count c.list.result.now) c.args.twin.now.device c.begin_on.new.twin.device c.commit_on.new.twin.device c.commit_on.result c.begin_on.ensures.most c.commit_on.ensures.makes held
 
-pub returns-clause-failed_whole : goal.returns-clause-failed_whole
-returns-clause-failed_whole g c is =
-    let held : held_count c.list.result.now ≤ region_len c.args.twin.now.order = subst (λ (rs : List Range). held_count rs ≤ (region_len c.args.twin.now.order)) (sym c.list.ensures.ranges) (held_whole g c.args.seat.now.token.me.0 c.begin_on.new.seat.token.me.0 c.apply_all.new.seat.token.me.0 c.args.twin.now.order c.apply_all.new.log (ap (λ (z : View). z.base) c.begin_on.ensures.same.2) c.requires.ready.order_is _ _ c.apply_all.ensures.applied.3.held c.apply_all.ensures.logged c.list.ensures.few) in
-    undone_most g.D.Device.shown c.args.twin.now.phase c.args.twin.now.order (region_len c.args.twin.now.order) (held_count c.list.result.now) c.args.twin.now.device c.begin_on.new.twin.device c.commit_on.new.twin.device c.begin_on.ensures.most (c.commit_on.ensures.undo (is_undone g c)).0 held
+pub returns-clause-failed : goal.returns-clause-failed
+returns-clause-failed g c is = record {
+  phase = inl (is_undone g c);
+  cause = let shown = g.D.Device.shown in let t = c.args.twin.now in let n : ℕ = t.order in let w : List ℕ = (plan_of c.args.seat.now.token.me.0).main in
+      let b = c.begin_on.new.twin.device in let d = c.commit_on.new.twin.device in
+      let undo : c.commit_on.new.twin.phase ≡ phase.Undo = is_undone g c in let cause = (c.commit_on.ensures.undo undo).1 in
+      record {
+        rose = omega (arith, cause.rose, c.begin_on.ensures.device.later);
+        last = cause.last;
+        images = λ told. before_on shown t.phase n w t.device b d
+            (subst (λ (z : List ℕ). Runs shown (Becomes (BeforeCommit t.phase n z)) t.device b) (c.requires.ready.committed_is told) (c.begin_on.ensures.before told))
+            (subst (λ (z : ℕ × List ℕ). Runs shown (Becomes (HasBack z.0 z.1)) b d) (λ j. (c.begin_on.ensures.kept.order j, (c.begin_on.ensures.kept.committed_is told ∙ c.requires.ready.committed_is told) j)) (cause.images told));
+      };
+  most = let held : held_count c.list.result.now ≤ g.O.Object.STORES * weights_found (weight_on_words g.O.Object.machine) (plan_of c.args.seat.now.token.me.0) = subst (λ (rs : List Range). held_count rs ≤ (g.O.Object.STORES * weights_found (weight_on_words g.O.Object.machine) (plan_of c.args.seat.now.token.me.0))) (sym c.list.ensures.ranges) (held_most g (plan_of c.args.seat.now.token.me.0) c.args.found.now c.apply_all.new.log c.requires.found c.apply_all.ensures.most c.apply_all.ensures.logged.few) in
+      undone_most g.D.Device.shown c.args.twin.now.phase c.args.twin.now.order (g.O.Object.STORES * weights_found (weight_on_words g.O.Object.machine) (plan_of c.args.seat.now.token.me.0)) (held_count c.list.result.now) c.args.twin.now.device c.begin_on.new.twin.device c.commit_on.new.twin.device c.begin_on.ensures.most (c.commit_on.ensures.undo (is_undone g c)).0 held;
+  whole = let held : held_count c.list.result.now ≤ region_len c.args.twin.now.order = subst (λ (rs : List Range). held_count rs ≤ (region_len c.args.twin.now.order)) (sym c.list.ensures.ranges) (held_whole g c.args.seat.now.token.me.0 c.begin_on.new.seat.token.me.0 c.apply_all.new.seat.token.me.0 c.args.twin.now.order c.apply_all.new.log (ap (λ (z : View). z.base) c.begin_on.ensures.same.2) c.requires.ready.order_is _ _ c.apply_all.ensures.applied.3.held c.apply_all.ensures.logged c.list.ensures.few) in
+      undone_most g.D.Device.shown c.args.twin.now.phase c.args.twin.now.order (region_len c.args.twin.now.order) (held_count c.list.result.now) c.args.twin.now.device c.begin_on.new.twin.device c.commit_on.new.twin.device c.begin_on.ensures.most (c.commit_on.ensures.undo (is_undone g c)).0 held;
+}
 
 pub returns-clause-most : goal.returns-clause-most
 returns-clause-most g c =
     let held : held_count c.list.result.now ≤ g.O.Object.STORES * weights_found (weight_on_words g.O.Object.machine) (plan_of c.args.seat.now.token.me.0) = subst (λ (rs : List Range). held_count rs ≤ (g.O.Object.STORES * weights_found (weight_on_words g.O.Object.machine) (plan_of c.args.seat.now.token.me.0))) (sym c.list.ensures.ranges) (held_most g (plan_of c.args.seat.now.token.me.0) c.args.found.now c.apply_all.new.log c.requires.found c.apply_all.ensures.most c.apply_all.ensures.logged.few) in
     tried_most g.D.Device.shown c.args.twin.now.phase c.args.twin.now.order (g.O.Object.STORES * weights_found (weight_on_words g.O.Object.machine) (plan_of c.args.seat.now.token.me.0)) (held_count c.list.result.now) c.args.twin.now.device c.begin_on.new.twin.device c.commit_on.new.twin.device c.commit_on.result c.begin_on.ensures.most c.commit_on.ensures.makes held
-
-pub returns-clause-failed_most : goal.returns-clause-failed_most
-returns-clause-failed_most g c is =
-    let held : held_count c.list.result.now ≤ g.O.Object.STORES * weights_found (weight_on_words g.O.Object.machine) (plan_of c.args.seat.now.token.me.0) = subst (λ (rs : List Range). held_count rs ≤ (g.O.Object.STORES * weights_found (weight_on_words g.O.Object.machine) (plan_of c.args.seat.now.token.me.0))) (sym c.list.ensures.ranges) (held_most g (plan_of c.args.seat.now.token.me.0) c.args.found.now c.apply_all.new.log c.requires.found c.apply_all.ensures.most c.apply_all.ensures.logged.few) in
-    undone_most g.D.Device.shown c.args.twin.now.phase c.args.twin.now.order (g.O.Object.STORES * weights_found (weight_on_words g.O.Object.machine) (plan_of c.args.seat.now.token.me.0)) (held_count c.list.result.now) c.args.twin.now.device c.begin_on.new.twin.device c.commit_on.new.twin.device c.begin_on.ensures.most (c.commit_on.ensures.undo (is_undone g c)).0 held
 
 pub returns-then-is_err-clause-most : goal.returns-then-is_err-clause-most
 returns-then-is_err-clause-most g c = most_within g.D.Device.shown _ _ _ _ c.args.twin.now.device c.begin_on.new.twin.device c.begin_on.ensures.most (omega arith) (omega arith)
@@ -373,11 +403,13 @@ returns-then-is_err-clause-most g c = most_within g.D.Device.shown _ _ _ _ c.arg
 pub returns-then-is_err-clause-whole : goal.returns-then-is_err-clause-whole
 returns-then-is_err-clause-whole g c = most_within g.D.Device.shown _ _ _ _ c.args.twin.now.device c.begin_on.new.twin.device c.begin_on.ensures.most (omega arith) (omega arith)
 
-pub returns-then-is_err-clause-failed_most : goal.returns-then-is_err-clause-failed_most
-returns-then-is_err-clause-failed_most g c is = most_within g.D.Device.shown _ _ _ _ c.args.twin.now.device c.begin_on.new.twin.device c.begin_on.ensures.most (omega arith) (omega arith)
-
-pub returns-then-is_err-clause-failed_whole : goal.returns-then-is_err-clause-failed_whole
-returns-then-is_err-clause-failed_whole g c is = most_within g.D.Device.shown _ _ _ _ c.args.twin.now.device c.begin_on.new.twin.device c.begin_on.ensures.most (omega arith) (omega arith)
+pub returns-then-is_err-clause-failed : goal.returns-then-is_err-clause-failed
+returns-then-is_err-clause-failed g c is = record {
+  phase = search rules;
+  cause = search rules;
+  most = most_within g.D.Device.shown _ _ _ _ c.args.twin.now.device c.begin_on.new.twin.device c.begin_on.ensures.most (omega arith) (omega arith);
+  whole = most_within g.D.Device.shown _ _ _ _ c.args.twin.now.device c.begin_on.new.twin.device c.begin_on.ensures.most (omega arith) (omega arith);
+}
 
 -- what each end keeps, and what it leaves
 pub returns-then-is_err-clause-same : goal.returns-then-is_err-clause-same
@@ -386,17 +418,12 @@ returns-then-is_err-clause-same g c = seat_by c.args.seat.now c.begin_on.new.sea
 pub returns-then-is_err-clause-order : goal.returns-then-is_err-clause-order
 returns-then-is_err-clause-order g c = c.begin_on.ensures.kept.order
 
-pub returns-then-is_err-clause-cleared : goal.returns-then-is_err-clause-cleared
-returns-then-is_err-clause-cleared g c other = c.requires.ready.clear
-
-pub returns-then-is_err-clause-stays : goal.returns-then-is_err-clause-stays
-returns-then-is_err-clause-stays g c other = ap plan_of c.begin_on.ensures.same.2
-
-pub returns-then-is_err-clause-committed : goal.returns-then-is_err-clause-committed
-returns-then-is_err-clause-committed g c other told = c.begin_on.ensures.kept.committed_is told
-
-pub returns-then-is_err-clause-images : goal.returns-then-is_err-clause-images
-returns-then-is_err-clause-images g c told = c.begin_on.ensures.kept.images told
+pub returns-then-is_err-clause-unpublished : goal.returns-then-is_err-clause-unpublished
+returns-then-is_err-clause-unpublished g c other = record {
+  cleared = c.requires.ready.clear;
+  stays = ap plan_of c.begin_on.ensures.same.2;
+  committed_is = λ told. c.begin_on.ensures.kept.committed_is told;
+}
 
 pub returns-then-is_err-clause-device : goal.returns-then-is_err-clause-device
 returns-then-is_err-clause-device g c = c.begin_on.ensures.device
@@ -410,9 +437,6 @@ returns-then-is_ok-clause-same g c =
 pub returns-then-is_ok-clause-order : goal.returns-then-is_ok-clause-order
 returns-then-is_ok-clause-order g c = c.commit_on.ensures.kept.order ∙ c.begin_on.ensures.kept.order
 
-pub returns-then-is_ok-clause-images : goal.returns-then-is_ok-clause-images
-returns-then-is_ok-clause-images g c told = c.commit_on.ensures.kept.images told
-
 pub returns-then-eq-clause-same : goal.returns-then-eq-clause-same
 returns-then-eq-clause-same g c =
     let s = c.args.seat.now in let s₁ = c.begin_on.new.seat in let s₂ = c.apply_all.new.seat in let s₃ = c.commit_on.new.seat in
@@ -421,9 +445,6 @@ returns-then-eq-clause-same g c =
 
 pub returns-then-eq-clause-order : goal.returns-then-eq-clause-order
 returns-then-eq-clause-order g c = c.commit_on.ensures.kept.order ∙ c.begin_on.ensures.kept.order
-
-pub returns-then-eq-clause-images : goal.returns-then-eq-clause-images
-returns-then-eq-clause-images g c told = c.commit_on.ensures.kept.images told
 
 pub returns-clause-same : goal.returns-clause-same
 returns-clause-same g c =
@@ -434,9 +455,6 @@ returns-clause-same g c =
 pub returns-clause-order : goal.returns-clause-order
 returns-clause-order g c = c.commit_on.ensures.kept.order ∙ c.begin_on.ensures.kept.order
 
-pub returns-clause-images : goal.returns-clause-images
-returns-clause-images g c told = c.commit_on.ensures.kept.images told
-
 pub returns-then-is_ok-clause-room : goal.returns-then-is_ok-clause-room
 returns-then-is_ok-clause-room g c = c.apply_all.ensures.room
 
@@ -446,14 +464,12 @@ returns-then-eq-clause-calls g c = let five = back_doubt g c in (ap (λ (z : Pla
 pub returns-then-eq-clause-room : goal.returns-then-eq-clause-room
 returns-then-eq-clause-room g c = ap (λ (l : Logged). l.room) c.clear.ensures ∙ c.apply_all.ensures.room
 
-pub returns-then-eq-clause-cleared : goal.returns-then-eq-clause-cleared
-returns-then-eq-clause-cleared g c other = (ap (λ (l : Logged). l.ranges) c.clear.ensures, ap (λ (l : Logged). l.added) c.clear.ensures)
-
-pub returns-then-eq-clause-stays : goal.returns-then-eq-clause-stays
-returns-then-eq-clause-stays g c other = back_doubt g c
-
-pub returns-then-eq-clause-committed : goal.returns-then-eq-clause-committed
-returns-then-eq-clause-committed g c other told = c.commit_on.ensures.kept.committed_is told ∙ c.begin_on.ensures.kept.committed_is told
+pub returns-then-eq-clause-unpublished : goal.returns-then-eq-clause-unpublished
+returns-then-eq-clause-unpublished g c other = record {
+  cleared = (ap (λ (l : Logged). l.ranges) c.clear.ensures, ap (λ (l : Logged). l.added) c.clear.ensures);
+  stays = back_doubt g c;
+  committed_is = λ told. c.commit_on.ensures.kept.committed_is told ∙ c.begin_on.ensures.kept.committed_is told;
+}
 
 pub returns-clause-calls : goal.returns-clause-calls
 returns-clause-calls g c = let five = back_failed g c in (ap (λ (z : Plan). z.scanned) five, ap (λ (z : Plan). map found_of z.requests) five)
@@ -461,183 +477,52 @@ returns-clause-calls g c = let five = back_failed g c in (ap (λ (z : Plan). z.s
 pub returns-clause-room : goal.returns-clause-room
 returns-clause-room g c = ap (λ (l : Logged). l.room) c.clear.ensures ∙ c.apply_all.ensures.room
 
-pub returns-clause-cleared : goal.returns-clause-cleared
-returns-clause-cleared g c other = (ap (λ (l : Logged). l.ranges) c.clear.ensures, ap (λ (l : Logged). l.added) c.clear.ensures)
-
-pub returns-clause-stays : goal.returns-clause-stays
-returns-clause-stays g c other = back_failed g c
-
-pub returns-clause-committed : goal.returns-clause-committed
-returns-clause-committed g c other told = c.commit_on.ensures.kept.committed_is told ∙ c.begin_on.ensures.kept.committed_is told
-
-pub returns-then-eq-clause-doubt : goal.returns-then-eq-clause-doubt
-returns-then-eq-clause-doubt g c is = in_doubt g c
-
-pub returns-clause-failed : goal.returns-clause-failed
-returns-clause-failed g c is = inl (is_undone g c)
+pub returns-clause-unpublished : goal.returns-clause-unpublished
+returns-clause-unpublished g c other = record {
+  cleared = (ap (λ (l : Logged). l.ranges) c.clear.ensures, ap (λ (l : Logged). l.added) c.clear.ensures);
+  stays = back_failed g c;
+  committed_is = λ told. c.commit_on.ensures.kept.committed_is told ∙ c.begin_on.ensures.kept.committed_is told;
+}
 
 -- what a pass does not say that failed as it began
 pub returns-then-is_err-clause-some : goal.returns-then-is_err-clause-some
 returns-then-is_err-clause-some g c = failed_not_nothing
 
-pub returns-then-is_err-clause-phase : goal.returns-then-is_err-clause-phase
-returns-then-is_err-clause-phase g c e = absurd (published_not_failed (sym e))
-
-pub returns-then-is_err-clause-main : goal.returns-then-is_err-clause-main
-returns-then-is_err-clause-main g c e = absurd (published_not_failed (sym e))
-
 pub returns-then-is_err-clause-published : goal.returns-then-is_err-clause-published
 returns-then-is_err-clause-published g c e = absurd (published_not_failed (sym e))
 
-pub returns-then-is_err-clause-held : goal.returns-then-is_err-clause-held
-returns-then-is_err-clause-held g c e = absurd (published_not_failed (sym e))
-
-pub returns-then-is_err-clause-back : goal.returns-then-is_err-clause-back
-returns-then-is_err-clause-back g c e = absurd (published_not_failed (sym e))
-
-pub returns-then-is_err-clause-logged : goal.returns-then-is_err-clause-logged
-returns-then-is_err-clause-logged g c e = absurd (published_not_failed (sym e))
-
-pub returns-then-is_err-clause-few : goal.returns-then-is_err-clause-few
-returns-then-is_err-clause-few g c e = absurd (published_not_failed (sym e))
-
-pub returns-then-is_err-clause-held_most : goal.returns-then-is_err-clause-held_most
-returns-then-is_err-clause-held_most g c e = absurd (published_not_failed (sym e))
-
-pub returns-then-is_err-clause-within : goal.returns-then-is_err-clause-within
-returns-then-is_err-clause-within g c e = absurd (published_not_failed (sym e))
-
-pub returns-then-is_err-clause-spends : goal.returns-then-is_err-clause-spends
-returns-then-is_err-clause-spends g c e = absurd (published_not_failed (sym e))
-
 pub returns-then-is_err-clause-doubt : goal.returns-then-is_err-clause-doubt
 returns-then-is_err-clause-doubt g c e = absurd (failed_not_doubt e)
-
-pub returns-then-is_err-clause-doubt_cause : goal.returns-then-is_err-clause-doubt_cause
-returns-then-is_err-clause-doubt_cause g c e = absurd (failed_not_doubt e)
-
-pub returns-then-is_err-clause-doubted : goal.returns-then-is_err-clause-doubted
-returns-then-is_err-clause-doubted g c told e = absurd (failed_not_doubt e)
 
 -- what one does not say that published
 pub returns-then-is_ok-clause-some : goal.returns-then-is_ok-clause-some
 returns-then-is_ok-clause-some g c = published_not_nothing
 
-pub returns-then-is_ok-clause-cleared : goal.returns-then-is_ok-clause-cleared
-returns-then-is_ok-clause-cleared g c other = absurd (other refl)
-
-pub returns-then-is_ok-clause-stays : goal.returns-then-is_ok-clause-stays
-returns-then-is_ok-clause-stays g c other = absurd (other refl)
-
-pub returns-then-is_ok-clause-committed : goal.returns-then-is_ok-clause-committed
-returns-then-is_ok-clause-committed g c other = absurd (other refl)
+pub returns-then-is_ok-clause-unpublished : goal.returns-then-is_ok-clause-unpublished
+returns-then-is_ok-clause-unpublished g c other = absurd (other refl)
 
 pub returns-then-is_ok-clause-failed : goal.returns-then-is_ok-clause-failed
 returns-then-is_ok-clause-failed g c e = absurd (published_not_failed e)
 
-pub returns-then-is_ok-clause-failed_cause : goal.returns-then-is_ok-clause-failed_cause
-returns-then-is_ok-clause-failed_cause g c e = absurd (published_not_failed e)
-
-pub returns-then-is_ok-clause-failed_most : goal.returns-then-is_ok-clause-failed_most
-returns-then-is_ok-clause-failed_most g c e = absurd (published_not_failed e)
-
-pub returns-then-is_ok-clause-failed_whole : goal.returns-then-is_ok-clause-failed_whole
-returns-then-is_ok-clause-failed_whole g c e = absurd (published_not_failed e)
-
 pub returns-then-is_ok-clause-doubt : goal.returns-then-is_ok-clause-doubt
 returns-then-is_ok-clause-doubt g c e = absurd (published_not_doubt e)
-
-pub returns-then-is_ok-clause-doubt_cause : goal.returns-then-is_ok-clause-doubt_cause
-returns-then-is_ok-clause-doubt_cause g c e = absurd (published_not_doubt e)
-
-pub returns-then-is_ok-clause-doubted : goal.returns-then-is_ok-clause-doubted
-returns-then-is_ok-clause-doubted g c told e = absurd (published_not_doubt e)
 
 -- what one does not say that is in doubt
 pub returns-then-eq-clause-some : goal.returns-then-eq-clause-some
 returns-then-eq-clause-some g c = doubt_not_nothing
 
-pub returns-then-eq-clause-phase : goal.returns-then-eq-clause-phase
-returns-then-eq-clause-phase g c e = absurd (published_not_doubt (sym e))
-
-pub returns-then-eq-clause-main : goal.returns-then-eq-clause-main
-returns-then-eq-clause-main g c e = absurd (published_not_doubt (sym e))
-
 pub returns-then-eq-clause-published : goal.returns-then-eq-clause-published
 returns-then-eq-clause-published g c e = absurd (published_not_doubt (sym e))
 
-pub returns-then-eq-clause-held : goal.returns-then-eq-clause-held
-returns-then-eq-clause-held g c e = absurd (published_not_doubt (sym e))
-
-pub returns-then-eq-clause-back : goal.returns-then-eq-clause-back
-returns-then-eq-clause-back g c e = absurd (published_not_doubt (sym e))
-
-pub returns-then-eq-clause-logged : goal.returns-then-eq-clause-logged
-returns-then-eq-clause-logged g c e = absurd (published_not_doubt (sym e))
-
-pub returns-then-eq-clause-few : goal.returns-then-eq-clause-few
-returns-then-eq-clause-few g c e = absurd (published_not_doubt (sym e))
-
-pub returns-then-eq-clause-held_most : goal.returns-then-eq-clause-held_most
-returns-then-eq-clause-held_most g c e = absurd (published_not_doubt (sym e))
-
-pub returns-then-eq-clause-within : goal.returns-then-eq-clause-within
-returns-then-eq-clause-within g c e = absurd (published_not_doubt (sym e))
-
-pub returns-then-eq-clause-spends : goal.returns-then-eq-clause-spends
-returns-then-eq-clause-spends g c e = absurd (published_not_doubt (sym e))
-
 pub returns-then-eq-clause-failed : goal.returns-then-eq-clause-failed
 returns-then-eq-clause-failed g c e = absurd (failed_not_doubt (sym e))
-
-pub returns-then-eq-clause-failed_cause : goal.returns-then-eq-clause-failed_cause
-returns-then-eq-clause-failed_cause g c e = absurd (failed_not_doubt (sym e))
-
-pub returns-then-eq-clause-failed_most : goal.returns-then-eq-clause-failed_most
-returns-then-eq-clause-failed_most g c e = absurd (failed_not_doubt (sym e))
-
-pub returns-then-eq-clause-failed_whole : goal.returns-then-eq-clause-failed_whole
-returns-then-eq-clause-failed_whole g c e = absurd (failed_not_doubt (sym e))
 
 -- what one does not say that failed before the commit
 pub returns-clause-some : goal.returns-clause-some
 returns-clause-some g c = failed_not_nothing
 
-pub returns-clause-phase : goal.returns-clause-phase
-returns-clause-phase g c e = absurd (published_not_failed (sym e))
-
-pub returns-clause-main : goal.returns-clause-main
-returns-clause-main g c e = absurd (published_not_failed (sym e))
-
 pub returns-clause-published : goal.returns-clause-published
 returns-clause-published g c e = absurd (published_not_failed (sym e))
 
-pub returns-clause-held : goal.returns-clause-held
-returns-clause-held g c e = absurd (published_not_failed (sym e))
-
-pub returns-clause-back : goal.returns-clause-back
-returns-clause-back g c e = absurd (published_not_failed (sym e))
-
-pub returns-clause-logged : goal.returns-clause-logged
-returns-clause-logged g c e = absurd (published_not_failed (sym e))
-
-pub returns-clause-few : goal.returns-clause-few
-returns-clause-few g c e = absurd (published_not_failed (sym e))
-
-pub returns-clause-held_most : goal.returns-clause-held_most
-returns-clause-held_most g c e = absurd (published_not_failed (sym e))
-
-pub returns-clause-within : goal.returns-clause-within
-returns-clause-within g c e = absurd (published_not_failed (sym e))
-
-pub returns-clause-spends : goal.returns-clause-spends
-returns-clause-spends g c e = absurd (published_not_failed (sym e))
-
 pub returns-clause-doubt : goal.returns-clause-doubt
 returns-clause-doubt g c e = absurd (failed_not_doubt e)
-
-pub returns-clause-doubt_cause : goal.returns-clause-doubt_cause
-returns-clause-doubt_cause g c e = absurd (failed_not_doubt e)
-
-pub returns-clause-doubted : goal.returns-clause-doubted
-returns-clause-doubted g c told e = absurd (failed_not_doubt e)

@@ -1,6 +1,6 @@
 use Rattle.std.proofs.Common.{refl, subst}
 use Rattle.std.specs.Prelude.{None}
-use Rattle.rom_stat.proofs.Showing.{put}
+use Rattle.rom_script.proofs.Showing.{put}
 use Rattle.rom_text.specs.Streams.{Prints}
 use Rattle.rom_dump.specs.Shown.{check_text}
 use Rattle.rom_dump.specs.Words.{Check}

@@ -1,7 +1,7 @@
 use Rattle.std.proofs.Common.{ℕ, sym, subst}
 use Rattle.rom_model.specs.Region.{Contents}
 use Rattle.rom_model.specs.State as model
-use Rattle.rom_stat.specs.Stat.{stat_text}
+use Rattle.rom_script.specs.Stat.{stat_text}
 use Rattle.rom_text.proofs.Prints.{printed, stopped, prints_stopped, stopped_first, both_printed}
 use Rattle.rom_dump.proofs.check.print_check.Goals as goal
 

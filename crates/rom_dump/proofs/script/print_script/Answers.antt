@@ -1,8 +1,8 @@
 use Rattle.std.proofs.Common.{inl, inr, sym, subst}
 use Rattle.rom_model.specs.Region.{Contents, IsWellFormed}
-use Rattle.rom_elements.specs.Elements.{elements_in}
-use Rattle.rom_rebuild.specs.Script.{script_of}
-use Rattle.rom_run.specs.Statuses.{number_of}
+use Rattle.rom_rebuild.specs.Elements.{elements_in}
+use Rattle.rom_rebuild.specs.Script.{elements_script}
+use Rattle.rom_run.specs.Statuses.{exit_number}
 use Rattle.rom_dump.specs.Shown.{EndsAsScript, EndsAsText, EndsAsWhole}
 use Rattle.rom_dump.proofs.Showing.{elements_few, put_again, region_fits}
 use Rattle.rom_dump.proofs.script.print_script.Goals as goal
@@ -35,9 +35,9 @@ returns-in-Some-clause-printed g c s k held =
     let n = c.args.order in
     let es = elements_in c.in-Ok.elements in
     let are = c.in-Ok.ensures.are s k (subst (λ w. Contents n w s k) (sym c.of-space.ensures) held) in
-    let text = subst (λ ls. EndsAsText o (script_of ls) c.args.out.now c.print_part.new.out (number_of c.print_part.result)) c.of-in-Some.ensures c.print_part.ensures.text in
-    let again : EndsAsScript o c.args.part es c.args.out.now c.print_part.new.out (number_of c.print_part.result) = subst (λ p. EndsAsScript o p es c.args.out.now c.print_part.new.out (number_of c.print_part.result)) (sym c.in-Some.is) text in
-    inl (put_again o n s es c.args.part c.args.out.now c.print_part.new.out (number_of c.print_part.result) c.requires.order (region_fits n c.args.image.items c.requires.order (s, k, held)) are c.in-Ok.ensures.fit again)
+    let text = subst (λ ls. EndsAsText o (elements_script ls) c.args.out.now c.print_part.new.out (exit_number c.print_part.result)) c.of-in-Some.ensures c.print_part.ensures.text in
+    let again : EndsAsScript o c.args.part es c.args.out.now c.print_part.new.out (exit_number c.print_part.result) = subst (λ p. EndsAsScript o p es c.args.out.now c.print_part.new.out (exit_number c.print_part.result)) (sym c.in-Some.is) text in
+    inl (put_again o n s es c.args.part c.args.out.now c.print_part.new.out (exit_number c.print_part.result) c.requires.order (region_fits n c.args.image.items c.requires.order (s, k, held)) are c.in-Ok.ensures.fit again)
 
 pub returns-clause-printed : goal.returns-clause-printed
 returns-clause-printed g c s k held =
@@ -45,6 +45,6 @@ returns-clause-printed g c s k held =
     let n = c.args.order in
     let es = elements_in c.in-Ok.elements in
     let are = c.in-Ok.ensures.are s k (subst (λ w. Contents n w s k) (sym c.of-space.ensures) held) in
-    let text = subst (λ ls. EndsAsWhole o ls c.args.out.now c.print_whole.new.out (number_of c.print_whole.result)) c.whole.ensures c.print_whole.ensures.text in
-    let again : EndsAsScript o c.args.part es c.args.out.now c.print_whole.new.out (number_of c.print_whole.result) = subst (λ p. EndsAsScript o p es c.args.out.now c.print_whole.new.out (number_of c.print_whole.result)) (sym c.in-None.is) text in
-    inl (put_again o n s es c.args.part c.args.out.now c.print_whole.new.out (number_of c.print_whole.result) c.requires.order (region_fits n c.args.image.items c.requires.order (s, k, held)) are c.in-Ok.ensures.fit again)
+    let text = subst (λ ls. EndsAsWhole o ls c.args.out.now c.print_whole.new.out (exit_number c.print_whole.result)) c.whole.ensures c.print_whole.ensures.text in
+    let again : EndsAsScript o c.args.part es c.args.out.now c.print_whole.new.out (exit_number c.print_whole.result) = subst (λ p. EndsAsScript o p es c.args.out.now c.print_whole.new.out (exit_number c.print_whole.result)) (sym c.in-None.is) text in
+    inl (put_again o n s es c.args.part c.args.out.now c.print_whole.new.out (exit_number c.print_whole.result) c.requires.order (region_fits n c.args.image.items c.requires.order (s, k, held)) are c.in-Ok.ensures.fit again)

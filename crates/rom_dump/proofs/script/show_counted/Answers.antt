@@ -1,6 +1,6 @@
 use Rattle.std.proofs.Common.{inl, inr}
 use Rattle.std.specs.Prelude.{None}
-use Rattle.rom_run.specs.Statuses.{number_of}
+use Rattle.rom_run.specs.Statuses.{exit_number}
 use Rattle.rom_dump.specs.Words.{Script}
 use Rattle.rom_dump.proofs.Showing.{is_shown, is_refused, no_memory}
 use Rattle.rom_dump.proofs.script.show_counted.Goals as goal
@@ -10,7 +10,7 @@ returns-in-Ok-clause-answered g c file =
     let seen = c.in-Ok.ensures in
     let x = seen.fit in
     elim (c.print_script.ensures.printed x.0 x.1 x.2) [
-      | inl again ↦ is_shown g.D.Device.shown g.O.Sink.shown c.args.device.now c.view_device.new.device c.args.out.now c.print_script.new.out (Script file None c.args.part) c.in-Ok.viewed.order c.in-Ok.viewed.state c.in-Ok.viewed.image.items (number_of c.print_script.result) seen.order x seen.viewed seen.state seen.fits seen.faults again
+      | inl again ↦ is_shown g.D.Device.shown g.O.Sink.shown c.args.device.now c.view_device.new.device c.args.out.now c.print_script.new.out (Script file None c.args.part) c.in-Ok.viewed.order c.in-Ok.viewed.state c.in-Ok.viewed.image.items (exit_number c.print_script.result) seen.order x seen.viewed seen.state seen.fits seen.faults again
       | inr short ↦ no_memory g.D.Device.shown g.O.Sink.shown c.args.device.now c.view_device.new.device c.args.out.now c.print_script.new.out (Script file None c.args.part) c.in-Ok.viewed.order c.in-Ok.viewed.image.items c.print_script.result short.0 seen.viewed seen.faults short.1
     ]
 

@@ -1,11 +1,11 @@
 use Rattle.rom_rule.specs.Views.{base_of}
-use Rattle.rom_store.specs.Start.{start_of}
+use Rattle.rom_store.specs.Start.{device_start}
 use Rattle.rom_follow.proofs.followed.follow_all.Given as goal
 
 abbrev pub ghosts-follow_as : goal.ghosts-follow_as
 ghosts-follow_as g a = let shown = g.D.Device.shown in record {
   table = a.opening.table_id;
   base = base_of a.opening.key;
-  start = start_of shown a.opening.device;
+  start = device_start shown a.opening.device;
   since = λ t i. shown.left_since a.opening.device t i;
 }

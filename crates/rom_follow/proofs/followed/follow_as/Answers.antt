@@ -6,7 +6,7 @@ use Rattle.rom_model.specs.Machine.{on_words}
 use Rattle.rom_model.specs.Region.{Contents}
 use Rattle.rom_model.specs.Trio.{trio}
 use Rattle.rom_model.specs.declared.entry.Entry.{Entry}
-use Rattle.rom_follow.specs.Following.{AgreesBelow, HoldsPrefix, state_after}
+use Rattle.rom_follow.specs.Following.{AgreesBelow, HoldsPrefix, state_after_first}
 use Rattle.rom_follow.proofs.Ended.{ends_after, ends_within, left_since_start}
 use Rattle.rom_follow.proofs.followed.follow_as.Goals as goal
 
@@ -32,7 +32,7 @@ returns-clause-follows g c s0 n0 history first legal has within held arrive =
     let f = c.take_all.new.self in
     let kept = c.take_all.ensures.follows s0 n0 history first legal has (c.start-follower.ensures.follows s0 n0 history first within held) arrive in
     let closed = c.close.result in
-    let count : f.count ≡ n0 + (first + length f.history) = omega (arith, (c.close.ensures.done (state_after base.order s0 n0 history first) (n0 + first) held).count_is) in
+    let count : f.count ≡ n0 + (first + length f.history) = omega (arith, (c.close.ensures.done (state_after_first base.order s0 n0 history first) (n0 + first) held).count_is) in
     record {
       len = first + length f.history;
       least = omega arith;

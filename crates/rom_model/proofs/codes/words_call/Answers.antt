@@ -21,5 +21,5 @@ none words None is = λ x size same. absurd (let never : None ≡ Some x = is �
 
 pub returns : goal.returns
 returns c =
-    let is = c.read_call.ensures ∙ ap words_call c.as_slice.ensures in
+    let is = c.read_call.ensures ∙ ap words_call c.as_slice.ensures.words in
     record { call = is; size = size c.args.words.now c.read_call.result is; only = only c.args.words.now c.read_call.result is; none = none c.args.words.now c.read_call.result is }

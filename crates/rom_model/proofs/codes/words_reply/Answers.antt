@@ -17,5 +17,5 @@ none words None is = λ x size same. absurd (let never : None ≡ Some x = is �
 
 pub returns : goal.returns
 returns c =
-    let is = c.read_reply.ensures ∙ ap words_reply c.as_slice.ensures in
+    let is = c.read_reply.ensures ∙ ap words_reply c.as_slice.ensures.words in
     record { reply = is; only = only c.args.words.now c.read_reply.result is; none = none c.args.words.now c.read_reply.result is }

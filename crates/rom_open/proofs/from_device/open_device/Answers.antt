@@ -1,3 +1,4 @@
+use Rattle.std.proofs.Common.{rules}
 use Rattle.std.specs.Prelude.{Ok, Err}
 use Rattle.rom_recover.specs.Recovered.{Mended}
 use Rattle.rom_header.specs.Held.{Holds}
@@ -14,13 +15,18 @@ returns-in-Ok-clause-one g c = holds_one g.O.Object.Contents g.met.O.Object.one_
 pub returns-in-Err-clause-one : goal.returns-in-Err-clause-one
 returns-in-Err-clause-one g c = holds_one g.O.Object.Contents g.met.O.Object.one_contents
 
-pub returns-in-Ok-clause-held_images : goal.returns-in-Ok-clause-held_images
-returns-in-Ok-clause-held_images g c told s k contents =
+pub returns-in-Ok-clause-held : goal.returns-in-Ok-clause-held
+returns-in-Ok-clause-held g c s k contents =
     let x = g.D.Device.shown.words c.args.device in
     let accepted = c.in-Ok.accepted in
-    let current = c.in-Ok.ensures.accepted (g.met.D.Device.tells_both told) in
-    leaves_by g.D.Device.shown (Mended (named_order x) x) (λ i. Holds g.O.Object.Contents accepted.geometry i s k) c.args.device c.accept.new.device (λ i mended. record { region = accepted.image.items; current = same_current accepted.geometry x i accepted.image.items current mended.same; contents = contents })
-    (c.in-Ok.ensures.images told)
+    record {
+      before = λ told. record { region = accepted.image.items; current = c.in-Ok.ensures.accepted told; contents = contents };
+      holds = λ told. search rules;
+      images = λ told.
+          let current = c.in-Ok.ensures.accepted (g.met.D.Device.tells_both told) in
+          leaves_by g.D.Device.shown (Mended (named_order x) x) (λ i. Holds g.O.Object.Contents accepted.geometry i s k) c.args.device c.accept.new.device (λ i mended. record { region = accepted.image.items; current = same_current accepted.geometry x i accepted.image.items current mended.same; contents = contents })
+          (c.in-Ok.ensures.images told);
+    }
 
 pub returns-in-Ok-clause-within : goal.returns-in-Ok-clause-within
 returns-in-Ok-clause-within g c = within_opening g.D.Device.shown c.args.device c.accept.new.device (Ok c.in-Ok.accepted) c.in-Ok.ensures.calls c.in-Ok.ensures.idle c.in-Ok.ensures.faults c.in-Ok.ensures.by_some_order

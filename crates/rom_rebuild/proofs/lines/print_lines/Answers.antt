@@ -1,6 +1,6 @@
 use Rattle.std.proofs.Common.{◌≡◌, ◌+◌, ◌-◌, ◌++◌, ◌∙◌, ap, sym, subst, arith, take}
-use Rattle.rom_elements.specs.Elements.{elements_in}
-use Rattle.rom_rebuild.specs.Script.{between, element_text, script_of}
+use Rattle.rom_rebuild.specs.Elements.{elements_in}
+use Rattle.rom_rebuild.specs.Script.{between, element_text, elements_script}
 use Rattle.rom_rebuild.proofs.Spans.{between_length, element_at, more_lines}
 use Rattle.rom_text.proofs.Prints.{Printed, Stopped, printed, stopped, prints_stopped, printed_both, stopped_in}
 use Rattle.rom_rebuild.proofs.lines.print_lines.Goals as goal
@@ -30,10 +30,10 @@ loop-index-preserved g c =
     let ys = between c.args.from c.args.to es in
     let h = c.loop-index.invariant in
     let here = element_at c.args.from c.args.to i es c.at.result h.from c.loop-index-test.true ∙ c.at.ensures c.at.result in
-    let more = ap (λ e. script_of (take j ys) ++ element_text e) (sym here) ∙ more_lines ys j c.at.result (omega (arith, between_length c.args.from c.args.to es c.requires.order c.requires.within, h.from, c.loop-index-test.true)) in
+    let more = ap (λ e. elements_script (take j ys) ++ element_text e) (sym here) ∙ more_lines ys j c.at.result (omega (arith, between_length c.args.from c.args.to es c.requires.order c.requires.within, h.from, c.loop-index-test.true)) in
     let next : j + 1 ≡ i + 1 - c.args.from = omega (arith, h.from) in
     record {
       from = omega (arith, h.from);
-      printed = subst (λ t. Printed o c.args.out.now c.print_line.new.out t) (more ∙ ap (λ m. script_of (take m ys)) next)
+      printed = subst (λ t. Printed o c.args.out.now c.print_line.new.out t) (more ∙ ap (λ m. elements_script (take m ys)) next)
           (printed_both o _ _ _ _ _ h.printed (printed o _ _ _ _ c.in_ok-print_line.ensures.prints));
     }

@@ -1,6 +1,6 @@
 use Rattle.std.proofs.Common.{◌-◌, ◌≤◌, take}
-use Rattle.rom_elements.specs.Elements.{elements_in}
-use Rattle.rom_rebuild.specs.Script.{between, script_of}
+use Rattle.rom_rebuild.specs.Elements.{elements_in}
+use Rattle.rom_rebuild.specs.Script.{between, elements_script}
 use Rattle.rom_text.proofs.Prints.{Printed}
 use Rattle.rom_rebuild.proofs.lines.print_lines.Given as goal
 
@@ -8,5 +8,5 @@ use Rattle.rom_rebuild.proofs.lines.print_lines.Given as goal
 abbrev pub invariant-loop-index : goal.invariant-loop-index
 invariant-loop-index g l = record {
   from : l.from ≤ l.index;
-  printed : Printed g.O.Sink.shown l.fn.out l.out (script_of (take (l.index - l.from) (between l.from l.to (elements_in l.elements))));
+  printed : Printed g.O.Sink.shown l.fn.out l.out (elements_script (take (l.index - l.from) (between l.from l.to (elements_in l.elements))));
 }

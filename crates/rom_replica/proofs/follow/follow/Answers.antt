@@ -1,7 +1,7 @@
 use Rattle.std.proofs.Common.{◌≡◌, ◌∙◌, ap, subst, sym}
 use Rattle.std.proofs.lemmas.List.{with_items_is}
 use Rattle.rom_model.specs.Story.{count}
-use Rattle.rom_replica.specs.Following.{IsToldOfStream, IsFollowText, IsFollowed}
+use Rattle.rom_replica.specs.Following.{IsToldOfStream, IsFollowText, IsStreamFollowed}
 use Rattle.rom_replica.specs.Promise.{OfOne}
 use Rattle.rom_replica.proofs.Closed.{of_one, told_by}
 use Rattle.rom_replica.proofs.follow.follow.Goals as goal
@@ -19,10 +19,10 @@ returns-in-Ok-clause-story g c =
     let left_is : scripts ≡ left = ap (λ v. v.items) ended.inputs ∙ with_items_is c.args.inputs left (c.follow_only.ensures.many ∙ c.deref_mut.ensures.len) in
     rw (ended.session, ended.device)
     (told_by g.D.Device.shown c.args.device f.closed.device f.closed.session
-    (λ story. OfOne inputs left (λ was now. IsFollowed source was now f.tally f.stop story))
+    (λ story. OfOne inputs left (λ was now. IsStreamFollowed source was now f.tally f.stop story))
     (λ story. OfOne inputs scripts (λ was now. IsToldOfStream source sink was now c.args.out.now c.end_followed.new.out status story))
     (λ story of is. subst (λ xs. OfOne inputs xs (λ was now. IsToldOfStream source sink was now c.args.out.now c.end_followed.new.out status story)) (sym left_is)
-    (of_one (λ was now. IsFollowed source was now f.tally f.stop story) (λ was now. IsToldOfStream source sink was now c.args.out.now c.end_followed.new.out status story) inputs left
+    (of_one (λ was now. IsStreamFollowed source was now f.tally f.stop story) (λ was now. IsToldOfStream source sink was now c.args.out.now c.end_followed.new.out status story) inputs left
     (λ was now told. record {
       tally = f.tally;
       stop = f.stop;

@@ -1,5 +1,5 @@
 use Rattle.std.proofs.Common.{ℕ, List, length, ap, arith, subst, sym}
-use Rattle.rom_follow.specs.Followed.{HasDone}
+use Rattle.rom_follow.specs.Followed.{HasDoneUpdates}
 use Rattle.rom_model.specs.Region.{Contents}
 use Rattle.rom_replica.proofs.follow.follow_as.Goals as goal
 
@@ -15,7 +15,7 @@ returns-clause-left g c =
           let there = subst (λ (z : ℕ × List ℕ). Contents z.0 z.1 s k) (λ i. (close.order i, close.image i)) at in
           let begun = first.ensures.done s k there in
           let none = ap length first.ensures.none.0 in
-          (omega (arith, begun.count_is, none), subst (λ (n : ℕ). HasDone n s k c.take_frames-stop.new.follower) (sym close.order) (close.done s k there));
+          (omega (arith, begun.count_is, none), subst (λ (n : ℕ). HasDoneUpdates n s k c.take_frames-stop.new.follower) (sym close.order) (close.done s k there));
       history = close.history;
       passes = close.passes;
     }

@@ -10,13 +10,13 @@ use Rattle.rom_model.specs.State.{State}
 use Rattle.rom_model.specs.Story.{Story}
 use Rattle.rom_model.specs.Trio.{trio}
 use Rattle.rom_open.specs.Refusals.{named_order}
-use Rattle.rom_open.specs.AtRest.{IsAtRest}
+use Rattle.rom_open.specs.AtRest.{IsHeapAtRest}
 use Rattle.rom_open.specs.Within.{CallsOfOrder, HasOpened}
 use Rattle.rom_rule.specs.Views.{base_of}
 use Rattle.rom_rule.specs.declared.views.Base.{Base}
 use Rattle.rom_run.proofs.Told.{if_told}
 use Rattle.rom_store.specs.Sessions.{IsStoryOf}
-use Rattle.rom_store.specs.Start.{HasStarted, start_of}
+use Rattle.rom_store.specs.Start.{HasStarted, device_start}
 use Rattle.rom_store.proofs.Spans.{held_opening, leaves_both}
 use Rattle.rom_store.proofs.Starting.{opened_first}
 use Rattle.rom_store.proofs.Tracing.{went_since}
@@ -52,9 +52,9 @@ returns-in-Ok-clause-session g c =
           after =
               let counted : faults_after story.opening_faults story.records ≡ faults_after closed.session.faults closed.session.records = λ i. faults_after (of.faults_is i) (of.records i) in
               omega (arith, counted, after.faults);
-          went = went_since shown Contents (on_words trio) story (HasStarted shown b.faults (start_of shown opening.device) (shown.left_since opening.device)) (HasOpened shown story.order was) closed.device
+          went = went_since shown Contents (on_words trio) story (HasStarted shown b.faults (device_start shown opening.device) (shown.left_since opening.device)) (HasOpened shown story.order was) closed.device
               (λ d since. opened_first shown story.order was opening.device d b.faults opened.within (subst (λ (n : ℕ). CallsOfOrder shown n was opening.device) (sym (same story of)) opened.by_order) opened.faults.1
-              (λ told. (b.image, subst (λ (n : ℕ). IsAtRest n b.image (shown.words opening.device)) (sym (same story of)) (opened.rest told))) since)
+              (λ told. (b.image, subst (λ (n : ℕ). IsHeapAtRest n b.image (shown.words opening.device)) (sym (same story of)) (opened.rest told))) since)
               (after.went story of);
         };
       };

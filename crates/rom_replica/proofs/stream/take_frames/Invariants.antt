@@ -1,6 +1,6 @@
 use Rattle.std.proofs.Common.{◌-◌, List}
 use Rattle.rom_frame.specs.declared.frame.Frame.{Frame}
-use Rattle.rom_stream.specs.declared.message.TheConstants.{MAX_STREAM}
+use Rattle.rom_frame.specs.declared.stream.message.TheConstants.{MAX_STREAM}
 use Rattle.rom_replica.specs.Tallied.{HasGoneOn}
 use Rattle.rom_replica.proofs.stream.take_frames.Given as goal
 

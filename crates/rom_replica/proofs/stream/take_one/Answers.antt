@@ -1,8 +1,8 @@
 use Rattle.std.proofs.Common.{◌≡◌, ◌≤◌, length, take, rules, subst, sym}
 use Rattle.std.proofs.lemmas.List.{length-take-le}
-use Rattle.rom_stream.specs.Messages.{IsHeard}
+use Rattle.rom_frame.specs.Messages.{IsMessageHeard}
 use Rattle.rom_model.specs.History.{LAST_COUNT}
-use Rattle.rom_replica.specs.Tallied.{Adds}
+use Rattle.rom_replica.specs.Tallied.{AddsToTally}
 use Rattle.rom_replica.proofs.Answered.{whole_turn}
 use Rattle.rom_replica.proofs.stream.take_one.Goals as goal
 
@@ -12,7 +12,7 @@ returns-in-Whole g c =
     let heard = c.next_message-heard in
     let part = take heard.result.len heard.new.block in
     let source = g.S.Source.shown in
-    let whole = subst (λ k. IsHeard source c.args.tally.now.bytes part c.args.stream.now heard.new.source k) c.in-Whole.is heard.ensures.heard in
+    let whole = subst (λ k. IsMessageHeard source c.args.tally.now.bytes part c.args.stream.now heard.new.source k) c.in-Whole.is heard.ensures.heard in
     let there : heard.result.len ≤ length heard.new.block = search rules in
     let long : length part ≡ heard.result.len = length-take-le heard.result.len heard.new.block there in
     let s = c.requires.formed in
@@ -20,5 +20,5 @@ returns-in-Whole g c =
     record {
       turn = whole_turn source c.args.stream.now heard.new.source part heard.ensures.bytes heard.ensures.asked_once c.args.follower.now c.take-taken.new.self c.args.tally.now c.add.new.self whole
           c.take-taken.result c.add.result (answer.either c.requires.agrees) (answer.no_frame c.requires.agrees) (answer.frame c.requires.agrees) c.requires.tried within
-          (subst (λ n. Adds c.take-taken.result n c.args.tally.now c.add.new.self c.add.result) (sym long) c.add.ensures.adds);
+          (subst (λ n. AddsToTally c.take-taken.result n c.args.tally.now c.add.new.self c.add.result) (sym long) c.add.ensures.adds);
     }

@@ -2,7 +2,7 @@ use Rattle.std.proofs.Common.{◌≡◌, ◌+◌, arith, map, length, ap, sym, s
 use Rattle.rom_model.specs.Story.{count}
 use Rattle.rom_model.specs.Lawful.{IsLawful}
 use Rattle.rom_run.specs.Played.{IsOutput}
-use Rattle.rom_run.specs.Statuses.{number_of}
+use Rattle.rom_run.specs.Statuses.{exit_number}
 use Rattle.rom_run.proofs.Lawful.{lawful_answers}
 use Rattle.rom_run.proofs.play.end_of.Goals as goal
 
@@ -17,6 +17,6 @@ returns-clause-played g c = λ story of lawful.
     record {
       results = results;
       answered = answered;
-      printed = subst (λ rs. IsOutput g.K.Sink.shown g.T.Output.shown story rs c.args.out.now c.tell_results-status.new.out (number_of c.tell_results-status.result)) same
+      printed = subst (λ rs. IsOutput g.K.Sink.shown g.T.Output.shown story rs c.args.out.now c.tell_results-status.new.out (exit_number c.tell_results-status.result)) same
           (c.tell_results-status.ensures.printed story count_is (subst (λ rs. IsLawful o.machine story scripts rs) (sym same) lawful));
     }

@@ -1,7 +1,7 @@
 use Rattle.std.specs.Prelude.{Option, Some, None, IfSome}
 use Rattle.rom_model.specs.Earlier.{Earlier}
 use Rattle.rom_text.specs.Lines.{AreScripts}
-use Rattle.rom_run.specs.Asked.{IsAskedOf, use_of}
+use Rattle.rom_run.specs.Asked.{IsAskedOf, asked_use}
 use Rattle.rom_run.specs.Played.{IsOutput}
 use Rattle.rom_run.specs.Use.{heap_of}
 use Rattle.rom_run.specs.declared.program.Asked.{Asked}
@@ -12,7 +12,7 @@ use Rattle.rom_run.proofs.Lasting.{lasting}
 use Rattle.rom_run.proofs.program.run_asked.Goals as goal
 
 -- no command of these upgrades a heap
-apart_asked : {S : Type 0} (earlier : Earlier S) (asked : Option Asked) → IfSome asked IsAskedOf → IfSome (use_of asked) (λ does. AreApart earlier (heap_of does))
+apart_asked : {S : Type 0} (earlier : Earlier S) (asked : Option Asked) → IfSome asked IsAskedOf → IfSome (asked_use asked) (λ does. AreApart earlier (heap_of does))
 apart_asked earlier (Some (Play heap)) order = apart_played earlier heap order
 apart_asked earlier (Some (Make order)) is = tt
 apart_asked earlier None order = tt
@@ -28,7 +28,7 @@ returns g c =
     let ended = c.run_command.result in
     let both = ends o.machine o.Contents o.Rejects o.earlier g.D.Device.shown source sink (AreScripts g.L.Lines.Reads source) (IsOutput sink output)
     c.args.device ended.device c.args.scripts.items ended.scripts.items c.args.out.now c.run_command.new.out (output_faulted sink output) (output_unread sink output)
-    (use_of c.args.asked) ended.status ended.session
+    (asked_use c.args.asked) ended.status ended.session
     (record {
       statuses = is.statuses;
       ran = is.ran;
@@ -69,7 +69,7 @@ returns g c =
         corollaries = record {
           complete = both.0;
           refused = both.1;
-          few_faults = few_faults o.machine o.Contents g.D.Device.shown c.args.device ended.device _ (use_of c.args.asked) ended.status ended.session is.not_run is.story;
+          few_faults = few_faults o.machine o.Contents g.D.Device.shown c.args.device ended.device _ (asked_use c.args.asked) ended.status ended.session is.not_run is.story;
         };
       };
     }

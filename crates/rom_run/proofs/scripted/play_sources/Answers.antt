@@ -2,7 +2,7 @@ use Rattle.std.proofs.Common.{◌≡◌, ◌∙◌, map}
 use Rattle.std.proofs.lemmas.List.{with_items_is}
 use Rattle.rom_text.specs.Lines.{AreScripts}
 use Rattle.rom_run.specs.Played.{IsOutput}
-use Rattle.rom_run.specs.Statuses.{number_of}
+use Rattle.rom_run.specs.Statuses.{exit_number}
 use Rattle.rom_run.proofs.Replies.{replies_of, unread_memory}
 use Rattle.rom_run.proofs.Statuses.{played_not_failed, played_not_long, played_not_run, played_not_unread, played_status, unread_ends, unread_failed, unread_four, unread_not_five, unread_not_read, unread_not_run, unread_too_long}
 use Rattle.rom_run.proofs.Uncalled.{kept_uncalled, none_uncalled, unread_otherwise}
@@ -26,7 +26,7 @@ returns-in-Ok-clause-session g c =
     let played = rw (c.deref.ensures.value, unprinted) at c.play_lines.ensures.session in
     rw c.after.ensures
     (replies_of o.machine o.Contents g.D.Device.shown (IsOutput g.K.Sink.shown g.T.Output.shown) (AreScripts g.L.Lines.Reads g.S.Source.shown)
-    c.args.heap c.args.device worked.device c.args.scripts.items (map (λ v. v.items) c.in-Ok.lines.items) c.args.out.now c.play_lines.new.out (number_of worked.status) worked.session read played)
+    c.args.heap c.args.device worked.device c.args.scripts.items (map (λ v. v.items) c.in-Ok.lines.items) c.args.out.now c.play_lines.new.out (exit_number worked.status) worked.session read played)
 
 pub returns-in-Ok-clause-none : goal.returns-in-Ok-clause-none
 returns-in-Ok-clause-none g c =
@@ -87,7 +87,7 @@ returns-in-Err-clause-none g c =
     let status = c.in-Err.status in
     let otherwise = unread_otherwise status c.in-Err.ensures.statuses in
     rw c.of.ensures
-    (λ none. none_uncalled g.D.Device.shown c.args.device o.machine o.Contents g.K.Sink.shown o.Rejects o.earlier c.args.out.now c.read_scripts.new.out (number_of status) otherwise.0 otherwise.1
+    (λ none. none_uncalled g.D.Device.shown c.args.device o.machine o.Contents g.K.Sink.shown o.Rejects o.earlier c.args.out.now c.read_scripts.new.out (exit_number status) otherwise.0 otherwise.1
     (λ six. unread_memory g.S.Source.shown g.K.Sink.shown c.deref_mut.result.now c.read_scripts.new.sources c.args.out.now c.read_scripts.new.out status c.in-Err.ensures.unread six) c.args.heap)
 
 pub returns-in-Err-clause-kept : goal.returns-in-Err-clause-kept

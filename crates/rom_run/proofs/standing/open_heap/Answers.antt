@@ -5,7 +5,7 @@ use Rattle.rom_model.specs.Passes.{faults_after}
 use Rattle.rom_model.specs.Story.{Story}
 use Rattle.rom_combine.specs.Session.{SessionImage}
 use Rattle.rom_header.specs.Layout.{words_needed}
-use Rattle.rom_open.specs.AtRest.{IsAtRest}
+use Rattle.rom_open.specs.AtRest.{IsHeapAtRest}
 use Rattle.rom_open.specs.Refusals.{named_order}
 use Rattle.rom_open.specs.Within.{CallsOfOrder, HasOpened, LiesAtRest}
 use Rattle.rom_store.specs.Sessions.{IsStoryOf, unchanged}
@@ -45,13 +45,13 @@ returns-in-Ok-clause-session g c =
       );
       each = λ story of. record {
         opening = if_told shown.tells_words (shown.words was) (λ words. Holds o.Contents story.order words story.opening story.opening_count)
-            (λ told. holds story of (shown.words was) (c.in-Ok.ensures.held told story.opening story.opening_count of.opening));
+            (λ told. holds story of (shown.words was) ((c.in-Ok.ensures.held story.opening story.opening_count of.opening).before told));
         fits = let long : words_needed story.order ≡ words_needed heap.geometry = ap (λ (n : ℕ). words_needed n) of.order_is in omega (arith, long, c.in-Ok.ensures.fits, c.in-Ok.ensures.left.size);
         at_end = λ images i left. held_now o.Contents (on_words o.machine) story i
             (holds story of i (subst (λ words. Holds o.Contents heap.geometry words story.opening story.opening_count) (sym (c.in-Ok.ensures.certain refl images i left))
-            (c.in-Ok.ensures.holds (g.met.D.Device.tells_both images) story.opening story.opening_count of.opening))) of.history;
+            ((c.in-Ok.ensures.held story.opening story.opening_count of.opening).holds (g.met.D.Device.tells_both images)))) of.history;
         since = λ images. leaves_by shown (λ i. Holds o.Contents heap.geometry i story.opening story.opening_count) (SessionImage o.Contents (on_words o.machine) story) was heap.device
-            (λ i is. held_opening o.Contents (on_words o.machine) story i (holds story of i is)) (c.in-Ok.ensures.held_images images story.opening story.opening_count of.opening);
+            (λ i is. held_opening o.Contents (on_words o.machine) story i (holds story of i is)) ((c.in-Ok.ensures.held story.opening story.opening_count of.opening).images images);
         faults =
             let same : shown.faults heap.device ≡ shown.faults was = c.in-Ok.ensures.faults in
             let none : faults_after story.opening_faults story.records ≡ story.opening_faults = ap (faults_after story.opening_faults) of.records in
@@ -59,7 +59,7 @@ returns-in-Ok-clause-session g c =
               before = omega (arith, of.faults_is, c.fault_count-faults.ensures, same);
               after = omega (arith, none, of.faults_is, c.fault_count-faults.ensures);
               went =
-                  let rests : LiesAtRest shown story.order heap.device = λ told. (heap.image.items, subst (λ (n : ℕ). IsAtRest n heap.image.items (shown.words heap.device)) (sym of.order_is) (c.in-Ok.ensures.rest told)) in
+                  let rests : LiesAtRest shown story.order heap.device = λ told. (heap.image.items, subst (λ (n : ℕ). IsHeapAtRest n heap.image.items (shown.words heap.device)) (sym of.order_is) (c.in-Ok.ensures.rest told)) in
                   went_none shown o.Contents (on_words o.machine) story (HasOpened shown story.order was) heap.device of.records
                   (record { calls = c.in-Ok.ensures.within.calls; by_order = subst (λ (n : ℕ). CallsOfOrder shown n was heap.device) (sym of.order_is) c.in-Ok.ensures.by_order; faults = same; rest = rests });
             };
@@ -76,11 +76,11 @@ returns-in-Ok-clause-still g c =
     let session_is = c.unchanged-session.ensures ∙ (λ i. unchanged (c.order-order.ensures.order i) (c.of-space.ensures i) c.fault_count-faults.result) in
     rw session_is (λ story of. record {
       unpassed = of.records;
-      held = λ told. subst (λ (n : ℕ). Holds o.Contents n (shown.words heap.device) story.opening story.opening_count) (sym of.order_is) (c.in-Ok.ensures.holds told story.opening story.opening_count of.opening);
+      held = λ told. subst (λ (n : ℕ). Holds o.Contents n (shown.words heap.device) story.opening story.opening_count) (sym of.order_is) ((c.in-Ok.ensures.held story.opening story.opening_count of.opening).holds told);
       calls = c.in-Ok.ensures.within;
       at_end = λ images i left. subst (λ (n : ℕ). Holds o.Contents n i story.opening story.opening_count) (sym of.order_is)
           (subst (λ words. Holds o.Contents heap.geometry words story.opening story.opening_count) (sym (c.in-Ok.ensures.certain refl images i left))
-          (c.in-Ok.ensures.holds (g.met.D.Device.tells_both images) story.opening story.opening_count of.opening));
+          ((c.in-Ok.ensures.held story.opening story.opening_count of.opening).holds (g.met.D.Device.tells_both images)));
       images = λ images. c.in-Ok.ensures.images images;
     })
 

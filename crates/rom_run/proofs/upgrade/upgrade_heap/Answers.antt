@@ -1,8 +1,8 @@
 use Rattle.std.proofs.Common.{◌≡◌, ◌++◌, ◌∙◌, ℕ, IsTrue, ap, arith, codes, subst, sym}
 use Rattle.rom_header.specs.Held.{Holds}
-use Rattle.rom_text.specs.Runs.{IsTold}
+use Rattle.rom_text.specs.Runs.{IsLineTold}
 use Rattle.rom_open.specs.Refusals.{named_order}
-use Rattle.rom_upgrade.specs.Upgrading.{IsWhole}
+use Rattle.rom_open.specs.Upgrading.{IsWholeHeap}
 use Rattle.rom_run.proofs.Joined.{two_pieces}
 use Rattle.rom_run.proofs.Showing.{none_upgraded}
 use Rattle.rom_run.proofs.upgrade.upgrade_heap.Goals as goal
@@ -32,10 +32,10 @@ returns-in-Ok-clause-made g c = λ done.
       order = order;
       fits = let size = told.within.size in omega (arith, size, told.fits);
       held = λ tells. (told.answer tells).1;
-      holds = λ images state count is. subst (λ (n : ℕ). Holds o.Contents n (shown.words c.in-Ok.device) state count) (sym (named images)) (told.upgraded images state count (held images state count is));
-      images = λ images state count is i left. subst (λ (n : ℕ). Holds o.Contents n i state count) (sym (named images)) (told.at_end images state count (held images state count is) i left);
-      whole = λ images. subst (λ (n : ℕ). IsWhole n (shown.words c.in-Ok.device)) (sym (named images)) (told.whole images);
-      told = subst (λ line. IsTold g.K.Sink.shown c.args.out.now c.tell.new.out line)
+      holds = λ images state count is. subst (λ (n : ℕ). Holds o.Contents n (shown.words c.in-Ok.device) state count) (sym (named images)) ((told.upgraded images).holds state count (held images state count is));
+      images = λ images state count is i left. subst (λ (n : ℕ). Holds o.Contents n i state count) (sym (named images)) ((told.upgraded images).images state count (held images state count is) i left);
+      whole = λ images. subst (λ (n : ℕ). IsWholeHeap n (shown.words c.in-Ok.device)) (sym (named images)) (told.upgraded images).whole;
+      told = subst (λ line. IsLineTold g.K.Sink.shown c.args.out.now c.tell.new.out line)
           (two_pieces (codes "upgraded order ") c.format.result.now ∙ ap (λ digits. codes "upgraded order " ++ digits) c.format.ensures.text) c.tell.ensures.told;
     }
 

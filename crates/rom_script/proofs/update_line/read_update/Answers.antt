@@ -1,13 +1,13 @@
 use Rattle.std.proofs.Common.{◌≢◌, sym, subst}
 use Rattle.std.specs.Prelude.{IfNone}
 use Rattle.rom_model.specs.declared.call.Single.{Single}
-use Rattle.rom_script.specs.Lines.{SingleFits, single_line}
+use Rattle.rom_script.specs.Lines.{SingleCallFits, single_line}
 use Rattle.rom_script.proofs.Asking.{update_of, no_update_of, no_phrase_updates}
 use Rattle.rom_script.proofs.update_line.read_update.Goals as goal
 
 pub returns-in_err-phrase-clause-none : goal.returns-in_err-phrase-clause-none
 returns-in_err-phrase-clause-none c =
-    subst (λ o. IfNone o ((c' : Single) → SingleFits c' → c.args.line.now ≢ single_line c')) (sym c.from_residual.ensures) (no_phrase_updates c.args.line.now c.in_err-phrase.ensures.none)
+    subst (λ o. IfNone o ((c' : Single) → SingleCallFits c' → c.args.line.now ≢ single_line c')) (sym c.from_residual.ensures) (no_phrase_updates c.args.line.now c.in_err-phrase.ensures.none)
 
 pub returns-clause-some : goal.returns-clause-some
 returns-clause-some c =

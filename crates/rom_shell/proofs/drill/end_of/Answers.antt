@@ -8,7 +8,7 @@ use Rattle.rom_model.specs.Trio.{trio}
 use Rattle.rom_model.specs.declared.call.Query.TheVariants.{Len, Total}
 use Rattle.rom_script.specs.Drill.{dequeued, drill_lines, drill_scripts, enqueued}
 use Rattle.rom_shell.specs.Drilled.{IsDrillText, drill_told}
-use Rattle.rom_run.specs.Statuses.{number_of}
+use Rattle.rom_run.specs.Statuses.{exit_number}
 use Rattle.rom_run.proofs.Lawful.{lawful_answers}
 use Rattle.rom_shell.proofs.Summing.{lawful_put, lawful_taken}
 use Rattle.rom_shell.proofs.drill.end_of.Goals as goal
@@ -37,7 +37,7 @@ returns-clause-drilled g c = λ story of lawful.
     record {
       results = results;
       answered = lawful_answers trio story (drill_scripts start callers calls) results few lawful;
-      printed = subst (λ t. IsDrillText g.O.Sink.shown t results c.args.out.now c.tell_drill-status.new.out (number_of c.tell_drill-status.result)) text
-          (subst (λ rs. IsDrillText g.O.Sink.shown (drill_lines start callers calls c.sum_enqueued.result c.sum_dequeued.result c.ask.result c.ask-2.result c.count.result) rs c.args.out.now c.tell_drill-status.new.out (number_of c.tell_drill-status.result)) same
+      printed = subst (λ t. IsDrillText g.O.Sink.shown t results c.args.out.now c.tell_drill-status.new.out (exit_number c.tell_drill-status.result)) text
+          (subst (λ rs. IsDrillText g.O.Sink.shown (drill_lines start callers calls c.sum_enqueued.result c.sum_dequeued.result c.ask.result c.ask-2.result c.count.result) rs c.args.out.now c.tell_drill-status.new.out (exit_number c.tell_drill-status.result)) same
           c.tell_drill-status.ensures.printed);
     }

@@ -1,5 +1,5 @@
 use Rattle.std.proofs.Common.{◌≡◌, ◌∙◌, length, [], Some, ap, arith, subst, sym}
-use Rattle.rom_run.specs.Statuses.{number_of}
+use Rattle.rom_run.specs.Statuses.{exit_number}
 use Rattle.rom_run.specs.Use.{Drawn, Makes, Plays, Read, Shows, Upgrades}
 use Rattle.rom_run.specs.declared.heap.Heap.TheVariants.{New, Standing}
 use Rattle.rom_run.proofs.Statuses.{never_two}
@@ -60,7 +60,7 @@ returns-in-Stat-clause-story g c =
     let none : c.args.scripts.items ≡ [] = no_source c.args.scripts.items (c.requires ∙ ap (λ want. length (scripts_of want)) (sym is)) in
     let worked = c.show_heap.result in
     rw (sym is, c.after.ensures)
-    (shown_session g.D.Device.shown g.S.Source.shown g.O.Sink.shown c.args.device worked.device c.args.scripts.items c.args.out.now c.show_heap.new.out none c.in-Stat.field-0.now (number_of worked.status) worked.session c.show_heap.ensures.not_run c.show_heap.ensures.session)
+    (shown_session g.D.Device.shown g.S.Source.shown g.O.Sink.shown c.args.device worked.device c.args.scripts.items c.args.out.now c.show_heap.new.out none c.in-Stat.field-0.now (exit_number worked.status) worked.session c.show_heap.ensures.not_run c.show_heap.ensures.session)
 
 pub returns-in-Upgrade-clause-none : goal.returns-in-Upgrade-clause-none
 returns-in-Upgrade-clause-none g c =
@@ -79,7 +79,7 @@ returns-in-Drill-clause-story g c =
     let none : c.args.scripts.items ≡ [] = no_source c.args.scripts.items (c.requires ∙ ap (λ want. length (scripts_of want)) (sym is)) in
     let worked = c.drill_heap.result in
     rw (sym is, c.after-in-Drill.ensures)
-    (drilled_session g.D.Device.shown g.S.Source.shown g.O.Sink.shown c.args.device worked.device c.args.scripts.items c.args.out.now c.drill_heap.new.out none asked.start asked.callers asked.calls (number_of worked.status) worked.session c.drill_heap.ensures.session)
+    (drilled_session g.D.Device.shown g.S.Source.shown g.O.Sink.shown c.args.device worked.device c.args.scripts.items c.args.out.now c.drill_heap.new.out none asked.start asked.callers asked.calls (exit_number worked.status) worked.session c.drill_heap.ensures.session)
 
 pub returns-in-Try-clause-statuses : goal.returns-in-Try-clause-statuses
 returns-in-Try-clause-statuses g c = rw (← c.in-Some.ensures.named, c.in-Try.is) c.play_sources.ensures.statuses

@@ -1,4 +1,4 @@
-use Rattle.rom_stat.proofs.Showing.{put, put_stops}
+use Rattle.rom_script.proofs.Showing.{put, put_stops}
 use Rattle.rom_shell.proofs.stat.print_sizes.Goals as goal
 
 pub returns-clause-printed : goal.returns-clause-printed

@@ -22,7 +22,7 @@ returns-in-Ok-clause-held g c told s k contents =
     let order_is : b.order ≡ opened.geometry = search rules in
     let image_is : b.image ≡ opened.image.items = search rules in
     let held : Contents opened.geometry opened.image.items s k = subst (λ (z : ℕ × List ℕ). Contents z.0 z.1 s k) (λ j. (order_is j, image_is j)) contents in
-    subst (λ (n : ℕ). Holds Contents n (words c.args.device) s k) (sym order_is) (c.in_ok-device.ensures.held told s k held)
+    subst (λ (n : ℕ). Holds Contents n (words c.args.device) s k) (sym order_is) ((c.in_ok-device.ensures.held s k held).before told)
 
 pub returns-in-Ok-clause-held_images : goal.returns-in-Ok-clause-held_images
 returns-in-Ok-clause-held_images g c told s k contents =
@@ -35,7 +35,7 @@ returns-in-Ok-clause-held_images g c told s k contents =
     let image_is : b.image ≡ opened.image.items = search rules in
     let held : Contents opened.geometry opened.image.items s k = subst (λ (z : ℕ × List ℕ). Contents z.0 z.1 s k) (λ j. (order_is j, image_is j)) contents in
     subst (λ d. Leaves shown (λ i. Holds Contents b.order i s k) c.args.device d) (sym device_is)
-    (subst (λ (n : ℕ). Leaves shown (λ i. Holds Contents n i s k) c.args.device opened.device) (sym order_is) (c.in_ok-device.ensures.held_images told s k held))
+    (subst (λ (n : ℕ). Leaves shown (λ i. Holds Contents n i s k) c.args.device opened.device) (sym order_is) ((c.in_ok-device.ensures.held s k held).images told))
 
 pub returns-in-Ok-clause-holds : goal.returns-in-Ok-clause-holds
 returns-in-Ok-clause-holds g c told s k contents =
@@ -48,7 +48,7 @@ returns-in-Ok-clause-holds g c told s k contents =
     let image_is : b.image ≡ opened.image.items = search rules in
     let held : Contents opened.geometry opened.image.items s k = subst (λ (z : ℕ × List ℕ). Contents z.0 z.1 s k) (λ j. (order_is j, image_is j)) contents in
     subst (λ d. Holds Contents b.order (words d) s k) (sym device_is)
-    (subst (λ (n : ℕ). Holds Contents n (words opened.device) s k) (sym order_is) (c.in_ok-device.ensures.holds told s k held))
+    (subst (λ (n : ℕ). Holds Contents n (words opened.device) s k) (sym order_is) ((c.in_ok-device.ensures.held s k held).holds told))
 
 pub returns-in-Ok-clause-images : goal.returns-in-Ok-clause-images
 returns-in-Ok-clause-images g c told =

@@ -6,7 +6,7 @@ use Rattle.rom_model.specs.Machine.{on_words}
 use Rattle.rom_rule.specs.Views.{base_of}
 use Rattle.rom_rule.specs.declared.views.Base.{Base}
 use Rattle.rom_open.specs.Refusals.{named_order}
-use Rattle.rom_open.specs.AtRest.{IsAtRest}
+use Rattle.rom_open.specs.AtRest.{IsHeapAtRest}
 use Rattle.rom_open.specs.Within.{CallsOfOrder, LiesAtRest}
 use Rattle.rom_store.specs.Playing.{CanPlay}
 use Rattle.rom_store.proofs.Spans.{held_opening, leaves_both}
@@ -33,7 +33,7 @@ returns-in-Ok-open_store-clause-session g c =
     let opened = c.in-Ok-open_store.ensures in
     let closed = c.play_on.result.closed in
     let b : Base = base_of opening.key in
-    let rests : LiesAtRest shown closed.session.order opening.device = λ told. (b.image, subst (λ (n : ℕ). IsAtRest n b.image (shown.words opening.device)) (sym c.play_on.ensures.played.order) (opened.rest told)) in
+    let rests : LiesAtRest shown closed.session.order opening.device = λ told. (b.image, subst (λ (n : ℕ). IsHeapAtRest n b.image (shown.words opening.device)) (sym c.play_on.ensures.played.order) (opened.rest told)) in
     let by_order : CallsOfOrder shown closed.session.order c.args.device opening.device = subst (λ (n : ℕ). CallsOfOrder shown n c.args.device opening.device) (sym c.play_on.ensures.played.order) opened.by_order in
     session_since shown g.O.Object.machine g.O.Object.Contents c.args.scripts.now c.play_on.result.results.items _ _ closed
     (λ d same. opened_first shown closed.session.order c.args.device opening.device d (base_of opening.key).faults opened.within by_order opened.faults.1 rests same) c.play_on.ensures.played.session

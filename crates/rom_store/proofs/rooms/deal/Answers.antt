@@ -2,7 +2,7 @@ use Rattle.std.proofs.Common.{arith, ap, ◌∙◌, subst, length, map, ◌≡�
 use Rattle.std.proofs.lemmas.List.{length-map}
 use Rattle.rom_store.specs.Callers.{IsNewCaller}
 use Rattle.rom_store.specs.Indexed.{Indexed}
-use Rattle.rom_store.specs.Working.{IsRoom}
+use Rattle.rom_store.specs.Working.{HasReservedRoom}
 use Rattle.rom_store.proofs.Places.{none_at, pop_at, last_at, push_at}
 use Rattle.rom_store.proofs.Dealing.{next_job}
 use Rattle.rom_store.proofs.rooms.deal.Goals as goal
@@ -27,7 +27,7 @@ loop-preserved g c =
     let ps = c.take_last-pass.new.self.items in
     let rs = c.take_last-results.new.self.items in
     let fresh = subst (Indexed (IsNewCaller g.O.Object.Contents g.N.Label.table g.N.Label.base)) c.take_last-pass.ensures.items b.fresh in
-    let rooms = subst (Indexed (IsRoom g.O.Object.machine.call_words scripts)) c.take_last-results.ensures.items b.rooms in
+    let rooms = subst (Indexed (HasReservedRoom g.O.Object.machine.call_words scripts)) c.take_last-results.ensures.items b.rooms in
     let passes_left : length ps + (length c.loop.jobs.items + 1) ≡ length c.args.scripts.now = omega (arith, c.take_last-pass.ensures.len, b.passes_many, b.jobs_many, c.take_last-pass.new.self.ok, c.loop.jobs.ok) in
     let rooms_left : length rs ≡ length ps = omega (arith, c.take_last-pass.ensures.len, b.passes_many, c.take_last-results.ensures.len, b.rooms_many, c.take_last-pass.new.self.ok, c.take_last-results.new.self.ok) in
     record {

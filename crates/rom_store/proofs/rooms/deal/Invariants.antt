@@ -1,7 +1,7 @@
 use Rattle.std.proofs.Common.{◌≡◌, ◌≤◌, ◌+◌, map, length, vec_len, vec_capacity}
 use Rattle.rom_store.specs.Callers.{IsNewCaller}
 use Rattle.rom_store.specs.Indexed.{Indexed}
-use Rattle.rom_store.specs.Working.{IsRoom, IsNext}
+use Rattle.rom_store.specs.Working.{HasReservedRoom, IsNext}
 use Rattle.rom_store.proofs.rooms.deal.Given as goal
 
 abbrev pub invariant-loop : goal.invariant-loop
@@ -10,7 +10,7 @@ invariant-loop g l = record {
   rooms_many : vec_len l.rooms + l.counter ≡ length l.scripts;
   jobs_many : vec_len l.jobs ≡ l.counter;
   fresh : Indexed (IsNewCaller g.O.Object.Contents g.N.Label.table g.N.Label.base) l.passes.items;
-  rooms : Indexed (IsRoom g.O.Object.machine.call_words (map (λ v. v.items) l.scripts)) l.rooms.items;
+  rooms : Indexed (HasReservedRoom g.O.Object.machine.call_words (map (λ v. v.items) l.scripts)) l.rooms.items;
   jobs : Indexed (λ j job. IsNext g.O.Object.Contents g.O.Object.machine.call_words g.N.Label.table g.N.Label.base (map (λ v. v.items) l.scripts) j job.pass job.results) l.jobs.items;
   space : length l.scripts ≤ vec_capacity l.jobs;
   passes_space : vec_capacity l.passes ≡ vec_capacity l.fn.passes;

@@ -2,7 +2,7 @@ use Rattle.std.specs.Prelude.{ℕ}
 use Rattle.rom_combine.specs.Session.{SessionImage}
 use Rattle.rom_model.specs.Machine.{on_words}
 use Rattle.rom_rule.specs.Views.{base_of}
-use Rattle.rom_store.specs.Start.{start_of}
+use Rattle.rom_store.specs.Start.{device_start}
 use Rattle.rom_store.proofs.Spans.{leaves_first}
 use Rattle.rom_store.proofs.running.play_on.Goals as goal
 
@@ -22,7 +22,7 @@ returns g c =
           went = closed.went;
           since = λ told story is.
               let w = closed.went story is in
-              leaves_first shown (start_of shown opening.device) (shown.left_since opening.device) faults (SessionImage g.O.Object.Contents (on_words g.O.Object.machine) story) w.first last told w.begun (closed.since told story is);
+              leaves_first shown (device_start shown opening.device) (shown.left_since opening.device) faults (SessionImage g.O.Object.Contents (on_words g.O.Object.machine) story) w.first last told w.begun (closed.since told story is);
           faults = closed.faults;
         };
         order = closed.order;

@@ -13,5 +13,5 @@ returns-in_err-print-clause-prints g c =
 pub returns-clause-prints : goal.returns-clause-prints
 returns-clause-prints g c =
     let o = g.O.Sink.shown in
-    subst (λ t. Prints o c.args.out.now c.print_pieces.new.out c.print_pieces.result t) (marked (g.R.Told.shown.text c.args.reply.now) 64 (decimal c.args.place))
+    subst (λ t. Prints o c.args.out.now c.print_pieces.new.out c.print_pieces.result t) (marked (g.R.Print.shown.text c.args.reply.now) 64 (decimal c.args.place))
     (both_printed o _ _ _ c.print_pieces.result _ _ (printed o _ _ _ _ c.in_ok-print.ensures.prints) (rw (← c.format.ensures.text) c.print_pieces.ensures.prints))

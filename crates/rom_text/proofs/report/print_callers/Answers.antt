@@ -8,7 +8,7 @@ use Rattle.rom_text.proofs.report.print_callers.Goals as goal
 pub returns-in_err-print_caller-clause-prints : goal.returns-in_err-print_caller-clause-prints
 returns-in_err-print_caller-clause-prints g c =
     let o = g.S.Sink.shown in
-    let texts = texts_of g.P.Replies.shown g.O.Answer.Told.shown in
+    let texts = texts_of g.P.PrintReplies.shown g.O.Answer.Print.shown in
     let own = c.index-results-i.result in
     prints_stopped o _ _ _ c.from_residual.result _ c.from_residual.ensures.1
     (subst (λ t. Stopped o c.args.out.now c.print_caller.new.out t) (callers_around texts (λ v. v.items) c.args.results.now c.loop-i.i own c.loop-i-test.true)
@@ -20,7 +20,7 @@ returns-in_err-print_caller-clause-prints g c =
 pub loop-i-preserved : goal.loop-i-preserved
 loop-i-preserved g c =
     let o = g.S.Sink.shown in
-    let texts = texts_of g.P.Replies.shown g.O.Answer.Told.shown in
+    let texts = texts_of g.P.PrintReplies.shown g.O.Answer.Print.shown in
     let own = c.index-results-i.result in
     record {
       printed = subst (λ t. Printed o c.args.out.now c.print_caller.new.out t) (one_caller_more texts (λ v. v.items) c.args.results.now c.loop-i.i own c.loop-i-test.true)

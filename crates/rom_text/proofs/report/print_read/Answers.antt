@@ -13,5 +13,5 @@ returns-in_err-print-clause-prints g c =
 pub returns-clause-prints : goal.returns-clause-prints
 returns-clause-prints g c =
     let o = g.S.Sink.shown in
-    subst (λ t. Prints o c.args.out.now c.print_place.new.out c.print_place.result t) (placed (g.A.Told.shown.text c.args.answer.now) (codes " #") (decimal c.args.front))
+    subst (λ t. Prints o c.args.out.now c.print_place.new.out c.print_place.result t) (placed (g.A.Print.shown.text c.args.answer.now) (codes " #") (decimal c.args.front))
     (both_printed o _ _ _ c.print_place.result _ _ (printed o _ _ _ _ c.in_ok-print.ensures.prints) c.print_place.ensures.prints)

@@ -14,6 +14,6 @@ returns-in_err-print_words-clause-prints g c =
 pub returns-clause-prints : goal.returns-clause-prints
 returns-clause-prints g c =
     let o = g.S.Sink.shown in
-    for_some _ _ (λ reply came. subst (λ t. Prints o c.args.out.now c.print_place.new.out c.print_place.result t) (placed (g.P.Replies.shown.text reply) (codes " @") (decimal c.args.place))
+    for_some _ _ (λ reply came. subst (λ t. Prints o c.args.out.now c.print_place.new.out c.print_place.result t) (placed (g.P.PrintReplies.shown.text reply) (codes " @") (decimal c.args.place))
     (both_printed o _ _ _ c.print_place.result _ _ (printed o _ _ _ _ came) c.print_place.ensures.prints))
     (g.O.Object.machine.words_reply c.args.words.now) c.in_ok-print_words.ensures.prints

@@ -8,7 +8,7 @@ use Rattle.rom_text.proofs.report.print_results.Goals as goal
 pub returns-in_err-print_line-clause-prints : goal.returns-in_err-print_line-clause-prints
 returns-in_err-print_line-clause-prints g c =
     let o = g.S.Sink.shown in
-    let texts = texts_of g.P.Replies.shown g.O.Answer.Told.shown in
+    let texts = texts_of g.P.PrintReplies.shown g.O.Answer.Print.shown in
     let items = c.args.results.now.items in
     let i = c.loop-i.i in
     let lt : i < length items = omega (arith, c.loop-i-test.true, c.len-i-end.ensures) in
@@ -21,7 +21,7 @@ returns-in_err-print_line-clause-prints g c =
 pub loop-i-preserved : goal.loop-i-preserved
 loop-i-preserved g c =
     let o = g.S.Sink.shown in
-    let texts = texts_of g.P.Replies.shown g.O.Answer.Told.shown in
+    let texts = texts_of g.P.PrintReplies.shown g.O.Answer.Print.shown in
     let items = c.args.results.now.items in
     let i = c.loop-i.i in
     let lt : i < length items = omega (arith, c.loop-i-test.true, c.len-i-end.ensures) in

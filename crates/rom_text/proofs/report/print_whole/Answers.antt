@@ -13,5 +13,5 @@ returns-in_err-print_callers-clause-prints g c =
 pub returns-clause-prints : goal.returns-clause-prints
 returns-clause-prints g c =
     let o = g.S.Sink.shown in
-    both_printed o _ _ _ c.print_pieces.result (callers_text (texts_of g.P.Replies.shown g.O.Answer.Told.shown) 1 (map (λ v. v.items) c.args.results.now)) (counted c.args.count)
+    both_printed o _ _ _ c.print_pieces.result (callers_text (texts_of g.P.PrintReplies.shown g.O.Answer.Print.shown) 1 (map (λ v. v.items) c.args.results.now)) (counted c.args.count)
     (printed o _ _ _ _ c.in_ok-print_callers.ensures.prints) (rw (← c.format.ensures.text) c.print_pieces.ensures.prints)

@@ -2,7 +2,7 @@ use Rattle.std.proofs.Common.{◌≡◌, ◌∙◌, ◌<◌, ◌≤◌, length, 
 use Rattle.clap.specs.Words.{found_of}
 use Rattle.rom_words.specs.Wanted.{AsksForFew, named, texts}
 use Rattle.rom_words.specs.Words.{Try, Run, Format, Stat, Upgrade, Drill}
-use Rattle.rom_words.specs.declared.words.Asked.TheVariants as asked
+use Rattle.rom_words.specs.declared.words.CommandAsked.TheVariants as asked
 use Rattle.rom_words.proofs.Values.{asked_for, is_there, number_first, the_same, value_first, values_all}
 use Rattle.rom_words.proofs.words.read_found.Goals as goal
 

@@ -6,7 +6,6 @@ use Rattle.rom_combine.proofs.Weights.{same_found}
 use Rattle.rom_combine.proofs.Since.{becomes_none}
 use Rattle.rom_combine.proofs.Counting.{after_region, committed_region}
 use Rattle.rom_twin.specs.Seen.{NeedsRepair, committed}
-use Rattle.rom_twin.specs.declared.phase.Phase.TheVariants as phase
 use Rattle.rom_header.specs.Regions.{IsCurrentRegion}
 use Rattle.rom_device.specs.Device.{Runs}
 use Rattle.rom_device.specs.Device.{Becomes}
@@ -23,7 +22,6 @@ use Rattle.rom_combine.specs.declared.passed.Passed.{Passed}
 use Rattle.atomic_table.proofs.Lists.{at_map}
 use Rattle.rom_rule.proofs.Told.{length_map, at_some}
 use Rattle.rom_combine.specs.Resting.{rested}
-use Rattle.rom_combine.proofs.Gives.{made_some}
 use Rattle.rom_combine.proofs.Limits.{batch_short}
 use Rattle.rom_combine.proofs.Rested.{may_raise, faults_rested}
 use Rattle.rom_model.specs.declared.entry.Entry.{Entry}
@@ -47,9 +45,10 @@ use Rattle.rom_combine.specs.Scanning.{IsUnanswered, IsScan, posted_of, but_requ
 use Rattle.rom_combine.specs.declared.scanning.Posted.{Posted}
 use Rattle.rom_combine.specs.Answering.{HasGiven, IsRecordedBy, SameCalls, caller_of}
 use Rattle.rom_combine.specs.Answering.{refused}
-use Rattle.rom_combine.specs.Histories.{IsCertainSince, PassMakes, ImageAt}
+use Rattle.rom_combine.specs.Ends.{EndsFailed, EndsInDoubt}
+use Rattle.rom_combine.specs.Histories.{IsCertainSince, PassMakes, ImageAt, batch_found}
 use Rattle.rom_combine.specs.AtRest.{IsAtRest, Locked}
-use Rattle.rom_combine.proofs.Bridge.{batch_now, same_held, list_certain, list_settled}
+use Rattle.rom_combine.proofs.Bridge.{same_held, list_certain, list_settled}
 use Rattle.rom_combine.specs.Passing.{IsPass}
 use Rattle.rom_combine.proofs.Keeping.{ready_by, scan_stays, rest_same, now_of, pass_nothing, none_answered}
 use Rattle.rom_combine.proofs.Failing.{begins_in, clean_needs_none, failing_refused, first_left, made_by, pass_refused, passed_refused, none_refused, core_refused, core_spent, batch_done, passed_published, clear_by}
@@ -59,6 +58,12 @@ use Rattle.rom_combine.proofs.Begins.{answered_plan, ready_to_publish}
 use Rattle.rom_combine.proofs.Ends.{doubt_not_nothing, ended, failed_not_nothing, none_done, none_of, published_not_doubt, published_not_failed, published_not_nothing, some_of}
 use Rattle.rom_combine.proofs.locked.Core.pass.Given.{Over}
 use Rattle.rom_combine.proofs.locked.Core.pass.Goals as goal
+
+-- what a pass did and answered, and what a stop since its start leaves
+abbrev Told : (g : Over) → Locked g.row.D.Denot → Plan → ℕ → g.row.D.Denot → Passed → Type 0
+Told g old q callers d r = let shown = g.D.Device.shown in let b : Base = old.view.base in let p : Plan = plan_of old.view in
+    (x : IsPass g.O.Object.Contents (on_words g.O.Object.machine) b p q callers (shown.faults old.twin.device) (shown.faults d) r)
+    × (IsTrue shown.tells_images → (s : g.O.Object.State) (n : ℕ) → g.O.Object.Contents b.order b.image s n → Runs shown (Becomes (PassMakes g.O.Object.Contents (on_words g.O.Object.machine) b s n (fate_of r.outcome) p.history x.more)) old.twin.device d)
 
 -- where the pass went on behind the publishing
 unpublished : (g : Over) (c : goal.After-of-then-ne g) → c.publish-outcome.result ≢ outcome.Published
@@ -77,12 +82,12 @@ is_published g c = search rules
 settles_given : (g : Over) (c : goal.After-settle-arg-2-1 g) → (is_made (plan_of c.publish-outcome.new.seat.token.me.0).mine ≡ true) × (but_requests (plan_of c.answer_all-2.new.seat.token.me.0) ≡ but_requests (plan_of c.publish-outcome.new.seat.token.me.0))
 settles_given g c = let x : View = c.load_main-place.new.seat.token.me.0 in
     answered_plan g.O.Object.Contents (on_words g.O.Object.machine) x.base (plan_of c.scan.new.seat.token.me.0) (plan_of x) (plan_of c.publish-outcome.new.seat.token.me.0) (plan_of c.load_main.new.seat.token.me.0) (plan_of c.answer_all-2.new.seat.token.me.0) c.fault_count-before.result (g.D.Device.shown.faults c.publish-outcome.new.twin.device)
-    c.scan.new.found.items c.scan.ensures.scanned.items_are (some_of (length c.scan.new.found.items) c.if-is_empty.ensures) (ap plan_of c.load_main-place.ensures.still.2) (c.publish-outcome.ensures.published (settles_published g c)) (ap plan_of c.load_main.ensures.still.2) c.answer_all-2.ensures.kept
+    c.scan.new.found.items c.scan.ensures.scanned.items_are (some_of (length c.scan.new.found.items) c.if-is_empty.ensures) (ap plan_of c.load_main-place.ensures.still.2) (c.publish-outcome.ensures.published (settles_published g c)).published (ap plan_of c.load_main.ensures.still.2) c.answer_all-2.ensures.kept
 
 is_given : (g : Over) (c : goal.After-of-2 g) → (is_made (plan_of c.publish-outcome.new.seat.token.me.0).mine ≡ true) × (but_requests (plan_of c.answer_all-2.new.seat.token.me.0) ≡ but_requests (plan_of c.publish-outcome.new.seat.token.me.0))
 is_given g c = let x : View = c.load_main-place.new.seat.token.me.0 in
     answered_plan g.O.Object.Contents (on_words g.O.Object.machine) x.base (plan_of c.scan.new.seat.token.me.0) (plan_of x) (plan_of c.publish-outcome.new.seat.token.me.0) (plan_of c.load_main.new.seat.token.me.0) (plan_of c.answer_all-2.new.seat.token.me.0) c.fault_count-before.result (g.D.Device.shown.faults c.publish-outcome.new.twin.device)
-    c.scan.new.found.items c.scan.ensures.scanned.items_are (some_of (length c.scan.new.found.items) c.if-is_empty.ensures) (ap plan_of c.load_main-place.ensures.still.2) (c.publish-outcome.ensures.published (is_published g c)) (ap plan_of c.load_main.ensures.still.2) c.answer_all-2.ensures.kept
+    c.scan.new.found.items c.scan.ensures.scanned.items_are (some_of (length c.scan.new.found.items) c.if-is_empty.ensures) (ap plan_of c.load_main-place.ensures.still.2) (c.publish-outcome.ensures.published (is_published g c)).published (ap plan_of c.load_main.ensures.still.2) c.answer_all-2.ensures.kept
 
 pub invariant_of-self : goal.invariant_of-self
 invariant_of-self g c = let v : View = c.self.inside.seat.token.me.0 in let w : View = c.scan.new.seat.token.me.0 in let inv = c.self.invariant.0 in let sc = c.scan.ensures.scanned in
@@ -91,8 +96,8 @@ invariant_of-self g c = let v : View = c.self.inside.seat.token.me.0 in let w : 
     let now = rest_same g.O.Object.Contents (on_words g.O.Object.machine) g.D.Device.shown c.self.inside.twin v w inv base (scan_stays (plan_of v) (plan_of w) sc.rest) (none_answered g.O.Object.Contents (on_words g.O.Object.machine) v.base (plan_of v) (plan_of w) _ c.scan.new.found.items sc zero) in
     (now, ready_by (g.O.Object.STORES * g.O.Object.WEIGHT) v.base w.base c.self.inside.log c.self.inside.log c.self.invariant.1 base c.self.invariant.1.clear refl)
 
-pub returns-then-is_empty-clause-passed : goal.returns-then-is_empty-clause-passed
-returns-then-is_empty-clause-passed g c = let v : View = c.self.inside.seat.token.me.0 in let w : View = c.scan.new.seat.token.me.0 in let inv = c.self.invariant.0 in let sc = c.scan.ensures.scanned in
+passed_none : (g : Over) (c : goal.After-of g) → Told g c.args.self.now (plan_of c.scan.new.seat.token.me.0) c.args.shared.now.layout.callers c.self.inside.twin.device c.of.result
+passed_none g c = let v : View = c.self.inside.seat.token.me.0 in let w : View = c.scan.new.seat.token.me.0 in let inv = c.self.invariant.0 in let sc = c.scan.ensures.scanned in
     let base : w.base ≡ v.base = ap (λ (z : View). z.base) c.scan.ensures.same.2 in
     let zero : length c.scan.new.found.items ≡ 0 = none_of (length c.scan.new.found.items) c.if-is_empty.ensures in
     let x = pass_nothing g.O.Object.Contents (on_words g.O.Object.machine) v.base (plan_of v) (plan_of w) c.args.shared.now.layout.callers (g.D.Device.shown.faults c.self.inside.twin.device) (g.D.Device.shown.faults c.self.inside.twin.device) c.scan.new.found.items inv.start inv.count (λ s₁ s₂ j k. g.met.O.Object.one_contents v.base.order v.base.image s₁ s₂ j k) inv.opening sc zero
@@ -102,14 +107,18 @@ returns-then-is_empty-clause-passed g c = let v : View = c.self.inside.seat.toke
     Rattle.rom_device.specs.Device.Runs g.D.Device.shown (Rattle.rom_device.specs.Device.Becomes (PassMakes g.O.Object.Contents (on_words g.O.Object.machine) z.view.base s n fate.Published (plan_of z.view).history y.more)) z.twin.device c.self.inside.twin.device))
     c.self.view_is (x, (λ told s n op. becomes_none g.D.Device.shown (PassMakes g.O.Object.Contents (on_words g.O.Object.machine) v.base s n fate.Published (plan_of v).history x.more) c.self.inside.twin.device)))
 
-pub returns-then-is_empty-clause-now : goal.returns-then-is_empty-clause-now
-returns-then-is_empty-clause-now g c told s n op i left = let v : View = c.self.inside.seat.token.me.0 in let w : View = c.scan.new.seat.token.me.0 in let inv = c.self.invariant.0 in let sc = c.scan.ensures.scanned in
-    let base : w.base ≡ v.base = ap (λ (z : View). z.base) c.scan.ensures.same.2 in
-    let zero : length c.scan.new.found.items ≡ 0 = none_of (length c.scan.new.found.items) c.if-is_empty.ensures in
-    let now = rest_same g.O.Object.Contents (on_words g.O.Object.machine) g.D.Device.shown c.self.inside.twin v w inv base (scan_stays (plan_of v) (plan_of w) sc.rest) (none_answered g.O.Object.Contents (on_words g.O.Object.machine) v.base (plan_of v) (plan_of w) _ c.scan.new.found.items sc zero) in
-    let same : w.base ≡ c.args.self.now.view.base = base ∙ ap (λ z. z.view.base) c.self.view_is in
-    subst (λ (z : Base). ImageAt g.O.Object.Contents (on_words g.O.Object.machine) z s n c.self.inside.twin.phase (plan_of w) i) same
-    (now_of g.O.Object.Contents (on_words g.O.Object.machine) g.D.Device.shown c.self.inside.twin w s n (λ s₁ s₂ j k. g.met.O.Object.one_contents w.base.order w.base.image s₁ s₂ j k) now told (subst (λ (z : Base). g.O.Object.Contents z.order z.image s n) (sym same) op) i left)
+pub returns-then-is_empty-clause-passed : goal.returns-then-is_empty-clause-passed
+returns-then-is_empty-clause-passed g c = let t = passed_none g c in record {
+  is = t.0;
+  since = t.1;
+  now = λ told s n op i left. let v : View = c.self.inside.seat.token.me.0 in let w : View = c.scan.new.seat.token.me.0 in let inv = c.self.invariant.0 in let sc = c.scan.ensures.scanned in
+      let base : w.base ≡ v.base = ap (λ (z : View). z.base) c.scan.ensures.same.2 in
+      let zero : length c.scan.new.found.items ≡ 0 = none_of (length c.scan.new.found.items) c.if-is_empty.ensures in
+      let now = rest_same g.O.Object.Contents (on_words g.O.Object.machine) g.D.Device.shown c.self.inside.twin v w inv base (scan_stays (plan_of v) (plan_of w) sc.rest) (none_answered g.O.Object.Contents (on_words g.O.Object.machine) v.base (plan_of v) (plan_of w) _ c.scan.new.found.items sc zero) in
+      let same : w.base ≡ c.args.self.now.view.base = base ∙ ap (λ z. z.view.base) c.self.view_is in
+      subst (λ (z : Base). ImageAt g.O.Object.Contents (on_words g.O.Object.machine) z s n c.self.inside.twin.phase (plan_of w) i) same
+      (now_of g.O.Object.Contents (on_words g.O.Object.machine) g.D.Device.shown c.self.inside.twin w s n (λ s₁ s₂ j k. g.met.O.Object.one_contents w.base.order w.base.image s₁ s₂ j k) now told (subst (λ (z : Base). g.O.Object.Contents z.order z.image s n) (sym same) op) i left);
+}
 
 pub answer_all-requires-clause-left : goal.answer_all-requires-clause-left
 answer_all-requires-clause-left g c = let v : View = c.self.inside.seat.token.me.0 in let w : View = c.scan.new.seat.token.me.0 in let inv = c.self.invariant.0 in let sc = c.scan.ensures.scanned in
@@ -165,8 +174,8 @@ invariant_of-self-then-place-eq-LAST_COUNT g c = let v : View = c.self.inside.se
     let none : made.1 ≡ [] = batched.1 ∙ full_batch (on_words g.O.Object.machine) x.base.order (after (on_words g.O.Object.machine) x.base.order inv.start inv.count q.history) made.0 (map found_of q.requests) (batched.0 ∙ full) in
     (core_spent g.O.Object.Contents (on_words g.O.Object.machine) g.D.Device.shown c.self.inside.twin v u q before made.0 made.1 inv base_u scan made.3 none found c.answer_all.ensures.answered (omega (arith, c.fault_count-before.ensures)), ready_by (g.O.Object.STORES * g.O.Object.WEIGHT) v.base u.base c.self.inside.log c.self.inside.log c.self.invariant.1 base_u c.self.invariant.1.clear refl)
 
-pub returns-then-place-eq-LAST_COUNT-clause-passed : goal.returns-then-place-eq-LAST_COUNT-clause-passed
-returns-then-place-eq-LAST_COUNT-clause-passed g c = let v : View = c.self.inside.seat.token.me.0 in let w : View = c.scan.new.seat.token.me.0 in let inv = c.self.invariant.0 in let sc = c.scan.ensures.scanned in
+passed_spent : (g : Over) (c : goal.After-of-then-place-eq-LAST_COUNT g) → Told g c.args.self.now (plan_of c.answer_all.new.seat.token.me.0) c.args.shared.now.layout.callers c.self.inside.twin.device c.of-then-place-eq-LAST_COUNT.result
+passed_spent g c = let v : View = c.self.inside.seat.token.me.0 in let w : View = c.scan.new.seat.token.me.0 in let inv = c.self.invariant.0 in let sc = c.scan.ensures.scanned in
     let x : View = c.load_main-place.new.seat.token.me.0 in let q : Plan = plan_of x in let plan_x : q ≡ plan_of w = ap plan_of c.load_main-place.ensures.still.2 in
     let base_x : x.base ≡ v.base = ap (λ (z : View). z.base) c.load_main-place.ensures.still.2 ∙ ap (λ (z : View). z.base) c.scan.ensures.same.2 in
     let scan : but_requests q ≡ but_requests (beginning (plan_of v)) = ap but_requests plan_x ∙ sc.rest in
@@ -191,12 +200,16 @@ returns-then-place-eq-LAST_COUNT-clause-passed g c = let v : View = c.self.insid
     (λ j. ((base_x ∙ ap (λ r. r.view.base) c.self.view_is) j, c.self.view_is j, (c.fault_count-before.ensures ∙ ap (λ r. g.D.Device.shown.faults r.twin.device) c.self.view_is) j, c.fault_count-before.ensures j))
     (whole.0, λ told s n op'. becomes_none g.D.Device.shown (PassMakes g.O.Object.Contents (on_words g.O.Object.machine) x.base s n fate.Published (plan_of v).history whole.0.more) a))
 
-pub returns-then-place-eq-LAST_COUNT-clause-now : goal.returns-then-place-eq-LAST_COUNT-clause-now
-returns-then-place-eq-LAST_COUNT-clause-now g c told s n op i left = let v : View = c.self.inside.seat.token.me.0 in let x : View = c.load_main-place.new.seat.token.me.0 in let u : View = c.answer_all.new.seat.token.me.0 in let t = c.self.inside.twin in
-    let base_x : x.base ≡ v.base = ap (λ (z : View). z.base) c.load_main-place.ensures.still.2 ∙ ap (λ (z : View). z.base) c.scan.ensures.same.2 in
-    let same : u.base ≡ c.args.self.now.view.base = ap (λ (z : View). z.base) c.answer_all.ensures.same.2 ∙ (base_x ∙ ap (λ r. r.view.base) c.self.view_is) in
-    subst (λ (r : Base). ImageAt g.O.Object.Contents (on_words g.O.Object.machine) r s n t.phase (plan_of u) i) same
-    (now_of g.O.Object.Contents (on_words g.O.Object.machine) g.D.Device.shown t u s n (λ s₁ s₂ j k. g.met.O.Object.one_contents u.base.order u.base.image s₁ s₂ j k) (invariant_of-self-then-place-eq-LAST_COUNT g c).0 told (subst (λ (r : Base). g.O.Object.Contents r.order r.image s n) (sym same) op) i left)
+pub returns-then-place-eq-LAST_COUNT-clause-passed : goal.returns-then-place-eq-LAST_COUNT-clause-passed
+returns-then-place-eq-LAST_COUNT-clause-passed g c = let t = passed_spent g c in record {
+  is = t.0;
+  since = t.1;
+  now = λ told s n op i left. let v : View = c.self.inside.seat.token.me.0 in let x : View = c.load_main-place.new.seat.token.me.0 in let u : View = c.answer_all.new.seat.token.me.0 in let t = c.self.inside.twin in
+      let base_x : x.base ≡ v.base = ap (λ (z : View). z.base) c.load_main-place.ensures.still.2 ∙ ap (λ (z : View). z.base) c.scan.ensures.same.2 in
+      let same : u.base ≡ c.args.self.now.view.base = ap (λ (z : View). z.base) c.answer_all.ensures.same.2 ∙ (base_x ∙ ap (λ r. r.view.base) c.self.view_is) in
+      subst (λ (r : Base). ImageAt g.O.Object.Contents (on_words g.O.Object.machine) r s n t.phase (plan_of u) i) same
+      (now_of g.O.Object.Contents (on_words g.O.Object.machine) g.D.Device.shown t u s n (λ s₁ s₂ j k. g.met.O.Object.one_contents u.base.order u.base.image s₁ s₂ j k) (invariant_of-self-then-place-eq-LAST_COUNT g c).0 told (subst (λ (r : Base). g.O.Object.Contents r.order r.image s n) (sym same) op) i left);
+}
 
 pub invariant_of-self-then-ne : goal.invariant_of-self-then-ne
 invariant_of-self-then-ne g c = let v : View = c.self.inside.seat.token.me.0 in let w : View = c.scan.new.seat.token.me.0 in let inv = c.self.invariant.0 in let sc = c.scan.ensures.scanned in
@@ -207,7 +220,7 @@ invariant_of-self-then-ne g c = let v : View = c.self.inside.seat.token.me.0 in 
     let found : 0 < length q.requests = omega (arith, some_found, ap length sc.items_are, length_map posted_of (plan_of w).requests, ap (λ (z : Plan). length z.requests) plan_x) in
     let op : g.O.Object.Contents x.base.order x.base.image inv.start inv.count = subst (λ (z : Base). g.O.Object.Contents z.order z.image inv.start inv.count) (sym base_x) inv.opening in
     let y : View = c.publish-outcome.new.seat.token.me.0 in let o = c.publish-outcome.result in let t = c.publish-outcome.new.twin in
-    let not_published : o ≢ outcome.Published = unpublished g c in let not_nothing = c.publish-outcome.ensures.some in let stays : plan_of y ≡ q = c.publish-outcome.ensures.stays not_published in
+    let not_published : o ≢ outcome.Published = unpublished g c in let not_nothing = c.publish-outcome.ensures.some in let stays : plan_of y ≡ q = (c.publish-outcome.ensures.unpublished not_published).stays in
     let base_y : y.base ≡ x.base = ap (λ (z : View). z.base) c.publish-outcome.ensures.same.2 in
     let u : View = c.answer_all-then-ne.new.seat.token.me.0 in let base_u : u.base ≡ v.base = ap (λ (z : View). z.base) c.answer_all-then-ne.ensures.same.2 ∙ (base_y ∙ base_x) in
     let now : ℕ = c.fault_count-now.result in let given : List CallAnswer = c.as_slice-then-ne.result.now in
@@ -216,16 +229,16 @@ invariant_of-self-then-ne g c = let v : View = c.self.inside.seat.token.me.0 in 
     let at : get_elem? given 0 ≡ some first.0 = ap (λ (l : List CallAnswer). get_elem? l 0) c.as_slice-then-ne.ensures.value ∙ first.1 in
     let recorded : IsRecordedBy g.O.Object.Contents (on_words g.O.Object.machine) x.base q (plan_of u) before now given = subst (λ (z : Base × Plan). IsRecordedBy g.O.Object.Contents (on_words g.O.Object.machine) z.0 z.1 (plan_of u) before now given) (λ j. (base_y j, stays j)) c.answer_all-then-ne.ensures.recorded in
     let made = made_by g.O.Object.Contents (on_words g.O.Object.machine) x.base q (plan_of u) before now given (fate_of o) first.0 at first.2 (ap (λ (z : Plan). z.mine) scan) recorded in
-    let since : IsTrue g.D.Device.shown.tells_images → (s : g.O.Object.State) (n : ℕ) → g.O.Object.Contents x.base.order x.base.image s n → Runs g.D.Device.shown (Becomes (PassMakes g.O.Object.Contents (on_words g.O.Object.machine) x.base s n (fate_of o) q.history (batch_now g.O.Object.Contents (on_words g.O.Object.machine) x.base s n q))) c.self.inside.twin.device t.device = λ told s n o'. c.publish-outcome.ensures.since told s n o' in
+    let since : IsTrue g.D.Device.shown.tells_images → (s : g.O.Object.State) (n : ℕ) → g.O.Object.Contents x.base.order x.base.image s n → Runs g.D.Device.shown (Becomes (PassMakes g.O.Object.Contents (on_words g.O.Object.machine) x.base s n (fate_of o) q.history (batch_found g.O.Object.Contents (on_words g.O.Object.machine) x.base s n q))) c.self.inside.twin.device t.device = λ told s n o'. c.publish-outcome.ensures.stops.since told s n o' in
     let last : now ≤ g.D.Device.shown.faults t.device = omega (arith, c.fault_count-now.ensures) in (
       core_refused g.O.Object.Contents (on_words g.O.Object.machine) g.D.Device.shown c.self.inside.twin t v u x.base q o before now made.0 made.1 inv base_x base_u not_published not_nothing scan made.3 found c.answer_all-then-ne.ensures.answered
-          c.publish-outcome.ensures.order (c.publish-outcome.ensures.committed not_published) c.publish-outcome.ensures.images c.publish-outcome.ensures.failed c.publish-outcome.ensures.doubt (failing_refused g.D.Device.shown t.device o not_published not_nothing (λ e. (c.publish-outcome.ensures.failed_cause e).last) (λ e. (c.publish-outcome.ensures.doubt_cause e).failed.last))
-          (λ told. since told inv.start inv.count op) (λ told is i left. c.publish-outcome.ensures.doubted told is inv.start inv.count op i left) last,
-      ready_by (g.O.Object.STORES * g.O.Object.WEIGHT) v.base u.base c.self.inside.log c.publish-outcome.new.log c.self.invariant.1 base_u (c.publish-outcome.ensures.cleared not_published) c.publish-outcome.ensures.room,
+          c.publish-outcome.ensures.order (c.publish-outcome.ensures.unpublished not_published).committed_is c.publish-outcome.ensures.stops.images (λ e. (c.publish-outcome.ensures.failed e).phase) (λ e. (c.publish-outcome.ensures.doubt e).phase) (failing_refused g.D.Device.shown t.device o not_published not_nothing (λ e. (c.publish-outcome.ensures.failed e).cause.last) (λ e. (c.publish-outcome.ensures.doubt e).cause.failed.last))
+          (λ told. since told inv.start inv.count op) (λ told is i left. c.publish-outcome.ensures.stops.doubted told is inv.start inv.count op i left) last,
+      ready_by (g.O.Object.STORES * g.O.Object.WEIGHT) v.base u.base c.self.inside.log c.publish-outcome.new.log c.self.invariant.1 base_u (c.publish-outcome.ensures.unpublished not_published).cleared c.publish-outcome.ensures.room,
     )
 
-pub returns-then-ne-clause-passed : goal.returns-then-ne-clause-passed
-returns-then-ne-clause-passed g c = let v : View = c.self.inside.seat.token.me.0 in let w : View = c.scan.new.seat.token.me.0 in let inv = c.self.invariant.0 in let sc = c.scan.ensures.scanned in
+passed_ne : (g : Over) (c : goal.After-of-then-ne g) → Told g c.args.self.now (plan_of c.answer_all-then-ne.new.seat.token.me.0) c.args.shared.now.layout.callers c.publish-outcome.new.twin.device c.of-then-ne.result
+passed_ne g c = let v : View = c.self.inside.seat.token.me.0 in let w : View = c.scan.new.seat.token.me.0 in let inv = c.self.invariant.0 in let sc = c.scan.ensures.scanned in
     let x : View = c.load_main-place.new.seat.token.me.0 in let q : Plan = plan_of x in let plan_x : q ≡ plan_of w = ap plan_of c.load_main-place.ensures.still.2 in
     let base_x : x.base ≡ v.base = ap (λ (z : View). z.base) c.load_main-place.ensures.still.2 ∙ ap (λ (z : View). z.base) c.scan.ensures.same.2 in
     let scan : but_requests q ≡ but_requests (beginning (plan_of v)) = ap but_requests plan_x ∙ sc.rest in
@@ -233,7 +246,7 @@ returns-then-ne-clause-passed g c = let v : View = c.self.inside.seat.token.me.0
     let found : 0 < length q.requests = omega (arith, some_found, ap length sc.items_are, length_map posted_of (plan_of w).requests, ap (λ (z : Plan). length z.requests) plan_x) in
     let op : g.O.Object.Contents x.base.order x.base.image inv.start inv.count = subst (λ (z : Base). g.O.Object.Contents z.order z.image inv.start inv.count) (sym base_x) inv.opening in
     let y : View = c.publish-outcome.new.seat.token.me.0 in let o = c.publish-outcome.result in let t = c.publish-outcome.new.twin in
-    let not_published : o ≢ outcome.Published = unpublished g c in let not_nothing = c.publish-outcome.ensures.some in let stays : plan_of y ≡ q = c.publish-outcome.ensures.stays not_published in
+    let not_published : o ≢ outcome.Published = unpublished g c in let not_nothing = c.publish-outcome.ensures.some in let stays : plan_of y ≡ q = (c.publish-outcome.ensures.unpublished not_published).stays in
     let base_y : y.base ≡ x.base = ap (λ (z : View). z.base) c.publish-outcome.ensures.same.2 in
     let u : View = c.answer_all-then-ne.new.seat.token.me.0 in let base_u : u.base ≡ v.base = ap (λ (z : View). z.base) c.answer_all-then-ne.ensures.same.2 ∙ (base_y ∙ base_x) in
     let now : ℕ = c.fault_count-now.result in let given : List CallAnswer = c.as_slice-then-ne.result.now in
@@ -242,7 +255,7 @@ returns-then-ne-clause-passed g c = let v : View = c.self.inside.seat.token.me.0
     let at : get_elem? given 0 ≡ some first.0 = ap (λ (l : List CallAnswer). get_elem? l 0) c.as_slice-then-ne.ensures.value ∙ first.1 in
     let recorded : IsRecordedBy g.O.Object.Contents (on_words g.O.Object.machine) x.base q (plan_of u) before now given = subst (λ (z : Base × Plan). IsRecordedBy g.O.Object.Contents (on_words g.O.Object.machine) z.0 z.1 (plan_of u) before now given) (λ j. (base_y j, stays j)) c.answer_all-then-ne.ensures.recorded in
     let made = made_by g.O.Object.Contents (on_words g.O.Object.machine) x.base q (plan_of u) before now given (fate_of o) first.0 at first.2 (ap (λ (z : Plan). z.mine) scan) recorded in
-    let since : IsTrue g.D.Device.shown.tells_images → (s : g.O.Object.State) (n : ℕ) → g.O.Object.Contents x.base.order x.base.image s n → Runs g.D.Device.shown (Becomes (PassMakes g.O.Object.Contents (on_words g.O.Object.machine) x.base s n (fate_of o) q.history (batch_now g.O.Object.Contents (on_words g.O.Object.machine) x.base s n q))) c.self.inside.twin.device t.device = λ told s n o'. c.publish-outcome.ensures.since told s n o' in
+    let since : IsTrue g.D.Device.shown.tells_images → (s : g.O.Object.State) (n : ℕ) → g.O.Object.Contents x.base.order x.base.image s n → Runs g.D.Device.shown (Becomes (PassMakes g.O.Object.Contents (on_words g.O.Object.machine) x.base s n (fate_of o) q.history (batch_found g.O.Object.Contents (on_words g.O.Object.machine) x.base s n q))) c.self.inside.twin.device t.device = λ told s n o'. c.publish-outcome.ensures.stops.since told s n o' in
     let scanned : IsScan (IsCall (on_words g.O.Object.machine) x.base) (plan_of v) q c.args.shared.now.layout.callers items = subst (λ (r : Base × Plan). IsScan (IsCall (on_words g.O.Object.machine) r.0) (plan_of v) r.1 c.args.shared.now.layout.callers items) (λ j. (sym base_x j, sym plan_x j)) sc in
     let many : ℕ = c.len-many.result in let many_is : many ≡ length items = omega (arith, c.len-many.ensures.value) in
     let whole = passed_refused g.O.Object.Contents (on_words g.O.Object.machine) g.D.Device.shown c.self.inside.twin.device t.device x.base (plan_of v) q (plan_of u) c.args.shared.now.layout.callers before now made.0 many items made.1 o scanned made.2 made.3 (none_refused g.O.Object.Contents (on_words g.O.Object.machine) o made.1 not_published not_nothing) some_found many_is c.answer_all-then-ne.ensures.answered not_nothing (subst (λ (z : Plan). SameCalls z (plan_of u)) stays c.answer_all-then-ne.ensures.calls) since in
@@ -250,19 +263,23 @@ returns-then-ne-clause-passed g c = let v : View = c.self.inside.seat.token.me.0
     × (IsTrue g.D.Device.shown.tells_images → (s : g.O.Object.State) (n : ℕ) → g.O.Object.Contents r.0.order r.0.image s n → Runs g.D.Device.shown (Becomes (PassMakes g.O.Object.Contents (on_words g.O.Object.machine) r.0 s n (fate_of o) (plan_of r.1.view).history z.more)) r.1.twin.device t.device))
     (λ j. ((base_x ∙ ap (λ r. r.view.base) c.self.view_is) j, c.self.view_is j, (c.fault_count-before.ensures ∙ ap (λ r. g.D.Device.shown.faults r.twin.device) c.self.view_is) j, c.fault_count-now.ensures j)) whole)
 
-pub returns-then-ne-clause-now : goal.returns-then-ne-clause-now
-returns-then-ne-clause-now g c told s n op i left = let v : View = c.self.inside.seat.token.me.0 in let x : View = c.load_main-place.new.seat.token.me.0 in let u : View = c.answer_all-then-ne.new.seat.token.me.0 in let t = c.publish-outcome.new.twin in
-    let base_x : x.base ≡ v.base = ap (λ (z : View). z.base) c.load_main-place.ensures.still.2 ∙ ap (λ (z : View). z.base) c.scan.ensures.same.2 in
-    let same : u.base ≡ c.args.self.now.view.base = ap (λ (z : View). z.base) c.answer_all-then-ne.ensures.same.2 ∙ (ap (λ (z : View). z.base) c.publish-outcome.ensures.same.2 ∙ (base_x ∙ ap (λ r. r.view.base) c.self.view_is)) in
-    subst (λ (r : Base). ImageAt g.O.Object.Contents (on_words g.O.Object.machine) r s n t.phase (plan_of u) i) same
-    (now_of g.O.Object.Contents (on_words g.O.Object.machine) g.D.Device.shown t u s n (λ s₁ s₂ j k. g.met.O.Object.one_contents u.base.order u.base.image s₁ s₂ j k) (invariant_of-self-then-ne g c).0 told (subst (λ (r : Base). g.O.Object.Contents r.order r.image s n) (sym same) op) i left)
+pub returns-then-ne-clause-passed : goal.returns-then-ne-clause-passed
+returns-then-ne-clause-passed g c = let t = passed_ne g c in record {
+  is = t.0;
+  since = t.1;
+  now = λ told s n op i left. let v : View = c.self.inside.seat.token.me.0 in let x : View = c.load_main-place.new.seat.token.me.0 in let u : View = c.answer_all-then-ne.new.seat.token.me.0 in let t = c.publish-outcome.new.twin in
+      let base_x : x.base ≡ v.base = ap (λ (z : View). z.base) c.load_main-place.ensures.still.2 ∙ ap (λ (z : View). z.base) c.scan.ensures.same.2 in
+      let same : u.base ≡ c.args.self.now.view.base = ap (λ (z : View). z.base) c.answer_all-then-ne.ensures.same.2 ∙ (ap (λ (z : View). z.base) c.publish-outcome.ensures.same.2 ∙ (base_x ∙ ap (λ r. r.view.base) c.self.view_is)) in
+      subst (λ (r : Base). ImageAt g.O.Object.Contents (on_words g.O.Object.machine) r s n t.phase (plan_of u) i) same
+      (now_of g.O.Object.Contents (on_words g.O.Object.machine) g.D.Device.shown t u s n (λ s₁ s₂ j k. g.met.O.Object.one_contents u.base.order u.base.image s₁ s₂ j k) (invariant_of-self-then-ne g c).0 told (subst (λ (r : Base). g.O.Object.Contents r.order r.image s n) (sym same) op) i left);
+}
 
 pub overflow_sub-done : goal.overflow_sub-done
 overflow_sub-done g c = let v : View = c.self.inside.seat.token.me.0 in let w : View = c.scan.new.seat.token.me.0 in let inv = c.self.invariant.0 in let sc = c.scan.ensures.scanned in
     let base : w.base ≡ v.base = ap (λ (z : View). z.base) c.scan.ensures.same.2 in
     let x : View = c.load_main-place.new.seat.token.me.0 in let q : Plan = plan_of w in let st = scan_stays (plan_of v) q sc.rest in
     let plan_x : plan_of x ≡ q = ap plan_of c.load_main-place.ensures.still.2 in let base_x : x.base ≡ v.base = ap (λ (z : View). z.base) c.load_main-place.ensures.still.2 ∙ base in
-    let y : View = c.publish-outcome.new.seat.token.me.0 in let is_pub : c.publish-outcome.result ≡ outcome.Published = loads_published g c in let pb = c.publish-outcome.ensures.published is_pub in let ph = c.publish-outcome.ensures.held is_pub in
+    let y : View = c.publish-outcome.new.seat.token.me.0 in let is_pub : c.publish-outcome.result ≡ outcome.Published = loads_published g c in let pb = (c.publish-outcome.ensures.published is_pub).published in let ph = (c.publish-outcome.ensures.published is_pub).held in
     let held : rule.Held g.O.Object.Contents (on_words g.O.Object.machine) v.base inv.start inv.count q.main q.history = subst (λ (z : List ℕ × List Entry). rule.Held g.O.Object.Contents (on_words g.O.Object.machine) v.base inv.start inv.count z.0 z.1) (λ j. (sym st.main j, sym st.history j)) inv.held in
     let word : slice_index q.main 2 ≡ inv.count + length q.history = (g.met.O.Object.contents_within v.base.order q.main _ _ held).1 in
     let word₂ : slice_index (plan_of y).main 2 ≡ ph.1 + length (plan_of y).history = (g.met.O.Object.contents_within x.base.order (plan_of y).main _ _ ph.3).1 in
@@ -275,7 +292,7 @@ overflow_cast-done g c = let v : View = c.self.inside.seat.token.me.0 in let w :
     let base : w.base ≡ v.base = ap (λ (z : View). z.base) c.scan.ensures.same.2 in
     let x : View = c.load_main-place.new.seat.token.me.0 in let q : Plan = plan_of w in let st = scan_stays (plan_of v) q sc.rest in
     let plan_x : plan_of x ≡ q = ap plan_of c.load_main-place.ensures.still.2 in let base_x : x.base ≡ v.base = ap (λ (z : View). z.base) c.load_main-place.ensures.still.2 ∙ base in
-    let y : View = c.publish-outcome.new.seat.token.me.0 in let is_pub : c.publish-outcome.result ≡ outcome.Published = loads_published g c in let pb = c.publish-outcome.ensures.published is_pub in let ph = c.publish-outcome.ensures.held is_pub in
+    let y : View = c.publish-outcome.new.seat.token.me.0 in let is_pub : c.publish-outcome.result ≡ outcome.Published = loads_published g c in let pb = (c.publish-outcome.ensures.published is_pub).published in let ph = (c.publish-outcome.ensures.published is_pub).held in
     let held : rule.Held g.O.Object.Contents (on_words g.O.Object.machine) v.base inv.start inv.count q.main q.history = subst (λ (z : List ℕ × List Entry). rule.Held g.O.Object.Contents (on_words g.O.Object.machine) v.base inv.start inv.count z.0 z.1) (λ j. (sym st.main j, sym st.history j)) inv.held in
     let word : slice_index q.main 2 ≡ inv.count + length q.history = (g.met.O.Object.contents_within v.base.order q.main _ _ held).1 in
     let word₂ : slice_index (plan_of y).main 2 ≡ ph.1 + length (plan_of y).history = (g.met.O.Object.contents_within x.base.order (plan_of y).main _ _ ph.3).1 in
@@ -292,7 +309,7 @@ answer_all-requires-2-clause-left g c = let v : View = c.self.inside.seat.token.
     let base : w.base ≡ v.base = ap (λ (z : View). z.base) c.scan.ensures.same.2 in
     let x : View = c.load_main-place.new.seat.token.me.0 in let q : Plan = plan_of w in let st = scan_stays (plan_of v) q sc.rest in
     let plan_x : plan_of x ≡ q = ap plan_of c.load_main-place.ensures.still.2 in let base_x : x.base ≡ v.base = ap (λ (z : View). z.base) c.load_main-place.ensures.still.2 ∙ base in
-    let y : View = c.publish-outcome.new.seat.token.me.0 in let is_pub : c.publish-outcome.result ≡ outcome.Published = search rules in let pb = c.publish-outcome.ensures.published is_pub in let ph = c.publish-outcome.ensures.held is_pub in
+    let y : View = c.publish-outcome.new.seat.token.me.0 in let is_pub : c.publish-outcome.result ≡ outcome.Published = search rules in let pb = (c.publish-outcome.ensures.published is_pub).published in let ph = (c.publish-outcome.ensures.published is_pub).held in
     let lm : View = c.load_main.new.seat.token.me.0 in let plan_lm : plan_of lm ≡ plan_of y = ap plan_of c.load_main.ensures.still.2 in
     let base_lm : lm.base ≡ x.base = ap (λ (r : View). r.base) c.load_main.ensures.still.2 ∙ ap (λ (r : View). r.base) c.publish-outcome.ensures.same.2 in (
       fate_of c.publish-outcome.result,
@@ -301,23 +318,23 @@ answer_all-requires-2-clause-left g c = let v : View = c.self.inside.seat.token.
     )
 
 pub settle-requires-clause-main : goal.settle-requires-clause-main
-settle-requires-clause-main g c told = c.publish-outcome.ensures.main (settles_published g c) told ∙ sym (ap (λ (r : Plan). r.main) (settles_given g c).1)
+settle-requires-clause-main g c told = (c.publish-outcome.ensures.published (settles_published g c)).main told ∙ sym (ap (λ (r : Plan). r.main) (settles_given g c).1)
 
 pub settle-requires-clause-back : goal.settle-requires-clause-back
-settle-requires-clause-back g c told = c.publish-outcome.ensures.back (settles_published g c) told ∙ sym (ap (λ (r : Plan). r.back) (settles_given g c).1)
+settle-requires-clause-back g c told = (c.publish-outcome.ensures.published (settles_published g c)).back told ∙ sym (ap (λ (r : Plan). r.back) (settles_given g c).1)
 
 pub settle-requires-clause-logged : goal.settle-requires-clause-logged
 settle-requires-clause-logged g c = let given = (settles_given g c).1 in
-    subst (λ (r : List ℕ × List ℕ). IsLogOf r.0 r.1 c.publish-outcome.new.log) (λ j. (sym (ap (λ (r : Plan). r.back) given) j, sym (ap (λ (r : Plan). r.main) given) j)) (c.publish-outcome.ensures.logged (settles_published g c))
+    subst (λ (r : List ℕ × List ℕ). IsLogOf r.0 r.1 c.publish-outcome.new.log) (λ j. (sym (ap (λ (r : Plan). r.back) given) j, sym (ap (λ (r : Plan). r.main) given) j)) (c.publish-outcome.ensures.published (settles_published g c)).logged
 
 pub settle-requires-clause-raises : goal.settle-requires-clause-raises
-settle-requires-clause-raises g c = let x : Plan = plan_of c.load_main-place.new.seat.token.me.0 in let pb = c.publish-outcome.ensures.published (settles_published g c) in
+settle-requires-clause-raises g c = let x : Plan = plan_of c.load_main-place.new.seat.token.me.0 in let pb = (c.publish-outcome.ensures.published (settles_published g c)).published in
     let after : ℕ = g.D.Device.shown.faults c.publish-outcome.new.twin.device in let founds = map found_of x.requests in
     subst (λ (r : List PassRecord). MayRaise c.fault_count-before.result after r) (sym (ap (λ (r : Plan). r.mine) (settles_given g c).1 ∙ pb.mine))
     (may_raise founds (record { found = founds; fate = fate.Published; faults_before = c.fault_count-before.result; faults_after = after; len = length x.history + length pb.more }))
 
 pub settle-requires-clause-held : goal.settle-requires-clause-held
-settle-requires-clause-held g c = let ph = c.publish-outcome.ensures.held (settles_published g c) in let given = (settles_given g c).1 in
+settle-requires-clause-held g c = let ph = (c.publish-outcome.ensures.published (settles_published g c)).held in let given = (settles_given g c).1 in
     let x : View = c.load_main-place.new.seat.token.me.0 in let u : View = c.answer_all-2.new.seat.token.me.0 in
     let base_u : u.base ≡ x.base = ap (λ (r : View). r.base) c.answer_all-2.ensures.same.2 ∙ (ap (λ (r : View). r.base) c.load_main.ensures.still.2 ∙ ap (λ (r : View). r.base) c.publish-outcome.ensures.same.2) in (
       ph.0,
@@ -331,7 +348,7 @@ invariant_of-self-2 g c = let v : View = c.self.inside.seat.token.me.0 in let w 
     let base : w.base ≡ v.base = ap (λ (z : View). z.base) c.scan.ensures.same.2 in
     let x : View = c.load_main-place.new.seat.token.me.0 in let q : Plan = plan_of w in let st = scan_stays (plan_of v) q sc.rest in
     let plan_x : plan_of x ≡ q = ap plan_of c.load_main-place.ensures.still.2 in let base_x : x.base ≡ v.base = ap (λ (z : View). z.base) c.load_main-place.ensures.still.2 ∙ base in
-    let y : View = c.publish-outcome.new.seat.token.me.0 in let is_pub : c.publish-outcome.result ≡ outcome.Published = is_published g c in let pb = c.publish-outcome.ensures.published is_pub in let ph = c.publish-outcome.ensures.held is_pub in
+    let y : View = c.publish-outcome.new.seat.token.me.0 in let is_pub : c.publish-outcome.result ≡ outcome.Published = is_published g c in let pb = (c.publish-outcome.ensures.published is_pub).published in let ph = (c.publish-outcome.ensures.published is_pub).held in
     let lm : View = c.load_main.new.seat.token.me.0 in let plan_lm : plan_of lm ≡ plan_of y = ap plan_of c.load_main.ensures.still.2 in
     let base_lm : lm.base ≡ x.base = ap (λ (r : View). r.base) c.load_main.ensures.still.2 ∙ ap (λ (r : View). r.base) c.publish-outcome.ensures.same.2 in
     let both = is_given g c in let made : is_made (plan_of y).mine ≡ true = both.0 in
@@ -366,12 +383,12 @@ invariant_of-self-2 g c = let v : View = c.self.inside.seat.token.me.0 in let w 
     } in
     (now, ready_by (g.O.Object.STORES * g.O.Object.WEIGHT) v.base z.base c.self.inside.log c.settle.new.log c.self.invariant.1 (base_z ∙ base_x) c.settle.ensures.cleared (c.settle.ensures.room ∙ c.publish-outcome.ensures.room))
 
-pub returns-clause-passed : goal.returns-clause-passed
-returns-clause-passed g c = let v : View = c.self.inside.seat.token.me.0 in let w : View = c.scan.new.seat.token.me.0 in let inv = c.self.invariant.0 in let sc = c.scan.ensures.scanned in
+passed_all : (g : Over) (c : goal.After-of-2 g) → Told g c.args.self.now (plan_of c.settle.new.seat.token.me.0) c.args.shared.now.layout.callers c.settle.new.twin.device c.of-2.result
+passed_all g c = let v : View = c.self.inside.seat.token.me.0 in let w : View = c.scan.new.seat.token.me.0 in let inv = c.self.invariant.0 in let sc = c.scan.ensures.scanned in
     let base : w.base ≡ v.base = ap (λ (z : View). z.base) c.scan.ensures.same.2 in
     let x : View = c.load_main-place.new.seat.token.me.0 in let q : Plan = plan_of w in let st = scan_stays (plan_of v) q sc.rest in
     let plan_x : plan_of x ≡ q = ap plan_of c.load_main-place.ensures.still.2 in let base_x : x.base ≡ v.base = ap (λ (z : View). z.base) c.load_main-place.ensures.still.2 ∙ base in
-    let y : View = c.publish-outcome.new.seat.token.me.0 in let is_pub : c.publish-outcome.result ≡ outcome.Published = is_published g c in let pb = c.publish-outcome.ensures.published is_pub in let ph = c.publish-outcome.ensures.held is_pub in
+    let y : View = c.publish-outcome.new.seat.token.me.0 in let is_pub : c.publish-outcome.result ≡ outcome.Published = is_published g c in let pb = (c.publish-outcome.ensures.published is_pub).published in let ph = (c.publish-outcome.ensures.published is_pub).held in
     let lm : View = c.load_main.new.seat.token.me.0 in let plan_lm : plan_of lm ≡ plan_of y = ap plan_of c.load_main.ensures.still.2 in
     let base_lm : lm.base ≡ x.base = ap (λ (r : View). r.base) c.load_main.ensures.still.2 ∙ ap (λ (r : View). r.base) c.publish-outcome.ensures.same.2 in
     let some_found : 0 < length c.scan.new.found.items = some_of (length c.scan.new.found.items) c.if-is_empty.ensures in
@@ -391,60 +408,29 @@ returns-clause-passed g c = let v : View = c.self.inside.seat.token.me.0 in let 
     let scan : IsScan (IsCall (on_words g.O.Object.machine) x.base) (plan_of v) (plan_of x) c.args.shared.now.layout.callers c.scan.new.found.items = subst (λ (r : Base × Plan). IsScan (IsCall (on_words g.O.Object.machine) r.0) (plan_of v) r.1 c.args.shared.now.layout.callers c.scan.new.found.items) (λ j. (sym base_x j, sym plan_x j)) sc in
     let many_is : many ≡ length c.scan.new.found.items = omega (arith, c.len-many.ensures.value) in let diff : ℕ = c.load_main.result - c.load_main-place.result in
     let a = c.self.inside.twin.device in let d = c.settle.new.twin.device in
-    let run : IsTrue g.D.Device.shown.tells_images → (s : g.O.Object.State) (n : ℕ) → g.O.Object.Contents x.base.order x.base.image s n → Runs g.D.Device.shown (Becomes (PassMakes g.O.Object.Contents (on_words g.O.Object.machine) x.base s n (fate_of o) (plan_of x).history (batch_now g.O.Object.Contents (on_words g.O.Object.machine) x.base s n (plan_of x)))) a d
-    = λ told s n op. let bq : pb.more ≡ batch_now g.O.Object.Contents (on_words g.O.Object.machine) x.base s n (plan_of x) = (pb.batch s n op).1 ∙ ap (λ (k : ℕ). batch (on_words g.O.Object.machine) x.base.order (after (on_words g.O.Object.machine) x.base.order s n (plan_of x).history) k (map found_of (plan_of x).requests)) (pb.batch s n op).0 in
-    let heldm : rule.Held g.O.Object.Contents (on_words g.O.Object.machine) x.base s n (plan_of u).main ((plan_of x).history ++ batch_now g.O.Object.Contents (on_words g.O.Object.machine) x.base s n (plan_of x)) = subst (λ (r : List ℕ × List Entry). rule.Held g.O.Object.Contents (on_words g.O.Object.machine) x.base s n r.0 r.1) (λ j. (sym main j, (pb.history ∙ ap (λ (l : List Entry). (plan_of x).history ++ l) bq) j))
+    let run : IsTrue g.D.Device.shown.tells_images → (s : g.O.Object.State) (n : ℕ) → g.O.Object.Contents x.base.order x.base.image s n → Runs g.D.Device.shown (Becomes (PassMakes g.O.Object.Contents (on_words g.O.Object.machine) x.base s n (fate_of o) (plan_of x).history (batch_found g.O.Object.Contents (on_words g.O.Object.machine) x.base s n (plan_of x)))) a d
+    = λ told s n op. let bq : pb.more ≡ batch_found g.O.Object.Contents (on_words g.O.Object.machine) x.base s n (plan_of x) = (pb.batch s n op).1 ∙ ap (λ (k : ℕ). batch (on_words g.O.Object.machine) x.base.order (after (on_words g.O.Object.machine) x.base.order s n (plan_of x).history) k (map found_of (plan_of x).requests)) (pb.batch s n op).0 in
+    let heldm : rule.Held g.O.Object.Contents (on_words g.O.Object.machine) x.base s n (plan_of u).main ((plan_of x).history ++ batch_found g.O.Object.Contents (on_words g.O.Object.machine) x.base s n (plan_of x)) = subst (λ (r : List ℕ × List Entry). rule.Held g.O.Object.Contents (on_words g.O.Object.machine) x.base s n r.0 r.1) (λ j. (sym main j, (pb.history ∙ ap (λ (l : List Entry). (plan_of x).history ++ l) bq) j))
     (same_held g.O.Object.Contents (on_words g.O.Object.machine) x.base s n ph.0 ph.1 (plan_of y).history (plan_of y).main (g.met.O.Object.one_contents x.base.order x.base.image s ph.0 n ph.1 op ph.2) ph.3) in
-    list_settled g.O.Object.Contents (on_words g.O.Object.machine) x.base s n g.D.Device.shown (fate_of o) (plan_of x).history (batch_now g.O.Object.Contents (on_words g.O.Object.machine) x.base s n (plan_of x)) c.publish-outcome.new.twin.order (plan_of u).main a c.publish-outcome.new.twin.device d
-    (c.publish-outcome.ensures.order ∙ (inv.order_is ∙ ap (λ (r : Base). r.order) (sym base_x))) (subst (λ w. MayPublish (fate_of w)) (sym is_pub) tt) heldm (c.publish-outcome.ensures.since told s n op) (c.settle.ensures.since told) in
+    list_settled g.O.Object.Contents (on_words g.O.Object.machine) x.base s n g.D.Device.shown (fate_of o) (plan_of x).history (batch_found g.O.Object.Contents (on_words g.O.Object.machine) x.base s n (plan_of x)) c.publish-outcome.new.twin.order (plan_of u).main a c.publish-outcome.new.twin.device d
+    (c.publish-outcome.ensures.order ∙ (inv.order_is ∙ ap (λ (r : Base). r.order) (sym base_x))) (subst (λ w. MayPublish (fate_of w)) (sym is_pub) tt) heldm (c.publish-outcome.ensures.stops.since told s n op) (c.settle.ensures.since told) in
     let whole = passed_published g.O.Object.Contents (on_words g.O.Object.machine) g.D.Device.shown a d x.base (plan_of v) (plan_of x) (plan_of y) (plan_of u) (plan_of z) c.args.shared.now.layout.callers c.fault_count-before.result (g.D.Device.shown.faults c.publish-outcome.new.twin.device) end c.settle.ensures.rested.version c.settle.ensures.rested.clear many diff c.scan.new.found.items o scan pb given settled some_found many_is done c.answer_all-2.ensures.answered is_pub c.publish-outcome.ensures.calls
     (subst (λ (r : Plan). SameCalls r (plan_of u)) plan_lm c.answer_all-2.ensures.calls) run in
     rw c.of-2.ensures.is (subst (λ (r : Base × Locked g.row.D.Denot × ℕ). (z' : IsPass g.O.Object.Contents (on_words g.O.Object.machine) r.0 (plan_of r.1.view) (plan_of z) c.args.shared.now.layout.callers r.2 end (record { found = many; done = diff; outcome = o }))
     × (IsTrue g.D.Device.shown.tells_images → (s : g.O.Object.State) (n : ℕ) → g.O.Object.Contents r.0.order r.0.image s n → Runs g.D.Device.shown (Becomes (PassMakes g.O.Object.Contents (on_words g.O.Object.machine) r.0 s n (fate_of o) (plan_of r.1.view).history z'.more)) r.1.twin.device d))
     (λ j. ((base_x ∙ ap (λ r. r.view.base) c.self.view_is) j, c.self.view_is j, (c.fault_count-before.ensures ∙ ap (λ r. g.D.Device.shown.faults r.twin.device) c.self.view_is) j)) whole)
 
-pub returns-clause-certain : goal.returns-clause-certain
-returns-clause-certain g c some_done = let v : View = c.self.inside.seat.token.me.0 in let w : View = c.scan.new.seat.token.me.0 in let inv = c.self.invariant.0 in let sc = c.scan.ensures.scanned in
-    let base : w.base ≡ v.base = ap (λ (z : View). z.base) c.scan.ensures.same.2 in
-    let x : View = c.load_main-place.new.seat.token.me.0 in let q : Plan = plan_of w in let st = scan_stays (plan_of v) q sc.rest in
-    let plan_x : plan_of x ≡ q = ap plan_of c.load_main-place.ensures.still.2 in let base_x : x.base ≡ v.base = ap (λ (z : View). z.base) c.load_main-place.ensures.still.2 ∙ base in
-    let y : View = c.publish-outcome.new.seat.token.me.0 in let is_pub : c.publish-outcome.result ≡ outcome.Published = is_published g c in let pb = c.publish-outcome.ensures.published is_pub in let ph = c.publish-outcome.ensures.held is_pub in
-    let lm : View = c.load_main.new.seat.token.me.0 in let plan_lm : plan_of lm ≡ plan_of y = ap plan_of c.load_main.ensures.still.2 in
-    let base_lm : lm.base ≡ x.base = ap (λ (r : View). r.base) c.load_main.ensures.still.2 ∙ ap (λ (r : View). r.base) c.publish-outcome.ensures.same.2 in
-    let both = is_given g c in let made : is_made (plan_of y).mine ≡ true = both.0 in
-    let u : View = c.answer_all-2.new.seat.token.me.0 in let base_u : u.base ≡ x.base = ap (λ (r : View). r.base) c.answer_all-2.ensures.same.2 ∙ base_lm in
-    let given : but_requests (plan_of u) ≡ but_requests (plan_of y) = both.1 in
-    let main : (plan_of u).main ≡ (plan_of y).main = ap (λ (r : Plan). r.main) given in let history : (plan_of u).history ≡ (plan_of y).history = ap (λ (r : Plan). r.history) given in
-    let end : ℕ = g.D.Device.shown.faults c.settle.new.twin.device in let z : View = c.settle.new.seat.token.me.0 in
-    let settled : plan_of z ≡ rested end c.settle.ensures.rested.version c.settle.ensures.rested.clear (plan_of u) = ap plan_of c.settle.ensures.rested.writes.2 in let base_z : z.base ≡ x.base = ap (λ (r : View). r.base) c.settle.ensures.rested.writes.2 ∙ base_u in
-    let kept : but_requests (plan_of z) ≡ but_requests (rested end c.settle.ensures.rested.version c.settle.ensures.rested.clear (plan_of y)) = ap but_requests settled ∙ ap (λ (r : Plan). but_requests (rested end c.settle.ensures.rested.version c.settle.ensures.rested.clear r)) given in
-    let a = c.self.inside.twin.device in let m = c.publish-outcome.new.twin in let d = c.settle.new.twin.device in
-    let old : (plan_of x).history ≡ (plan_of v).history = ap (λ (r : Plan). r.history) plan_x ∙ st.history in
-    let new : (plan_of z).history ≡ (plan_of x).history ++ pb.more = ap (λ (r : Plan). r.history) kept ∙ pb.history in
-    let order : m.order ≡ x.base.order = c.publish-outcome.ensures.order ∙ (inv.order_is ∙ ap (λ (r : Base). r.order) (sym base_x)) in (
-      m.device,
-      subst (λ (r : Locked g.row.D.Denot). SpendsAtMost g.D.Device.shown (writes_before_commit r.twin.phase r.twin.order (region_len r.twin.order) + 1) (syncs_before_commit r.twin.phase + 1) r.twin.device m.device) c.self.view_is c.publish-outcome.ensures.whole,
-      λ told.
-          subst (λ (r : Base × Locked g.row.D.Denot). (s : g.O.Object.State) (n : ℕ) → g.O.Object.Contents r.0.order r.0.image s n → IsCertainSince g.O.Object.Contents (on_words g.O.Object.machine) r.0 s n g.D.Device.shown (plan_of r.1.view).history (plan_of z).history r.1.twin.device m.device d)
-          (λ j. ((base_x ∙ ap (λ r. r.view.base) c.self.view_is) j, c.self.view_is j))
-          (λ s n op.
-          let bq : pb.more ≡ batch_now g.O.Object.Contents (on_words g.O.Object.machine) x.base s n (plan_of x) = (pb.batch s n op).1 ∙ ap (λ (k : ℕ). batch (on_words g.O.Object.machine) x.base.order (after (on_words g.O.Object.machine) x.base.order s n (plan_of x).history) k (map found_of (plan_of x).requests)) (pb.batch s n op).0 in
-          let heldm : rule.Held g.O.Object.Contents (on_words g.O.Object.machine) x.base s n (plan_of u).main ((plan_of x).history ++ pb.more) = subst (λ (r : List ℕ × List Entry). rule.Held g.O.Object.Contents (on_words g.O.Object.machine) x.base s n r.0 r.1) (λ j. (sym main j, pb.history j))
-          (same_held g.O.Object.Contents (on_words g.O.Object.machine) x.base s n ph.0 ph.1 (plan_of y).history (plan_of y).main (g.met.O.Object.one_contents x.base.order x.base.image s ph.0 n ph.1 op ph.2) ph.3) in
-          let counts : (i : List ℕ) → g.D.Device.shown.leaves m.device i → IsCurrentRegion m.order i (plan_of u).main = λ i left. subst (λ (r : List ℕ). IsCurrentRegion m.order i r) (c.publish-outcome.ensures.main is_pub told ∙ sym main)
-          (committed_region g.D.Device.shown m (c.publish-outcome.ensures.phase is_pub) (g.met.D.Device.reads_image m.device told) (c.publish-outcome.ensures.images told) i left) in
-          subst (λ (r : List Entry × List Entry). IsCertainSince g.O.Object.Contents (on_words g.O.Object.machine) x.base s n g.D.Device.shown r.0 r.1 a m.device d) (λ j. (old j, sym new j))
-          (list_certain g.O.Object.Contents (on_words g.O.Object.machine) x.base s n g.D.Device.shown (fate_of c.publish-outcome.result) (plan_of x).history pb.more m.order (plan_of u).main a m.device d order heldm
-          (subst (λ (l : List Entry). Runs g.D.Device.shown (Becomes (PassMakes g.O.Object.Contents (on_words g.O.Object.machine) x.base s n (fate_of c.publish-outcome.result) (plan_of x).history l)) a m.device) (sym bq) (c.publish-outcome.ensures.since told s n op)) counts (c.settle.ensures.since told))),
-    )
-
-pub returns-clause-now : goal.returns-clause-now
-returns-clause-now g c told s n op i left = let v : View = c.self.inside.seat.token.me.0 in let w : View = c.scan.new.seat.token.me.0 in let x : View = c.load_main-place.new.seat.token.me.0 in let z : View = c.settle.new.seat.token.me.0 in let t = c.settle.new.twin in
-    let base_x : x.base ≡ v.base = ap (λ (z : View). z.base) c.load_main-place.ensures.still.2 ∙ ap (λ (z : View). z.base) c.scan.ensures.same.2 in
-    let base_z : z.base ≡ x.base = ap (λ (r : View). r.base) c.settle.ensures.rested.writes.2 ∙ (ap (λ (r : View). r.base) c.answer_all-2.ensures.same.2 ∙ (ap (λ (r : View). r.base) c.load_main.ensures.still.2 ∙ ap (λ (r : View). r.base) c.publish-outcome.ensures.same.2)) in
-    let same : z.base ≡ c.args.self.now.view.base = base_z ∙ (base_x ∙ ap (λ r. r.view.base) c.self.view_is) in
-    subst (λ (r : Base). ImageAt g.O.Object.Contents (on_words g.O.Object.machine) r s n t.phase (plan_of z) i) same
-    (now_of g.O.Object.Contents (on_words g.O.Object.machine) g.D.Device.shown t z s n (λ s₁ s₂ j k. g.met.O.Object.one_contents z.base.order z.base.image s₁ s₂ j k) (invariant_of-self-2 g c).0 told (subst (λ (r : Base). g.O.Object.Contents r.order r.image s n) (sym same) op) i left)
+pub returns-clause-passed : goal.returns-clause-passed
+returns-clause-passed g c = let t = passed_all g c in record {
+  is = t.0;
+  since = t.1;
+  now = λ told s n op i left. let v : View = c.self.inside.seat.token.me.0 in let w : View = c.scan.new.seat.token.me.0 in let x : View = c.load_main-place.new.seat.token.me.0 in let z : View = c.settle.new.seat.token.me.0 in let t = c.settle.new.twin in
+      let base_x : x.base ≡ v.base = ap (λ (z : View). z.base) c.load_main-place.ensures.still.2 ∙ ap (λ (z : View). z.base) c.scan.ensures.same.2 in
+      let base_z : z.base ≡ x.base = ap (λ (r : View). r.base) c.settle.ensures.rested.writes.2 ∙ (ap (λ (r : View). r.base) c.answer_all-2.ensures.same.2 ∙ (ap (λ (r : View). r.base) c.load_main.ensures.still.2 ∙ ap (λ (r : View). r.base) c.publish-outcome.ensures.same.2)) in
+      let same : z.base ≡ c.args.self.now.view.base = base_z ∙ (base_x ∙ ap (λ r. r.view.base) c.self.view_is) in
+      subst (λ (r : Base). ImageAt g.O.Object.Contents (on_words g.O.Object.machine) r s n t.phase (plan_of z) i) same
+      (now_of g.O.Object.Contents (on_words g.O.Object.machine) g.D.Device.shown t z s n (λ s₁ s₂ j k. g.met.O.Object.one_contents z.base.order z.base.image s₁ s₂ j k) (invariant_of-self-2 g c).0 told (subst (λ (r : Base). g.O.Object.Contents r.order r.image s n) (sym same) op) i left);
+}
 
 -- the calls that the pass has found are those in the plan that it leaves
 left_published : (g : Over) (c : goal.After-of-2 g) → weights_found (weight_on_words g.O.Object.machine) (plan_of c.load_main-place.new.seat.token.me.0) ≡ weights_found (weight_on_words g.O.Object.machine) (plan_of c.settle.new.seat.token.me.0)
@@ -457,7 +443,7 @@ returns-clause-most g c =
     let shown = g.D.Device.shown in let a = c.self.inside.twin in let m = c.publish-outcome.new.twin.device in let d = c.settle.new.twin.device in
     let stores : ℕ = g.O.Object.STORES in let weight : List ℕ → ℕ = weight_on_words g.O.Object.machine in let words : ℕ = stores * weights_found weight (plan_of c.settle.new.seat.token.me.0) in
     let is_pub : c.publish-outcome.result ≡ outcome.Published = is_published g c in
-    let held : held_count c.publish-outcome.new.log.ranges ≤ words = subst (λ (n : ℕ). held_count c.publish-outcome.new.log.ranges ≤ stores * n) (left_published g c) (c.publish-outcome.ensures.held_most is_pub) in
+    let held : held_count c.publish-outcome.new.log.ranges ≤ words = subst (λ (n : ℕ). held_count c.publish-outcome.new.log.ranges ≤ stores * n) (left_published g c) (c.publish-outcome.ensures.published is_pub).held_most in
     let first : SpendsAtMost shown (writes_before_commit a.phase a.order words + 1) (syncs_before_commit a.phase + 1) a.device m = subst (λ (n : ℕ). SpendsAtMost shown (writes_before_commit a.phase a.order (stores * n) + 1) (syncs_before_commit a.phase + 1) a.device m) (left_published g c) c.publish-outcome.ensures.most in
     subst (λ (r : Locked g.row.D.Denot). SpendsAtMost shown (batch_writes r.twin.phase r.twin.order words) (batch_syncs r.twin.phase) r.twin.device d) c.self.view_is
     (most_then shown (writes_before_commit a.phase a.order words + 1) (syncs_before_commit a.phase + 1) (held_count c.publish-outcome.new.log.ranges + 1) 1 (batch_writes a.phase a.order words) (batch_syncs a.phase) a.device m d
@@ -473,7 +459,7 @@ grown : (g : Over) (c : goal.After-of-2 g) → weights_added (weight_on_words g.
     ≡ weights_added (weight_on_words g.O.Object.machine) (plan_of c.args.self.now.view).history (plan_of c.settle.new.seat.token.me.0).history
 grown g c = let v : View = c.self.inside.seat.token.me.0 in let w : View = c.scan.new.seat.token.me.0 in let sc = c.scan.ensures.scanned in
     let x : View = c.load_main-place.new.seat.token.me.0 in let plan_x : plan_of x ≡ plan_of w = ap plan_of c.load_main-place.ensures.still.2 in
-    let y : View = c.publish-outcome.new.seat.token.me.0 in let is_pub : c.publish-outcome.result ≡ outcome.Published = is_published g c in let pb = c.publish-outcome.ensures.published is_pub in
+    let y : View = c.publish-outcome.new.seat.token.me.0 in let is_pub : c.publish-outcome.result ≡ outcome.Published = is_published g c in let pb = (c.publish-outcome.ensures.published is_pub).published in
     let lm : View = c.load_main.new.seat.token.me.0 in let plan_lm : plan_of lm ≡ plan_of y = ap plan_of c.load_main.ensures.still.2 in
     let both = is_given g c in let made : is_made (plan_of y).mine ≡ true = both.0 in
     let u : View = c.answer_all-2.new.seat.token.me.0 in let given : but_requests (plan_of u) ≡ but_requests (plan_of y) = both.1 in
@@ -481,17 +467,51 @@ grown g c = let v : View = c.self.inside.seat.token.me.0 in let w : View = c.sca
     let old : (plan_of x).history ≡ (plan_of c.args.self.now.view).history = ap (λ (r : Plan). r.history) plan_x ∙ (ap (λ (r : Plan). r.history) sc.rest ∙ ap (λ r. (plan_of r.view).history) c.self.view_is) in
     λ j. weights_added (weight_on_words g.O.Object.machine) (old j) (sym new j)
 
-pub returns-clause-spends : goal.returns-clause-spends
-returns-clause-spends g c done unfailed =
-    let is_pub : c.publish-outcome.result ≡ outcome.Published = is_published g c in let z : View = c.settle.new.seat.token.me.0 in
-    let few : held_count c.publish-outcome.new.log.ranges ≤ g.O.Object.STORES * weights_added (weight_on_words g.O.Object.machine) (plan_of c.args.self.now.view).history (plan_of z).history
-    = subst (λ (n : ℕ). held_count c.publish-outcome.new.log.ranges ≤ g.O.Object.STORES * n) (grown g c) (c.publish-outcome.ensures.few is_pub) in
-    search (rules, few)
+pub returns-clause-done : goal.returns-clause-done
+returns-clause-done g c some_done = let v : View = c.self.inside.seat.token.me.0 in let w : View = c.scan.new.seat.token.me.0 in let inv = c.self.invariant.0 in let sc = c.scan.ensures.scanned in
+    let base : w.base ≡ v.base = ap (λ (z : View). z.base) c.scan.ensures.same.2 in
+    let x : View = c.load_main-place.new.seat.token.me.0 in let q : Plan = plan_of w in let st = scan_stays (plan_of v) q sc.rest in
+    let plan_x : plan_of x ≡ q = ap plan_of c.load_main-place.ensures.still.2 in let base_x : x.base ≡ v.base = ap (λ (z : View). z.base) c.load_main-place.ensures.still.2 ∙ base in
+    let y : View = c.publish-outcome.new.seat.token.me.0 in let is_pub : c.publish-outcome.result ≡ outcome.Published = is_published g c in let pb = (c.publish-outcome.ensures.published is_pub).published in let ph = (c.publish-outcome.ensures.published is_pub).held in
+    let lm : View = c.load_main.new.seat.token.me.0 in let plan_lm : plan_of lm ≡ plan_of y = ap plan_of c.load_main.ensures.still.2 in
+    let base_lm : lm.base ≡ x.base = ap (λ (r : View). r.base) c.load_main.ensures.still.2 ∙ ap (λ (r : View). r.base) c.publish-outcome.ensures.same.2 in
+    let both = is_given g c in let made : is_made (plan_of y).mine ≡ true = both.0 in
+    let u : View = c.answer_all-2.new.seat.token.me.0 in let base_u : u.base ≡ x.base = ap (λ (r : View). r.base) c.answer_all-2.ensures.same.2 ∙ base_lm in
+    let given : but_requests (plan_of u) ≡ but_requests (plan_of y) = both.1 in
+    let main : (plan_of u).main ≡ (plan_of y).main = ap (λ (r : Plan). r.main) given in let history : (plan_of u).history ≡ (plan_of y).history = ap (λ (r : Plan). r.history) given in
+    let end : ℕ = g.D.Device.shown.faults c.settle.new.twin.device in let z : View = c.settle.new.seat.token.me.0 in
+    let settled : plan_of z ≡ rested end c.settle.ensures.rested.version c.settle.ensures.rested.clear (plan_of u) = ap plan_of c.settle.ensures.rested.writes.2 in let base_z : z.base ≡ x.base = ap (λ (r : View). r.base) c.settle.ensures.rested.writes.2 ∙ base_u in
+    let kept : but_requests (plan_of z) ≡ but_requests (rested end c.settle.ensures.rested.version c.settle.ensures.rested.clear (plan_of y)) = ap but_requests settled ∙ ap (λ (r : Plan). but_requests (rested end c.settle.ensures.rested.version c.settle.ensures.rested.clear r)) given in
+    let a = c.self.inside.twin.device in let m = c.publish-outcome.new.twin in let d = c.settle.new.twin.device in
+    let old : (plan_of x).history ≡ (plan_of v).history = ap (λ (r : Plan). r.history) plan_x ∙ st.history in
+    let new : (plan_of z).history ≡ (plan_of x).history ++ pb.more = ap (λ (r : Plan). r.history) kept ∙ pb.history in
+    let order : m.order ≡ x.base.order = c.publish-outcome.ensures.order ∙ (inv.order_is ∙ ap (λ (r : Base). r.order) (sym base_x)) in record {
+      mid = m.device;
+      soon = subst (λ (r : Locked g.row.D.Denot). SpendsAtMost g.D.Device.shown (writes_before_commit r.twin.phase r.twin.order (region_len r.twin.order) + 1) (syncs_before_commit r.twin.phase + 1) r.twin.device m.device) c.self.view_is c.publish-outcome.ensures.whole;
+      certain = λ told.
+          subst (λ (r : Base × Locked g.row.D.Denot). (s : g.O.Object.State) (n : ℕ) → g.O.Object.Contents r.0.order r.0.image s n → IsCertainSince g.O.Object.Contents (on_words g.O.Object.machine) r.0 s n g.D.Device.shown (plan_of r.1.view).history (plan_of z).history r.1.twin.device m.device d)
+          (λ j. ((base_x ∙ ap (λ r. r.view.base) c.self.view_is) j, c.self.view_is j))
+          (λ s n op.
+          let bq : pb.more ≡ batch_found g.O.Object.Contents (on_words g.O.Object.machine) x.base s n (plan_of x) = (pb.batch s n op).1 ∙ ap (λ (k : ℕ). batch (on_words g.O.Object.machine) x.base.order (after (on_words g.O.Object.machine) x.base.order s n (plan_of x).history) k (map found_of (plan_of x).requests)) (pb.batch s n op).0 in
+          let heldm : rule.Held g.O.Object.Contents (on_words g.O.Object.machine) x.base s n (plan_of u).main ((plan_of x).history ++ pb.more) = subst (λ (r : List ℕ × List Entry). rule.Held g.O.Object.Contents (on_words g.O.Object.machine) x.base s n r.0 r.1) (λ j. (sym main j, pb.history j))
+          (same_held g.O.Object.Contents (on_words g.O.Object.machine) x.base s n ph.0 ph.1 (plan_of y).history (plan_of y).main (g.met.O.Object.one_contents x.base.order x.base.image s ph.0 n ph.1 op ph.2) ph.3) in
+          let counts : (i : List ℕ) → g.D.Device.shown.leaves m.device i → IsCurrentRegion m.order i (plan_of u).main = λ i left. subst (λ (r : List ℕ). IsCurrentRegion m.order i r) ((c.publish-outcome.ensures.published is_pub).main told ∙ sym main)
+          (committed_region g.D.Device.shown m (c.publish-outcome.ensures.published is_pub).phase (g.met.D.Device.reads_image m.device told) (c.publish-outcome.ensures.stops.images told) i left) in
+          subst (λ (r : List Entry × List Entry). IsCertainSince g.O.Object.Contents (on_words g.O.Object.machine) x.base s n g.D.Device.shown r.0 r.1 a m.device d) (λ j. (old j, sym new j))
+          (list_certain g.O.Object.Contents (on_words g.O.Object.machine) x.base s n g.D.Device.shown (fate_of c.publish-outcome.result) (plan_of x).history pb.more m.order (plan_of u).main a m.device d order heldm
+          (subst (λ (l : List Entry). Runs g.D.Device.shown (Becomes (PassMakes g.O.Object.Contents (on_words g.O.Object.machine) x.base s n (fate_of c.publish-outcome.result) (plan_of x).history l)) a m.device) (sym bq) (c.publish-outcome.ensures.stops.since told s n op)) counts (c.settle.ensures.since told)));
+      repaired = c.settle.ensures.phase;
+      undone = search rules;
+      spends = λ unfailed. let is_pub : c.publish-outcome.result ≡ outcome.Published = is_published g c in let z : View = c.settle.new.seat.token.me.0 in
+          let few : held_count c.publish-outcome.new.log.ranges ≤ g.O.Object.STORES * weights_added (weight_on_words g.O.Object.machine) (plan_of c.args.self.now.view).history (plan_of z).history
+          = subst (λ (n : ℕ). held_count c.publish-outcome.new.log.ranges ≤ g.O.Object.STORES * n) (grown g c) (c.publish-outcome.ensures.published is_pub).few in
+          search (rules, few);
+    }
 
 pub returns-clause-whole : goal.returns-clause-whole
 returns-clause-whole g c =
     let shown = g.D.Device.shown in let a = c.self.inside.twin in let m = c.publish-outcome.new.twin.device in let d = c.settle.new.twin.device in let words : ℕ = region_len a.order in
-    let is_pub : c.publish-outcome.result ≡ outcome.Published = is_published g c in let held : held_count c.publish-outcome.new.log.ranges ≤ words = c.publish-outcome.ensures.within is_pub in
+    let is_pub : c.publish-outcome.result ≡ outcome.Published = is_published g c in let held : held_count c.publish-outcome.new.log.ranges ≤ words = (c.publish-outcome.ensures.published is_pub).within in
     subst (λ (r : Locked g.row.D.Denot). SpendsAtMost shown (batch_writes r.twin.phase r.twin.order (region_len r.twin.order)) (batch_syncs r.twin.phase) r.twin.device d) c.self.view_is
     (most_then shown (writes_before_commit a.phase a.order words + 1) (syncs_before_commit a.phase + 1) (held_count c.publish-outcome.new.log.ranges + 1) 1 (batch_writes a.phase a.order words) (batch_syncs a.phase) a.device m d
     c.publish-outcome.ensures.whole c.settle.ensures.most (omega (arith, held)) (omega arith))
@@ -501,7 +521,7 @@ some_done : (g : Over) (c : goal.After-of-2 g) → 0 < c.load_main.result - c.lo
 some_done g c = let v : View = c.self.inside.seat.token.me.0 in let w : View = c.scan.new.seat.token.me.0 in let inv = c.self.invariant.0 in let sc = c.scan.ensures.scanned in
     let x : View = c.load_main-place.new.seat.token.me.0 in let q : Plan = plan_of x in let plan_x : q ≡ plan_of w = ap plan_of c.load_main-place.ensures.still.2 in let y : View = c.publish-outcome.new.seat.token.me.0 in
     let base_x : x.base ≡ v.base = ap (λ (z : View). z.base) c.load_main-place.ensures.still.2 ∙ ap (λ (z : View). z.base) c.scan.ensures.same.2 in
-    let is_pub : c.publish-outcome.result ≡ outcome.Published = is_published g c in let pb = c.publish-outcome.ensures.published is_pub in let ph = c.publish-outcome.ensures.held is_pub in
+    let is_pub : c.publish-outcome.result ≡ outcome.Published = is_published g c in let pb = (c.publish-outcome.ensures.published is_pub).published in let ph = (c.publish-outcome.ensures.published is_pub).held in
     let op : g.O.Object.Contents x.base.order x.base.image inv.start inv.count = subst (λ (z : Base). g.O.Object.Contents z.order z.image inv.start inv.count) (sym base_x) inv.opening in
     let held : rule.Held g.O.Object.Contents (on_words g.O.Object.machine) x.base inv.start inv.count q.main q.history = subst (λ (z : Base × List ℕ × List Entry). rule.Held g.O.Object.Contents (on_words g.O.Object.machine) z.0 inv.start inv.count z.1 z.2) (λ j. (sym base_x j, sym (ap (λ (z : Plan). z.main) (ap but_requests plan_x ∙ sc.rest)) j, sym (ap (λ (z : Plan). z.history) (ap but_requests plan_x ∙ sc.rest)) j)) inv.held in
     let word : slice_index q.main 2 ≡ inv.count + length q.history = (g.met.O.Object.contents_within x.base.order q.main _ _ held).1 in
@@ -573,7 +593,7 @@ returns-then-place-eq-LAST_COUNT-clause-unwaited g c none = let v : View = c.sel
 
 pub returns-then-ne-clause-unwaited : goal.returns-then-ne-clause-unwaited
 returns-then-ne-clause-unwaited g c none = let v : View = c.self.inside.seat.token.me.0 in let w : View = c.scan.new.seat.token.me.0 in let x : View = c.load_main-place.new.seat.token.me.0 in let y : View = c.publish-outcome.new.seat.token.me.0 in let u : View = c.answer_all-then-ne.new.seat.token.me.0 in
-    let not_published : c.publish-outcome.result ≢ outcome.Published = unpublished g c in let stays : plan_of y ≡ plan_of x = c.publish-outcome.ensures.stays not_published in let sc = c.scan.ensures.scanned in
+    let not_published : c.publish-outcome.result ≢ outcome.Published = unpublished g c in let stays : plan_of y ≡ plan_of x = (c.publish-outcome.ensures.unpublished not_published).stays in let sc = c.scan.ensures.scanned in
     let plan_x : plan_of x ≡ plan_of w = ap plan_of c.load_main-place.ensures.still.2 in let scan : but_requests (plan_of y) ≡ but_requests (beginning (plan_of v)) = ap but_requests (stays ∙ plan_x) ∙ sc.rest in
     let some_found : 0 < length c.scan.new.found.items = some_of (length c.scan.new.found.items) c.if-is_empty.ensures in let before : ℕ = c.fault_count-before.result in let now : ℕ = c.fault_count-now.result in let left = c.publish-outcome.ensures.left in
     let found : 0 < length (plan_of y).requests = omega (arith, some_found, ap length sc.items_are, length_map posted_of (plan_of w).requests, ap (λ (z : Plan). length z.requests) (stays ∙ plan_x)) in
@@ -644,12 +664,17 @@ returns-clause-device g c = let shown = g.D.Device.shown in let a = c.self.insid
     subst (λ (r : Locked g.row.D.Denot). WritesHeap shown r.twin.order r.twin.device d.device) c.self.view_is
     (writes_then shown a.order a.device m.device d.device c.publish-outcome.ensures.device (subst (λ (n : ℕ). WritesHeap shown n m.device d.device) c.publish-outcome.ensures.order c.settle.ensures.device))
 
+-- what shared main was as the pass began
+main_refused : (g : Over) (c : goal.After-of-then-ne g) → (plan_of c.load_main-place.new.seat.token.me.0).main ≡ (plan_of c.args.self.now.view).main
+main_refused g c = ap (λ (r : View). (plan_of r).main) c.load_main-place.ensures.still.2 ∙ (ap (λ (r : Plan). r.main) c.scan.ensures.scanned.rest ∙ ap (λ r. (plan_of r.view).main) c.self.view_is)
+
 pub returns-then-ne-clause-failed : goal.returns-then-ne-clause-failed
-returns-then-ne-clause-failed g c is = let m = c.publish-outcome.new.twin in
-    subst (λ (r : Locked g.row.D.Denot). (m.phase ≡ phase.Undo) ⊎ ((m.phase ≡ r.twin.phase) × NeedsRepair r.twin.phase)) c.self.view_is (c.publish-outcome.ensures.failed (ended _ _ _ _ _ c.of-then-ne.ensures.is is))
+returns-then-ne-clause-failed g c is = let shown = g.D.Device.shown in let m = c.publish-outcome.new.twin in
+    subst (λ (r : ℕ × List ℕ × Locked g.row.D.Denot). EndsFailed shown (g.O.Object.STORES * r.0) r.1 r.2.twin m) (λ j. (left_refused g c j, main_refused g c j, c.self.view_is j)) (c.publish-outcome.ensures.failed (ended _ _ _ _ _ c.of-then-ne.ensures.is is))
 
 pub returns-then-ne-clause-doubt : goal.returns-then-ne-clause-doubt
-returns-then-ne-clause-doubt g c is = c.publish-outcome.ensures.doubt (ended _ _ _ _ _ c.of-then-ne.ensures.is is)
+returns-then-ne-clause-doubt g c is = let shown = g.D.Device.shown in let m = c.publish-outcome.new.twin in
+    subst (λ (r : List ℕ × Locked g.row.D.Denot). EndsInDoubt shown r.0 r.1.twin m) (λ j. (main_refused g c j, c.self.view_is j)) (c.publish-outcome.ensures.doubt (ended _ _ _ _ _ c.of-then-ne.ensures.is is))
 
 pub returns-then-ne-clause-most : goal.returns-then-ne-clause-most
 returns-then-ne-clause-most g c = let shown = g.D.Device.shown in let a = c.self.inside.twin in let m = c.publish-outcome.new.twin.device in let stores : ℕ = g.O.Object.STORES in let words : ℕ = stores * weights_found (weight_on_words g.O.Object.machine) (plan_of c.answer_all-then-ne.new.seat.token.me.0) in
@@ -660,31 +685,9 @@ pub returns-then-ne-clause-whole : goal.returns-then-ne-clause-whole
 returns-then-ne-clause-whole g c = let shown = g.D.Device.shown in let a = c.self.inside.twin in let m = c.publish-outcome.new.twin.device in
     subst (λ (r : Locked g.row.D.Denot). SpendsAtMost shown (batch_writes r.twin.phase r.twin.order (region_len r.twin.order)) (batch_syncs r.twin.phase) r.twin.device m) c.self.view_is (batch_most shown a.phase a.order (region_len a.order) a.device m c.publish-outcome.ensures.whole)
 
-pub returns-then-ne-clause-failed_most : goal.returns-then-ne-clause-failed_most
-returns-then-ne-clause-failed_most g c is = let shown = g.D.Device.shown in let a = c.self.inside.twin in let m = c.publish-outcome.new.twin.device in let stores : ℕ = g.O.Object.STORES in let words : ℕ = stores * weights_found (weight_on_words g.O.Object.machine) (plan_of c.answer_all-then-ne.new.seat.token.me.0) in
-    let failed : c.publish-outcome.result ≡ outcome.Failed = ended _ _ _ _ _ c.of-then-ne.ensures.is is in
-    let first : SpendsAtMost shown (writes_before_commit a.phase a.order words) (syncs_before_commit a.phase) a.device m = subst (λ (n : ℕ). SpendsAtMost shown (writes_before_commit a.phase a.order (stores * n)) (syncs_before_commit a.phase) a.device m) (left_refused g c) (c.publish-outcome.ensures.failed_most failed) in
-    subst (λ (r : Locked g.row.D.Denot). SpendsAtMost shown (writes_before_commit r.twin.phase r.twin.order words) (syncs_before_commit r.twin.phase) r.twin.device m) c.self.view_is first
-
-pub returns-then-ne-clause-failed_whole : goal.returns-then-ne-clause-failed_whole
-returns-then-ne-clause-failed_whole g c is = let shown = g.D.Device.shown in let m = c.publish-outcome.new.twin.device in
-    subst (λ (r : Locked g.row.D.Denot). SpendsAtMost shown (writes_before_commit r.twin.phase r.twin.order (region_len r.twin.order)) (syncs_before_commit r.twin.phase) r.twin.device m) c.self.view_is (c.publish-outcome.ensures.failed_whole (ended _ _ _ _ _ c.of-then-ne.ensures.is is))
-
-pub returns-clause-repaired : goal.returns-clause-repaired
-returns-clause-repaired g c any_done = c.settle.ensures.phase
-
 -- what a pass does not say that found no call
-pub returns-then-is_empty-clause-certain : goal.returns-then-is_empty-clause-certain
-returns-then-is_empty-clause-certain g c any_done = absurd (none_done _ _ _ c.of.ensures.is any_done)
-
-pub returns-then-is_empty-clause-repaired : goal.returns-then-is_empty-clause-repaired
-returns-then-is_empty-clause-repaired g c any_done = absurd (none_done _ _ _ c.of.ensures.is any_done)
-
-pub returns-then-is_empty-clause-undone : goal.returns-then-is_empty-clause-undone
-returns-then-is_empty-clause-undone g c any_done = absurd (none_done _ _ _ c.of.ensures.is any_done)
-
-pub returns-then-is_empty-clause-spends : goal.returns-then-is_empty-clause-spends
-returns-then-is_empty-clause-spends g c any_done = absurd (none_done _ _ _ c.of.ensures.is any_done)
+pub returns-then-is_empty-clause-done : goal.returns-then-is_empty-clause-done
+returns-then-is_empty-clause-done g c any_done = absurd (none_done _ _ _ c.of.ensures.is any_done)
 
 pub returns-then-is_empty-clause-spent : goal.returns-then-is_empty-clause-spent
 returns-then-is_empty-clause-spent g c e = absurd (published_not_nothing (sym (ended _ _ _ _ _ c.of.ensures.is e)))
@@ -692,33 +695,12 @@ returns-then-is_empty-clause-spent g c e = absurd (published_not_nothing (sym (e
 pub returns-then-is_empty-clause-failed : goal.returns-then-is_empty-clause-failed
 returns-then-is_empty-clause-failed g c e = absurd (failed_not_nothing (sym (ended _ _ _ _ _ c.of.ensures.is e)))
 
-pub returns-then-is_empty-clause-failed_cause : goal.returns-then-is_empty-clause-failed_cause
-returns-then-is_empty-clause-failed_cause g c e = absurd (failed_not_nothing (sym (ended _ _ _ _ _ c.of.ensures.is e)))
-
-pub returns-then-is_empty-clause-failed_most : goal.returns-then-is_empty-clause-failed_most
-returns-then-is_empty-clause-failed_most g c e = absurd (failed_not_nothing (sym (ended _ _ _ _ _ c.of.ensures.is e)))
-
-pub returns-then-is_empty-clause-failed_whole : goal.returns-then-is_empty-clause-failed_whole
-returns-then-is_empty-clause-failed_whole g c e = absurd (failed_not_nothing (sym (ended _ _ _ _ _ c.of.ensures.is e)))
-
 pub returns-then-is_empty-clause-doubt : goal.returns-then-is_empty-clause-doubt
 returns-then-is_empty-clause-doubt g c e = absurd (doubt_not_nothing (sym (ended _ _ _ _ _ c.of.ensures.is e)))
 
-pub returns-then-is_empty-clause-doubt_cause : goal.returns-then-is_empty-clause-doubt_cause
-returns-then-is_empty-clause-doubt_cause g c e = absurd (doubt_not_nothing (sym (ended _ _ _ _ _ c.of.ensures.is e)))
-
 -- what one does not say that found the count at its limit
-pub returns-then-place-eq-LAST_COUNT-clause-certain : goal.returns-then-place-eq-LAST_COUNT-clause-certain
-returns-then-place-eq-LAST_COUNT-clause-certain g c any_done = absurd (none_done _ _ _ c.of-then-place-eq-LAST_COUNT.ensures.is any_done)
-
-pub returns-then-place-eq-LAST_COUNT-clause-repaired : goal.returns-then-place-eq-LAST_COUNT-clause-repaired
-returns-then-place-eq-LAST_COUNT-clause-repaired g c any_done = absurd (none_done _ _ _ c.of-then-place-eq-LAST_COUNT.ensures.is any_done)
-
-pub returns-then-place-eq-LAST_COUNT-clause-undone : goal.returns-then-place-eq-LAST_COUNT-clause-undone
-returns-then-place-eq-LAST_COUNT-clause-undone g c any_done = absurd (none_done _ _ _ c.of-then-place-eq-LAST_COUNT.ensures.is any_done)
-
-pub returns-then-place-eq-LAST_COUNT-clause-spends : goal.returns-then-place-eq-LAST_COUNT-clause-spends
-returns-then-place-eq-LAST_COUNT-clause-spends g c any_done = absurd (none_done _ _ _ c.of-then-place-eq-LAST_COUNT.ensures.is any_done)
+pub returns-then-place-eq-LAST_COUNT-clause-done : goal.returns-then-place-eq-LAST_COUNT-clause-done
+returns-then-place-eq-LAST_COUNT-clause-done g c any_done = absurd (none_done _ _ _ c.of-then-place-eq-LAST_COUNT.ensures.is any_done)
 
 pub returns-then-place-eq-LAST_COUNT-clause-untouched : goal.returns-then-place-eq-LAST_COUNT-clause-untouched
 returns-then-place-eq-LAST_COUNT-clause-untouched g c e = absurd (published_not_nothing (ended _ _ _ _ _ c.of-then-place-eq-LAST_COUNT.ensures.is e))
@@ -726,33 +708,12 @@ returns-then-place-eq-LAST_COUNT-clause-untouched g c e = absurd (published_not_
 pub returns-then-place-eq-LAST_COUNT-clause-failed : goal.returns-then-place-eq-LAST_COUNT-clause-failed
 returns-then-place-eq-LAST_COUNT-clause-failed g c e = absurd (published_not_failed (ended _ _ _ _ _ c.of-then-place-eq-LAST_COUNT.ensures.is e))
 
-pub returns-then-place-eq-LAST_COUNT-clause-failed_cause : goal.returns-then-place-eq-LAST_COUNT-clause-failed_cause
-returns-then-place-eq-LAST_COUNT-clause-failed_cause g c e = absurd (published_not_failed (ended _ _ _ _ _ c.of-then-place-eq-LAST_COUNT.ensures.is e))
-
-pub returns-then-place-eq-LAST_COUNT-clause-failed_most : goal.returns-then-place-eq-LAST_COUNT-clause-failed_most
-returns-then-place-eq-LAST_COUNT-clause-failed_most g c e = absurd (published_not_failed (ended _ _ _ _ _ c.of-then-place-eq-LAST_COUNT.ensures.is e))
-
-pub returns-then-place-eq-LAST_COUNT-clause-failed_whole : goal.returns-then-place-eq-LAST_COUNT-clause-failed_whole
-returns-then-place-eq-LAST_COUNT-clause-failed_whole g c e = absurd (published_not_failed (ended _ _ _ _ _ c.of-then-place-eq-LAST_COUNT.ensures.is e))
-
 pub returns-then-place-eq-LAST_COUNT-clause-doubt : goal.returns-then-place-eq-LAST_COUNT-clause-doubt
 returns-then-place-eq-LAST_COUNT-clause-doubt g c e = absurd (published_not_doubt (ended _ _ _ _ _ c.of-then-place-eq-LAST_COUNT.ensures.is e))
 
-pub returns-then-place-eq-LAST_COUNT-clause-doubt_cause : goal.returns-then-place-eq-LAST_COUNT-clause-doubt_cause
-returns-then-place-eq-LAST_COUNT-clause-doubt_cause g c e = absurd (published_not_doubt (ended _ _ _ _ _ c.of-then-place-eq-LAST_COUNT.ensures.is e))
-
 -- what one does not say that published nothing
-pub returns-then-ne-clause-certain : goal.returns-then-ne-clause-certain
-returns-then-ne-clause-certain g c any_done = absurd (none_done _ _ _ c.of-then-ne.ensures.is any_done)
-
-pub returns-then-ne-clause-repaired : goal.returns-then-ne-clause-repaired
-returns-then-ne-clause-repaired g c any_done = absurd (none_done _ _ _ c.of-then-ne.ensures.is any_done)
-
-pub returns-then-ne-clause-undone : goal.returns-then-ne-clause-undone
-returns-then-ne-clause-undone g c any_done = absurd (none_done _ _ _ c.of-then-ne.ensures.is any_done)
-
-pub returns-then-ne-clause-spends : goal.returns-then-ne-clause-spends
-returns-then-ne-clause-spends g c any_done = absurd (none_done _ _ _ c.of-then-ne.ensures.is any_done)
+pub returns-then-ne-clause-done : goal.returns-then-ne-clause-done
+returns-then-ne-clause-done g c any_done = absurd (none_done _ _ _ c.of-then-ne.ensures.is any_done)
 
 pub returns-then-ne-clause-spent : goal.returns-then-ne-clause-spent
 returns-then-ne-clause-spent g c e = absurd (unpublished g c (ended _ _ _ _ _ c.of-then-ne.ensures.is e))
@@ -767,17 +728,5 @@ returns-clause-untouched g c e = absurd (c.publish-outcome.ensures.some (ended _
 pub returns-clause-failed : goal.returns-clause-failed
 returns-clause-failed g c e = absurd (published_not_failed (sym (is_published g c) ∙ ended _ _ _ _ _ c.of-2.ensures.is e))
 
-pub returns-clause-failed_cause : goal.returns-clause-failed_cause
-returns-clause-failed_cause g c e = absurd (published_not_failed (sym (is_published g c) ∙ ended _ _ _ _ _ c.of-2.ensures.is e))
-
-pub returns-clause-failed_most : goal.returns-clause-failed_most
-returns-clause-failed_most g c e = absurd (published_not_failed (sym (is_published g c) ∙ ended _ _ _ _ _ c.of-2.ensures.is e))
-
-pub returns-clause-failed_whole : goal.returns-clause-failed_whole
-returns-clause-failed_whole g c e = absurd (published_not_failed (sym (is_published g c) ∙ ended _ _ _ _ _ c.of-2.ensures.is e))
-
 pub returns-clause-doubt : goal.returns-clause-doubt
 returns-clause-doubt g c e = absurd (published_not_doubt (sym (is_published g c) ∙ ended _ _ _ _ _ c.of-2.ensures.is e))
-
-pub returns-clause-doubt_cause : goal.returns-clause-doubt_cause
-returns-clause-doubt_cause g c e = absurd (published_not_doubt (sym (is_published g c) ∙ ended _ _ _ _ _ c.of-2.ensures.is e))

@@ -9,7 +9,7 @@ use Rattle.rom_store.specs.Closing.{kept_in}
 use Rattle.rom_store.specs.Indexed.{Indexed}
 use Rattle.rom_follow.specs.Alone.{tried_by}
 use Rattle.rom_follow.specs.Closing.{ArePassesOf}
-use Rattle.rom_follow.specs.Followed.{HasDone}
+use Rattle.rom_follow.specs.Followed.{HasDoneUpdates}
 use Rattle.rom_follow.proofs.Ended.{Agrees, agree, now_prefix, session_prefix}
 use Rattle.rom_follow.proofs.follower.Follower.close.Given.{Over}
 use Rattle.rom_follow.proofs.follower.Follower.close.Goals as goal
@@ -29,8 +29,8 @@ agreeing g c =
     let only = c.self.invariant.only in
     let closed : IsClosed trio story 1 = subst (IsClosed trio story) (ap length only.1) (c.close.ensures.closed story c.close.ensures.story.1) in
     let all_kept : Indexed (λ _ v. IsKept trio story v) (map kept_in (only.0 ∷ [])) = subst (λ (ps : List Caller). Indexed (λ _ v. IsKept trio story v) (map kept_in ps)) only.1 (c.close.ensures.kept story c.close.ensures.story.1) in
-    let done : HasDone story.order story.opening story.opening_count c.args.self =
-    subst (λ (n : ℕ). HasDone n story.opening story.opening_count c.args.self) (sym (order_is g c)) (subst (HasDone g.N.Label.base.order story.opening story.opening_count) c.self.view_is (c.self.invariant.done story.opening story.opening_count (opened g c))) in
+    let done : HasDoneUpdates story.order story.opening story.opening_count c.args.self =
+    subst (λ (n : ℕ). HasDoneUpdates n story.opening story.opening_count c.args.self) (sym (order_is g c)) (subst (HasDoneUpdates g.N.Label.base.order story.opening story.opening_count) c.self.view_is (c.self.invariant.done story.opening story.opening_count (opened g c))) in
     agree story only.0 c.args.self closed (all_kept.at 0 (kept_in only.0) refl) only.2.numbered.number (sym (ap (λ f. f.tried) c.self.view_is) ∙ ap tried_by only.1) done
 
 pub returns-clause-history : goal.returns-clause-history
@@ -58,4 +58,4 @@ returns-clause-follows_since g c told s0 n0 history first follows =
     }
 
 pub returns-clause-done : goal.returns-clause-done
-returns-clause-done g c s k held = subst (HasDone g.N.Label.base.order s k) c.self.view_is (c.self.invariant.done s k held)
+returns-clause-done g c s k held = subst (HasDoneUpdates g.N.Label.base.order s k) c.self.view_is (c.self.invariant.done s k held)

@@ -3,8 +3,8 @@ use Rattle.std.proofs.Math.ListN.{set}
 use Rattle.std.proofs.lemmas.List.{take_all, take_more, take_more_set}
 use Rattle.std.specs.Global.{Vec}
 use Rattle.rom_follow.specs.Following.{MayArrive}
-use Rattle.rom_follow.specs.Taking.{AreTaken, Takes}
-use Rattle.rom_follow.specs.declared.taken.Taken.{Taken}
+use Rattle.rom_follow.specs.Taking.{AreTaken, TakesMessage}
+use Rattle.rom_follow.specs.declared.taken.MessageTaken.{MessageTaken}
 use Rattle.rom_follow.proofs.Keeping.{answers_more, taken_more}
 use Rattle.rom_follow.proofs.follower.Follower.take_all.Goals as goal
 
@@ -16,7 +16,7 @@ loop-i-preserved g c =
     let message = c.index-messages-i in
     let is : c.deref.result.now ≡ message.result.items = c.deref.ensures.value in
     let within : c.loop-i.i < length c.loop-i.answers = omega (arith, c.loop-i-test.true, c.loop-i.auto.answers, c.requires.as_many) in
-    let takes : Takes message.result.items c.loop-i.self c.take.result c.take.new.self = subst (λ (m : List ℕ). Takes m c.loop-i.self c.take.result c.take.new.self) is record {
+    let takes : TakesMessage message.result.items c.loop-i.self c.take.result c.take.new.self = subst (λ (m : List ℕ). TakesMessage m c.loop-i.self c.take.result c.take.new.self) is record {
       parted = c.take.ensures.parted;
       no_frame = c.take.ensures.no_frame;
       frame = c.take.ensures.frame;
@@ -24,7 +24,7 @@ loop-i-preserved g c =
     let more : take (c.loop-i.i + 1) c.args.messages.now ≡ take c.loop-i.i c.args.messages.now ++ message.result ∷ [] =
     take_more c.args.messages.now c.loop-i.i message.result c.loop-i-test.true ∙ ap (λ m. take c.loop-i.i c.args.messages.now ++ m ∷ []) (sym message.is) in (
       subst (λ (ms : List (Vec ℕ)). AreTaken ms c.args.self.now (take (c.loop-i.i + 1) (set c.loop-i.answers c.loop-i.i c.take.result)) c.take.new.self) (sym more)
-          (subst (λ (ts : List Taken). AreTaken (take c.loop-i.i c.args.messages.now ++ message.result ∷ []) c.args.self.now ts c.take.new.self) (sym (take_more_set c.loop-i.answers c.loop-i.i c.take.result within)) (taken_more (take c.loop-i.i c.args.messages.now) c.args.self.now c.loop-i.self c.take.new.self (take c.loop-i.i c.loop-i.answers) message.result c.take.result c.loop-i.invariant.0 takes)),
+          (subst (λ (ts : List MessageTaken). AreTaken (take c.loop-i.i c.args.messages.now ++ message.result ∷ []) c.args.self.now ts c.take.new.self) (sym (take_more_set c.loop-i.answers c.loop-i.i c.take.result within)) (taken_more (take c.loop-i.i c.args.messages.now) c.args.self.now c.loop-i.self c.take.new.self (take c.loop-i.i c.loop-i.answers) message.result c.take.result c.loop-i.invariant.0 takes)),
       λ s0 n0 history first legal has follows arrive.
           let so_far = c.loop-i.invariant.1 s0 n0 history first legal has follows arrive in
           let may : MayArrive n0 history c.deref.result.now =
@@ -43,4 +43,4 @@ returns-clause-taken g c =
     let messages : take c.loop-i.i c.args.messages.now ≡ c.args.messages.now = take_all c.loop-i.i c.args.messages.now (omega (arith, c.loop-i-test.false)) in
     let answers : take c.loop-i.i c.loop-i.answers ≡ c.loop-i.answers = take_all c.loop-i.i c.loop-i.answers (omega (arith, c.loop-i-test.false, c.loop-i.auto.answers, c.requires.as_many)) in
     subst (λ (ms : List (Vec ℕ)). AreTaken ms c.args.self.now c.loop-i.answers c.loop-i.self) messages
-    (subst (λ (ts : List Taken). AreTaken (take c.loop-i.i c.args.messages.now) c.args.self.now ts c.loop-i.self) answers c.loop-i.invariant.0)
+    (subst (λ (ts : List MessageTaken). AreTaken (take c.loop-i.i c.args.messages.now) c.args.self.now ts c.loop-i.self) answers c.loop-i.invariant.0)

@@ -1,7 +1,7 @@
 use Rattle.std.proofs.Common.{◌≤◌, ap, ◌∙◌, subst, arith}
 use Rattle.rom_model.specs.History.{LAST_COUNT}
 use Rattle.rom_follow.specs.Alone.{followed}
-use Rattle.rom_follow.specs.Followed.{HasDone}
+use Rattle.rom_follow.specs.Followed.{HasDoneUpdates}
 use Rattle.rom_follow.proofs.Taking.{IsTaking, few_done, in_list, takes_done, takes_follower, takes_next, takes_told}
 use Rattle.rom_follow.proofs.follower.Follower.take_next.Given.{Over}
 use Rattle.rom_follow.proofs.follower.Follower.take_next.Goals as goal
@@ -28,7 +28,7 @@ taking g c =
         tried = c.update_alone-told.ensures.tried;
         is_told = c.update_alone-told.ensures.told;
         outcome = c.update_alone-told.ensures.outcome;
-        done = λ s k held. subst (HasDone g.N.Label.base.order s k) (λ i. followed c.self.inside.count (own.0 i) (agrees i)) (c.self.invariant.done s k held);
+        done = λ s k held. subst (HasDoneUpdates g.N.Label.base.order s k) (λ i. followed c.self.inside.count (own.0 i) (agrees i)) (c.self.invariant.done s k held);
       };
       answer = c.of-taken.ensures.answer;
       done_is = c.done.ensures;

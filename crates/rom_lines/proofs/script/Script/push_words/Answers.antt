@@ -1,6 +1,6 @@
 use Rattle.std.proofs.Common.{◌≡◌, ◌∙◌, length, ◌≤◌, arith}
 use Rattle.std.proofs.lemmas.Result.{MatchResult-from_err}
-use Rattle.rom_lines.specs.Steps.{CALL_WORDS}
+use Rattle.rom_model.specs.declared.words.TheConstants.{CALL_WORDS}
 use Rattle.rom_lines.proofs.Steps.{steps_stay, own_words, steps_behind}
 use Rattle.rom_lines.proofs.script.Script.push_words.Goals as goal
 
@@ -17,7 +17,7 @@ invariant_of-self-2 g c =
     let few : length c.args.words.now ≤ CALL_WORDS = omega (arith, c.len.ensures.within, c.len.ensures.many) in
     let e1 : c.len.result ≡ length c.args.words.now = c.len.ensures.many in
     let e2 : c.len-from.result ≡ length c.self.inside.words.items = c.len-from.ensures ∙ c.self.inside.words.ok.0 in
-    rw (c.in_ok-extend_from_slice.ensures.items, c.in_ok-push.ensures.items, c.as_slice.ensures, e1, e2)
+    rw (c.in_ok-extend_from_slice.ensures.items, c.in_ok-push.ensures.items, c.as_slice.ensures.words, e1, e2)
     (own_words wc c.self.inside.words.items c.args.words.now c.self.inside.cells.items c.self.invariant few c.requires.call)
 
 pub returns-clause-added : goal.returns-clause-added
@@ -25,5 +25,5 @@ returns-clause-added g c call e =
     let wc = g.O.Object.machine.words_call in
     let e1 : c.len.result ≡ length c.args.words.now = c.len.ensures.many in
     let e2 : c.len-from.result ≡ length c.self.inside.words.items = c.len-from.ensures ∙ c.self.inside.words.ok.0 in
-    rw (← c.self.view_is, c.in_ok-extend_from_slice.ensures.items, c.in_ok-push.ensures.items, c.as_slice.ensures, e1, e2)
+    rw (← c.self.view_is, c.in_ok-extend_from_slice.ensures.items, c.in_ok-push.ensures.items, c.as_slice.ensures.words, e1, e2)
     (steps_behind wc c.self.inside.words.items c.args.words.now c.self.inside.cells.items call c.self.invariant.0 e)

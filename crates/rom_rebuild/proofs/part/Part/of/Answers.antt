@@ -1,5 +1,5 @@
 use Rattle.std.proofs.Common.{◌-◌, ◌*◌, arith}
-use Rattle.rom_elements.specs.Elements.{elements_in}
+use Rattle.rom_rebuild.specs.Elements.{elements_in}
 use Rattle.rom_rebuild.specs.Script.{PART}
 use Rattle.rom_rebuild.proofs.Spans.{between_part}
 use Rattle.rom_rebuild.proofs.part.Part.of.Goals as goal

@@ -1,7 +1,7 @@
 use Rattle.std.proofs.Common.{◌≡◌, ◌⊎◌, ℕ, Some, refl, sym, subst, inl, inr, arith}
-use Rattle.rom_follow.specs.declared.taken.Taken.{Taken}
-use Rattle.rom_follow.specs.declared.taken.Taken.TheVariants as taken
-use Rattle.rom_replica.specs.Tallied.{Adds}
+use Rattle.rom_follow.specs.declared.taken.MessageTaken.{MessageTaken}
+use Rattle.rom_follow.specs.declared.taken.MessageTaken.TheVariants as taken
+use Rattle.rom_replica.specs.Tallied.{AddsToTally}
 use Rattle.rom_replica.specs.declared.stop.Stop.TheVariants.{DeviceFailed}
 use Rattle.rom_replica.specs.declared.tally.Tally.{Tally}
 use Rattle.rom_replica.proofs.tally.Tally.add.Goals as goal
@@ -16,9 +16,9 @@ returns-in-Diverged c = record { adds = rw c.in-Diverged.is (refl, refl) }
 pub returns-in-Spent : goal.returns-in-Spent
 returns-in-Spent c = record { adds = rw c.in-Spent.is (refl, refl) }
 
-device_failed : (answer : Taken) (len : ℕ) (tally : Tally) → (answer ≡ taken.Failed) ⊎ (answer ≡ taken.Doubt) → Adds answer len tally tally (Some DeviceFailed)
-device_failed answer len tally (inl is) = subst (λ (z : Taken). Adds z len tally tally (Some DeviceFailed)) (sym is) (refl, refl)
-device_failed answer len tally (inr is) = subst (λ (z : Taken). Adds z len tally tally (Some DeviceFailed)) (sym is) (refl, refl)
+device_failed : (answer : MessageTaken) (len : ℕ) (tally : Tally) → (answer ≡ taken.Failed) ⊎ (answer ≡ taken.Doubt) → AddsToTally answer len tally tally (Some DeviceFailed)
+device_failed answer len tally (inl is) = subst (λ (z : MessageTaken). AddsToTally z len tally tally (Some DeviceFailed)) (sym is) (refl, refl)
+device_failed answer len tally (inr is) = subst (λ (z : MessageTaken). AddsToTally z len tally tally (Some DeviceFailed)) (sym is) (refl, refl)
 
 pub returns-in-Failed : goal.returns-in-Failed
 returns-in-Failed c = record { adds = device_failed c.args.taken c.args.len c.args.self.now c.in-Failed.is }

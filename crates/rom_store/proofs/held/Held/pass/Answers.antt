@@ -2,7 +2,7 @@ use Rattle.std.proofs.Common.{sym, subst}
 use Rattle.atomic_table.specs.Seated.{TableId}
 use Rattle.rom_model.specs.Machine.{on_words}
 use Rattle.rom_rule.specs.declared.views.Base.{Base}
-use Rattle.rom_store.specs.Held.{IsHeld}
+use Rattle.rom_store.specs.Held.{IsBehindLock}
 use Rattle.rom_store.proofs.Passed.{held_on}
 use Rattle.rom_store.proofs.held.Held.pass.Goals as goal
 
@@ -15,7 +15,8 @@ invariant_of-self g c =
     let shown = g.D.Device.shown in
     let step = on_words g.O.Object.machine in
     let start = g.N.Label.start in
-    let here = subst (λ (z : TableId × Base). IsHeld shown g.O.Object.Contents step z.0 z.1 start g.N.Label.since old) (λ j. (sym h.table_is j, sym h.base_is j)) h in
-    subst (λ (z : TableId × Base). IsHeld shown g.O.Object.Contents step z.0 z.1 start g.N.Label.since new) (λ j. (h.table_is j, h.base_is j))
+    let here = subst (λ (z : TableId × Base). IsBehindLock shown g.O.Object.Contents step z.0 z.1 start g.N.Label.since old) (λ j. (sym h.table_is j, sym h.base_is j)) h in
+    subst (λ (z : TableId × Base). IsBehindLock shown g.O.Object.Contents step z.0 z.1 start g.N.Label.since new) (λ j. (h.table_is j, h.base_is j))
     (held_on g.O.Object.Contents step shown start g.N.Label.since old new c.args.shared.now.layout.callers c.pass.result
-    here e.same e.kept e.passed.0 e.passed.1 e.certain e.spent e.untouched e.repaired e.failed e.now e.device e.began e.undone e.whole (λ f. (e.failed_cause f, e.failed_whole f)) e.doubt_cause)
+    here e.same e.kept e.passed.is e.passed.since (λ some. let by = e.done some in (by.mid, by.soon, by.certain)) e.spent e.untouched (λ some. (e.done some).repaired) (λ f. (e.failed f).phase) e.passed.now e.device e.began (λ some. (e.done some).undone) e.whole
+    (λ f. let by = e.failed f in (by.cause, by.whole)) (λ d. (e.doubt d).cause))

@@ -14,7 +14,7 @@ use Rattle.rom_store.proofs.store.Store.update.Goals as goal
 
 -- the words that were posted are those of the call
 words_are : (g : Over) (c : goal.After-updated_by g) → c.as_slice.result.now ≡ g.O.Object.machine.call_words c.args.call.now
-words_are g c = c.as_slice.ensures ∙ c.put_call_words.ensures.words
+words_are g c = c.as_slice.ensures.words ∙ c.put_call_words.ensures.words
 
 pub returns-clause-unposted : goal.returns-clause-unposted
 returns-clause-unposted g c = λ many. let none = c.update_words-became.ensures.unposted many in

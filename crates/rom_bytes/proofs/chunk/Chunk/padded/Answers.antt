@@ -1,6 +1,0 @@
-use Rattle.std.proofs.Common.{sym, ◌∙◌}
-use Rattle.rom_bytes.proofs.Padding.{cells_written}
-use Rattle.rom_bytes.proofs.chunk.Chunk.padded.Goals as goal
-
-pub returns : goal.returns
-returns c = c.write_u64_into.ensures ∙ cells_written c.self.inside.len c.self.inside.words c.args.self.now c.self.invariant (sym c.self.view_is)

@@ -1,2 +1,0 @@
--- Lemmas on lines that are printed.
-pub mod Showing

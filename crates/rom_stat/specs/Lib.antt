@@ -1,2 +1,0 @@
--- What is printed of the sizes of a heap.
-pub mod Stat

@@ -1,6 +1,0 @@
-use Rattle.rom_tree.specs.Nodes.{level_at}
-use Rattle.rom_tree.proofs.find.+find_from.Given as goal
-
--- the height of the tree
-abbrev pub decreases-find_from : goal.decreases-find_from
-decreases-find_from g l = level_at (g.M.Look.shown.image l.space.now) l.top

@@ -1,2 +1,0 @@
--- Lemmas on what is seen.
-pub mod Counted

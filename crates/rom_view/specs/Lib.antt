@@ -1,2 +1,0 @@
--- What is seen of a heap.
-pub mod View
