@@ -12,7 +12,9 @@
 #![tactic(auto)]
 
 mod link;
+mod node;
 mod set;
 mod walk;
 
+pub use node::{SET_LINK, SET_ZEROS};
 pub use set::{Inserted, set_has, set_insert, set_len, set_remove};

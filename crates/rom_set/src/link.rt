@@ -4,6 +4,7 @@ ghost use Rattle.rom_model.specs.Space.{Costs, HasRoom, IsSparing};
 ghost use Rattle.rom_model.specs.Blocks.{region_len};
 ghost use Rattle.rom_set.specs.Link.{MayLink, IsLinked, MayUnlink, IsUnlinked};
 
+use crate::node::SET_LINK;
 use crate::walk::Place;
 use rom_block::fill_node;
 use rom_model::{SET_LEN, Space};
@@ -36,7 +37,7 @@ pub fn unlink_node<M: Space>(space: &mut M, order: u32, place: Place)
     ensures costs { Costs M.shown 2 2 space.old space.new }
     ensures sparing { IsSparing M.shown space.old space.new }
 {
-    let next = space.load(place.node + 1);
+    let next = space.load(place.node + SET_LINK);
     space.store(place.link, next);
     let len = space.load(SET_LEN);
     space.store(SET_LEN, len - 1);

@@ -1,5 +1,4 @@
-//! The walk along the set's chain. A node is a block of four words, which are a number, where the
-//! next node begins, 0 and 0, and the numbers rise.
+//! The walk along the set's chain, whose numbers rise.
 ghost use Rattle.std.specs.Prelude.{◌≡◌, ℕ, ◌+◌, ◌*◌, ◌^◌, ◌≤◌, List, length};
 ghost use Rattle.std.specs.Ordering.{nat_cmp};
 ghost use Rattle.std.specs.FinSet as set;
@@ -10,6 +9,7 @@ ghost use Rattle.rom_model.specs.Region.{IsSet};
 ghost use Rattle.rom_set.specs.Nodes.{HoldsSet};
 ghost use Rattle.rom_set.specs.Walk.{IsPlace};
 
+use crate::node::SET_LINK;
 use rom_model::{Look, SET_HEAD};
 
 /// The place of a number in the chain.
@@ -47,7 +47,7 @@ pub fn find<M: Look>(space: &mut M, order: u32, key: u64) -> Place
                 found: there == key,
             };
         }
-        link = node + 1;
+        link = node + SET_LINK;
         node = space.load(link);
     }
     Place {
