@@ -1,5 +1,4 @@
 //! The two ends of the queue: its head, its tail and its length among the root words, and its nodes.
-//! A node is a block of four words, which are a value, where the next node begins, 0 and 0.
 ghost use Rattle.std.specs.Prelude.{◌≡◌, ◌≢◌, ℕ, ◌+◌, ◌^◌, ◌<◌, ◌≤◌, List, length, slice_index};
 ghost use Rattle.rom_model.specs.Space.{Costs, Looks, HasRoom, IsSparing, ChangesOnly};
 ghost use Rattle.rom_model.specs.Blocks.{region_len};
@@ -7,6 +6,7 @@ ghost use Rattle.rom_model.specs.Region.{IsQueue};
 ghost use Rattle.rom_model.specs.Links.{link_after};
 ghost use Rattle.rom_queue.specs.Ends.{IsLinked, MayTake, IsAppended, HasHead, Begins, IsUnlinked};
 
+use crate::node::QUEUE_LINK;
 use rom_block::fill_node;
 use rom_model::{Look, QUEUE_HEAD, QUEUE_LEN, QUEUE_TAIL, Space};
 
@@ -16,14 +16,14 @@ fn last_link<M: Look>(space: &mut M, order: u32) -> u64
     requires long { QUEUE_LEN < length (M.shown.image space.old) }
     requires small { slice_index (M.shown.image space.old) QUEUE_TAIL < 2 ^ 63 }
     ensures is { (blocks values : List ℕ) → IsQueue order (M.shown.image space.old) blocks values
-        → result ≡ link_after order QUEUE_HEAD 1 blocks }
+        → result ≡ link_after order QUEUE_HEAD QUEUE_LINK blocks }
     ensures looks { Looks M.shown 1 space.old space.new }
 {
     let tail = space.load(QUEUE_TAIL);
     if tail == 0 {
         return QUEUE_HEAD;
     }
-    tail + 1
+    tail + QUEUE_LINK
 }
 
 /// Links the node that begins there to the end of the queue.
@@ -90,7 +90,7 @@ pub fn unlink_first<M: Space>(space: &mut M, order: u32, at: u64)
     ensures costs { Costs M.shown 2 3 space.old space.new }
     ensures sparing { IsSparing M.shown space.old space.new }
 {
-    let next = space.load(at + 1);
+    let next = space.load(at + QUEUE_LINK);
     set_head(space, next);
     let len = space.load(QUEUE_LEN);
     space.store(QUEUE_LEN, len - 1);

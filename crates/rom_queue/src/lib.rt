@@ -10,6 +10,8 @@
 #![tactic(auto)]
 
 mod ends;
+mod node;
 mod queue;
 
+pub use node::{QUEUE_LINK, QUEUE_ZEROS};
 pub use queue::{queue_front, queue_len, queue_pop, queue_push};
