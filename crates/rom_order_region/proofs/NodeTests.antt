@@ -1,7 +1,7 @@
 -- Tests of a node, one after another.
-use Rattle.std.proofs.Common.{◌≡◌, ℕ, ◌+◌, max, List, [], ◌∷◌, sym, ◌∙◌, subst}
+use Rattle.std.proofs.Common.{◌≡◌, ℕ, ◌+◌, max, List, [], ◌∷◌, ◌++◌, sym, ◌∙◌, arith}
 use Rattle.std.specs.Prelude.{Option, Result, Ok, Err, ◌&&◌, slice_index, nat_le}
-use Rattle.rom_model.specs.Tests.{Test, test, checked, is_word}
+use Rattle.rom_model.specs.Tests.{Test, test, checked, is_word, are_zero}
 use Rattle.rom_model.specs.declared.unfit.Break.{Break}
 use Rattle.rom_model.specs.declared.unfit.Rule.TheVariants as rule
 use Rattle.rom_model.proofs.InTurn.{first_breaks, first_holds}
@@ -10,33 +10,25 @@ use Rattle.rom_order_region.specs.Nodes.{node_at}
 use Rattle.rom_order_region.specs.Inspection.{is_over, is_under, entry_tests, height_tests}
 
 module _ (w : List ℕ) (low high : Option ℕ) (at : ℕ) where
-  abbrev one : Test
-  one = is_word w (at + 5) rule.Pad 0
-
-  abbrev two : Test
-  two = is_word w (at + 6) rule.Pad 0
-
-  abbrev three : Test
-  three = is_word w (at + 7) rule.Pad 0
+  abbrev zeros : List Test
+  zeros = are_zero w (at + 5) 3 rule.Pad
 
   abbrev last : Test
   last = test at rule.Order (is_over low (slice_index w at) && is_under high (slice_index w at))
 
   module _ (n b : ℕ) (here : at ≡ node_at n b) (r : Result (Unit {0}) Break) where
-    moved : r ≡ checked (one ∷ two ∷ three ∷ last ∷ []) → r ≡ checked (entry_tests n w low high b)
-    moved is = subst (λ a. r ≡ checked (is_word w (a + 5) rule.Pad 0 ∷ is_word w (a + 6) rule.Pad 0 ∷ is_word w (a + 7) rule.Pad 0 ∷ test a rule.Order (is_over low (slice_index w a) && is_under high (slice_index w a)) ∷ [])) here is
+    moved : r ≡ checked (zeros ++ last ∷ []) → r ≡ checked (entry_tests n w low high b)
+    moved is =
+        let tests = λ (a six seven : ℕ). checked (is_word w (a + 5) rule.Pad 0 ∷ is_word w six rule.Pad 0 ∷ is_word w seven rule.Pad 0 ∷ test a rule.Order (is_over low (slice_index w a) && is_under high (slice_index w a)) ∷ []) in
+        let six : at + 5 + 1 ≡ node_at n b + 6 = omega (arith, here) in
+        let seven : at + 5 + 1 + 1 ≡ node_at n b + 7 = omega (arith, here) in
+        is ∙ (λ i. tests (here i) (six i) (seven i))
 
-    pub entry_one : (e : Break) → r ≡ Err e → checked (one ∷ []) ≡ Err e → r ≡ checked (entry_tests n w low high b)
-    entry_one e is broke = moved (is ∙ sym (first_breaks tt (one ∷ []) (two ∷ three ∷ last ∷ []) e broke))
+    pub entry_broke : (e : Break) → r ≡ Err e → checked zeros ≡ Err e → r ≡ checked (entry_tests n w low high b)
+    entry_broke e is broke = moved (is ∙ sym (first_breaks tt zeros (last ∷ []) e broke))
 
-    pub entry_two : (e : Break) → r ≡ Err e → checked (one ∷ []) ≡ Ok tt → checked (two ∷ []) ≡ Err e → r ≡ checked (entry_tests n w low high b)
-    entry_two e is first broke = moved (is ∙ sym (first_holds tt (one ∷ []) (two ∷ three ∷ last ∷ []) first ∙ first_breaks tt (two ∷ []) (three ∷ last ∷ []) e broke))
-
-    pub entry_three : (e : Break) → r ≡ Err e → checked (one ∷ []) ≡ Ok tt → checked (two ∷ []) ≡ Ok tt → checked (three ∷ []) ≡ Err e → r ≡ checked (entry_tests n w low high b)
-    entry_three e is first second broke = moved (is ∙ sym (first_holds tt (one ∷ []) (two ∷ three ∷ last ∷ []) first ∙ first_holds tt (two ∷ []) (three ∷ last ∷ []) second ∙ first_breaks tt (three ∷ []) (last ∷ []) e broke))
-
-    pub entry_last : checked (one ∷ []) ≡ Ok tt → checked (two ∷ []) ≡ Ok tt → checked (three ∷ []) ≡ Ok tt → r ≡ checked (last ∷ []) → r ≡ checked (entry_tests n w low high b)
-    entry_last first second third is = moved (is ∙ sym (first_holds tt (one ∷ []) (two ∷ three ∷ last ∷ []) first ∙ first_holds tt (two ∷ []) (three ∷ last ∷ []) second ∙ first_holds tt (three ∷ []) (last ∷ []) third))
+    pub entry_last : checked zeros ≡ Ok tt → r ≡ checked (last ∷ []) → r ≡ checked (entry_tests n w low high b)
+    entry_last holds is = moved (is ∙ sym (first_holds tt zeros (last ∷ []) holds))
 
 module _ (w : List ℕ) (at x y : ℕ) where
   abbrev tall : Test

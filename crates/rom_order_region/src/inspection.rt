@@ -14,7 +14,7 @@ ghost use Rattle.rom_order_region.specs.Marks.{AreNodeMarks, AreSomeNodeMarks, L
 
 use crate::fresh::ORDERED;
 use crate::root::{SIZE, TOP};
-use crate::tree::{HEIGHT, LEFT, RIGHT};
+use crate::tree::{HEIGHT, LEFT, RIGHT, ZEROS};
 use rom_block::{Blocks, check, check_word, check_zeros};
 use rom_model::{
     Break, COUNT, KIND, LAST_COUNT, Rule, TREE, Unfit, VERSION, blocks_at, power_of_two,
@@ -102,9 +102,7 @@ fn inspect_entry(
     ensures { (b : ℕ) → node ≡ node_at order b
         → result ≡ checked (entry_tests order region.now low high b) }
 {
-    check_word(region, node + 5, Rule::Pad, 0)?;
-    check_word(region, node + 6, Rule::Pad, 0)?;
-    check_word(region, node + 7, Rule::Pad, 0)?;
+    check_zeros(region, node + ZEROS, 3, Rule::Pad)?;
     check(
         is_between(region[node as usize], low, high),
         node,

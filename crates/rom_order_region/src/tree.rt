@@ -18,6 +18,6 @@ mod turn;
 
 pub use find::{Near, Sum, find_from, find_node, sum_between};
 pub use insert::attach;
-pub use node::{HEIGHT, LEFT, RIGHT, VALUE};
+pub use node::{HEIGHT, LEFT, RIGHT, VALUE, ZEROS};
 pub use remove::detach;
 pub use single::fill_single;

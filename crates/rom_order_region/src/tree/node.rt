@@ -24,6 +24,9 @@ pub const RIGHT: u64 = 3;
 /// Where in a node its height stands.
 pub const HEIGHT: u64 = 4;
 
+/// Where in a node its three zeros begin.
+pub const ZEROS: u64 = 5;
+
 /// A node as a walk sees it.
 #[derive(Clone, Copy)]
 pub struct Branch {

@@ -5,6 +5,7 @@ ghost use Rattle.rom_model.specs.Blocks.{IsOrder, region_len};
 ghost use Rattle.rom_order_region.specs.Tree.{Node, Leaf};
 ghost use Rattle.rom_order_region.specs.Nodes.{TurnsIntoTree, node_at};
 
+use crate::tree::node::HEIGHT;
 use rom_block::fill_node;
 use rom_model::Space;
 
@@ -21,5 +22,5 @@ pub fn fill_single<M: Space>(space: &mut M, order: u32, at: u64, key: u64, value
     ensures costs { Costs M.shown 8 8 space.old space.new }
 {
     fill_node(space, at, [key, value, 0, 0]);
-    fill_node(space, at + 4, [1, 0, 0, 0]);
+    fill_node(space, at + HEIGHT, [1, 0, 0, 0]);
 }
