@@ -13,7 +13,7 @@ use Rattle.rom_bucket.specs.Walk.{head_of}
 use Rattle.rom_bucket.specs.Link.{first_place, IsLinked, IsUnlinked}
 use Rattle.rom_bucket.specs.Buckets.{nodes_of, AreBuckets, Between, There, keyed}
 use Rattle.rom_bucket.specs.declared.walk.Place.{Place}
-use Rattle.rom_bucket.specs.declared.link.Node.{Node}
+use Rattle.rom_bucket.specs.declared.node.Node.{Node}
 use Rattle.rom_bucket.proofs.Heads.{head_before}
 use Rattle.rom_bucket.proofs.Keys.{entries_same, buckets_same, around, again, whole as nodes_whole}
 use Rattle.rom_bucket.proofs.Places.{before_node, link_kinds}

@@ -9,6 +9,7 @@ ghost use Rattle.rom_blob_region.specs.Region.{BlobContents};
 use crate::body::give_body;
 use crate::call::BlobReply;
 use crate::fetch::KEYS;
+use crate::node::{BODY, LEN};
 use rom_block::Blocks;
 use rom_bucket::{find, unlink_node};
 use rom_model::Space;
@@ -28,8 +29,8 @@ pub fn cut_blob<M: Space>(space: &mut M, order: u32, key: u64) -> BlobReply
     if place.node == 0 {
         return BlobReply::NoPrior;
     }
-    let len = space.load(place.node + 1);
-    let body = space.load(place.node + 3);
+    let len = space.load(place.node + LEN);
+    let body = space.load(place.node + BODY);
     unlink_node(space, KEYS, place);
     Blocks::give(space, order, place.node, 0);
     give_body(space, order, body, len);

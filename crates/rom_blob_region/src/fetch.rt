@@ -10,6 +10,7 @@ ghost use Rattle.rom_blob_region.specs.declared.call.BlobQuery.TheVariants.{Fetc
 
 use crate::bytes::Chunk;
 use crate::call::BlobAnswer;
+use crate::node::{BODY, LEN};
 use rom_bucket::find;
 use rom_model::Look;
 
@@ -31,11 +32,11 @@ pub fn fetch_blob<M: Look>(space: &mut M, order: u32, key: u64) -> BlobAnswer
     if node == 0 {
         return BlobAnswer::Missing;
     }
-    let len = space.load(node + 1);
+    let len = space.load(node + LEN);
     if len == 0 {
         return BlobAnswer::Bytes(Chunk::new());
     }
-    let at = space.load(node + 3);
+    let at = space.load(node + BODY);
     BlobAnswer::Bytes(Chunk::load(space, at, len))
 }
 

@@ -25,6 +25,7 @@ mod cut;
 mod fetch;
 mod fresh;
 mod inspect;
+mod node;
 mod set;
 mod told;
 

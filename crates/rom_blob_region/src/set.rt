@@ -14,6 +14,7 @@ use crate::body::{give_body, order_for, take_body};
 use crate::bytes::Chunk;
 use crate::call::BlobReply;
 use crate::fetch::KEYS;
+use crate::node::{BODY, LEN};
 use rom_block::Blocks;
 use rom_bucket::{Node, Place, find, link_first};
 use rom_model::{Space, store_changed};
@@ -76,8 +77,8 @@ fn fill_key<M: Space>(space: &mut M, node: u64, at: u64, bytes: &Chunk)
     ensures costs { Costs M.shown 34 34 space.old space.new }
 {
     bytes.store(space, at);
-    store_changed(space, node + 1, bytes.len());
-    store_changed(space, node + 3, at);
+    store_changed(space, node + LEN, bytes.len());
+    store_changed(space, node + BODY, at);
 }
 
 /// Gives other bytes to a key whose node is at that place. A block for them is taken before the old one
@@ -96,8 +97,8 @@ fn replace_bytes<M: Space>(space: &mut M, order: u32, place: Place, bytes: &Chun
     ensures stores { Stores M.shown 72 space.old space.new }
 {
     let len = bytes.len();
-    let was = space.load(place.node + 1);
-    let old = space.load(place.node + 3);
+    let was = space.load(place.node + LEN);
+    let old = space.load(place.node + BODY);
     // The bytes are written over in place: the device has the old image until the batch commits.
     if stays_there(was, len) {
         fill_key(space, place.node, old, bytes);

@@ -14,7 +14,7 @@ use Rattle.rom_model.proofs.Links.{chain_first, chain_moved, each_append}
 use Rattle.rom_bucket.specs.Walk.{head_of}
 use Rattle.rom_bucket.specs.Link.{first_place, IsLinked}
 use Rattle.rom_bucket.specs.Buckets.{nodes_of, with_chain, AreBuckets, Between, entries_of, keyed}
-use Rattle.rom_bucket.specs.declared.link.Node.{Node}
+use Rattle.rom_bucket.specs.declared.node.Node.{Node}
 use Rattle.rom_bucket.specs.declared.walk.Place.{Place}
 use Rattle.rom_bucket.proofs.Heads.{head_before}
 use Rattle.rom_bucket.proofs.Walking.{first_other}

@@ -4,7 +4,7 @@ use Rattle.std.specs.Prelude.{slice_index, slice_set}
 use Rattle.std.proofs.lemmas.Grind.{get_or-set_at}
 use Rattle.rom_model.specs.Space.{ChangesOnly}
 use Rattle.rom_bucket.specs.Link.{IsLinked}
-use Rattle.rom_bucket.specs.declared.link.Node.{Node}
+use Rattle.rom_bucket.specs.declared.node.Node.{Node}
 use Rattle.rom_bucket.specs.declared.walk.Place.{Place}
 
 module _ (size at : ℕ) (place : Place) (node : Node) (len : ℕ) (w f w' : List ℕ) (inside : place.link < length w) (outside : (place.link < at) ⊎ (at + 4 ≤ place.link)) (apart : place.link ≢ size) (root : size < at) (within : at + 4 ≤ length w) (filled : ChangesOnly at 4 w f)

@@ -17,7 +17,7 @@ use Rattle.rom_bucket.specs.Link.{IsLinked, IsUnlinked}
 use Rattle.rom_bucket.specs.Buckets.{nodes_of, AreBuckets, Between, There, keyed}
 use Rattle.rom_model.specs.Walks.{keys_under, keys_over, end_loads}
 use Rattle.rom_bucket.specs.Rising.{KeysRise, IsSought, last_load}
-use Rattle.rom_bucket.specs.declared.link.Node.{Node}
+use Rattle.rom_bucket.specs.declared.node.Node.{Node}
 use Rattle.rom_bucket.specs.declared.walk.Place.{Place}
 use Rattle.rom_bucket.specs.declared.rising.Sought.{Sought}
 use Rattle.rom_model.proofs.Rising.{rising_back, rising_between, rising_without, above_next, none_below, none_above}

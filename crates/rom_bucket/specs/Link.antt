@@ -3,7 +3,7 @@ use Rattle.std.specs.Prelude.{◌≡◌, ◌≢◌, ◌⊎◌, ℕ, ◌+◌, ◌
 use Rattle.rom_model.specs.Region.{bucket_of}
 use Rattle.rom_bucket.specs.Walk.{head_of}
 use Rattle.rom_bucket.specs.declared.walk.Place.{Place}
-use Rattle.rom_bucket.specs.declared.link.Node.{Node}
+use Rattle.rom_bucket.specs.declared.node.Node.{Node}
 
 -- the place before the first node of a key's bucket
 abbrev pub first_place : ℕ → ℕ → List ℕ → Place

@@ -14,9 +14,11 @@
 #![tactic(auto)]
 
 mod link;
+mod node;
 mod rising;
 mod walk;
 
-pub use link::{Node, link_at, link_first, unlink_node};
+pub use link::{link_at, link_first, unlink_node};
+pub use node::{BUCKET_LAST, BUCKET_LINK, BUCKET_SECOND, Node};
 pub use rising::{Sought, find_rising};
 pub use walk::{Place, find, head_of};

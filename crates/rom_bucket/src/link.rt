@@ -6,20 +6,10 @@ ghost use Rattle.rom_model.specs.Region.{bucket_of};
 ghost use Rattle.rom_bucket.specs.Walk.{head_of};
 ghost use Rattle.rom_bucket.specs.Link.{first_place, IsLinked, IsUnlinked};
 
+use crate::node::{BUCKET_LINK, Node};
 use crate::walk::{Place, head_of};
 use rom_block::fill_node;
 use rom_model::Space;
-
-/// What a node holds beside its link.
-#[derive(Clone, Copy)]
-pub struct Node {
-    /// The first word.
-    pub key: u64,
-    /// The second word.
-    pub second: u64,
-    /// The fourth and last word.
-    pub last: u64,
-}
 
 /// Makes the block that begins there a node, and links it into a chain at that place, before the node
 /// that the place tells. The root's word at the offset `size` counts the keys.
@@ -86,10 +76,10 @@ pub fn unlink_node<M: Space>(space: &mut M, size: u64, place: Place)
     ensures costs { Costs M.shown 2 2 space.old space.new }
     // If the link did not lead to the node behind before, no more stores are counted than words differ.
     ensures sparing { slice_index (M.shown.image space.old) place.link
-        ≢ slice_index (M.shown.image space.old) (place.node + 2) →
+        ≢ slice_index (M.shown.image space.old) (place.node + BUCKET_LINK) →
         IsSparing M.shown space.old space.new }
 {
-    let next = space.load(place.node + 2);
+    let next = space.load(place.node + BUCKET_LINK);
     space.store(place.link, next);
     let len = space.load(size);
     space.store(size, len - 1);

@@ -5,6 +5,7 @@ ghost use Rattle.rom_model.specs.Region.{bucket_of};
 ghost use Rattle.rom_bucket.specs.Walk.{HoldsBucket};
 ghost use Rattle.rom_bucket.specs.Rising.{Seeks};
 
+use crate::node::BUCKET_LINK;
 use crate::walk::{Place, head_of};
 use rom_model::Look;
 
@@ -35,7 +36,7 @@ pub fn find_rising<M: Look>(space: &mut M, order: u32, key: u64) -> Sought
                 found: there == key,
             };
         }
-        link = node + 2;
+        link = node + BUCKET_LINK;
         node = space.load(link);
     }
     Sought {

@@ -1,10 +1,10 @@
-//! The walk along a bucket's chain. A node's first word is its key, and its third is where the next node
-//! begins, or 0 at the chain's end; a bucket's keys stand in any order.
+//! The walk along a bucket's chain, whose keys stand in any order.
 ghost use Rattle.std.specs.Prelude.{◌≡◌, length};
 ghost use Rattle.rom_model.specs.Blocks.{IsOrder, region_len};
 ghost use Rattle.rom_model.specs.Region.{bucket_of};
 ghost use Rattle.rom_bucket.specs.Walk.{head_of, HoldsBucket, Finds};
 
+use crate::node::BUCKET_LINK;
 use rom_model::{Look, blocks_at, bucket};
 
 /// The place of a key in the chain of its bucket. Whoever takes the node out needs its link. Whoever reads or
@@ -41,7 +41,7 @@ pub fn find<M: Look>(space: &mut M, order: u32, key: u64) -> Place
         if there == key {
             return Place { link, node };
         }
-        link = node + 2;
+        link = node + BUCKET_LINK;
         node = space.load(link);
     }
     Place { link, node }

@@ -8,7 +8,7 @@ use Rattle.rom_model.specs.Region.{Chains, map_blocks, IsMap, IsVersion, IsRegio
 use Rattle.rom_model.proofs.Contents.{keys_differ}
 use Rattle.rom_model.proofs.Room.{times_members}
 use Rattle.rom_bucket.specs.Buckets.{AreBuckets, keyed}
-use Rattle.rom_bucket.specs.declared.link.Node.{Node}
+use Rattle.rom_bucket.specs.declared.node.Node.{Node}
 use Rattle.rom_bucket.proofs.Keys as keys
 
 -- the node of a key with its value and its stamp

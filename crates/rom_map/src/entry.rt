@@ -7,6 +7,7 @@ ghost use Rattle.rom_model.specs.Region.{Chains, IsRegion, IsWellFormed, Content
 ghost use Rattle.rom_map.specs.Map.{get_loads, with_entry};
 ghost use Rattle.rom_map.specs.Shift.{HasNode};
 
+use crate::node::{MAP_STAMP, MAP_VALUE};
 use rom_bucket::find_rising;
 use rom_model::{Look, Space};
 
@@ -35,7 +36,7 @@ pub fn find_entry<M: Look>(space: &mut M, order: u32, key: u64) -> Option<Entry>
         return None;
     }
     let node = sought.place.node;
-    let value = space.load(node + 1);
+    let value = space.load(node + MAP_VALUE);
     Some(Entry { node, value })
 }
 
@@ -61,13 +62,13 @@ pub fn replace_entry<M: Space>(space: &mut M, node: u64, value: u64, stamp: u64)
     requires within { node + 4 ≤ length (M.shown.image space.old) }
     requires small { node < 2 ^ 63 }
     requires room { HasRoom M.shown 2 space.old }
-    ensures was { result ≡ slice_index (M.shown.image space.old) (node + 1) }
+    ensures was { result ≡ slice_index (M.shown.image space.old) (node + MAP_VALUE) }
     ensures image { M.shown.image space.new
         ≡ with_entry (M.shown.image space.old) node value stamp }
     ensures costs { Costs M.shown 2 2 space.old space.new }
     ensures sparing { IsSparing M.shown space.old space.new }
 {
-    let was = replace_word(space, node + 1, value);
-    replace_word(space, node + 3, stamp);
+    let was = replace_word(space, node + MAP_VALUE, value);
+    replace_word(space, node + MAP_STAMP, stamp);
     was
 }

@@ -16,9 +16,11 @@
 
 mod entry;
 mod map;
+mod node;
 mod shift;
 mod sums;
 
 pub use map::{Put, map_del, map_get, map_len, map_put};
+pub use node::{MAP_LINK, MAP_STAMP, MAP_VALUE};
 pub use shift::{Moved, map_move};
 pub use sums::{map_fresh, map_total};

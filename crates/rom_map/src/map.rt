@@ -8,6 +8,7 @@ ghost use Rattle.rom_model.specs.Region.{Chains, IsRegion, IsWellFormed, Content
 ghost use Rattle.rom_map.specs.Map.{get_loads, with_pairs, IsPut, PutLeaves, PutCosts, IsDeleted};
 
 use crate::entry::{find_entry, replace_entry};
+use crate::node::MAP_VALUE;
 use rom_block::Blocks;
 use rom_bucket::{Node, find_rising, link_at, unlink_node};
 use rom_model::{Look, MAP_LEN, Space};
@@ -100,7 +101,7 @@ pub fn map_del<M: Space>(space: &mut M, order: u32, key: u64) -> Option<u64>
         return None;
     }
     let place = sought.place;
-    let was = space.load(place.node + 1);
+    let was = space.load(place.node + MAP_VALUE);
     unlink_node(space, MAP_LEN, place);
     Blocks::give(space, order, place.node, 0);
     Some(was)

@@ -9,6 +9,7 @@ ghost use Rattle.rom_model.specs.Region.{buckets, IsWellFormed, Contents};
 ghost use Rattle.rom_bucket.specs.Walk.{IsBucket, HoldsBucket};
 ghost use Rattle.rom_map.specs.Sums.{word_of, amount, counted_at, sum_of};
 
+use crate::node::{MAP_LINK, MAP_STAMP, MAP_VALUE};
 use rom_model::{Look, blocks_at, power_of_two};
 
 /// What a sum counts of each key.
@@ -26,8 +27,8 @@ impl Measure {
         ensures { result ≡ word_of self }
     {
         match self {
-            Measure::Value => 1,
-            Measure::Fresh(_) => 3,
+            Measure::Value => MAP_VALUE,
+            Measure::Fresh(_) => MAP_STAMP,
         }
     }
 
@@ -62,7 +63,7 @@ fn bucket_sum<M: Look>(space: &mut M, order: u32, number: u64, measure: Measure)
     while node != 0 {
         let word = space.load(node + measure.word());
         total += u128::from(measure.of(word));
-        node = space.load(node + 2);
+        node = space.load(node + MAP_LINK);
     }
     total
 }

@@ -4,6 +4,8 @@ ghost use Rattle.rom_model.specs.Blocks.{IsOrder, region_len};
 ghost use Rattle.rom_model.specs.Chains.{times, each_word};
 ghost use Rattle.rom_blob_region.specs.Walks.{IsBlobWay};
 
+use crate::node::LINK;
+
 /// Whether one of the first `count` nodes from that link on has that key. They were reached, so this goes
 /// along them again. The link is in words from the region's start.
 pub fn has_key(region: &[u64], order: u32, link: u64, count: u64, key: u64) -> bool
@@ -20,7 +22,7 @@ pub fn has_key(region: &[u64], order: u32, link: u64, count: u64, key: u64) -> b
         if region[node as usize] == key {
             return true;
         }
-        at = node + 2;
+        at = node + LINK;
     }
     false
 }

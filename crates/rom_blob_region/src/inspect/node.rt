@@ -9,6 +9,7 @@ ghost use Rattle.rom_blob_region.specs.Walks.{ReachesBlobs, AreBlobMarks, AreSom
 
 use crate::inspect::follow::follow_block;
 use crate::inspect::keys::has_key;
+use crate::node::{BODY, LEN};
 use crate::order_for;
 use rom_block::{check, check_word};
 use rom_model::{Break, Rule, blocks_at, bucket};
@@ -34,7 +35,8 @@ pub fn inspect_key(
         → count ≡ length before → node ≡ block_of order b
         → result ≡ checked (key_tests order region.now number before b) }
 {
-    check(region[node as usize + 1] <= MAX_LEN, node + 1, Rule::Count)?;
+    let at = node + LEN;
+    check(region[at as usize] <= MAX_LEN, at, Rule::Count)?;
     let key = region[node as usize];
     check(bucket(order, key) == number, node, Rule::Bucket)?;
     let stands = has_key(region, order, blocks_at(order) + number, count, key);
@@ -63,11 +65,11 @@ pub fn inspect_body(region: &[u64], order: u32, node: u64, marks: &mut [bool]) -
     ensures { (held : List ℕ) (b : ℕ) → AreBlobMarks order held marks.old → node ≡ block_of order b
         → AnswersBody order region.now held b result marks.new }
 {
-    let len = region[node as usize + 1];
+    let len = region[(node + LEN) as usize];
     if len == 0 {
-        return check_word(region, node + 3, Rule::Link, 0);
+        return check_word(region, node + BODY, Rule::Link, 0);
     }
-    follow_block(region, order, node + 3, order_for(len), marks)?;
-    let at = region[node as usize + 3];
+    follow_block(region, order, node + BODY, order_for(len), marks)?;
+    let at = region[(node + BODY) as usize];
     check(ends_bare(region, at, len), at + len / 8, Rule::Pad)
 }

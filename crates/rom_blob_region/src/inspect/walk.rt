@@ -6,6 +6,7 @@ ghost use Rattle.rom_blob_region.specs.Walks.{held, Node, WalksBlobs, AreBlobMar
 
 use crate::inspect::follow::follow_block;
 use crate::inspect::node::{inspect_body, inspect_key};
+use crate::node::LINK;
 use rom_model::{Break, blocks_at};
 
 /// How far a walk along a chain came.
@@ -40,7 +41,7 @@ fn step(
     inspect_key(region, order, number, reached.count, node)?;
     inspect_body(region, order, node, marks)?;
     Ok(Reached {
-        link: node + 2,
+        link: node + LINK,
         count: reached.count + 1,
     })
 }
