@@ -3,7 +3,7 @@ use Rattle.rom_heap.specs.Laws.{contents_within}
 use Rattle.rom_model.specs.Region.{Contents}
 use Rattle.rom_model.specs.State.{State}
 use Rattle.rom_model.specs.VecSpace.{words_of}
-use Rattle.rom_script.proofs.stat.sizes.Sizes.of.Goals as goal
+use Rattle.rom_script.proofs.stat.Sizes.of.Goals as goal
 
 pub answer-requires-clause-region : goal.answer-requires-clause-region
 answer-requires-clause-region c = subst (λ w. (s : State) × (k : ℕ) × Contents c.args.order w s k) (sym c.load.ensures.image) c.requires.region

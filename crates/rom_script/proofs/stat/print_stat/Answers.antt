@@ -1,7 +1,7 @@
 use Rattle.std.proofs.Common.{ap, subst}
 use Rattle.rom_script.specs.Stat.{stat_lines}
 use Rattle.rom_text.specs.Streams.{Prints}
-use Rattle.rom_script.proofs.stat.sizes.print_stat.Goals as goal
+use Rattle.rom_script.proofs.stat.print_stat.Goals as goal
 
 pub returns : goal.returns
 returns g c = record {

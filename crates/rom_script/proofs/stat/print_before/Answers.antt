@@ -1,7 +1,7 @@
 use Rattle.std.specs.List.{flat_map}
 use Rattle.rom_script.specs.Trio.{answer_text}
 use Rattle.rom_text.proofs.Prints.{printed, stopped, prints_stopped, stopped_first, stopped_second, both_printed}
-use Rattle.rom_script.proofs.stat.sizes.print_before.Goals as goal
+use Rattle.rom_script.proofs.stat.print_before.Goals as goal
 
 pub returns-in_err-print_pieces : goal.returns-in_err-print_pieces
 returns-in_err-print_pieces g c =

@@ -4,7 +4,7 @@ use Rattle.rom_text.specs.Text.{line_text}
 use Rattle.rom_script.specs.Trio.{answer_text}
 use Rattle.rom_text.proofs.Prints.{Stopped, printed, stopped, prints_stopped, stopped_first, both_printed}
 use Rattle.rom_script.proofs.Showing.{five_lines}
-use Rattle.rom_script.proofs.stat.sizes.Sizes.print.Goals as goal
+use Rattle.rom_script.proofs.stat.Sizes.print.Goals as goal
 
 pub returns-in_err-print_before : goal.returns-in_err-print_before
 returns-in_err-print_before g c =
