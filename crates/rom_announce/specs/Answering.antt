@@ -6,7 +6,10 @@ use Rattle.rom_model.specs.declared.call.Updated.TheVariants as told
 use Rattle.rom_model.specs.declared.entry.Entry.{Entry}
 use Rattle.rom_model.specs.declared.record.Fate.{Fate}
 use Rattle.rom_model.specs.declared.record.Fate.TheVariants.{Published, Failed, Doubt}
-use Rattle.rom_rule.specs.CallKinds.{CanMakeRecord, IsAnswer}
+use Rattle.rom_lr.specs.Seats.{plan, writer_view}
+use Rattle.rom_lr.specs.Writing.{Writes}
+use Rattle.rom_lr.specs.declared.seats.WriterSeat.{WriterSeat}
+use Rattle.rom_rule.specs.CallKinds.{CanMakeRecord, IsAnswer, altered}
 use Rattle.rom_rule.specs.Calls.{answer_words, packed}
 use Rattle.rom_rule.specs.Kinds.{IsBatch, TellsEach, making}
 use Rattle.rom_rule.specs.Views.{is_made}
@@ -44,3 +47,7 @@ module _ {S : Type 0} (Contents : ℕ → List ℕ → S → ℕ → Type 0) (st
   HasRecord b p q fate before now =
       (is_made p.mine ≡ true → q ≡ p)
       × (is_made p.mine ≡ false → (k : ℕ) × (more : List Entry) × IsBatch Contents step b p k more × TellsEach fate k more p × (q ≡ making fate before now k more p))
+
+  -- The writer's plan is then the one with this pass's record, where this caller's request is changed so. Nothing else of its view changes but the number of its steps.
+  abbrev pub AltersRecorded : WriterSeat → WriterSeat → ℕ → (Request → Request) → Fate → ℕ → ℕ → Type 0
+  AltersRecorded s t caller change fate before now = (q : Plan) × HasRecord (writer_view s).base (plan s) q fate before now × Writes s t (altered caller change q)

@@ -1,2 +1,3 @@
+pub mod Posting
 pub mod Scanning
 pub mod Answering

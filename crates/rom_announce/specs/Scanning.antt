@@ -1,6 +1,10 @@
 -- What the writer's scan asks for and leaves.
 use Rattle.std.specs.Prelude.{◌≡◌, ◌≢◌, ℕ, List, ◌==◌, if◌then◌else◌}
-use Rattle.rom_rule.specs.CallKinds.{CanBegin, CanScan, beginning}
+use Rattle.rom_lr.specs.Seats.{plan}
+use Rattle.rom_lr.specs.Writing.{Writes}
+use Rattle.rom_lr.specs.declared.seats.WriterSeat.{WriterSeat}
+use Rattle.rom_rule.specs.CallKinds.{CanBegin, CanScan, altered, beginning}
+use Rattle.rom_rule.specs.Calls.{packed}
 use Rattle.rom_rule.specs.declared.views.Plan.{Plan}
 use Rattle.rom_rule.specs.declared.views.Request.{Request}
 
@@ -15,3 +19,7 @@ scanned_from caller p = if caller == 1 then beginning p else p
 -- a request of which these words were loaded
 abbrev pub with_words : List ℕ → Request → Request
 with_words words f = record f { words = words }
+
+-- All words of this caller's call are loaded, and they are these. Nothing else changes but the number of the writer's steps.
+abbrev pub HasLoaded : WriterSeat → WriterSeat → ℕ → List ℕ → Type 0
+HasLoaded s t caller words = Writes s t (altered caller (with_words (packed words)) (plan s))

@@ -2,7 +2,8 @@
 ghost use Rattle.std.specs.Prelude.{◌≡◌, ℕ, ◌+◌, ◌<◌, ◌≤◌, List, [], ◌∷◌, length, false};
 ghost use Rattle.rom_model.specs.Machine.{on_words};
 ghost use Rattle.rom_model.specs.declared.call.Updated.{Updated};
-ghost use Rattle.rom_announce.specs.Answering.{CanAnswer, HasRecord, answered_with, fate_of, with_reply};
+ghost use Rattle.rom_model.specs.declared.words.TheConstants.{REPLY_WORDS};
+ghost use Rattle.rom_announce.specs.Answering.{AltersRecorded, CanAnswer, answered_with, fate_of, with_reply};
 ghost use Rattle.rom_lr.specs.Seats.{IsWriterOf, plan, steps_of, writer_view};
 ghost use Rattle.rom_lr.specs.Writing.{Writes};
 ghost use Rattle.rom_rule.specs.CallKinds.{CanFinish, CanMakeRecord, IsPending, altered, answering, laying, placing};
@@ -41,10 +42,8 @@ pub fn answer<O: Object>(
         × CanAnswer O.Contents (on_words O.machine) v.base (plan_of v) f
         place reply.now before after }
     // The pass then has its record, and the call is answered with this place and reply.
-    ensures answered { let v = writer_view seat.old in
-        (q : Plan) × HasRecord O.Contents (on_words O.machine) v.base (plan_of v) q
-        (fate_of place) before after
-        × Writes seat.old seat.new (altered caller (answered_with place (packed reply.now)) q) }
+    ensures answered { AltersRecorded O.Contents (on_words O.machine) seat.old seat.new caller
+        (answered_with place (packed reply.now)) (fate_of place) before after }
     ensures steps { steps_of seat.new ≡ steps_of seat.old + length reply.now + 3 }
 {
     begin::<O, Brand>(shared, seat, caller, reply.len(), place, before, after);
@@ -71,10 +70,8 @@ fn begin<O: Object, N: PassEnd>(
     requires can { let v = writer_view seat.old in is_made (plan_of v).mine ≡ false →
         CanMakeRecord O.Contents (on_words O.machine) v.base (plan_of v)
         (fate_of place) before after }
-    ensures begun { let v = writer_view seat.old in
-        (q : Plan) × HasRecord O.Contents (on_words O.machine) v.base (plan_of v) q
-        (fate_of place) before after
-        × Writes seat.old seat.new (altered caller (laying 0 count) q) }
+    ensures begun { AltersRecorded O.Contents (on_words O.machine) seat.old seat.new caller
+        (laying 0 count) (fate_of place) before after }
     ensures step { steps_of seat.new ≡ steps_of seat.old + 1 }
 {
     let at = shared.layout.slot(caller, REPLY) as usize;
@@ -87,7 +84,7 @@ fn begin<O: Object, N: PassEnd>(
 fn store_reply<O: Object>(shared: &Shared<O>, seat: &mut WriterSeat, caller: u32, reply: &Back)
     requires of { IsWriterOf shared.now seat.old }
     requires within { (1 ≤ caller) × (caller ≤ shared.now.layout.callers)
-        × (length reply.now ≤ 20) }
+        × (length reply.now ≤ REPLY_WORDS) }
     requires found { (p : Plan) × (f : Request) × IsPending p caller f
         × (plan seat.old ≡ altered caller (with_reply (length reply.now ∷ [])) p) }
     ensures stored { Writes seat.old seat.new (altered caller (with_reply (packed reply.now))
@@ -102,7 +99,7 @@ fn store_reply<O: Object>(shared: &Shared<O>, seat: &mut WriterSeat, caller: u32
 // Word j of a reply, where word 0 is the number of the others.
 fn store_word<O: Object>(shared: &Shared<O>, seat: &mut WriterSeat, caller: u32, j: u64, word: u64)
     requires of { IsWriterOf shared.now seat.old }
-    requires within { (1 ≤ caller) × (caller ≤ shared.now.layout.callers) × (j < 21) }
+    requires within { (1 ≤ caller) × (caller ≤ shared.now.layout.callers) × (j < REPLY_WORDS + 1) }
     requires found { (f : Request) × IsPending (plan seat.old) caller f × (j ≤ length f.laid) }
     ensures stored { Writes seat.old seat.new (altered caller (laying j word) (plan seat.old)) }
     ensures step { steps_of seat.new ≡ steps_of seat.old + 1 }

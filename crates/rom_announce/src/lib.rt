@@ -11,7 +11,8 @@
 //! waits.
 //!
 //! Each contract says what its seat's view becomes as a whole, so nothing else of the view changes.
-//! `specs/Scanning.antt` and `specs/Answering.antt` have what the writer's calls ask for and leave.
+//! `specs/Posting.antt` has what a post leaves, `specs/Scanning.antt` and `specs/Answering.antt` what the writer's
+//! calls ask for and leave.
 //! That the words which the writer finds in a slot are those of the posted call, that each posted call
 //! stands in one pass's record, and that a caller finds what that record tells of it, is the table's
 //! rule, of `rom_rule`; the proofs here give each step its condition.

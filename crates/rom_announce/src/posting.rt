@@ -3,6 +3,7 @@ ghost use Rattle.std.specs.Prelude.{◌≡◌, ℕ, ◌+◌, ◌<◌, ◌≤◌,
 ghost use Rattle.rom_model.specs.History.{LAST_COUNT};
 ghost use Rattle.rom_model.specs.Machine.{on_words};
 ghost use Rattle.rom_model.specs.declared.words.TheConstants.{CALL_WORDS};
+ghost use Rattle.rom_announce.specs.Posting.{HasPosted};
 ghost use Rattle.rom_lr.specs.Seats.{IsAnswered, IsSameSeat, IsSeatOf, view};
 ghost use Rattle.rom_rule.specs.CallKinds.{posting};
 ghost use Rattle.rom_rule.specs.Calls.{packed};
@@ -22,13 +23,7 @@ pub fn post<O: Object>(shared: &Shared<O>, seat: &mut Seat, args: &Args)
     ensures same { IsSameSeat seat.old seat.new }
     // The call is posted, behind those that the caller posted before, in two steps more than the call has
     // words.
-    ensures posted { let v = view seat.old in
-        view seat.new ≡ record v {
-          calls = v.calls ++ args.now ∷ [];
-          laid = packed args.now;
-          since = length v.seen;
-          steps = v.steps + length args.now + 2;
-        } }
+    ensures posted { HasPosted seat.old seat.new args.now }
 {
     post_words(shared, seat, args.as_slice());
 }
@@ -42,13 +37,7 @@ pub fn post_words<O: Object>(shared: &Shared<O>, seat: &mut Seat, words: &[u64])
     requires call { IsCall (on_words O.machine) (view seat.old).base words.now }
     ensures same { IsSameSeat seat.old seat.new }
     // The call with these words is posted, as by `post`.
-    ensures posted { let v = view seat.old in
-        view seat.new ≡ record v {
-          calls = v.calls ++ words.now ∷ [];
-          laid = packed words.now;
-          since = length v.seen;
-          steps = v.steps + length words.now + 2;
-        } }
+    ensures posted { HasPosted seat.old seat.new words.now }
 {
     store_argument(shared, seat, 0, words.len() as u64);
     store_arguments(shared, seat, words);

@@ -1,7 +1,8 @@
 //! How the writer finds posted calls.
 ghost use Rattle.std.specs.Prelude.{◌≡◌, ℕ, ◌+◌, ◌%◌, ◌<◌, ◌≤◌, ◌==◌, List, [], ◌∷◌, ◌++◌, take, length, slice_index};
 ghost use Rattle.rom_model.specs.Machine.{on_words};
-ghost use Rattle.rom_announce.specs.Scanning.{MayScan, scanned_from, with_words};
+ghost use Rattle.rom_model.specs.declared.words.TheConstants.{CALL_WORDS};
+ghost use Rattle.rom_announce.specs.Scanning.{HasLoaded, MayScan, scanned_from, with_words};
 ghost use Rattle.rom_lr.specs.Seats.{IsWriterOf, plan, steps_of, writer_view};
 ghost use Rattle.rom_lr.specs.Writing.{Writes};
 ghost use Rattle.rom_rule.specs.CallKinds.{IsPending, altered, found_after, loading};
@@ -46,8 +47,7 @@ pub fn arguments<O: Object>(shared: &Shared<O>, seat: &mut WriterSeat, caller: u
     requires found { (f : Request) × IsPending (plan seat.old) caller f }
     // The words are those of a call of the object.
     ensures call { IsCall (on_words O.machine) (writer_view seat.old).base result }
-    ensures loaded { Writes seat.old seat.new (altered caller (with_words (packed result))
-        (plan seat.old)) }
+    ensures loaded { HasLoaded seat.old seat.new caller result }
     ensures steps { steps_of seat.new ≡ steps_of seat.old + length result + 1 }
 {
     let mut args = Args::new();
@@ -67,8 +67,7 @@ pub fn arguments_into<O: Object>(
     requires found { (f : Request) × IsPending (plan seat.old) caller f }
     // The words are those of a call of the object.
     ensures call { IsCall (on_words O.machine) (writer_view seat.old).base args.new }
-    ensures loaded { Writes seat.old seat.new (altered caller (with_words (packed args.new))
-        (plan seat.old)) }
+    ensures loaded { HasLoaded seat.old seat.new caller args.new }
     ensures steps { steps_of seat.new ≡ steps_of seat.old + length args.new + 1 }
 {
     args.clear();
@@ -79,10 +78,10 @@ pub fn arguments_into<O: Object>(
 // Word j of a found call, where word 0 is the number of the others.
 fn load_argument<O: Object>(shared: &Shared<O>, seat: &mut WriterSeat, caller: u32, j: u64) -> u64
     requires of { IsWriterOf shared.now seat.old }
-    requires within { (1 ≤ caller) × (caller ≤ shared.now.layout.callers) × (j < 41) }
+    requires within { (1 ≤ caller) × (caller ≤ shared.now.layout.callers) × (j < CALL_WORDS + 1) }
     requires found { (f : Request) × IsPending (plan seat.old) caller f × (j ≤ length f.words)
         × (0 < j → j ≤ slice_index f.words 0) }
-    ensures few { j ≡ 0 → result ≤ 40 }
+    ensures few { j ≡ 0 → result ≤ CALL_WORDS }
     ensures call { (f : Request) (args : List ℕ) → IsPending (plan seat.old) caller f →
         take j f.words ++ result ∷ [] ≡ packed args →
         IsCall (on_words O.machine) (writer_view seat.old).base args }
@@ -104,15 +103,14 @@ fn load_arguments<O: Object>(
     args: &mut Args,
 )
     requires of { IsWriterOf shared.now seat.old }
-    requires within { (1 ≤ caller) × (caller ≤ shared.now.layout.callers) × (count ≤ 40) }
+    requires within { (1 ≤ caller) × (caller ≤ shared.now.layout.callers) × (count ≤ CALL_WORDS) }
     requires found { (p : Plan) × (f : Request) × IsPending p caller f
         × (plan seat.old ≡ altered caller (with_words (count ∷ [])) p) }
     requires empty { args.old ≡ [] }
     requires none { count ≡ 0 → IsCall (on_words O.machine) (writer_view seat.old).base [] }
     ensures many { length args.new ≡ count }
     ensures call { IsCall (on_words O.machine) (writer_view seat.old).base args.new }
-    ensures loaded { Writes seat.old seat.new (altered caller (with_words (packed args.new))
-        (plan seat.old)) }
+    ensures loaded { HasLoaded seat.old seat.new caller args.new }
     ensures steps { steps_of seat.new ≡ steps_of seat.old + length args.new }
 {
     for i in 0..count {

@@ -74,10 +74,10 @@ pub fn take_into<O: Object>(shared: &Shared<O>, seat: &mut Seat, reply: &mut Bac
 fn load_word<O: Object>(shared: &Shared<O>, seat: &mut Seat, j: u64) -> u64
     requires of { IsSeatOf shared.now seat.old }
     requires answered { IsAnswered seat.old }
-    requires inside { j < 22 }
+    requires inside { j < REPLY_WORDS + 2 }
     ensures same { IsSameSeat seat.old seat.new }
     ensures word { (x : Told) → IsLast (view seat.old) x →
-        (length (answer_words x.1) ≤ 22)
+        (length (answer_words x.1) ≤ REPLY_WORDS + 2)
         × (j < length (answer_words x.1) → result ≡ slice_index (answer_words x.1) j) }
     ensures still { let v = view seat.old in view seat.new ≡ record v { steps = v.steps + 1 } }
 {
