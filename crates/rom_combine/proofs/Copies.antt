@@ -1,11 +1,46 @@
 -- Words that are copied one after another, range by range.
-use Rattle.std.proofs.Common.{◌≡◌, ◌≢◌, ◌⊎◌, inl, inr, ⊎_elim, ℕ, ◌+◌, ◌<◌, ◌≤◌, List, [], ◌∷◌, length, get_or, set, sym, refl, ◌∙◌, arith, get_or-set_same, get_or-set_other}
+use Rattle.std.proofs.Common.{◌≡◌, ◌≢◌, ◌⊎◌, inl, inr, ⊎_elim, ℕ, ◌+◌, ◌<◌, ◌≤◌, List, [], ◌∷◌, length, get_or, set, sym, refl, subst, ◌∙◌, arith, get_or-set_same, get_or-set_other, Some}
 use Rattle.std.proofs.lemmas.Bool.{cases_lt}
 use Rattle.std.proofs.lemmas.List.{ext_get_or}
-use Rattle.rom_combine.specs.Copying.{Copies}
+use Rattle.rom_combine.specs.Copying.{Copies, with_side, words_at}
+use Rattle.rom_lr.specs.Side.{other_side, side_number}
+use Rattle.rom_lr.specs.declared.side.Side.{Side}
+use Rattle.rom_lr.specs.declared.side.Side.TheVariants.{Back, Main}
 use Rattle.rom_ranges.specs.Changes.{SameBut}
 use Rattle.rom_ranges.specs.Ranges.{IsIn}
 use Rattle.rom_ranges.specs.declared.range.Range.{Range}
+use Rattle.rom_rule.specs.Readers.{Settled}
+use Rattle.rom_rule.specs.Views.{plan_of}
+use Rattle.rom_rule.specs.declared.views.Plan.{Plan}
+use Rattle.rom_rule.specs.declared.views.View.{View}
+
+-- the words that a side was given, and those of the other one
+pub words_given : (side : Side) (words : List ℕ) (p : Plan) → words_at side (with_side side words p) ≡ words
+words_given Main words p = refl
+words_given Back words p = refl
+
+pub words_beside : (side : Side) (words : List ℕ) (p : Plan) → words_at (other_side side) (with_side side words p) ≡ words_at (other_side side) p
+words_beside Main words p = refl
+words_beside Back words p = refl
+
+-- given again, and given what it has
+pub side_again : (side : Side) (words was : List ℕ) (p : Plan) → with_side side words (with_side side was p) ≡ with_side side words p
+side_again Main words was p = refl
+side_again Back words was p = refl
+
+pub side_still : (side : Side) (p : Plan) → with_side side (words_at side p) p ≡ p
+side_still Main p = refl
+side_still Back p = refl
+
+pub side_sized : (side : Side) (p : Plan) (n : ℕ) → (length p.main ≡ n) × (length p.back ≡ n) → length (words_at side p) ≡ n
+side_sized Main p n is = is.0
+side_sized Back p n is = is.1
+
+-- nobody reads it still
+pub side_unread : (side : Side) (u v : View) (words : List ℕ) → v ≡ record u { plan = Some (with_side side words (plan_of u)); steps = v.steps } → ((plan_of u).side ≡ side_number (other_side side)) × Settled u.base (plan_of u)
+    → ((plan_of v).side ≡ side_number (other_side side)) × Settled v.base (plan_of v)
+side_unread Main u v words e is = subst (λ (z : View). ((plan_of z).side ≡ 1) × Settled z.base (plan_of z)) (sym e) is
+side_unread Back u v words e is = subst (λ (z : View). ((plan_of z).side ≡ 0) × Settled z.base (plan_of z)) (sym e) is
 
 -- the words from one offset on and before another are copied
 pub record CopiesUpTo (start at : ℕ) (source old new : List ℕ) : Type 0 where
@@ -22,7 +57,7 @@ copied_more start at source old new le lt is = record {
 }
   where
     here : (k : ℕ) → k ≡ at → get_or (set new at (get_or source at 0)) k 0 ≡ get_or source k 0
-    here k e = Rattle.std.proofs.Common.subst (λ (n : ℕ). get_or (set new at (get_or source at 0)) n 0 ≡ get_or source n 0) (sym e) (get_or-set_same new at (get_or source at 0) 0 lt)
+    here k e = subst (λ (n : ℕ). get_or (set new at (get_or source at 0)) n 0 ≡ get_or source n 0) (sym e) (get_or-set_same new at (get_or source at 0) 0 lt)
 
     not_here : (k : ℕ) → (k < start) ⊎ (at + 1 ≤ k) → k ≢ at
     not_here k (inl before) e = omega (arith, before, e, le)

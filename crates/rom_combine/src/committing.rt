@@ -16,7 +16,7 @@ use crate::applying::apply_all;
 use crate::passed::Outcome;
 use crate::per_caller::PerCaller;
 use crate::scanning::Posted;
-use crate::sides::put_back;
+use crate::sides::copy_to;
 use crate::steps::{begin_on, commit_on};
 use rom_device::Device;
 use rom_lr::{Shared, Side, WriterSeat};
@@ -97,7 +97,7 @@ pub(crate) fn publish<D: Device, O: Object>(
         shared.switch(seat, Side::Main, before, now);
         return Outcome::Published;
     }
-    put_back(shared, seat, log.list());
+    copy_to(shared, seat, Side::Main, log.list());
     log.clear();
     // The phase tells whether COPYING was to be written. `failed` and `doubt` say of each outcome how
     // the device failed (`cause`), so a body that always ends with `Failed` is refused.

@@ -14,7 +14,7 @@ ghost use Rattle.rom_ranges.specs.Ranges.{held_count};
 ghost use Rattle.rom_rule.specs.Kinds.{MayRaise};
 ghost use Rattle.rom_rule.specs.Readers.{Held, Settled};
 
-use crate::sides::copy_back;
+use crate::sides::copy_to;
 use crate::steps::finish_on;
 use rom_device::Device;
 use rom_lr::{Shared, Side, WriterSeat};
@@ -67,7 +67,7 @@ pub(crate) fn settle<D: Device, O: Object, R: Wait>(
         (D.shown.faults twin.new.device) (D.shown.failing twin.new.device) }
 {
     shared.settle(rt, seat);
-    copy_back(shared, seat, log.list());
+    copy_to(shared, seat, Side::Back, log.list());
     finish_on(twin, shared, seat, log.list());
     log.clear();
     let now = twin.fault_count();

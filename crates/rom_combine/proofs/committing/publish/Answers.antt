@@ -121,14 +121,14 @@ is_undone : (g : Over) (c : goal.After-refuse-2 g) → c.commit_on.new.twin.phas
 is_undone g c = search rules
 
 -- where the commit failed main is put back
-put_back_plan : (g : Over) {u v₁ v₂ v₃ : View} {found : List Posted} {items : List CallAnswer} → Taken g u v₁ v₂ v₃ found items → (v : View) → v ≡ record v₃ { plan = Some (record (plan_of v₃) { main = (plan_of v₃).back }); steps = v.steps } → (plan_of u).main ≡ (plan_of u).back → plan_of v ≡ plan_of u
-put_back_plan g {u} {v₁} {v₂} {v₃} {found} {items} it v back same = ap plan_of back ∙ ((λ j. record (it.three j) { main = (it.three j).back }) ∙ ap (λ (l : List ℕ). record (plan_of u) { main = l }) (sym same))
+back_plan : (g : Over) {u v₁ v₂ v₃ : View} {found : List Posted} {items : List CallAnswer} → Taken g u v₁ v₂ v₃ found items → (v : View) → v ≡ record v₃ { plan = Some (record (plan_of v₃) { main = (plan_of v₃).back }); steps = v.steps } → (plan_of u).main ≡ (plan_of u).back → plan_of v ≡ plan_of u
+back_plan g {u} {v₁} {v₂} {v₃} {found} {items} it v back same = ap plan_of back ∙ ((λ j. record (it.three j) { main = (it.three j).back }) ∙ ap (λ (l : List ℕ). record (plan_of u) { main = l }) (sym same))
 
-back_doubt : (g : Over) (c : goal.After-refuse-then-eq g) → plan_of c.put_back.new.seat.token.me.0 ≡ plan_of c.args.seat.now.token.me.0
-back_doubt g c = put_back_plan g (took_doubt g c) c.put_back.new.seat.token.me.0 c.put_back.ensures.2 c.requires.ready.same
+back_doubt : (g : Over) (c : goal.After-refuse-then-eq g) → plan_of c.copy_to.new.seat.token.me.0 ≡ plan_of c.args.seat.now.token.me.0
+back_doubt g c = back_plan g (took_doubt g c) c.copy_to.new.seat.token.me.0 c.copy_to.ensures.2 c.requires.ready.same
 
-back_failed : (g : Over) (c : goal.After-refuse-2 g) → plan_of c.put_back.new.seat.token.me.0 ≡ plan_of c.args.seat.now.token.me.0
-back_failed g c = put_back_plan g (took_failed g c) c.put_back.new.seat.token.me.0 c.put_back.ensures.2 c.requires.ready.same
+back_failed : (g : Over) (c : goal.After-refuse-2 g) → plan_of c.copy_to.new.seat.token.me.0 ≡ plan_of c.args.seat.now.token.me.0
+back_failed g c = back_plan g (took_failed g c) c.copy_to.new.seat.token.me.0 c.copy_to.ensures.2 c.requires.ready.same
 
 pub returns-then-is_err-clause-left : goal.returns-then-is_err-clause-left
 returns-then-is_err-clause-left g c = let u : View = c.args.seat.now.token.me.0 in let b : Base = u.base in let p : Plan = plan_of u in let h = c.requires.ready.held in
@@ -441,7 +441,7 @@ pub returns-then-eq-clause-same : goal.returns-then-eq-clause-same
 returns-then-eq-clause-same g c =
     let s = c.args.seat.now in let s₁ = c.begin_on.new.seat in let s₂ = c.apply_all.new.seat in let s₃ = c.commit_on.new.seat in
     let three = seat_then s s₁ s₃ (seat_by s s₁ _ c.begin_on.ensures.same) (seat_then s₁ s₂ s₃ (seat_by s₁ s₂ _ c.apply_all.ensures.kept) (seat_by s₂ s₃ _ c.commit_on.ensures.same)) in
-    seat_then s s₃ c.put_back.new.seat three (seat_by s₃ c.put_back.new.seat _ c.put_back.ensures)
+    seat_then s s₃ c.copy_to.new.seat three (seat_by s₃ c.copy_to.new.seat _ c.copy_to.ensures)
 
 pub returns-then-eq-clause-order : goal.returns-then-eq-clause-order
 returns-then-eq-clause-order g c = c.commit_on.ensures.kept.order ∙ c.begin_on.ensures.kept.order
@@ -450,7 +450,7 @@ pub returns-clause-same : goal.returns-clause-same
 returns-clause-same g c =
     let s = c.args.seat.now in let s₁ = c.begin_on.new.seat in let s₂ = c.apply_all.new.seat in let s₃ = c.commit_on.new.seat in
     let three = seat_then s s₁ s₃ (seat_by s s₁ _ c.begin_on.ensures.same) (seat_then s₁ s₂ s₃ (seat_by s₁ s₂ _ c.apply_all.ensures.kept) (seat_by s₂ s₃ _ c.commit_on.ensures.same)) in
-    seat_then s s₃ c.put_back.new.seat three (seat_by s₃ c.put_back.new.seat _ c.put_back.ensures)
+    seat_then s s₃ c.copy_to.new.seat three (seat_by s₃ c.copy_to.new.seat _ c.copy_to.ensures)
 
 pub returns-clause-order : goal.returns-clause-order
 returns-clause-order g c = c.commit_on.ensures.kept.order ∙ c.begin_on.ensures.kept.order
