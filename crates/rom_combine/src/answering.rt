@@ -1,6 +1,7 @@
 //! How a pass answers the found calls.
 ghost use Rattle.std.specs.Prelude.{◌≡◌, ℕ, ◌+◌, ◌<◌, ◌≤◌, List, [], ◌∷◌, length, map, true};
 ghost use Rattle.rom_model.specs.Machine.{on_words};
+ghost use Rattle.rom_model.specs.declared.limits.TheConstants.{MAX_CALLERS};
 ghost use Rattle.rom_model.specs.declared.record.Fate.{Fate};
 ghost use Rattle.rom_combine.specs.Answering.{HasGiven, IsRecordedBy, SameCalls, refused};
 ghost use Rattle.rom_combine.specs.Scanning.{but_requests};
@@ -36,7 +37,7 @@ impl Default for CallAnswer {
 
 /// Answers that tell each found call the same code, with no reply.
 pub(crate) fn refuse(found: &[Posted], code: u64, answers: &mut PerCaller<CallAnswer>)
-    requires { length found.now ≤ 16 }
+    requires { length found.now ≤ MAX_CALLERS }
     ensures { answers.new.items ≡ map (refused code) found.now }
 {
     answers.clear();

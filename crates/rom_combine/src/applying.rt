@@ -2,6 +2,7 @@
 ghost use Rattle.std.specs.Prelude.{◌≡◌, ℕ, ◌+◌, ◌-◌, ◌*◌, ◌^◌, ◌<◌, ◌≤◌, List, [], ◌∷◌, ◌++◌, map, take, length};
 ghost use Rattle.rom_model.specs.History.{LAST_COUNT};
 ghost use Rattle.rom_model.specs.Machine.{on_words, weight_on_words};
+ghost use Rattle.rom_model.specs.declared.limits.TheConstants.{MAX_CALLERS};
 ghost use Rattle.rom_combine.specs.Applying.{IsApplied, IsDoneOne, count_in};
 ghost use Rattle.rom_combine.specs.declared.answering.CallAnswer.{CallAnswer};
 ghost use Rattle.rom_combine.specs.Costs.{weights};
@@ -35,7 +36,7 @@ pub(crate) fn apply_all<O: Object>(
     requires of { IsWriterOf shared.now seat.old }
     requires unread { NobodyReads seat.old Main }
     requires found { found.now ≡ map posted_of (plan seat.old).requests }
-    requires few { length found.now ≤ 16 }
+    requires few { length found.now ≤ MAX_CALLERS }
     requires fresh { let v = writer_view seat.old in
         Each (λ _. IsUnanswered (IsCall (on_words O.machine) v.base)) (plan_of v).requests }
     requires held { let b = (writer_view seat.old).base in let p = plan seat.old in
@@ -82,7 +83,7 @@ fn apply_next<O: Object>(
         (s : O.State) × (place < LAST_COUNT → O.Contents v.base.order (plan_of v).main s place) }
     requires logged { let p = plan seat.old in IsLogOf p.back p.main log.old }
     requires room { log.old.added + O.STORES * O.WEIGHT ≤ log.old.room }
-    requires next { length answers.old.items < 16 }
+    requires next { length answers.old.items < MAX_CALLERS }
     ensures kept { let p = plan seat.old in
         Writes seat.old seat.new (record p { main = (plan seat.new).main }) }
     ensures done { let v = writer_view seat.old in

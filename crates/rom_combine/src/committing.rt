@@ -2,6 +2,7 @@
 ghost use Rattle.std.specs.Prelude.{◌≡◌, ◌≢◌, ℕ, ◌+◌, ◌*◌, ◌<◌, ◌≤◌, map, length};
 ghost use Rattle.rom_model.specs.Blocks.{region_len};
 ghost use Rattle.rom_model.specs.Machine.{on_words, weight_on_words};
+ghost use Rattle.rom_model.specs.declared.limits.TheConstants.{MAX_CALLERS};
 ghost use Rattle.rom_combine.specs.Answering.{HasGiven, SameCalls};
 ghost use Rattle.rom_combine.specs.Costs.{SpendsAtMost, WritesHeap, syncs_before_commit, weights_found, writes_before_commit};
 ghost use Rattle.rom_combine.specs.Ends.{EndsFailed, EndsInDoubt, EndsPublished, EndsUnpublished, LeavesBatch};
@@ -43,7 +44,7 @@ pub(crate) fn publish<D: Device, O: Object>(
     requires ready { IsReadyToPublish D.shown O.Contents (on_words O.machine)
         twin.old seat.old log.old before place }
     requires found { found.now ≡ map posted_of (plan seat.old).requests }
-    requires few { length found.now ≤ 16 }
+    requires few { length found.now ≤ MAX_CALLERS }
     requires some { 0 < length found.now }
     requires room { O.STORES * O.WEIGHT * length found.now ≤ log.old.room }
 

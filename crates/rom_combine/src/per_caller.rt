@@ -4,29 +4,32 @@
 //! finds nothing. `ArrayVec` writes a blank into each place that is cleared: 520 instructions for each call
 //! in a pass of sixteen. These lists are cleared by their count alone.
 ghost use Rattle.std.specs.Prelude.{◌≡◌, ◌+◌, ◌<◌, ◌≤◌, ◌==◌, [], ◌∷◌, ◌++◌, length};
+ghost use Rattle.rom_model.specs.declared.limits.TheConstants.{MAX_CALLERS};
 
+use rom_model::MAX_CALLERS;
 use std::marker::Model;
 
 /// How many callers there may be.
-const MANY: usize = 16;
+const MANY: usize = MAX_CALLERS as usize;
 
 /// At most one value for each caller, in order. What stands behind them is left as it is, so that
 /// neither clearing nor filling costs more than the values that are there.
 #[derive(Drop)]
 pub(crate) struct PerCaller<T: Copy> {
-    pub(crate) cells: [T; 16],
+    pub(crate) cells: [T; MANY],
     pub(crate) count: usize,
 }
 
 impl<T: Copy> Model for PerCaller<T> {
     ghost use Rattle.std.specs.Prelude.{◌≡◌, ◌≤◌, length, take};
+    ghost use Rattle.rom_model.specs.declared.limits.TheConstants.{MAX_CALLERS};
     ghost use Rattle.rom_combine.specs.PerCaller.{PerCaller as Items};
 
     ghost Value = { Items T };
 
     ghost view = { λ l. record { items = take l.count l.cells } };
 
-    ghost invariant = { λ l. (l.count ≤ 16) × (length l.cells ≡ 16) };
+    ghost invariant = { λ l. (l.count ≤ MAX_CALLERS) × (length l.cells ≡ MAX_CALLERS) };
 }
 
 impl<T: Copy> PerCaller<T> {
@@ -44,7 +47,7 @@ impl<T: Copy> PerCaller<T> {
     #[inline]
     pub fn len(&self) -> usize
         ensures value { result ≡ length self.now.items }
-        ensures fits { result ≤ 16 }
+        ensures fits { result ≤ MAX_CALLERS }
     {
         self.count
     }
@@ -61,7 +64,7 @@ impl<T: Copy> PerCaller<T> {
     #[inline]
     pub fn as_slice(&self) -> &[T]
         ensures value { result.now ≡ self.now.items }
-        ensures fits { length result.now ≤ 16 }
+        ensures fits { length result.now ≤ MAX_CALLERS }
     {
         &self.cells[..self.count]
     }
@@ -69,7 +72,7 @@ impl<T: Copy> PerCaller<T> {
     /// Adds a value at the end.
     #[inline]
     pub fn push(&mut self, value: T)
-        requires { length self.old.items < 16 }
+        requires { length self.old.items < MAX_CALLERS }
         ensures items { self.new.items ≡ self.old.items ++ value ∷ [] }
         ensures len { length self.new.items ≡ length self.old.items + 1 }
     {

@@ -1,6 +1,7 @@
 //! How a pass finds the posted calls.
 ghost use Rattle.std.specs.Prelude.{◌≡◌, ℕ, ◌+◌, ◌<◌, ◌≤◌, List, [], ◌∷◌, ◌++◌, length, true};
 ghost use Rattle.rom_model.specs.Machine.{on_words};
+ghost use Rattle.rom_model.specs.declared.limits.TheConstants.{MAX_CALLERS};
 ghost use Rattle.rom_announce.specs.Scanning.{MayScan, scanned_from, with_words};
 ghost use Rattle.rom_combine.specs.Scanning.{IsScan, IsVisit};
 ghost use Rattle.rom_lr.specs.Seats.{IsWriterOf, plan, writer_view};
@@ -68,7 +69,7 @@ fn visit<O: Object>(
     requires next { MayScan (plan seat.old) caller }
     requires others { Each (λ _ f. f.caller < caller)
         (scanned_from caller (plan seat.old)).requests }
-    requires room { length found.old.items < 16 }
+    requires room { length found.old.items < MAX_CALLERS }
     ensures visited { let v = writer_view seat.old in
         IsVisit (IsCall (on_words O.machine) v.base) (scanned_from caller (plan_of v))
         (plan seat.new) caller found.old.items found.new.items }
@@ -89,7 +90,7 @@ fn find<O: Object>(
     requires of { IsWriterOf shared.now seat.old }
     requires within { (1 ≤ caller) × (caller ≤ shared.now.layout.callers) }
     requires posted { (f : Request) × IsPending (plan seat.old) caller f }
-    requires room { length found.old.items < 16 }
+    requires room { length found.old.items < MAX_CALLERS }
     ensures found { (args : List ℕ) × IsCall (on_words O.machine) (writer_view seat.old).base args
         × Writes seat.old seat.new
         (altered caller (with_words (packed args)) (plan seat.old))
