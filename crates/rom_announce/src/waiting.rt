@@ -8,10 +8,9 @@ ghost use Rattle.std.specs.Prelude.{◌≤◌};
 ghost use Rattle.rom_lr.specs.Seats.{IsPosted, IsSeatOf};
 
 use rom_lr::{Seat, Shared};
-use rom_model::Object;
+use rom_model::{MAX_CALLERS, Object};
 use rom_rule::TURN;
 use std::sync::Wait;
-use std::sync::atomic::Ordering;
 use std::thread::yield_now;
 use std::time::Duration;
 
@@ -56,7 +55,7 @@ pub fn nap<O: Object, R: Wait>(rt: &R, shared: &Shared<O>, seat: &Seat, looked: 
     // Who answers stores the turn, and then looks whether anybody sleeps. Who sleeps counts itself, and then the
     // system compares the turn, before it puts the caller to sleep. So the one sees the count, or the other the
     // turn.
-    shared.asleep().fetch_add(1, Ordering::SeqCst);
+    shared.count_sleeper();
     // The sleep takes no seat and changes no word, so the rule of the table knows nothing of it. It ends by
     // itself, since `wake_next` may miss a caller that is about to fall asleep.
     shared.table.shared.park_timeout(
@@ -65,23 +64,24 @@ pub fn nap<O: Object, R: Wait>(rt: &R, shared: &Shared<O>, seat: &Seat, looked: 
         odd,
         Duration::from_millis(NAP.saturating_mul(looked.saturating_add(1))),
     );
-    shared.asleep().fetch_sub(1, Ordering::SeqCst);
-}
-
-// Whether a caller sleeps, or is about to. A wake calls the system, so a pass whose callers are all awake makes
-// none.
-fn is_any_asleep<O: Object>(shared: &Shared<O>) -> bool {
-    shared.asleep().load(Ordering::SeqCst) > 0
+    shared.uncount_sleeper();
 }
 
 /// Wakes a caller where it sleeps. Where nobody sleeps it does nothing.
 pub(crate) fn wake<O: Object>(shared: &Shared<O>, caller: u32)
     requires within { (1 ≤ caller) × (caller ≤ shared.now.layout.callers) }
 {
-    if is_any_asleep(shared) {
-        let at = shared.layout.slot(caller, TURN) as usize;
-        shared.table.shared.wake_one(at);
+    if shared.is_any_asleep() {
+        wake_at_turn(shared, caller);
     }
+}
+
+// Wakes a caller that sleeps on its turn.
+fn wake_at_turn<O: Object>(shared: &Shared<O>, caller: u32)
+    requires within { (1 ≤ caller) × (caller ≤ shared.now.layout.callers) }
+{
+    let at = shared.layout.slot(caller, TURN) as usize;
+    shared.table.shared.wake_one(at);
 }
 
 /// Wakes the first caller that has a call posted, where it sleeps, so that it may run the next pass.
@@ -90,10 +90,10 @@ pub(crate) fn wake<O: Object>(shared: &Shared<O>, caller: u32)
 /// nobody sleeps this does nothing. It may miss a caller that found the lock taken and does not sleep yet, and
 /// that one then sleeps to its end.
 pub fn wake_next<O: Object>(shared: &Shared<O>) {
-    if is_any_asleep(shared) {
+    if shared.is_any_asleep() {
         for i in 0..shared.layout.callers() {
             if is_posted(shared, 1 + i) {
-                wake(shared, 1 + i);
+                wake_at_turn(shared, 1 + i);
                 break;
             }
         }
@@ -127,7 +127,7 @@ pub fn gather<O: Object>(shared: &Shared<O>, wanted: u32) -> u32 {
 // The callers that have a call posted.
 fn set_of_posted<O: Object>(shared: &Shared<O>) -> u32 {
     let mut set: u32 = 0;
-    for i in 0..shared.layout.callers().min(16) {
+    for i in 0..shared.layout.callers().min(MAX_CALLERS) {
         if is_posted(shared, 1 + i) {
             set |= 1 << i;
         }

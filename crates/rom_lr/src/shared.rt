@@ -12,7 +12,7 @@ use crossbeam_utils::CachePadded;
 use rom_model::Object;
 use rom_rule::{Key, Law, Layout, View};
 use std::alloc::Global;
-use std::sync::atomic::AtomicU64;
+use std::sync::atomic::{AtomicU64, Ordering};
 
 /// The words that callers and the writer share, and where each stands. Their regions are those of an
 /// object. It is lent to every call; all that a call does to it are single steps on single words.
@@ -33,10 +33,21 @@ pub struct Shared<O: Object> {
     ghost near: { (main < 2 ^ 32) × (back < 2 ^ 32) },
 }
 
+// How many callers sleep. No clause says what the count holds.
 impl<O: Object> Shared<O> {
-    /// How many callers sleep. Who sleeps counts itself before, and takes itself out afterwards; who would
-    /// wake one looks here first. No clause says what it holds.
-    pub fn asleep(&self) -> &AtomicU64 {
-        &self.asleep
+    /// Counts a caller that is about to sleep.
+    pub fn count_sleeper(&self) {
+        self.asleep.fetch_add(1, Ordering::SeqCst);
+    }
+
+    /// Takes a caller out of the count, which was counted and sleeps no more.
+    pub fn uncount_sleeper(&self) {
+        self.asleep.fetch_sub(1, Ordering::SeqCst);
+    }
+
+    /// Whether a caller sleeps, or is about to. Who would wake one asks this first: a wake calls the system,
+    /// so a pass whose callers are all awake makes none.
+    pub fn is_any_asleep(&self) -> bool {
+        self.asleep.load(Ordering::SeqCst) > 0
     }
 }
