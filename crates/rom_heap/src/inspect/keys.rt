@@ -8,6 +8,7 @@ ghost use Rattle.rom_heap.specs.Tests.{newest};
 ghost use Rattle.rom_heap.specs.Walks.{key_of, is_above, Reaches};
 
 use crate::inspect::walk::Reached;
+use rom_map::MAP_LINK;
 use rom_model::blocks_at;
 
 /// Whether one of the first `count` nodes of a bucket's chain has that key, in a region of version 1.
@@ -28,7 +29,7 @@ pub fn has_key(region: &[u64], order: u32, number: u64, count: u64, key: u64) ->
         if region[node as usize] == key {
             return true;
         }
-        link = node + 2;
+        link = node + MAP_LINK;
     }
     false
 }

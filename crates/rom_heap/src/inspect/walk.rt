@@ -8,7 +8,10 @@ ghost use Rattle.rom_heap.specs.Walks.{next_word, node_tests, Reaches, Breaks, W
 use crate::inspect::follow::follow;
 use crate::inspect::keys::{has_key, is_above};
 use rom_block::{check, check_zeros};
+use rom_map::{MAP_LINK, MAP_STAMP};
 use rom_model::{Break, COUNT, QUEUE_HEAD, Rule, SET_HEAD, blocks_at, bucket};
+use rom_queue::{QUEUE_LINK, QUEUE_ZEROS};
+use rom_set::{SET_LINK, SET_ZEROS};
 
 /// A chain of a region.
 #[derive(Clone, Copy, Debug, PartialEq, Eq)]
@@ -57,8 +60,9 @@ impl Walk {
         ensures small { result < 4 }
     {
         match self {
-            Walk::Queue | Walk::Set => 1,
-            Walk::OldBucket(_) | Walk::Bucket(_) => 2,
+            Walk::Queue => QUEUE_LINK,
+            Walk::Set => SET_LINK,
+            Walk::OldBucket(_) | Walk::Bucket(_) => MAP_LINK,
         }
     }
 
@@ -81,20 +85,21 @@ impl Walk {
             → result ≡ checked (node_tests order region.now self before b) }
     {
         match self {
-            Walk::Queue => check_zeros(region, node + 2, 2, Rule::Pad),
+            Walk::Queue => check_zeros(region, node + QUEUE_ZEROS, 2, Rule::Pad),
             Walk::Set => {
-                check_zeros(region, node + 2, 2, Rule::Pad)?;
+                check_zeros(region, node + SET_ZEROS, 2, Rule::Pad)?;
                 check(is_above(region, reached, node), node, Rule::Order)
             }
             Walk::Bucket(number) => {
-                let stamp = region[node as usize + 3];
-                check(stamp <= region[COUNT as usize], node + 3, Rule::Stamp)?;
+                let at = node + MAP_STAMP;
+                let stamp = region[at as usize];
+                check(stamp <= region[COUNT as usize], at, Rule::Stamp)?;
                 let own = bucket(order, region[node as usize]) == number;
                 check(own, node, Rule::Bucket)?;
                 check(is_above(region, reached, node), node, Rule::Order)
             }
             Walk::OldBucket(number) => {
-                check_zeros(region, node + 3, 1, Rule::Pad)?;
+                check_zeros(region, node + MAP_STAMP, 1, Rule::Pad)?;
                 let key = region[node as usize];
                 check(bucket(order, key) == number, node, Rule::Bucket)?;
                 // The bucket is walked again from its head: no memory, but the square of its length in steps.

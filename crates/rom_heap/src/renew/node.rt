@@ -6,6 +6,7 @@ ghost use Rattle.rom_model.specs.Region.{buckets};
 ghost use Rattle.rom_model.specs.VecSpace.{words_of};
 ghost use Rattle.rom_heap.specs.Node.{head_of, nodes_of, IsOldBucket, AreAt, ChangesLinks};
 
+use rom_map::MAP_LINK;
 use rom_model::{Space, VecSpace, blocks_at};
 use std::alloc::AllocError;
 
@@ -47,7 +48,7 @@ pub fn collect(
     while at != 0 {
         let key = words[at as usize];
         nodes.push(Node { key, at })?;
-        at = words[(at + 2) as usize];
+        at = words[(at + MAP_LINK) as usize];
     }
     Ok(())
 }
@@ -67,7 +68,7 @@ pub fn relink(space: &mut VecSpace, order: u32, bucket: u64, nodes: &[Node])
     let mut link = head_of(order, bucket);
     for node in nodes {
         space.store(link, node.at);
-        link = node.at + 2;
+        link = node.at + MAP_LINK;
     }
     space.store(link, 0);
 }
