@@ -11,17 +11,17 @@ use Rattle.rom_model.proofs.Room.{tree_stays}
 use Rattle.rom_block.specs.Taken.{Takes}
 use Rattle.rom_bucket.specs.Link.{first_place, IsLinked}
 use Rattle.rom_bucket.proofs.Keys.{few}
-use Rattle.rom_blob_region.specs.Bytes.{words_for}
+use Rattle.rom_blob_region.specs.Bytes.{bytes_at, words_for, EndsInZeros}
 use Rattle.rom_blob_region.specs.State.{BlobState, some_block, blocks_taken, taken_with, taking_some, lowest, new_body, set_new, set_node}
 use Rattle.rom_blob_region.specs.Region.{blob_at, AreBlobsApart, IsBlobs, BlobContents}
-use Rattle.rom_blob_region.specs.Calls.{NoBody}
+use Rattle.rom_blob_region.specs.Calls.{NoBody, BodyTaken}
 use Rattle.rom_blob_region.specs.declared.call.BlobReply.TheVariants as reply
 use Rattle.rom_blob_region.proofs.Beside.{block_most}
 use Rattle.rom_blob_region.proofs.Held.{taken_state, taken_table}
 use Rattle.rom_blob_region.proofs.Places.{in_body}
 use Rattle.rom_blob_region.proofs.Keeping.{HasKeys, held, has_keys, tree_keys, tree_held}
 use Rattle.rom_blob_region.proofs.Giving.{Placed, WithBody}
-use Rattle.rom_blob_region.proofs.Reserving.{Reserved, no_room, taking_body, no_unit, a_unit}
+use Rattle.rom_blob_region.proofs.Reserving.{Reserved, reserved, no_room, taking_body, no_unit, a_unit}
 use Rattle.rom_blob_region.proofs.Adding.{Stored, StoredKeys, stored_keys, added_key}
 
 -- where bytes stand, their words lie inside of the region
@@ -35,6 +35,14 @@ place_inside n len at body o few placed bare = elim (cases_eq len 0) [
       let most = block_most n x.0 (at + last) end in
       (omega (arith, some, most), omega (arith, most, pow_small n o.most))
 ]
+
+-- the words that a store of bytes leaves
+pub stored_in : {n len at : ℕ} {bytes old new : List ℕ} → length bytes ≡ len → bytes_at new at (length bytes) ≡ bytes → EndsInZeros new at (length bytes) → ChangesOnly at (words_for (length bytes)) old new → Stored n len at bytes old new
+stored_in {n} {len} {at} {bytes} {old} {new} many same ends others = record {
+  bytes_are = ap (λ m. bytes_at new at m) (sym many) ∙ same;
+  ends = subst (λ m. EndsInZeros new at m) many ends;
+  others = subst (λ m. ChangesOnly at (words_for m) old new) many others;
+}
 
 -- a unit that is free lies behind the bucket table
 pub unit_late : (n y : ℕ) (zs : List ℕ) → 4 ≤ n → IsLowest n (taken_with zs) 0 y → (2 ^ n + 2 ^ (n - 4) ≤ y) × (y < 2 * 2 ^ n)
@@ -69,6 +77,10 @@ module _ {n : ℕ} {w : List ℕ} {f : ℕ → List ℕ} {s : BlobState} {count 
       let same : taking_some body (taken_with xs) ≡ taken_with (some_block body ++ xs) = (λ p i. taking_body body xs i p) in
       ap (λ (T : ℕ → Bool). lowest n (taking_some body T) 0) same_taken ∙ ap (λ (T : ℕ → Bool). lowest n T 0) same
 
+  -- a block was taken for the bytes
+  pub has_body : IsOrder n → {len at : ℕ} {bytes w1 : List ℕ} → length bytes ≡ len → ((blocks : ℕ → Bool) → IsDisjoint n blocks → AreWords n blocks w → BodyTaken n len blocks w w1 at) → Reserved n len xs bytes w1 at
+  has_body o {len} {at} {bytes} {w1} many taken = reserved n len xs bytes w o.least is.apart is.tree many w1 at (taken (taken_with xs) is.apart.disjoint is.tree)
+
   module _ {len : ℕ} (bytes : List ℕ) (le : 4 ≤ n) (key : ℕ) (many : length bytes ≡ len) where
     -- there is no block for the bytes
     pub told_full : NoBody n len (taken_with xs) → set_new n s key bytes (new_body n (blocks_taken s) bytes) ≡ (s, reply.Full)
@@ -94,7 +106,7 @@ module _ {n : ℕ} {w : List ℕ} {f : ℕ → List ℕ} {s : BlobState} {count 
     stay1 = tree_held o.least (has_keys is) only
 
     -- the block for the bytes may be given back
-    pub with_body : WithBody n len at r.body w1 f s count
+    with_body : WithBody n len at r.body w1 f s count
     with_body = record {
       keys = keys1;
       placed = r.placed;
@@ -102,19 +114,11 @@ module _ {n : ℕ} {w : List ℕ} {f : ℕ → List ℕ} {s : BlobState} {count 
       tree = subst (λ ys. AreWords n (taken_with (some_block r.body ++ ys)) w1) (sym stay1) r.tree;
     }
 
-    module _ {w2 : List ℕ} {node : ℕ} (few_bytes : len ≤ 256) (takes : Takes n 0 (taken_with (some_block r.body ++ xs)) w2 node) (then : ChangesOnly 17 (2 * 2 ^ n - 1) w1 w2) {w3 : List ℕ} (stored : Stored n len at bytes w2 w3) where
-      keys2 : HasKeys n w2 f s count
-      keys2 = tree_keys o.least keys1 then
+    -- also where another block was looked for and not found
+    pub with_body_still : {v : List ℕ} → v ≡ w1 → WithBody n len at r.body v f s count
+    with_body_still same = subst (λ v. WithBody n len at r.body v f s count) (sym same) with_body
 
-      stay2 : held n w2 f ≡ xs
-      stay2 = tree_held o.least keys1 then ∙ stay1
-
-      after : StoredKeys o.least few_bytes keys2 r.placed (subst (λ ys. AreBlobsApart n (some_block r.body ++ ys)) (sym stay2) r.apart) stored
-      after = stored_keys o.least few_bytes keys2 r.placed (subst (λ ys. AreBlobsApart n (some_block r.body ++ ys)) (sym stay2) r.apart) stored
-
-      stay3 : held n w3 f ≡ xs
-      stay3 = after.same ∙ stay2
-
+    module _ {w2 : List ℕ} {node : ℕ} (takes : Takes n 0 (taken_with (some_block r.body ++ xs)) w2 node) where
       abbrev b : ℕ
       b = takes.node - 2 ^ n
 
@@ -128,20 +132,33 @@ module _ {n : ℕ} {w : List ℕ} {f : ℕ → List ℕ} {s : BlobState} {count 
       pub node_most : node + 4 ≤ region_len n
       node_most = omega (arith, node_is, unit_late n takes.node (some_block r.body ++ xs) o.least takes.lowest)
 
-      pub size_small : slice_index w3 3 < 2 ^ 63
-      size_small = omega (arith, after.keys.keys.len, few after.keys.keys, pow_small n o.most)
+      module _ (few_bytes : len ≤ 256) (then : ChangesOnly 17 (2 * 2 ^ n - 1) w1 w2) {w3 : List ℕ} (stored : Stored n len at bytes w2 w3) where
+        keys2 : HasKeys n w2 f s count
+        keys2 = tree_keys o.least keys1 then
 
-      -- the key is there
-      pub new_key : {w4 : List ℕ} (key : ℕ) → finite.get s key ≡ None → IsLinked 3 (first_place n key w3) node record { key = key; second = len; last = at } w3 w4 → BlobContents n w4 (finite.insert s key record { bytes = bytes; node = takes.node; body = r.body }) count
-      new_key {w4} key absent linked =
-          let all = some_block r.body ++ xs in
-          let late = unit_late n takes.node all o.least takes.lowest in
-          let same : takes.node ≡ 2 ^ n + b = omega (arith, late) in
-          let node_at : IsNode n (2 ^ n + b) = subst (λ z. IsNode n z) same (takes.lowest.node n (omega arith)) in
-          let free : IsFree n (taken_with (some_block r.body ++ held n w3 f)) 0 (2 ^ n + b) = subst (λ ys. IsFree n (taken_with (some_block r.body ++ ys)) 0 (2 ^ n + b)) (sym stay3) (subst (λ z. IsFree n (taken_with all) 0 z) same takes.lowest.free) in
-          let disjoint : IsDisjoint n (taking (2 ^ n + b) (taken_with (some_block r.body ++ held n w3 f))) = subst (λ ys. IsDisjoint n (taking (2 ^ n + b) (taken_with (some_block r.body ++ ys)))) (sym stay3) (subst (λ z. IsDisjoint n (taking z (taken_with all))) same takes.disjoint) in
-          let words : AreWords n (taking takes.node (taken_with all)) w3 = tree_stays n (taking takes.node (taken_with all)) w2 w3 after.tree takes.words_are in
-          let words_now : AreWords n (taking (2 ^ n + b) (taken_with (some_block r.body ++ held n w3 f))) w3 = subst (λ ys. AreWords n (taking (2 ^ n + b) (taken_with (some_block r.body ++ ys))) w3) (sym stay3) (subst (λ z. AreWords n (taking z (taken_with all)) w3) same words) in
-          subst (λ z. BlobContents n w4 (finite.insert s key record { bytes = bytes; node = z; body = r.body }) count) (sym same)
-          (added_key b o few_bytes after.keys r.placed r.bare (subst (λ ys. AreBlobsApart n (some_block r.body ++ ys)) (sym stay3) r.apart) stored.bytes_are stored.ends absent node_at free disjoint
-          (subst (λ a. IsLinked 3 (first_place n key w3) a record { key = key; second = len; last = at } w3 w4) node_is linked) words_now)
+        stay2 : held n w2 f ≡ xs
+        stay2 = tree_held o.least keys1 then ∙ stay1
+
+        after : StoredKeys o.least few_bytes keys2 r.placed (subst (λ ys. AreBlobsApart n (some_block r.body ++ ys)) (sym stay2) r.apart) stored
+        after = stored_keys o.least few_bytes keys2 r.placed (subst (λ ys. AreBlobsApart n (some_block r.body ++ ys)) (sym stay2) r.apart) stored
+
+        stay3 : held n w3 f ≡ xs
+        stay3 = after.same ∙ stay2
+
+        pub size_small : slice_index w3 3 < 2 ^ 63
+        size_small = omega (arith, after.keys.keys.len, few after.keys.keys, pow_small n o.most)
+
+        -- the key is there
+        pub new_key : {w4 : List ℕ} (key : ℕ) → finite.get s key ≡ None → IsLinked 3 (first_place n key w3) node record { key = key; second = len; last = at } w3 w4 → BlobContents n w4 (finite.insert s key record { bytes = bytes; node = takes.node; body = r.body }) count
+        new_key {w4} key absent linked =
+            let all = some_block r.body ++ xs in
+            let late = unit_late n takes.node all o.least takes.lowest in
+            let same : takes.node ≡ 2 ^ n + b = omega (arith, late) in
+            let node_at : IsNode n (2 ^ n + b) = subst (λ z. IsNode n z) same (takes.lowest.node n (omega arith)) in
+            let free : IsFree n (taken_with (some_block r.body ++ held n w3 f)) 0 (2 ^ n + b) = subst (λ ys. IsFree n (taken_with (some_block r.body ++ ys)) 0 (2 ^ n + b)) (sym stay3) (subst (λ z. IsFree n (taken_with all) 0 z) same takes.lowest.free) in
+            let disjoint : IsDisjoint n (taking (2 ^ n + b) (taken_with (some_block r.body ++ held n w3 f))) = subst (λ ys. IsDisjoint n (taking (2 ^ n + b) (taken_with (some_block r.body ++ ys)))) (sym stay3) (subst (λ z. IsDisjoint n (taking z (taken_with all))) same takes.disjoint) in
+            let words : AreWords n (taking takes.node (taken_with all)) w3 = tree_stays n (taking takes.node (taken_with all)) w2 w3 after.tree takes.words_are in
+            let words_now : AreWords n (taking (2 ^ n + b) (taken_with (some_block r.body ++ held n w3 f))) w3 = subst (λ ys. AreWords n (taking (2 ^ n + b) (taken_with (some_block r.body ++ ys))) w3) (sym stay3) (subst (λ z. AreWords n (taking z (taken_with all)) w3) same words) in
+            subst (λ z. BlobContents n w4 (finite.insert s key record { bytes = bytes; node = z; body = r.body }) count) (sym same)
+            (added_key b o few_bytes after.keys r.placed r.bare (subst (λ ys. AreBlobsApart n (some_block r.body ++ ys)) (sym stay3) r.apart) stored.bytes_are stored.ends absent node_at free disjoint
+            (subst (λ a. IsLinked 3 (first_place n key w3) a record { key = key; second = len; last = at } w3 w4) node_is linked) words_now)
