@@ -1,5 +1,5 @@
 -- The words of the command line.
-use Rattle.std.specs.Prelude.{ℕ, List, [], ◌∷◌, codes, Option, Some, None, option_map, if◌then◌else◌}
+use Rattle.std.specs.Prelude.{ℕ, ◌&&◌, List, [], ◌∷◌, codes, Option, Some, None, is_none, option_and_then, if◌then◌else◌}
 use Rattle.std.specs.Str.{bytes_eq}
 use Rattle.rom_run.specs.Plain.{is_name}
 use Rattle.rom_text.specs.Phrases.{number_within}
@@ -44,32 +44,17 @@ options_of (option ∷ value ∷ []) = region_or_part (from_words option value) 
 options_of (from ∷ name ∷ option ∷ part ∷ []) = region_and_part (from_words from name) (part_words option part)
 options_of words = None
 
--- what the words behind `script` ask for
-abbrev pub script_words : List (List ℕ) → Option DumpCommand
-script_words [] = None
-script_words (file ∷ options) = if is_name file then option_map (λ asked. Script file asked.0 asked.1) (options_of options) else None
-
--- the command `check` of this file, where its options were read and name no part of a script
-abbrev pub check_of : List ℕ → Option (Option Region × Option ℕ) → Option DumpCommand
-check_of file (Some (from, None)) = Some (Check file from)
-check_of file (Some (from, Some part)) = None
-check_of file None = None
-
--- what the words behind `check` ask for
-abbrev pub check_words : List (List ℕ) → Option DumpCommand
-check_words [] = None
-check_words (file ∷ options) = if is_name file then check_of file (options_of options) else None
-
--- the command of this name, with these words behind it
-abbrev pub dump_command_of : List ℕ → List (List ℕ) → Option DumpCommand
-dump_command_of name words =
-    if bytes_eq name (codes "script") then script_words words else
-    if bytes_eq name (codes "check") then check_words words else None
+-- the command of this name, of this file with these options; `check` has no parts
+abbrev pub dump_command_of : List ℕ → List ℕ → Option Region → Option ℕ → Option DumpCommand
+dump_command_of name file from part =
+    if bytes_eq name (codes "script") then Some (Script file from part) else
+    if bytes_eq name (codes "check") && is_none part then Some (Check file from) else None
 
 -- the command that the words are, if they are one
 abbrev pub dump_command : List (List ℕ) → Option DumpCommand
-dump_command [] = None
-dump_command (name ∷ words) = dump_command_of name words
+dump_command (name ∷ file ∷ options) =
+    if is_name file then option_and_then (λ asked. dump_command_of name file asked.0 asked.1) (options_of options) else None
+dump_command words = None
 
 -- the file that it reads
 abbrev pub file_of : Option DumpCommand → Option (List ℕ)

@@ -82,43 +82,24 @@ fn read_options(words: &[Name]) -> Option<(Option<Region>, Option<u64>)>
     }
 }
 
-/// What the words behind `script` ask for.
-fn read_script(words: &[Name]) -> Option<Dump<'_>>
-    ensures named { named_dump result ≡ asks.script_words words.now }
-    ensures part { IfSome result AsksForPart }
-{
-    let (file, options) = words.split_first()?;
-    if !is_name(file) {
-        return None;
-    }
-    let (from, part) = read_options(options)?;
-    Some(Dump::Script { file, from, part })
-}
-
-/// Behind `check`, which has no parts.
-fn read_check(words: &[Name]) -> Option<Dump<'_>>
-    ensures named { named_dump result ≡ asks.check_words words.now }
-    ensures part { IfSome result AsksForPart }
-{
-    let (file, options) = words.split_first()?;
-    if !is_name(file) {
-        return None;
-    }
-    let (from, None) = read_options(options)? else {
-        return None;
-    };
-    Some(Dump::Check { file, from })
-}
-
 /// The command that the words are. It takes no memory.
 pub fn read_dump(words: &Names) -> Option<Dump<'_>>
     ensures named { named_dump result ≡ dump_command words.now }
     ensures part { IfSome result AsksForPart }
 {
-    let (name, words) = words.as_slice().split_first()?;
+    let [name, file, options @ ..] = words.as_slice() else {
+        return None;
+    };
+    if !is_name(file) {
+        return None;
+    }
+    let (from, part) = read_options(options)?;
     match name.as_str() {
-        "script" => read_script(words),
-        "check" => read_check(words),
+        "script" => Some(Dump::Script { file, from, part }),
+        "check" => match part {
+            None => Some(Dump::Check { file, from }),
+            Some(_) => None,
+        },
         _ => None,
     }
 }
