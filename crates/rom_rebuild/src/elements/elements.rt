@@ -6,6 +6,8 @@ use crate::elements::element::Element;
 use crate::elements::keys::collect_keys;
 use crate::elements::values::values_of;
 use rom_model::{MAP_LEN, QUEUE_HEAD, QUEUE_LEN, SET_HEAD, SET_LEN, VecSpace};
+use rom_queue::QUEUE_LINK;
+use rom_set::SET_LINK;
 use std::alloc::{AllocError, Global};
 
 /// The elements of a region: those of the queue, first to last, then the numbers of the set, which
@@ -51,9 +53,9 @@ impl Elements {
     {
         let words = space.words();
         let mut queue = Vec::with_capacity(alloc, words[QUEUE_LEN as usize] as usize)?;
-        collect_chain(words, order, QUEUE_HEAD, 1, &mut queue)?;
+        collect_chain(words, order, QUEUE_HEAD, QUEUE_LINK, &mut queue)?;
         let mut members = Vec::with_capacity(alloc, words[SET_LEN as usize] as usize)?;
-        collect_chain(words, order, SET_HEAD, 1, &mut members)?;
+        collect_chain(words, order, SET_HEAD, SET_LINK, &mut members)?;
         let mut keys = Vec::with_capacity(alloc, words[MAP_LEN as usize] as usize)?;
         collect_keys(words, order, &mut keys)?;
         let values = values_of(alloc, space, order, &keys)?;

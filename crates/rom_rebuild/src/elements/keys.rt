@@ -8,6 +8,7 @@ ghost use Rattle.rom_model.specs.State.{State};
 ghost use Rattle.rom_text.specs.Phrases.{NumbersFit};
 
 use crate::elements::chain::collect_chain;
+use rom_map::MAP_LINK;
 use rom_model::{blocks_at, power_of_two};
 use std::alloc::AllocError;
 
@@ -21,7 +22,7 @@ fn collect_buckets(words: &[u64], order: u32, into: &mut Vec<u64>) -> Result<(),
     ensures fit { NumbersFit into.new.items }
 {
     for number in 0..power_of_two(order - 2) {
-        collect_chain(words, order, blocks_at(order) + number, 2, into)?;
+        collect_chain(words, order, blocks_at(order) + number, MAP_LINK, into)?;
     }
     Ok(())
 }
