@@ -2,12 +2,12 @@
 
 use crate::callers::post_call;
 use crate::cores::{post_three, read_count, seated_on, take_three, take_told};
-use crate::heaps::{AMPLE, OPENING, device, heap, left};
+use crate::heaps::{AMPLE, OPENING, device, left};
 use rom_combine::{NoGate, Outcome, Passed};
-use rom_device::{CallKind, Fuse, Trip, every_trip};
+use rom_device::{CallKind, Fuse, Trip};
 use rom_model::{Answer, Call, Reply, Updated};
+use rom_test::right;
 use rom_twin::Phase;
-use std::process::Abort;
 use std::sync::Wait;
 use std::test::Fail;
 
@@ -23,17 +23,115 @@ const COPYING_SYNCED: u64 = COPYING_WRITTEN + 1;
 /// Then the same words of back, their sync, and IDLE.
 const ALL: u64 = COPYING_SYNCED + CHANGED + 1 + 1;
 
-/// The write of that number fails, counted from 1, among those of the words `from` to `to - 1`. It leaves
-/// the word as it was.
-fn write(from: u64, to: u64, nth: u64) -> Trip {
-    Trip {
-        call: CallKind::Write,
-        from,
-        to,
-        nth,
-        keeps_new: false,
-    }
-}
+/// The first write of the state fails. It leaves the word as it was.
+const STATE: Trip = Trip {
+    call: CallKind::Write,
+    from: 3,
+    to: 4,
+    nth: 1,
+    keeps_new: false,
+};
+
+/// The ninth write of a word of main fails.
+const MAIN: Trip = Trip {
+    from: 8,
+    to: 120,
+    nth: 9,
+    ..STATE
+};
+
+const BACK: Trip = Trip {
+    from: 120,
+    to: 232,
+    ..MAIN
+};
+
+/// The second sync fails. The first is the opening's.
+const SYNC: Trip = Trip {
+    call: CallKind::Sync,
+    from: 0,
+    to: u64::MAX,
+    nth: 2,
+    keeps_new: true,
+};
+
+/// How many elements a heap has, and its count.
+type Held = (Answer, u64);
+
+const ABSENT: Held = (
+    Answer::Sizes {
+        queue: 0,
+        set: 0,
+        map: 0,
+    },
+    0,
+);
+
+const WHOLE: Held = (
+    Answer::Sizes {
+        queue: 1,
+        set: 1,
+        map: 1,
+    },
+    3,
+);
+
+/// After the next call alone.
+const KEPT: Held = (
+    Answer::Sizes {
+        queue: 1,
+        set: 0,
+        map: 0,
+    },
+    1,
+);
+
+/// After the next call too.
+const MORE: Held = (
+    Answer::Sizes {
+        queue: 2,
+        set: 1,
+        map: 1,
+    },
+    4,
+);
+
+const EITHER: [Held; 3] = [ABSENT, WHOLE, WHOLE];
+
+/// A call of the device that fails, and how the pass ends; the images that a stop leaves by each choice;
+/// and the next call's place and the heap after it.
+type Fault = (Trip, Outcome, [Held; 3], u64, Held);
+
+/// The faults in the order of a pass's calls: writes of the state's word, of main and of back, and syncs.
+const FAULTS: [Fault; 9] = [
+    (STATE, Outcome::Failed, [ABSENT; 3], 0, KEPT),
+    (SYNC, Outcome::Failed, [ABSENT; 3], 0, KEPT),
+    (MAIN, Outcome::Failed, [ABSENT; 3], 0, KEPT),
+    (
+        Trip { nth: 3, ..SYNC },
+        Outcome::Failed,
+        [ABSENT; 3],
+        0,
+        KEPT,
+    ),
+    (Trip { nth: 2, ..STATE }, Outcome::Doubt, EITHER, 0, KEPT),
+    (Trip { nth: 4, ..SYNC }, Outcome::Doubt, EITHER, 0, KEPT),
+    (BACK, Outcome::Published, [WHOLE; 3], 3, MORE),
+    (
+        Trip { nth: 5, ..SYNC },
+        Outcome::Published,
+        [WHOLE; 3],
+        3,
+        MORE,
+    ),
+    (
+        Trip { nth: 3, ..STATE },
+        Outcome::Published,
+        [WHOLE; 3],
+        3,
+        MORE,
+    ),
+];
 
 /// What the three calls are told where their pass ends so.
 fn answers(outcome: Outcome) -> [Option<Updated<Reply>>; 3] {
@@ -52,19 +150,25 @@ fn answers(outcome: Outcome) -> [Option<Updated<Reply>>; 3] {
 fn passed(outcome: Outcome) -> Passed {
     Passed {
         found: 3,
-        done: if outcome == Outcome::Published { 3 } else { 0 },
+        done: match outcome {
+            Outcome::Published => 3,
+            _ => 0,
+        },
         outcome,
     }
 }
 
+/// How a pass ends, what the callers are told, and what is opened then.
+type Once = (Passed, [Option<Updated<Reply>>; 3], Held);
+
 /// Runs a pass on a device of which these calls fail, and each one after so many, those of the opening
-/// too. It tells how the pass ended, what the callers were told, and what is opened then.
+/// too.
 fn run_once<R: Wait + AllocGlobal>(
     rt: &R,
     trips: &[Trip],
     calls: u64,
     kind: u64,
-) -> Result<(Passed, [Option<Updated<Reply>>; 3], (Answer, u64)), Fail> {
+) -> Result<Once, Fail> {
     let alloc = rt.alloc();
     let fuse = Fuse::new(device(alloc, 0, trips)?, calls);
     let (mut core, shared, (mut first, mut second, mut third)) = seated_on(alloc, fuse)?;
@@ -76,119 +180,94 @@ fn run_once<R: Wait + AllocGlobal>(
     Ok((passed, told, left(alloc, memory, kind)?))
 }
 
+/// What comes of a pass that is stopped after so many of its calls.
+fn stopped_after(calls: u64, kind: u64) -> Once {
+    let outcome = if calls < COPYING_WRITTEN - 1 {
+        Outcome::Failed
+    } else if calls < COPYING_SYNCED {
+        Outcome::Doubt
+    } else {
+        Outcome::Published
+    };
+    // COPYING that is not synced may be left or not.
+    let least = if kind == 0 {
+        COPYING_SYNCED
+    } else {
+        COPYING_WRITTEN
+    };
+    let held = if calls < least { ABSENT } else { WHOLE };
+    (passed(outcome), answers(outcome), held)
+}
+
 #[test]
 fn a_pass_that_is_stopped_is_whole_or_absent(rt: HostRuntime) -> Result<(), Fail> {
-    let absent = heap(0, 0, 0, 0);
-    let whole = heap(1, 1, 1, 3);
     for kind in 0..3 {
         for calls in 0..ALL + 1 {
-            let outcome = if calls + 1 < COPYING_WRITTEN {
-                Outcome::Failed
-            } else if calls < COPYING_SYNCED {
-                Outcome::Doubt
-            } else {
-                Outcome::Published
-            };
-            // COPYING that is not synced may be left or not.
-            let least = if kind == 0 {
-                COPYING_SYNCED
-            } else {
-                COPYING_WRITTEN
-            };
-            let want = if calls < least { absent } else { whole };
-            assert_eq!(rt;
-                run_once(&rt, &[], OPENING + calls, kind)?,
-                (passed(outcome), answers(outcome), want),
-                "after {calls} calls"
-            );
+            let once = run_once(&rt, &[], OPENING + calls, kind)?;
+            let same = once == stopped_after(calls, kind);
+            right("stopped after calls", calls as usize, same)?;
         }
     }
     Ok(())
 }
 
-/// Runs a pass with that fault, which leaves this phase, and then one that is no more hindered, with
-/// one call. Its answer is `want`, and its heap is told.
-fn run_both<R: Wait + Abort + AllocGlobal>(
-    rt: &R,
-    fault: Trip,
-    outcome: Outcome,
-    kind: u64,
-) -> Result<(Option<Updated<Reply>>, u64, (Answer, u64)), Fail> {
+/// How two passes end, what the call of the second is told, the count and the phase then, and what is
+/// opened.
+type Both = (Passed, Passed, Option<Updated<Reply>>, u64, Phase, Held);
+
+/// Runs a pass with that fault, and then one that is no more hindered, with one call.
+fn run_both<R: Wait + AllocGlobal>(rt: &R, fault: Trip, kind: u64) -> Result<Both, Fail> {
     let alloc = rt.alloc();
     let (mut core, shared, (mut first, mut second, mut third)) = seated_on(
         alloc,
         device(alloc, 0, &[fault])?,
     )?;
     post_three(&shared, &mut first, &mut second, &mut third);
-    assert_eq!(rt; core.pass(rt, &shared, &NoGate), passed(outcome));
+    let hindered = core.pass(rt, &shared, &NoGate);
     take_three(&shared, &mut first, &mut second, &mut third)?;
     post_call(&shared, &mut first, Call::Enq(7));
-    let want = Passed {
+    let free = core.pass(rt, &shared, &NoGate);
+    let told = take_told(&shared, &mut first)?;
+    let count = read_count(&shared, &mut second);
+    let (twin, _writer) = core.into_parts();
+    let phase = twin.phase();
+    let held = left(alloc, twin.into_device(), kind)?;
+    Ok((hindered, free, told, count, phase, held))
+}
+
+/// What comes of both passes of a row.
+fn repaired(fault: &Fault) -> Both {
+    let (_, outcome, _, place, held) = *fault;
+    let free = Passed {
         found: 1,
         done: 1,
         outcome: Outcome::Published,
     };
-    assert_eq!(rt; core.pass(rt, &shared, &NoGate), want);
-    let told = take_told(&shared, &mut first)?;
-    let count = read_count(&shared, &mut second);
-    let (twin, _writer) = core.into_parts();
-    assert_eq!(rt; twin.phase(), Phase::Clean);
-    Ok((told, count, left(alloc, twin.into_device(), kind)?))
+    let told = Some(Updated::Done(Reply::Queued, place));
+    (
+        passed(outcome),
+        free,
+        told,
+        place.saturating_add(1),
+        Phase::Clean,
+        held,
+    )
 }
 
 #[test]
 fn a_fault_is_answered_and_repaired_by_the_next_pass(rt: HostRuntime) -> Result<(), Fail> {
-    let absent = heap(0, 0, 0, 0);
-    let whole = heap(1, 1, 1, 3);
-    let kept = heap(1, 0, 0, 1);
-    let more = heap(2, 1, 1, 4);
-    let either = [absent, whole, whole];
-    // The faults in the order of a pass's calls: writes of the state's word, of main and of back, and syncs,
-    // the first of which is the opening's; the images that a stop leaves by each choice; and the next
-    // call's place and the heap after it.
-    let rows = [
-        (write(3, 4, 1), Outcome::Failed, [absent; 3], 0, kept),
-        (
-            every_trip(CallKind::Sync, 2),
-            Outcome::Failed,
-            [absent; 3],
-            0,
-            kept,
-        ),
-        (write(8, 120, 9), Outcome::Failed, [absent; 3], 0, kept),
-        (
-            every_trip(CallKind::Sync, 3),
-            Outcome::Failed,
-            [absent; 3],
-            0,
-            kept,
-        ),
-        (write(3, 4, 2), Outcome::Doubt, either, 0, kept),
-        (
-            every_trip(CallKind::Sync, 4),
-            Outcome::Doubt,
-            either,
-            0,
-            kept,
-        ),
-        (write(120, 232, 9), Outcome::Published, [whole; 3], 3, more),
-        (
-            every_trip(CallKind::Sync, 5),
-            Outcome::Published,
-            [whole; 3],
-            3,
-            more,
-        ),
-        (write(3, 4, 3), Outcome::Published, [whole; 3], 3, more),
-    ];
-    for (fault, outcome, images, place, after) in rows {
-        for kind in 0..3 {
-            let once = run_once(&rt, &[fault], AMPLE, kind)?;
-            let want = (passed(outcome), answers(outcome), images[kind as usize]);
-            assert_eq!(rt; once, want);
-            let told = Some(Updated::Done(Reply::Queued, place));
-            let found = run_both(&rt, fault, outcome, kind)?;
-            assert_eq!(rt; found, (told, place + 1, after));
+    for (row, fault) in FAULTS.iter().enumerate() {
+        let (trip, outcome, images, _, _) = *fault;
+        for (kind, image) in images.iter().enumerate() {
+            let kind = kind as u64;
+            let once = run_once(&rt, &[trip], AMPLE, kind)?;
+            let same = once == (passed(outcome), answers(outcome), *image);
+            right("hindered", row, same)?;
+            right(
+                "repaired",
+                row,
+                run_both(&rt, trip, kind)? == repaired(fault),
+            )?;
         }
     }
     Ok(())

@@ -6,7 +6,7 @@ use crate::heaps::{OPENING, device};
 use rom_combine::{NoGate, Outcome, Passed};
 use rom_device::{CallKind, Device, every_trip};
 use rom_model::{Reply, Updated};
-use rom_test::{Holding, Roll};
+use rom_test::{Holding, Roll, right};
 use rom_twin::Phase;
 use std::test::Fail;
 
@@ -19,6 +19,25 @@ const FIRST: u64 = 7 + 7 + 3 + 4;
 
 /// The count at which no update is done any more.
 const LAST: u64 = 4_611_686_018_427_387_904;
+
+/// How a pass ends that does the three calls, and one that finds none.
+const THREE_DONE: Passed = Passed {
+    found: 3,
+    done: 3,
+    outcome: Outcome::Published,
+};
+
+const NONE_FOUND: Passed = Passed {
+    found: 0,
+    done: 0,
+    outcome: Outcome::Nothing,
+};
+
+const TOLD: [Option<Updated<Reply>>; 3] = [
+    Some(Updated::Done(Reply::Queued, 0)),
+    Some(Updated::Done(Reply::Added, 1)),
+    Some(Updated::Done(Reply::NoPrior, 2)),
+];
 
 #[test]
 fn a_pass_does_the_posted_calls_and_answers_each(rt: HostRuntime) -> Result<(), Fail> {
@@ -36,62 +55,56 @@ fn a_pass_does_the_posted_calls_and_answers_each(rt: HostRuntime) -> Result<(), 
     post_three(&shared, &mut first, &mut second, &mut third);
     let passed = core.pass(&rt, &shared, &gate);
     let told = take_three(&shared, &mut first, &mut second, &mut third)?;
-    let want = Passed {
-        found: 3,
-        done: 3,
-        outcome: Outcome::Published,
-    };
-    assert_eq!(rt; passed, want);
-    assert_eq!(rt; told[0], Some(Updated::Done(Reply::Queued, 0)));
-    assert_eq!(rt; told[1], Some(Updated::Done(Reply::Added, 1)));
-    assert_eq!(rt; told[2], Some(Updated::Done(Reply::NoPrior, 2)));
-    assert_eq!(rt; read_count(&shared, &mut second), 3);
-
+    let count = read_count(&shared, &mut second);
     // The next one finds nothing.
-    let passed = core.pass(&rt, &shared, &gate);
-    let want = Passed {
-        found: 0,
-        done: 0,
-        outcome: Outcome::Nothing,
-    };
-    assert_eq!(rt; passed, want);
-    assert_eq!(rt;
-        (gate.published_batches(), gate.differs(false, 3)),
-        (1, None)
-    );
+    let again = core.pass(&rt, &shared, &gate);
     let (twin, _writer) = core.into_parts();
-    assert_eq!(rt; twin.phase(), Phase::Clean);
+    let phase = twin.phase();
     let memory = twin.into_device();
-    assert_eq!(rt; memory.fault_count(), 0);
-    assert_eq!(rt; memory.calls_made(), OPENING + THREE);
+    let (faults, calls) = (memory.fault_count(), memory.calls_made());
+    if let Some(what) = gate.differs(false, 3) {
+        return Err(what.into());
+    }
+    assert!(rt; (passed, again) == (THREE_DONE, NONE_FOUND));
+    assert!(rt; told == TOLD);
+    assert!(rt; (count, phase) == (3, Phase::Clean));
+    assert!(rt; (faults, calls) == (0, OPENING + THREE));
+    assert!(rt; gate.published_batches() == 1);
     Ok(())
 }
+
+const SPENT: Option<Updated<Reply>> = Some(Updated::Spent);
+
+/// How many calls are done, the count before, and what the first call is told.
+const LIMITS: [(u32, u64, Option<Updated<Reply>>); 2] = [
+    (1, LAST - 1, Some(Updated::Done(Reply::Queued, LAST - 1))),
+    (0, LAST, SPENT),
+];
 
 #[test]
 fn calls_at_the_limit_of_the_count_are_answered_as_spent(rt: HostRuntime) -> Result<(), Fail> {
     let alloc = rt.alloc();
-    let first_done = Some(Updated::Done(Reply::Queued, LAST - 1));
-    let spent = Some(Updated::Spent);
-    // How many calls are done, the count before, and what the first call is told.
-    for (done, count, answer) in [(1u32, LAST - 1, first_done), (0, LAST, spent)] {
+    for (row, (done, count, answer)) in LIMITS.iter().enumerate() {
         let (mut core, shared, (mut first, mut second, mut third)) = seated_on(
             alloc,
-            device(alloc, count, &[])?,
+            device(alloc, *count, &[])?,
         )?;
         post_three(&shared, &mut first, &mut second, &mut third);
         let passed = core.pass(&rt, &shared, &NoGate);
         let told = take_three(&shared, &mut first, &mut second, &mut third)?;
+        let last = read_count(&shared, &mut third);
+        let (twin, _writer) = core.into_parts();
+        let calls = twin.into_device().calls_made();
         let want = Passed {
             found: 3,
-            done,
+            done: *done,
             outcome: Outcome::Published,
         };
-        assert_eq!(rt; passed, want);
-        assert_eq!(rt; told, [answer, spent, spent]);
-        assert_eq!(rt; read_count(&shared, &mut third), LAST);
-        let (twin, _writer) = core.into_parts();
-        let memory = twin.into_device();
-        assert_eq!(rt; memory.calls_made(), OPENING + u64::from(done) * FIRST);
+        right("passed", row, passed == want)?;
+        right("told", row, told == [*answer, SPENT, SPENT])?;
+        right("count", row, last == LAST)?;
+        let needs = if *done == 1 { FIRST } else { 0 };
+        right("calls", row, calls == OPENING + needs)?;
     }
     Ok(())
 }
