@@ -22,7 +22,7 @@ use Rattle.rom_store.specs.Closing.{kept_in}
 use Rattle.rom_store.specs.Indexed.{Indexed}
 use Rattle.rom_store.specs.Sessions.{EachStory, IsStoryOf, SessionSeen}
 use Rattle.bank.specs.Moved.{IsMove, moved_in}
-use Rattle.bank.specs.Promise.{IsBalanced, IsTallyOf, total_after}
+use Rattle.bank.specs.Promise.{IsTallyOf, KeepsTotal, total_after}
 use Rattle.bank.specs.Tellers.{IsTeller}
 use Rattle.bank.specs.declared.bank.Tally.{Tally}
 use Rattle.bank.specs.declared.bank.Teller.{Teller}
@@ -164,7 +164,7 @@ module _ (table : TableId) (base : Base) (session : SessionSeen) (put_in : ℕ) 
         let (at, past, seen, front, total, of) = ((teller.reads i (four_of t teller i (slice_index_or t.tally.reads i d) there)).1 (slice_index_or t.tally.reads i d) there).state story.opening story.opening_count (at_opening story is) in
         total ∙ at_order at ∙ stays at past (starts_further at t.pass.view.seen story.history seen kept.seen)
 
-    pub balance : IsBalanced put_in story
+    pub balance : KeepsTotal put_in story
     balance = record {
       first = first;
       rest = starts.0;

@@ -29,7 +29,7 @@ abbrev pub HasBegunWith : ℕ → State → ℕ → Story State → Type 0
 HasBegunWith n s k story = (story.order ≡ n) × (story.opening ≡ s) × (story.opening_count ≡ k)
 
 -- The first updates are the manager's, who is caller 5, and behind them there are moves alone. From there on the total in each state is what was put in.
-pub record IsBalanced (put_in : ℕ) (story : Story State) : Type 0 where
+pub record KeepsTotal (put_in : ℕ) (story : Story State) : Type 0 where
   pub first : List Entry
   pub rest : List Entry
   pub split : story.history ≡ first ++ rest

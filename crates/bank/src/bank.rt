@@ -20,7 +20,7 @@ ghost use Rattle.rom_store.specs.Indexed.{Indexed};
 ghost use Rattle.rom_store.specs.Sessions.{EachStory, HasStory};
 ghost use Rattle.rom_store.specs.Start.{device_start};
 ghost use Rattle.bank.specs.Moved.{is_told_moved};
-ghost use Rattle.bank.specs.Promise.{HasBegunWith, IsBalanced, IsTallyOf, total_after};
+ghost use Rattle.bank.specs.Promise.{HasBegunWith, IsTallyOf, KeepsTotal, total_after};
 ghost use Rattle.bank.specs.Tellers.{IsAfter, IsTeller};
 
 use rom_device::Device;
@@ -205,7 +205,7 @@ fn bank<D: Device + Send, N: Label + Send + Sync, R: Threads + Wait + Sync>(
     ensures story { HasStory trio Contents result.closed.session }
     ensures closed { EachStory trio Contents result.closed.session (λ story.
         IsClosed trio story 5) }
-    ensures balanced { EachStory trio Contents result.closed.session (IsBalanced result.put_in) }
+    ensures balanced { EachStory trio Contents result.closed.session (KeepsTotal result.put_in) }
     ensures tallies { EachStory trio Contents result.closed.session (λ story.
         Indexed (λ i tally. IsTallyOf story (i + 1) tally) result.tallies) }
     ensures reads { All (λ tally. All (λ read. read.0 ≡ result.put_in) tally.reads) result.tallies }
@@ -335,7 +335,7 @@ pub fn run_bank<D: Device + Send, R: Threads + Wait + Sync + AllocGlobal>(
     // Behind what the manager has paid in there are moves alone, and the total stays. Without this clause the
     // manager might empty the accounts between two reads and fill them again: each other clause would hold.
     ensures balanced { IfOk result (λ books.
-        EachStory trio Contents books.closed.session (IsBalanced books.put_in)) }
+        EachStory trio Contents books.closed.session (KeepsTotal books.put_in)) }
 
     // Each teller has tried its moves, and tells how many were made and what it read in between.
     ensures tallies { IfOk result (λ books. EachStory trio Contents books.closed.session (λ story.

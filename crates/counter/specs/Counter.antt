@@ -16,14 +16,14 @@ abbrev pub counter_sum : ℕ → ℕ → ℕ
 counter_sum s amount = min (s + amount) (2 ^ 64 - 1)
 
 -- the call that a list of one word stands for; a list of any other length is no call
-abbrev pub words_add : List ℕ → Option Add
-words_add (amount ∷ []) = Some (record { amount = amount })
-words_add words = None
+abbrev pub add_from_words : List ℕ → Option Add
+add_from_words (amount ∷ []) = Some (record { amount = amount })
+add_from_words words = None
 
 -- the reply that a list of one word stands for; a list of any other length is no reply
-abbrev pub words_sum : List ℕ → Option Sum
-words_sum (value ∷ []) = Some (record { value = value })
-words_sum words = None
+abbrev pub sum_from_words : List ℕ → Option Sum
+sum_from_words (value ∷ []) = Some (record { value = value })
+sum_from_words words = None
 
 -- adding tells the sum after it, and a query the sum as it is, by one load
 abbrev pub counter : Machine ℕ Add Query Sum Sum
@@ -34,9 +34,9 @@ counter = record {
   tell = λ s query. record { value = s };
   cost = λ order s query. 1;
   call_words = λ call. call.amount ∷ [];
-  words_call = words_add;
+  words_call = add_from_words;
   reply_words = λ reply. reply.value ∷ [];
-  words_reply = words_sum;
+  words_reply = sum_from_words;
 }
 
 -- the kind, the sum and the count stand in the first three words of a region

@@ -3,7 +3,7 @@ ghost use Rattle.std.specs.Prelude.{◌≡◌, ℕ, ◌<◌, Option, Some};
 ghost use Rattle.rom_model.specs.Blocks.{region_len};
 ghost use Rattle.rom_model.specs.Earlier.{no_earlier};
 ghost use Rattle.counter.specs.Counter.{CounterContents, RejectsCounter, counter};
-ghost use Rattle.counter.specs.Laws.{call_only, contents_within, one_contents, reply_back, reply_few, reply_only};
+ghost use Rattle.counter.specs.Laws.{counter_call_only, counter_contents_within, counter_reply_back, counter_reply_few, counter_reply_only, one_counter_contents};
 
 use rom_model::{Args, Back, COUNT, KIND, LAST_COUNT, Look, Object, Rule, Space, Unfit};
 use std::alloc::Global;
@@ -143,15 +143,15 @@ impl Object for Counter {
         Ok(())
     }
 
-    ghost call_only = { call_only };
+    ghost call_only = { counter_call_only };
 
-    ghost reply_back = { reply_back };
+    ghost reply_back = { counter_reply_back };
 
-    ghost reply_only = { reply_only };
+    ghost reply_only = { counter_reply_only };
 
-    ghost reply_few = { reply_few };
+    ghost reply_few = { counter_reply_few };
 
-    ghost one_contents = { one_contents };
+    ghost one_contents = { one_counter_contents };
 
-    ghost contents_within = { contents_within };
+    ghost contents_within = { counter_contents_within };
 }

@@ -13,7 +13,7 @@ use Rattle.rom_model.specs.declared.call.Updated.TheVariants as told
 use Rattle.rom_model.specs.History.{after}
 use Rattle.rom_model.specs.Passes.{batch_told, fate_told}
 use Rattle.rom_announce.specs.Answering.{HasRecord, undone}
-use Rattle.rom_rule.specs.CallKinds.{CanMakeRecord, IsAnswer, IsPending, altered, begun_answer, laying}
+use Rattle.rom_rule.specs.CallKinds.{CanMakeRecord, IsAnswerToRequest, IsPending, altered, begun_answer, laying}
 use Rattle.rom_rule.specs.Calls.{answer_words, found_of, packed}
 use Rattle.rom_rule.specs.Kinds.{making, planned}
 use Rattle.rom_rule.specs.Places.{slot_at}
@@ -59,16 +59,16 @@ module _ {S : Type 0} (Contents : ℕ → List ℕ → S → ℕ → Type 0) (st
 
     -- what the record tells a call of such a pass
     pub answer_in : (q : Plan) (c : ℕ) (f : Request) (place : ℕ) (reply : List ℕ) → HasRecord Contents step b p q fate before now → IsPending p c f
-        → (is_made p.mine ≡ true → (u : Updated (List ℕ)) × IsAnswer p f u × (answer_words u ≡ place ∷ packed reply))
+        → (is_made p.mine ≡ true → (u : Updated (List ℕ)) × IsAnswerToRequest p f u × (answer_words u ≡ place ∷ packed reply))
         → (is_made p.mine ≡ false → CanMakeRecord Contents step b p fate before now × (answer_words (undone fate) ≡ place ∷ packed reply))
-        → (u : Updated (List ℕ)) × IsAnswer q f u × (answer_words u ≡ place ∷ packed reply)
+        → (u : Updated (List ℕ)) × IsAnswerToRequest q f u × (answer_words u ≡ place ∷ packed reply)
     answer_in q c f place reply h pending made unmade = by_record (is_made p.mine) refl
       where
-        by_record : (t : Bool) → is_made p.mine ≡ t → (u : Updated (List ℕ)) × IsAnswer q f u × (answer_words u ≡ place ∷ packed reply)
-        by_record true e = let m = made e in (m.0, subst (λ (z : Plan). IsAnswer z f m.0) (sym (h.0 e)) m.1, m.2)
+        by_record : (t : Bool) → is_made p.mine ≡ t → (u : Updated (List ℕ)) × IsAnswerToRequest q f u × (answer_words u ≡ place ∷ packed reply)
+        by_record true e = let m = made e in (m.0, subst (λ (z : Plan). IsAnswerToRequest z f m.0) (sym (h.0 e)) m.1, m.2)
         by_record false e = let g = h.1 e in let m = unmade e in let can = m.0 in let batched = g.2 can.start can.count can.opening in
             let none : fate ≡ Published → g.1 ≡ [] = (λ is. batched.1 ∙ full_batch step b.order (after step b.order can.start can.count p.history) g.0 (map found_of p.requests) (batched.0 ∙ can.full is)) in
-            (undone fate, subst (λ (z : Plan). IsAnswer z f (undone fate)) (sym g.4) (g.3 pending.0 f (found_of f, undone fate) pending.1 (undone_told g.0 g.1 pending.0 f none pending.1)), m.1)
+            (undone fate, subst (λ (z : Plan). IsAnswerToRequest z f (undone fate)) (sym g.4) (g.3 pending.0 f (found_of f, undone fate) pending.1 (undone_told g.0 g.1 pending.0 f none pending.1)), m.1)
 
   -- the first word of an answer
   pub begun_plan : (fate : Fate) (before now c : ℕ) (st : Step ℕ) (m m' : Seated) (found : ℕ) → 0 < c → st.word ≡ slot_at m.0.base.callers c 43 → begun_answer Contents step fate before now st m found m'

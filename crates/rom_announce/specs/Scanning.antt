@@ -1,7 +1,7 @@
 -- What the writer's scan asks for and leaves.
 use Rattle.std.specs.Prelude.{◌≡◌, ◌≢◌, ℕ, List, ◌==◌, if◌then◌else◌}
 use Rattle.rom_lr.specs.Seats.{plan}
-use Rattle.rom_lr.specs.Writing.{Writes}
+use Rattle.rom_lr.specs.Writing.{SetsPlan}
 use Rattle.rom_lr.specs.declared.seats.WriterSeat.{WriterSeat}
 use Rattle.rom_rule.specs.CallKinds.{CanBegin, CanScan, altered, beginning}
 use Rattle.rom_rule.specs.Calls.{packed}
@@ -22,4 +22,4 @@ with_words words f = record f { words = words }
 
 -- All words of this caller's call are loaded, and they are these. Nothing else changes but the number of the writer's steps.
 abbrev pub HasLoaded : WriterSeat → WriterSeat → ℕ → List ℕ → Type 0
-HasLoaded s t caller words = Writes s t (altered caller (with_words (packed words)) (plan s))
+HasLoaded s t caller words = SetsPlan s t (altered caller (with_words (packed words)) (plan s))

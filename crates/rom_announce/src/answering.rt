@@ -3,9 +3,9 @@ ghost use Rattle.std.specs.Prelude.{◌≡◌, ℕ, ◌+◌, ◌<◌, ◌≤◌,
 ghost use Rattle.rom_model.specs.Machine.{on_words};
 ghost use Rattle.rom_model.specs.declared.call.Updated.{Updated};
 ghost use Rattle.rom_model.specs.declared.words.TheConstants.{REPLY_WORDS};
-ghost use Rattle.rom_announce.specs.Answering.{AltersRecorded, CanAnswer, answered_with, fate_of, with_reply};
+ghost use Rattle.rom_announce.specs.Answering.{AltersRecorded, CanAnswer, answered_with, fate_of_place, with_reply};
 ghost use Rattle.rom_lr.specs.Seats.{IsWriterOf, plan, steps_of, writer_view};
-ghost use Rattle.rom_lr.specs.Writing.{Writes};
+ghost use Rattle.rom_lr.specs.Writing.{SetsPlan};
 ghost use Rattle.rom_rule.specs.CallKinds.{CanFinish, CanMakeRecord, IsPending, altered, answering, laying, placing};
 ghost use Rattle.rom_rule.specs.Calls.{packed};
 ghost use Rattle.rom_rule.specs.Views.{is_made, plan_of};
@@ -43,7 +43,7 @@ pub fn answer<O: Object>(
         place reply.now before after }
     // The pass then has its record, and the call is answered with this place and reply.
     ensures answered { AltersRecorded O.Contents (on_words O.machine) seat.old seat.new caller
-        (answered_with place (packed reply.now)) (fate_of place) before after }
+        (answered_with place (packed reply.now)) (fate_of_place place) before after }
     ensures steps { steps_of seat.new ≡ steps_of seat.old + length reply.now + 3 }
 {
     begin::<O, Brand>(shared, seat, caller, reply.len(), place, before, after);
@@ -63,15 +63,15 @@ fn begin<O: Object, N: PassEnd>(
     before: u64,
     after: u64,
 )
-    requires picked { (N.before ≡ before) × (N.after ≡ after) × (N.fate ≡ fate_of place) }
+    requires picked { (N.before ≡ before) × (N.after ≡ after) × (N.fate ≡ fate_of_place place) }
     requires of { IsWriterOf shared.now seat.old }
     requires within { (1 ≤ caller) × (caller ≤ shared.now.layout.callers) }
     requires found { (f : Request) × IsPending (plan seat.old) caller f }
     requires can { let v = writer_view seat.old in is_made (plan_of v).mine ≡ false →
         CanMakeRecord O.Contents (on_words O.machine) v.base (plan_of v)
-        (fate_of place) before after }
+        (fate_of_place place) before after }
     ensures begun { AltersRecorded O.Contents (on_words O.machine) seat.old seat.new caller
-        (laying 0 count) (fate_of place) before after }
+        (laying 0 count) (fate_of_place place) before after }
     ensures step { steps_of seat.new ≡ steps_of seat.old + 1 }
 {
     let at = shared.layout.slot(caller, REPLY) as usize;
@@ -87,7 +87,7 @@ fn store_reply<O: Object>(shared: &Shared<O>, seat: &mut WriterSeat, caller: u32
         × (length reply.now ≤ REPLY_WORDS) }
     requires found { (p : Plan) × (f : Request) × IsPending p caller f
         × (plan seat.old ≡ altered caller (with_reply (length reply.now ∷ [])) p) }
-    ensures stored { Writes seat.old seat.new (altered caller (with_reply (packed reply.now))
+    ensures stored { SetsPlan seat.old seat.new (altered caller (with_reply (packed reply.now))
         (plan seat.old)) }
     ensures steps { steps_of seat.new ≡ steps_of seat.old + length reply.now }
 {
@@ -101,7 +101,7 @@ fn store_word<O: Object>(shared: &Shared<O>, seat: &mut WriterSeat, caller: u32,
     requires of { IsWriterOf shared.now seat.old }
     requires within { (1 ≤ caller) × (caller ≤ shared.now.layout.callers) × (j < REPLY_WORDS + 1) }
     requires found { (f : Request) × IsPending (plan seat.old) caller f × (j ≤ length f.laid) }
-    ensures stored { Writes seat.old seat.new (altered caller (laying j word) (plan seat.old)) }
+    ensures stored { SetsPlan seat.old seat.new (altered caller (laying j word) (plan seat.old)) }
     ensures step { steps_of seat.new ≡ steps_of seat.old + 1 }
 {
     let at = shared.layout.slot(caller, REPLY + j) as usize;
@@ -115,7 +115,7 @@ fn store_place<O: Object>(shared: &Shared<O>, seat: &mut WriterSeat, caller: u32
     requires of { IsWriterOf shared.now seat.old }
     requires within { (1 ≤ caller) × (caller ≤ shared.now.layout.callers) }
     requires found { (f : Request) × IsPending (plan seat.old) caller f }
-    ensures stored { Writes seat.old seat.new (altered caller (placing place) (plan seat.old)) }
+    ensures stored { SetsPlan seat.old seat.new (altered caller (placing place) (plan seat.old)) }
     ensures step { steps_of seat.new ≡ steps_of seat.old + 1 }
 {
     let at = shared.layout.slot(caller, PLACE) as usize;
@@ -131,7 +131,7 @@ fn finish<O: Object>(shared: &Shared<O>, seat: &mut WriterSeat, caller: u32)
     requires within { (1 ≤ caller) × (caller ≤ shared.now.layout.callers) }
     requires found { (f : Request) × (u : Updated (List ℕ)) × (place : ℕ) × (f.caller ≡ caller)
         × CanFinish (plan seat.old) f u place }
-    ensures answered { Writes seat.old seat.new (altered caller answering (plan seat.old)) }
+    ensures answered { SetsPlan seat.old seat.new (altered caller answering (plan seat.old)) }
     ensures step { steps_of seat.new ≡ steps_of seat.old + 1 }
 {
     let at = shared.layout.slot(caller, TURN) as usize;

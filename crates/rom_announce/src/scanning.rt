@@ -4,7 +4,7 @@ ghost use Rattle.rom_model.specs.Machine.{on_words};
 ghost use Rattle.rom_model.specs.declared.words.TheConstants.{CALL_WORDS};
 ghost use Rattle.rom_announce.specs.Scanning.{HasLoaded, MayScan, scanned_from, with_words};
 ghost use Rattle.rom_lr.specs.Seats.{IsWriterOf, plan, steps_of, writer_view};
-ghost use Rattle.rom_lr.specs.Writing.{Writes};
+ghost use Rattle.rom_lr.specs.Writing.{SetsPlan};
 ghost use Rattle.rom_rule.specs.CallKinds.{IsPending, altered, found_after, loading};
 ghost use Rattle.rom_rule.specs.Calls.{packed};
 ghost use Rattle.rom_rule.specs.Records.{IsCall};
@@ -27,7 +27,7 @@ pub fn posted<O: Object>(shared: &Shared<O>, seat: &mut WriterSeat, caller: u32)
     // The result is whether the turn that was loaded is odd. Where it is, the call is found. Either way the
     // caller counts as scanned in this pass.
     ensures scanned { (turn : ℕ) × (result ≡ (turn % 2 == 1))
-        × Writes seat.old seat.new (found_after caller turn (scanned_from caller (plan seat.old))) }
+        × SetsPlan seat.old seat.new (found_after caller turn (scanned_from caller (plan seat.old))) }
     ensures step { steps_of seat.new ≡ steps_of seat.old + 1 }
 {
     let table = &shared.table.shared;
@@ -85,7 +85,7 @@ fn load_argument<O: Object>(shared: &Shared<O>, seat: &mut WriterSeat, caller: u
     ensures call { (f : Request) (args : List ℕ) → IsPending (plan seat.old) caller f →
         take j f.words ++ result ∷ [] ≡ packed args →
         IsCall (on_words O.machine) (writer_view seat.old).base args }
-    ensures loaded { Writes seat.old seat.new (altered caller (loading j result) (plan seat.old)) }
+    ensures loaded { SetsPlan seat.old seat.new (altered caller (loading j result) (plan seat.old)) }
     ensures step { steps_of seat.new ≡ steps_of seat.old + 1 }
 {
     let at = shared.layout.slot(caller, CALL + j) as usize;

@@ -1,7 +1,7 @@
 //! Calls on a heap of order 16 in memory, half of which is in use, for their instructions to be counted.
 ghost use Rattle.std.specs.Prelude.{ℕ, ◌≤◌, ◌<◌, ◌+◌, ◌^◌};
 ghost use Rattle.rom_model.specs.History.{LAST_COUNT};
-ghost use Rattle.rom_model.specs.VecSpace.{words_of};
+ghost use Rattle.rom_model.specs.VecSpace.{words_of_space};
 ghost use Rattle.rom_bench.specs.Holds.{HoldsAtMost};
 
 use rom_heap::Trio;
@@ -152,8 +152,8 @@ fn is_found(answer: Answer) -> bool {
 
 /// Makes one call, and tells whether it was done.
 fn call(space: &mut VecSpace, step: Step<Call, Query>) -> bool
-    requires region { (n : ℕ) × HoldsAtMost (words_of space.old) n × (n < LAST_COUNT) }
-    ensures region { (n : ℕ) → HoldsAtMost (words_of space.old) n → HoldsAtMost (words_of space.new) (n + 1) }
+    requires region { (n : ℕ) × HoldsAtMost (words_of_space space.old) n × (n < LAST_COUNT) }
+    ensures region { (n : ℕ) → HoldsAtMost (words_of_space space.old) n → HoldsAtMost (words_of_space space.new) (n + 1) }
 {
     match step {
         Step::Update(call) => is_done(Trio::apply(space, ORDER, &call)),
@@ -164,10 +164,10 @@ fn call(space: &mut VecSpace, step: Step<Call, Query>) -> bool
 
 /// Makes the calls of these numbers, and tells how many of them were done.
 fn call_all(space: &mut VecSpace, calls: Calls, from: u64, to: u64) -> u64
-    requires region { HoldsAtMost (words_of space.old) from }
+    requires region { HoldsAtMost (words_of_space space.old) from }
     requires forward { from ≤ to }
     requires most { to ≤ LAST_COUNT }
-    ensures region { HoldsAtMost (words_of space.new) to }
+    ensures region { HoldsAtMost (words_of_space space.new) to }
 {
     let mut done = 0u64;
     for number in from..to {

@@ -2,12 +2,12 @@
 //! caller posts a call, and after it takes the answer, by the calls with which a store does.
 ghost use Rattle.std.specs.Prelude.{◌≡◌, ℕ, All, IfOk, IfSome, false, length, true};
 ghost use Rattle.rom_combine.specs.AtRest.{IsCoreOf, IsReady};
-ghost use Rattle.rom_lr.specs.Opening.{AreNew, IsNew, dealt_view};
+ghost use Rattle.rom_lr.specs.Opening.{AreNewSeats, IsNewSeat, dealt_view};
 ghost use Rattle.rom_lr.specs.Seats.{IsAnswered, IsPosted, IsSeatOf, IsWriterOf, opened_with, writer_view};
 ghost use Rattle.rom_model.specs.Blocks.{region_len};
 ghost use Rattle.rom_model.specs.Region.{Contents};
 ghost use Rattle.rom_model.specs.State.{empty};
-ghost use Rattle.rom_model.specs.VecSpace.{words_of};
+ghost use Rattle.rom_model.specs.VecSpace.{words_of_space};
 
 use crate::stores::{ORDER, WORDS};
 use rom_announce::{answered, post_words, take_into};
@@ -36,7 +36,7 @@ pub struct Poster {
 impl Poster {
     /// A caller at its new seat.
     fn of(shared: &Shared<Trio>, seat: Seat) -> Poster
-        requires new { (number : ℕ) × IsNew shared.now number seat }
+        requires new { (number : ℕ) × IsNewSeat shared.now number seat }
         ensures of { IsSeatOf shared.now result.seat }
     {
         Poster { seat, waits: false }
@@ -118,7 +118,7 @@ fn posters_of(
     shared: &Shared<Trio>,
     seats: Vec<Seat>,
 ) -> Result<Vec<Poster>, AllocError>
-    requires seats { AreNew shared.now seats.items }
+    requires seats { AreNewSeats shared.now seats.items }
     ensures of { IfOk result (λ posters. All (λ p. IsSeatOf shared.now p.seat) posters.items) }
 {
     let mut posters = Vec::with_capacity(alloc, seats.len())?;
@@ -131,7 +131,7 @@ fn posters_of(
 /// The heap on a new device, both of whose regions have the words of that one. It is `None` where none
 /// was made.
 fn twin_of(alloc: Global, region: &VecSpace) -> Result<Option<Twin<Ram>>, AllocError>
-    requires sized { length (words_of region.now) ≡ region_len 4 }
+    requires sized { length (words_of_space region.now) ≡ region_len 4 }
     ensures made { IfOk result (λ made. IfSome made (λ twin. (twin.phase ≡ Phase.Clean)
         × (twin.order ≡ 4))) }
 {

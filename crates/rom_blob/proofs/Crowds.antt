@@ -17,31 +17,31 @@ use Rattle.rom_blob_region.specs.declared.call.BlobReply.TheVariants.{Full}
 use Rattle.rom_blob_region.proofs.Bounding.{refused_bound}
 use Rattle.rom_blob_region.proofs.Ranges.{IsRanged, contents_ranged, step_ranged}
 use Rattle.rom_blob.specs.Blobs.{blobs}
-use Rattle.rom_blob.specs.Codes.{blob_reply_words, words_blob_call, words_blob_reply}
+use Rattle.rom_blob.specs.Codes.{blob_call_from_words, blob_reply_from_words, blob_reply_words}
 use Rattle.rom_blob.specs.Crowded.{IsFullWhereCrowded}
-use Rattle.rom_blob.specs.Tags.{reply_back}
+use Rattle.rom_blob.specs.Tags.{blob_reply_read_back}
 
 -- the words of a reply are of it alone
 full_only : (told : BlobReply) → blob_reply_words told ≡ blob_reply_words Full → told ≡ Full
-full_only told same = let both : Some told ≡ Some Full = sym (reply_back told) ∙ ap words_blob_reply same in cc
+full_only told same = let both : Some told ≡ Some Full = sym (blob_reply_read_back told) ∙ ap blob_reply_from_words same in cc
 
 module _ (n : ℕ) (le : 4 ≤ n) where
   -- the blocks after an update stand as those before
   left_ranged : (s : BlobState) (k : ℕ) (args : List ℕ) → IsRanged n s → IsRanged n (left s (on_words blobs n s k args))
-  left_ranged s k args ranged = go (words_blob_call args)
+  left_ranged s k args ranged = go (blob_call_from_words args)
     where
       go : (found : Option BlobCall) → IsRanged n (left s (option_map (λ call. let done = blob_step n s k call in (done.0, blob_reply_words done.1)) found))
       go None = ranged
       go (Some call) = step_ranged n s k call ranged
 
   -- an update that was told so
-  here_crowded : (s : BlobState) (k : ℕ) (entry : Entry) (call : BlobCall) → IsRanged n s → IsSomeAnd (on_words blobs n s k entry.args) (λ done. entry.reply ≡ done.1) → words_blob_call entry.args ≡ Some call → entry.reply ≡ blob_reply_words Full → MayRefuse n s call
+  here_crowded : (s : BlobState) (k : ℕ) (entry : Entry) (call : BlobCall) → IsRanged n s → IsSomeAnd (on_words blobs n s k entry.args) (λ done. entry.reply ≡ done.1) → blob_call_from_words entry.args ≡ Some call → entry.reply ≡ blob_reply_words Full → MayRefuse n s call
   here_crowded s k entry call ranged replied is full =
       let told : entry.reply ≡ blob_reply_words (blob_step n s k call).1 = subst (λ (found : Option BlobCall). IsSomeAnd {T = BlobState × List ℕ} (option_map (λ call. let done = blob_step n s k call in (done.0, blob_reply_words done.1)) found) (λ done. entry.reply ≡ done.1)) is replied in
       refused_bound n s le ranged k call (full_only (blob_step n s k call).1 (sym told ∙ full))
 
   -- behind some others
-  each_crowded : (before behind : List Entry) (entry : Entry) (call : BlobCall) (s : BlobState) (k : ℕ) → IsRanged n s → IsLegal (on_words blobs) n s k (before ++ entry ∷ behind) → words_blob_call entry.args ≡ Some call → entry.reply ≡ blob_reply_words Full → MayRefuse n (after (on_words blobs) n s k before) call
+  each_crowded : (before behind : List Entry) (entry : Entry) (call : BlobCall) (s : BlobState) (k : ℕ) → IsRanged n s → IsLegal (on_words blobs) n s k (before ++ entry ∷ behind) → blob_call_from_words entry.args ≡ Some call → entry.reply ≡ blob_reply_words Full → MayRefuse n (after (on_words blobs) n s k before) call
   each_crowded [] behind entry call s k ranged legal is full = here_crowded s k entry call ranged legal.0 is full
   each_crowded (e ∷ before) behind entry call s k ranged legal is full = each_crowded before behind entry call (left s (on_words blobs n s k e.args)) (k + 1) (left_ranged s k e.args ranged) legal.1 is full
 

@@ -5,7 +5,7 @@ use Rattle.rom_blob_region.specs.declared.call.BlobCall.{BlobCall}
 use Rattle.rom_blob_region.specs.declared.call.BlobQuery.{BlobQuery}
 use Rattle.rom_blob_region.specs.declared.call.BlobReply.{BlobReply}
 use Rattle.rom_blob_region.specs.declared.call.BlobAnswer.{BlobAnswer}
-use Rattle.rom_blob.specs.Codes.{blob_call_words, words_blob_call, blob_reply_words, words_blob_reply}
+use Rattle.rom_blob.specs.Codes.{blob_call_words, blob_call_from_words, blob_reply_words, blob_reply_from_words}
 
 -- each call has the weight 1
 abbrev pub blobs : Machine BlobState BlobCall BlobQuery BlobReply BlobAnswer
@@ -16,7 +16,7 @@ blobs = record {
   tell = blob_tell;
   cost = blob_cost;
   call_words = blob_call_words;
-  words_call = words_blob_call;
+  words_call = blob_call_from_words;
   reply_words = blob_reply_words;
-  words_reply = words_blob_reply;
+  words_reply = blob_reply_from_words;
 }

@@ -22,10 +22,10 @@ cut_call key [] = Some (Cut key)
 cut_call key (word ∷ words) = None
 
 -- the call that the words are those of
-abbrev pub words_blob_call : List ℕ → Option BlobCall
-words_blob_call [] = None
-words_blob_call (tag ∷ []) = None
-words_blob_call (tag ∷ key ∷ words) = if tag == 1 then set_blob_call key words else if tag == 2 then cut_call key words else None
+abbrev pub blob_call_from_words : List ℕ → Option BlobCall
+blob_call_from_words [] = None
+blob_call_from_words (tag ∷ []) = None
+blob_call_from_words (tag ∷ key ∷ words) = if tag == 1 then set_blob_call key words else if tag == 2 then cut_call key words else None
 
 -- the words of a reply
 abbrev pub blob_reply_words : BlobReply → List ℕ
@@ -35,8 +35,8 @@ blob_reply_words Full = 3 ∷ []
 blob_reply_words NoPrior = 4 ∷ []
 
 -- the reply that the words are those of
-abbrev pub words_blob_reply : List ℕ → Option BlobReply
-words_blob_reply [] = None
-words_blob_reply (tag ∷ []) = if tag == 1 then Some New else if tag == 3 then Some Full else if tag == 4 then Some NoPrior else None
-words_blob_reply (tag ∷ len ∷ []) = if tag == 2 then Some (Was len) else None
-words_blob_reply (tag ∷ len ∷ word ∷ words) = None
+abbrev pub blob_reply_from_words : List ℕ → Option BlobReply
+blob_reply_from_words [] = None
+blob_reply_from_words (tag ∷ []) = if tag == 1 then Some New else if tag == 3 then Some Full else if tag == 4 then Some NoPrior else None
+blob_reply_from_words (tag ∷ len ∷ []) = if tag == 2 then Some (Was len) else None
+blob_reply_from_words (tag ∷ len ∷ word ∷ words) = None

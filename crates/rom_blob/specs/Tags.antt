@@ -4,25 +4,25 @@ use Rattle.std.specs.Prelude.{◌==◌, slice_index, option_map, if◌then◌els
 use Rattle.std.proofs.lemmas.Bool.{eqb-true}
 use Rattle.rom_blob_region.specs.Bytes.{bytes_in, words_for, words_from_bytes}
 use Rattle.rom_blob_region.proofs.Reading.{bytes_again, bytes_only}
-use Rattle.rom_blob.specs.Codes.{blob_call_words, set_blob_call, cut_call, words_blob_call, blob_reply_words, words_blob_reply}
+use Rattle.rom_blob.specs.Codes.{blob_call_words, set_blob_call, cut_call, blob_call_from_words, blob_reply_words, blob_reply_from_words}
 use Rattle.rom_blob_region.specs.declared.call.BlobCall.{BlobCall}
 use Rattle.rom_blob_region.specs.declared.call.BlobCall.TheVariants.{Set, Cut}
 use Rattle.rom_blob_region.specs.declared.call.BlobReply.{BlobReply}
 use Rattle.rom_blob_region.specs.declared.call.BlobReply.TheVariants.{New, Was, Full, NoPrior}
 
 -- a call is read back from its words, where its bytes are bytes
-pub set_back : (key : ℕ) (bytes : List ℕ) → length bytes ≤ 256 → ((k : ℕ) → slice_index bytes k < 256) → words_blob_call (blob_call_words (Set key bytes)) ≡ Some (Set key bytes)
+pub set_back : (key : ℕ) (bytes : List ℕ) → length bytes ≤ 256 → ((k : ℕ) → slice_index bytes k < 256) → blob_call_from_words (blob_call_words (Set key bytes)) ≡ Some (Set key bytes)
 set_back key bytes few small = ap (option_map (Set key)) (bytes_again bytes few small)
 
 -- a call that takes a key out is read back from its words
-pub cut_back : (key : ℕ) → words_blob_call (blob_call_words (Cut key)) ≡ Some (Cut key)
+pub cut_back : (key : ℕ) → blob_call_from_words (blob_call_words (Cut key)) ≡ Some (Cut key)
 cut_back key = refl
 
 -- words that are read as a call are the words of that call
-pub call_only : (words : List ℕ) (call : BlobCall) → words_blob_call words ≡ Some call → blob_call_words call ≡ words
-call_only [] call is = absurd (let never : None ≡ Some call = is in cc)
-call_only (tag ∷ []) call is = absurd (let never : None ≡ Some call = is in cc)
-call_only (tag ∷ key ∷ rest) call is = by_tag (tag == 1) (tag == 2) refl refl is
+pub blob_call_only : (words : List ℕ) (call : BlobCall) → blob_call_from_words words ≡ Some call → blob_call_words call ≡ words
+blob_call_only [] call is = absurd (let never : None ≡ Some call = is in cc)
+blob_call_only (tag ∷ []) call is = absurd (let never : None ≡ Some call = is in cc)
+blob_call_only (tag ∷ key ∷ rest) call is = by_tag (tag == 1) (tag == 2) refl refl is
   where
     made : (x : BlobCall) → Some x ≡ Some call → blob_call_words x ≡ tag ∷ key ∷ rest → blob_call_words call ≡ tag ∷ key ∷ rest
     made x same its = let e : x ≡ call = cc in sym (ap blob_call_words e) ∙ its
@@ -49,16 +49,16 @@ call_only (tag ∷ key ∷ rest) call is = by_tag (tag == 1) (tag == 2) refl ref
     by_tag false false x y told = absurd (let never : None ≡ Some call = told in cc)
 
 -- a reply is read back from its words
-pub reply_back : (reply : BlobReply) → words_blob_reply (blob_reply_words reply) ≡ Some reply
-reply_back New = refl
-reply_back (Was len) = refl
-reply_back Full = refl
-reply_back NoPrior = refl
+pub blob_reply_read_back : (reply : BlobReply) → blob_reply_from_words (blob_reply_words reply) ≡ Some reply
+blob_reply_read_back New = refl
+blob_reply_read_back (Was len) = refl
+blob_reply_read_back Full = refl
+blob_reply_read_back NoPrior = refl
 
 -- words that are read as a reply are the words of that reply
-pub reply_only : (words : List ℕ) (reply : BlobReply) → words_blob_reply words ≡ Some reply → blob_reply_words reply ≡ words
-reply_only [] reply is = absurd (let never : None ≡ Some reply = is in cc)
-reply_only (tag ∷ []) reply is = by_tag (tag == 1) (tag == 3) (tag == 4) refl refl refl is
+pub blob_reply_only : (words : List ℕ) (reply : BlobReply) → blob_reply_from_words words ≡ Some reply → blob_reply_words reply ≡ words
+blob_reply_only [] reply is = absurd (let never : None ≡ Some reply = is in cc)
+blob_reply_only (tag ∷ []) reply is = by_tag (tag == 1) (tag == 3) (tag == 4) refl refl refl is
   where
     made : (x : BlobReply) (own : ℕ) → blob_reply_words x ≡ own ∷ [] → tag ≡ own → Some x ≡ Some reply → blob_reply_words reply ≡ tag ∷ []
     made x own its same told = let e : x ≡ reply = cc in sym (ap blob_reply_words e) ∙ its ∙ (λ i. sym same i ∷ [])
@@ -68,9 +68,9 @@ reply_only (tag ∷ []) reply is = by_tag (tag == 1) (tag == 3) (tag == 4) refl 
     by_tag false true c x y z told = made Full 3 refl (eqb-true tag 3 y) told
     by_tag false false true x y z told = made NoPrior 4 refl (eqb-true tag 4 z) told
     by_tag false false false x y z told = absurd (let never : None ≡ Some reply = told in cc)
-reply_only (tag ∷ len ∷ []) reply is = go (tag == 2) refl is
+blob_reply_only (tag ∷ len ∷ []) reply is = go (tag == 2) refl is
   where
     go : (b : Bool) → (tag == 2) ≡ b → (if b then Some (Was len) else None) ≡ Some reply → blob_reply_words reply ≡ tag ∷ len ∷ []
     go true x told = let e : Was len ≡ reply = cc in sym (ap blob_reply_words e) ∙ (let same = eqb-true tag 2 x in λ i. sym same i ∷ len ∷ [])
     go false x told = absurd (let never : None ≡ Some reply = told in cc)
-reply_only (tag ∷ len ∷ more ∷ rest) reply is = absurd (let never : None ≡ Some reply = is in cc)
+blob_reply_only (tag ∷ len ∷ more ∷ rest) reply is = absurd (let never : None ≡ Some reply = is in cc)

@@ -4,8 +4,8 @@ ghost use Rattle.rom_blob_region.specs.State.{BlobState};
 ghost use Rattle.rom_blob_region.specs.Region.{BlobContents};
 ghost use Rattle.rom_blob_region.specs.Answers.{RejectsBlobs};
 ghost use Rattle.rom_blob.specs.Blobs.{blobs};
-ghost use Rattle.rom_blob.specs.Laws.{contents_within, one_contents, reply_back, reply_few};
-ghost use Rattle.rom_blob.specs.Tags.{call_only, reply_only};
+ghost use Rattle.rom_blob.specs.Laws.{blob_contents_within, blob_reply_back, blob_reply_few, one_blob_contents};
+ghost use Rattle.rom_blob.specs.Tags.{blob_call_only, blob_reply_only};
 
 use crate::codes;
 use rom_blob_region::{
@@ -96,15 +96,15 @@ impl Object for Blobs {
         inspect_blobs(alloc, region, order)
     }
 
-    ghost call_only = { call_only };
+    ghost call_only = { blob_call_only };
 
-    ghost reply_back = { reply_back };
+    ghost reply_back = { blob_reply_back };
 
-    ghost reply_only = { reply_only };
+    ghost reply_only = { blob_reply_only };
 
-    ghost reply_few = { reply_few };
+    ghost reply_few = { blob_reply_few };
 
-    ghost one_contents = { one_contents };
+    ghost one_contents = { one_blob_contents };
 
-    ghost contents_within = { contents_within };
+    ghost contents_within = { blob_contents_within };
 }

@@ -24,7 +24,7 @@ fn put_set_words(key: u64, bytes: &Chunk, words: &mut Args)
 /// Makes the words those of a call, whatever they were.
 pub(crate) fn put_call_words(call: &BlobCall, words: &mut Args)
     ensures words { words.new ≡ codes.blob_call_words call.now }
-    ensures back { codes.words_blob_call words.new ≡ Some call.now }
+    ensures back { codes.blob_call_from_words words.new ≡ Some call.now }
 {
     words.clear();
     match call {
@@ -36,7 +36,7 @@ pub(crate) fn put_call_words(call: &BlobCall, words: &mut Args)
 /// The words of a call.
 pub fn call_words(call: &BlobCall) -> Args
     ensures words { result ≡ codes.blob_call_words call.now }
-    ensures back { codes.words_blob_call result ≡ Some call.now }
+    ensures back { codes.blob_call_from_words result ≡ Some call.now }
 {
     let mut words = Args::new();
     put_call_words(call, &mut words);
@@ -65,7 +65,7 @@ fn read_cut(key: u64, words: &[u64]) -> Option<BlobCall>
 
 /// The call that the words are those of. It is `None` exactly where they are no call's.
 pub fn words_call(words: &Args) -> Option<BlobCall>
-    ensures { result ≡ codes.words_blob_call words.now }
+    ensures { result ≡ codes.blob_call_from_words words.now }
 {
     match words.as_slice() {
         [1, key, words @ ..] => read_set(*key, words),
@@ -77,7 +77,7 @@ pub fn words_call(words: &Args) -> Option<BlobCall>
 /// Makes the words those of a reply, whatever they were.
 pub(crate) fn put_reply_words(reply: &BlobReply, words: &mut Back)
     ensures words { words.new ≡ codes.blob_reply_words reply.now }
-    ensures back { codes.words_blob_reply words.new ≡ Some reply.now }
+    ensures back { codes.blob_reply_from_words words.new ≡ Some reply.now }
 {
     words.clear();
     match reply {
@@ -91,7 +91,7 @@ pub(crate) fn put_reply_words(reply: &BlobReply, words: &mut Back)
 /// The words of a reply.
 pub fn reply_words(reply: &BlobReply) -> Back
     ensures words { result ≡ codes.blob_reply_words reply.now }
-    ensures back { codes.words_blob_reply result ≡ Some reply.now }
+    ensures back { codes.blob_reply_from_words result ≡ Some reply.now }
 {
     let mut words = Back::new();
     put_reply_words(reply, &mut words);
@@ -100,7 +100,7 @@ pub fn reply_words(reply: &BlobReply) -> Back
 
 /// The reply that the words are those of. It is `None` exactly where they are no reply's.
 pub fn words_reply(words: &Back) -> Option<BlobReply>
-    ensures { result ≡ codes.words_blob_reply words.now }
+    ensures { result ≡ codes.blob_reply_from_words words.now }
 {
     match words.as_slice() {
         [1] => Some(BlobReply::New),

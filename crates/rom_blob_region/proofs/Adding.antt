@@ -12,8 +12,8 @@ use Rattle.rom_model.specs.Region.{bucket_of}
 use Rattle.rom_model.proofs.Times.{times_here, times_more, times-append}
 use Rattle.rom_model.proofs.Members.{under_table}
 use Rattle.rom_model.proofs.Room.{tree_stays}
-use Rattle.rom_bucket.specs.Link.{first_place, IsLinked}
-use Rattle.rom_bucket.specs.Buckets.{nodes_of}
+use Rattle.rom_bucket.specs.Link.{first_place, IsNodeLinked}
+use Rattle.rom_bucket.specs.Buckets.{blocks_of_buckets}
 use Rattle.rom_bucket.proofs.Heads.{head_before}
 use Rattle.rom_bucket.proofs.Finding.{own_within}
 use Rattle.rom_bucket.proofs.Keys.{none_stands}
@@ -127,7 +127,7 @@ disjoint_less n T S all is = record {
 
 module _ {n len at key : ℕ} (b : ℕ) {body : Option ℕ} {bytes w w' : List ℕ} {f : ℕ → List ℕ} {s : BlobState} {count : ℕ} (o : IsOrder n) (few : len ≤ 256) (is : HasKeys n w f s count) (placed : Placed n len at body) (bare : len ≡ 0 → at ≡ 0) (apart : AreBlobsApart n (some_block body ++ held n w f))
     (bytes_are : bytes_at w at len ≡ bytes) (ends : EndsInZeros w at len) (absent : finite.get s key ≡ None) (node : IsNode n (2 ^ n + b)) (free : IsFree n (taken_with (some_block body ++ held n w f)) 0 (2 ^ n + b))
-    (disjoint : IsDisjoint n (taking (2 ^ n + b) (taken_with (some_block body ++ held n w f)))) (linked : IsLinked 3 (first_place n key w) (block_of n b) record { key = key; second = len; last = at } w w') where
+    (disjoint : IsDisjoint n (taking (2 ^ n + b) (taken_with (some_block body ++ held n w f)))) (linked : IsNodeLinked 3 (first_place n key w) (block_of n b) record { key = key; second = len; last = at } w w') where
   abbrev y : ℕ
   y = 2 ^ n + b
 
@@ -175,9 +175,9 @@ module _ {n len at key : ℕ} (b : ℕ) {body : Option ℕ} {bytes w w' : List �
     are = is.keys;
     block_late = late;
     block_most = omega (arith, node.most);
-    absent = elim (cases_lt 0 (times b (nodes_of n f))) [
+    absent = elim (cases_lt 0 (times b (blocks_of_buckets n f))) [
       | inl some ↦ absurd (
-          let there : taken_with xs y ≡ true = taken_block xs y (omega (arith, held_has (blob_at n w) y b (nodes_of n f) some, has_node n w b)) in
+          let there : taken_with xs y ≡ true = taken_block xs y (omega (arith, held_has (blob_at n w) y b (blocks_of_buckets n f) some, has_node n w b)) in
           let never : true ≡ false = sym there ∙ free_now in cc)
       | inr gone ↦ omega (arith, gone)
     ];

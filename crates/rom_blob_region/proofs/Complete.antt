@@ -13,7 +13,7 @@ use Rattle.rom_model.proofs.Times.{times_here, times_more, times_bucket}
 use Rattle.rom_model.proofs.Outcomes.{not_both, one_err}
 use Rattle.rom_model.proofs.Holding.{word_holds, holds_more, zeros_hold, both_hold}
 use Rattle.rom_bucket.specs.Walk.{head_of}
-use Rattle.rom_bucket.specs.Buckets.{nodes_of}
+use Rattle.rom_bucket.specs.Buckets.{blocks_of_buckets}
 use Rattle.rom_blob_region.specs.State.{BlobState}
 use Rattle.rom_blob_region.specs.Region.{IsBlob, AreBlobsApart, blob_at, IsBlobs, BlobContents}
 use Rattle.rom_blob_region.proofs.Held.{times_held, held_first, tree_same}
@@ -100,7 +100,7 @@ module _ (n : ℕ) (w : List ℕ) (le : 4 ≤ n) (small : (k : ℕ) → slice_in
       (word_holds w 8 Root (block_of n 0) (are_zero w 9 8 Root) tt root.table ∙ zeros_hold w 9 8 Root (λ k lt. root.high_zeros (9 + k) (omega arith) (omega (arith, lt))))))
 
   abbrev all : List ℕ
-  all = held n w (nodes_of n f)
+  all = held n w (blocks_of_buckets n f)
 
   walked : Walked n w le small all is.apart f (buckets n)
   walked =

@@ -11,7 +11,7 @@ use Rattle.rom_model.proofs.Times.{times_here, times_away, times_more, times-app
 use Rattle.rom_model.proofs.Nodes.{pow_positive, up_depth, pow_up}
 use Rattle.rom_model.proofs.Members.{quarter_pow}
 use Rattle.rom_model.proofs.Counting.{covers}
-use Rattle.rom_blob_region.specs.State.{taken_with, any_below, lies_in, is_free, first_passing, lowest, table_blocks}
+use Rattle.rom_blob_region.specs.State.{taken_with, any_below, lies_in, is_free, first_number_where, lowest, table_blocks}
 use Rattle.rom_blob_region.proofs.Lowest.{some_below, up_is, up_below, unit_of, free_tested, free_sound}
 use Rattle.rom_blob_region.proofs.Held.{taken_none}
 
@@ -160,11 +160,11 @@ module _ (n order : ℕ) (ms : List (ℕ × ℕ)) (le : 4 ≤ n) (within : order
   ]
 
 -- where the lowest is none, none is free
-pub none_first : (test : ℕ → Bool) (many at : ℕ) → first_passing test at many ≡ None → (y : ℕ) → at ≤ y → y < at + many → test y ≡ false
+pub none_first : (test : ℕ → Bool) (many at : ℕ) → first_number_where test at many ≡ None → (y : ℕ) → at ≤ y → y < at + many → test y ≡ false
 none_first test zero at none y lo hi = absurd (omega (arith, lo, hi))
 none_first test (suc many) at none y lo hi = go (test at) refl (λ rest less. none_first test many (at + 1) rest y less (omega (arith, hi))) none
   where
-    go : (b : Bool) → test at ≡ b → (first_passing test (at + 1) many ≡ None → at + 1 ≤ y → test y ≡ false) → (if b then Some at else first_passing test (at + 1) many) ≡ None → test y ≡ false
+    go : (b : Bool) → test at ≡ b → (first_number_where test (at + 1) many ≡ None → at + 1 ≤ y → test y ≡ false) → (if b then Some at else first_number_where test (at + 1) many) ≡ None → test y ≡ false
     go true here more is = absurd (let never : Some at ≡ None = is in cc)
     go false here more is = elim (cases_eq y at) [
       | inl same ↦ ap test same ∙ here

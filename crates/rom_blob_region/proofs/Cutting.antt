@@ -8,7 +8,7 @@ use Rattle.rom_model.specs.Region.{bucket_of}
 use Rattle.rom_model.proofs.Times.{times-append}
 use Rattle.rom_model.proofs.Room.{tree_stays}
 use Rattle.rom_block.specs.Taken.{IsTakenAt}
-use Rattle.rom_bucket.specs.Link.{IsUnlinked}
+use Rattle.rom_bucket.specs.Link.{IsNodeUnlinked}
 use Rattle.rom_bucket.specs.declared.walk.Place.{Place}
 use Rattle.rom_bucket.proofs.Finding.{own_within}
 use Rattle.rom_bucket.specs.Buckets.{There}
@@ -19,7 +19,7 @@ use Rattle.rom_blob_region.proofs.Places.{has_node}
 use Rattle.rom_blob_region.proofs.Keeping.{held, has_keys, tree_keys, tree_held, in_held, left, cut_keys, cut_held, cut_tree}
 use Rattle.rom_blob_region.proofs.Giving.{WithBody, blob_placed}
 
-module _ {n : ℕ} {w : List ℕ} {f : ℕ → List ℕ} {s : BlobState} {count : ℕ} (o : IsOrder n) (is : IsBlobs n w f s count) {key : ℕ} {place : Place} (t : There n w f key place) {w1 : List ℕ} (un : IsUnlinked 3 place w w1) where
+module _ {n : ℕ} {w : List ℕ} {f : ℕ → List ℕ} {s : BlobState} {count : ℕ} (o : IsOrder n) (is : IsBlobs n w f s count) {key : ℕ} {place : Place} (t : There n w f key place) {w1 : List ℕ} (un : IsNodeUnlinked 3 place w w1) where
   abbrev T : ℕ → Bool
   T = taken_with (held n w f)
 

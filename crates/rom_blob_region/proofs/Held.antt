@@ -11,7 +11,7 @@ use Rattle.rom_model.specs.Chains.{times}
 use Rattle.rom_model.proofs.Times.{times_here, times_away, times_more, times-append}
 use Rattle.rom_model.proofs.Nodes.{low, up_low, node_low}
 use Rattle.rom_model.proofs.Members.{words_same}
-use Rattle.rom_bucket.specs.Buckets.{nodes_of, AreBuckets, entries_of, keyed}
+use Rattle.rom_bucket.specs.Buckets.{blocks_of_buckets, AreBuckets, entries_of, keyed}
 use Rattle.rom_bucket.proofs.Entries.{sum_entries}
 use Rattle.rom_bucket.proofs.Keys.{once}
 use Rattle.rom_blob_region.specs.State.{Blob, blocks_in, all_in, taken_with, blocks_taken}
@@ -79,12 +79,12 @@ all_held n w blob (u ∷ us) = ap (λ xs. blocks_in (blob u) ++ xs) (all_held n 
 
 -- what is taken in a state, by the blocks of its keys
 module _ {n size : ℕ} {w : List ℕ} {f : ℕ → List ℕ} (is : AreBuckets n size w f) (blob : ℕ → Blob) where
-  pub times_state : (x : ℕ) → times x (all_in (finite.entries (keyed n w blob f))) ≡ times x (held_by blob (nodes_of n f))
+  pub times_state : (x : ℕ) → times x (all_in (finite.entries (keyed n w blob f))) ≡ times x (held_by blob (blocks_of_buckets n f))
   times_state x =
-      times_all x (finite.entries (keyed n w blob f)) ∙ sum_entries (λ e. times x (blocks_in e.1)) (entries_of n w blob (nodes_of n f)) (once is blob)
-      ∙ sym (times_all x (entries_of n w blob (nodes_of n f))) ∙ ap (times x) (all_held n w blob (nodes_of n f))
+      times_all x (finite.entries (keyed n w blob f)) ∙ sum_entries (λ e. times x (blocks_in e.1)) (entries_of n w blob (blocks_of_buckets n f)) (once is blob)
+      ∙ sym (times_all x (entries_of n w blob (blocks_of_buckets n f))) ∙ ap (times x) (all_held n w blob (blocks_of_buckets n f))
 
-  pub taken_state : (x : ℕ) → blocks_taken (keyed n w blob f) x ≡ taken_with (held_by blob (nodes_of n f)) x
+  pub taken_state : (x : ℕ) → blocks_taken (keyed n w blob f) x ≡ taken_with (held_by blob (blocks_of_buckets n f)) x
   taken_state x = ap (λ m. (x == 16) || nat_lt 0 m) (times_state x)
 
 positive : (m : ℕ) → 0 < m → nat_lt 0 m ≡ true

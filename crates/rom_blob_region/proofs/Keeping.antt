@@ -10,8 +10,8 @@ use Rattle.rom_model.specs.Region.{buckets, bucket_of}
 use Rattle.rom_model.proofs.Nodes.{pow_positive}
 use Rattle.rom_model.proofs.Times.{times_here, times_away, times_more, times-append}
 use Rattle.rom_bucket.specs.Walk.{head_of}
-use Rattle.rom_bucket.specs.Link.{first_place, IsLinked, IsUnlinked}
-use Rattle.rom_bucket.specs.Buckets.{nodes_of, AreBuckets, Between, There, keyed}
+use Rattle.rom_bucket.specs.Link.{first_place, IsNodeLinked, IsNodeUnlinked}
+use Rattle.rom_bucket.specs.Buckets.{blocks_of_buckets, AreBuckets, Between, There, keyed}
 use Rattle.rom_bucket.specs.declared.walk.Place.{Place}
 use Rattle.rom_bucket.specs.declared.node.Node.{Node}
 use Rattle.rom_bucket.proofs.Heads.{head_before}
@@ -31,12 +31,12 @@ pub record HasKeys (n : ℕ) (w : List ℕ) (f : ℕ → List ℕ) (s : BlobStat
   pub as_long : length w ≡ region_len n
   pub root : IsBlobRoot n w count
   pub keys : AreBuckets n 3 w f
-  pub blobs : (b : ℕ) → 0 < times b (nodes_of n f) → IsBlob n w b
+  pub blobs : (b : ℕ) → 0 < times b (blocks_of_buckets n f) → IsBlob n w b
   pub state_is : keyed n w (blob_at n w) f ≡ s
 
 -- the blocks of its keys
 abbrev pub held : ℕ → List ℕ → (ℕ → List ℕ) → List ℕ
-held n w f = held_by (blob_at n w) (nodes_of n f)
+held n w f = held_by (blob_at n w) (blocks_of_buckets n f)
 
 pub has_keys : {n : ℕ} {w : List ℕ} {f : ℕ → List ℕ} {s : BlobState} {count : ℕ} → IsBlobs n w f s count → HasKeys n w f s count
 has_keys is = record { order = is.order; as_long = is.as_long; root = is.root; keys = is.keys; blobs = is.blobs; state_is = is.state_is }
@@ -66,12 +66,12 @@ stays_same n w w' b is stays = blob_same n w w' b is (stays.node 1 (omega arith)
 
 module _ {n : ℕ} {w w' : List ℕ} {f : ℕ → List ℕ} {s : BlobState} {count : ℕ} (is : HasKeys n w f s count) where
   module _ (long : length w' ≡ length w) (root : (k : ℕ) → k ≤ 16 → slice_index w' k ≡ slice_index w k) (heads : (i : ℕ) → i < buckets n → slice_index w' (head_of n i) ≡ slice_index w (head_of n i))
-      (stay : (b : ℕ) → 0 < times b (nodes_of n f) → Stays n w w' b) where
-    same_at : (b : ℕ) → 0 < times b (nodes_of n f) → Same n w w' b
+      (stay : (b : ℕ) → 0 < times b (blocks_of_buckets n f) → Stays n w w' b) where
+    same_at : (b : ℕ) → 0 < times b (blocks_of_buckets n f) → Same n w w' b
     same_at b some = stays_same n w w' b (is.blobs b some) (stay b some)
 
     pub same_held : held n w' f ≡ held n w f
-    same_held = held_same (blob_at n w) (blob_at n w') (nodes_of n f) (λ b some. (same_at b some).blob)
+    same_held = held_same (blob_at n w) (blob_at n w') (blocks_of_buckets n f) (λ b some. (same_at b some).blob)
 
     -- where all that belongs to the keys stays
     pub same_keys : HasKeys n w' f s count
@@ -81,7 +81,7 @@ module _ {n : ℕ} {w w' : List ℕ} {f : ℕ → List ℕ} {s : BlobState} {cou
       root = root_same n w w' count (λ k le ne. root k le) is.root;
       keys = buckets_same w' heads (root 3 (omega arith)) (λ c some. (stay c some).node 0 (omega arith)) (λ c some. (stay c some).node 2 (omega arith)) is.keys;
       blobs = λ b some. (same_at b some).is;
-      state_is = ap (λ es. finite.from_entries es) (entries_same n w w' (blob_at n w) (blob_at n w') (nodes_of n f) (λ c some. (stay c some).node 0 (omega arith)) (λ c some. (same_at c some).blob)) ∙ is.state_is;
+      state_is = ap (λ es. finite.from_entries es) (entries_same n w w' (blob_at n w) (blob_at n w') (blocks_of_buckets n f) (λ c some. (stay c some).node 0 (omega arith)) (λ c some. (same_at c some).blob)) ∙ is.state_is;
     }
 
 -- where the tree alone changed
@@ -92,7 +92,7 @@ module _ {n : ℕ} {w w' : List ℕ} {f : ℕ → List ℕ} {s : BlobState} {cou
   pub high_stays : (k : ℕ) → block_of n 0 ≤ k → slice_index w' k ≡ slice_index w k
   high_stays k late = only.behind k (omega (arith, late, pow_positive n))
 
-  stay : (b : ℕ) → 0 < times b (nodes_of n f) → Stays n w w' b
+  stay : (b : ℕ) → 0 < times b (blocks_of_buckets n f) → Stays n w w' b
   stay b some = record {
     node = λ j lt. high_stays (block_of n b + j) (omega arith);
     body = λ j lt.
@@ -111,22 +111,22 @@ module _ {n : ℕ} {w : List ℕ} {f : ℕ → List ℕ} {s : BlobState} {count 
   abbrev T : ℕ → Bool
   T = taken_with (held n w f)
 
-  pub in_held : (b z : ℕ) → 0 < times b (nodes_of n f) → 0 < times z (blocks_in (blob_at n w b)) → T z ≡ true
-  in_held b z some among = taken_block (held n w f) z (omega (arith, among, held_has (blob_at n w) z b (nodes_of n f) some))
+  pub in_held : (b z : ℕ) → 0 < times b (blocks_of_buckets n f) → 0 < times z (blocks_in (blob_at n w b)) → T z ≡ true
+  in_held b z some among = taken_block (held n w f) z (omega (arith, among, held_has (blob_at n w) z b (blocks_of_buckets n f) some))
 
   -- words of two keys, or of a key and the table, are different ones
-  pub not_shared : (b c y z k : ℕ) → 0 < times b (nodes_of n f) → 0 < times c (nodes_of n f) → b ≢ c → 0 < times y (blocks_in (blob_at n w b)) → 0 < times z (blocks_in (blob_at n w c)) → InBlock n y k → InBlock n z k → ⊥
+  pub not_shared : (b c y z k : ℕ) → 0 < times b (blocks_of_buckets n f) → 0 < times c (blocks_of_buckets n f) → b ≢ c → 0 < times y (blocks_in (blob_at n w b)) → 0 < times z (blocks_in (blob_at n w c)) → InBlock n y k → InBlock n z k → ⊥
   not_shared b c y z k one two ne first second a d =
       apart_words n T apart.disjoint y z k (in_held b y one first) (in_held c z two second)
-      (λ e. absurd (omega (arith, held_two (blob_at n w) y b c (nodes_of n f) ne one two, apart.different y, first, second, ap (λ x. times x (blocks_in (blob_at n w c))) e))) a d
+      (λ e. absurd (omega (arith, held_two (blob_at n w) y b c (blocks_of_buckets n f) ne one two, apart.different y, first, second, ap (λ x. times x (blocks_in (blob_at n w c))) e))) a d
 
-  pub not_in_table : (b y k : ℕ) → 0 < times b (nodes_of n f) → 0 < times y (blocks_in (blob_at n w b)) → InBlock n y k → InBlock n 16 k → ⊥
+  pub not_in_table : (b y k : ℕ) → 0 < times b (blocks_of_buckets n f) → 0 < times y (blocks_in (blob_at n w b)) → InBlock n y k → InBlock n 16 k → ⊥
   not_in_table b y k some first a d =
       apart_words n T apart.disjoint y 16 k (in_held b y some first) (taken_table (held n w f))
-      (not_table n (held n w f) apart y (omega (arith, first, held_has (blob_at n w) y b (nodes_of n f) some))) a d
+      (not_table n (held n w f) apart y (omega (arith, first, held_has (blob_at n w) y b (blocks_of_buckets n f) some))) a d
 
   -- a key whose words are not among those that change
-  pub untouched : (w' : List ℕ) (b : ℕ) → 0 < times b (nodes_of n f) → ((y k : ℕ) → 0 < times y (blocks_in (blob_at n w b)) → InBlock n y k → slice_index w' k ≡ slice_index w k) → Stays n w w' b
+  pub untouched : (w' : List ℕ) (b : ℕ) → 0 < times b (blocks_of_buckets n f) → ((y k : ℕ) → 0 < times y (blocks_in (blob_at n w b)) → InBlock n y k → slice_index w' k ≡ slice_index w k) → Stays n w w' b
   untouched w' b some same = record {
     node = λ j lt.
         let at = own_word n w b le (is.keys.within b some).1 (is.blobs b some) (block_of n b + j) (inl (j, lt, refl)) in
@@ -143,7 +143,7 @@ module _ {n : ℕ} {w : List ℕ} {f : ℕ → List ℕ} {s : BlobState} {count 
         (λ in_x. absurd (apart_words n (taking x T) disjoint z x k (taking_still x z T there) (taking_here x T) (λ e. absurd (let never : true ≡ false = sym there ∙ ap T e ∙ free in cc)) in_z in_x))
         (changed k)
 
-    body_stay : (b : ℕ) → 0 < times b (nodes_of n f) → Stays n w w' b
+    body_stay : (b : ℕ) → 0 < times b (blocks_of_buckets n f) → Stays n w w' b
     body_stay b some = untouched w' b some (λ y k among in_y. stays_there y k (in_held b y some among) in_y)
 
     body_low : (k : ℕ) → k < block_of n 0 → slice_index w' k ≡ slice_index w k
@@ -162,15 +162,15 @@ module _ {n : ℕ} {w : List ℕ} {f : ℕ → List ℕ} {s : BlobState} {count 
     body_tree k least most = body_low k most
 
 -- without a key, whose node was unlinked
-module _ {n : ℕ} {w : List ℕ} {f : ℕ → List ℕ} {s : BlobState} {count : ℕ} (le : 4 ≤ n) (is : HasKeys n w f s count) (apart : AreBlobsApart n (held n w f)) {key : ℕ} {place : Place} (within : bucket_of n key < buckets n) (t : There n w f key place) {w' : List ℕ} (un : IsUnlinked 3 place w w') where
+module _ {n : ℕ} {w : List ℕ} {f : ℕ → List ℕ} {s : BlobState} {count : ℕ} (le : 4 ≤ n) (is : HasKeys n w f s count) (apart : AreBlobsApart n (held n w f)) {key : ℕ} {place : Place} (within : bucket_of n key < buckets n) (t : There n w f key place) {w' : List ℕ} (un : IsNodeUnlinked 3 place w w') where
   abbrev pub left : ℕ → List ℕ
   left = removed.next le (omega arith) is.keys within t un
 
-  was_there : (b : ℕ) → 0 < times b (nodes_of n left) → 0 < times b (nodes_of n f)
+  was_there : (b : ℕ) → 0 < times b (blocks_of_buckets n left) → 0 < times b (blocks_of_buckets n f)
   was_there b some = removed.stood_all le (omega arith) is.keys within t un b some
 
   -- the link is no byte of a key
-  cut_body : (b : ℕ) → 0 < times b (nodes_of n f) → (j : ℕ) → 8 * j < len_at n w b → slice_index w' (data_at n w b + j) ≡ slice_index w (data_at n w b + j)
+  cut_body : (b : ℕ) → 0 < times b (blocks_of_buckets n f) → (j : ℕ) → 8 * j < len_at n w b → slice_index w' (data_at n w b + j) ≡ slice_index w (data_at n w b + j)
   cut_body b some j lt =
       let fits = is.blobs b some in
       let x = fits.block (λ e. absurd (omega (arith, e, lt))) in
@@ -182,7 +182,7 @@ module _ {n : ℕ} {w : List ℕ} {f : ℕ → List ℕ} {s : BlobState} {count 
       (λ head. not_in_table le is apart b x.0 (data_at n w b + j) some among in_x (in_table n (data_at n w b + j) le (omega (arith, e, head)) (omega (arith, e, head, head_before n (bucket_of n key) le within))))
       (λ link. elim (cases_eq b link.0) [
         | inl same ↦
-            let unit : 2 ^ n + b ≢ x.0 = λ one. absurd (omega (arith, held_has (blob_at n w) (2 ^ n + b) b (nodes_of n f) some, apart.different (2 ^ n + b), counts (2 ^ n + b), times_here (2 ^ n + b) (x.0 ∷ []), ap (λ y. times (2 ^ n + b) (y ∷ [])) one, times_here (2 ^ n + b) [])) in
+            let unit : 2 ^ n + b ≢ x.0 = λ one. absurd (omega (arith, held_has (blob_at n w) (2 ^ n + b) b (blocks_of_buckets n f) some, apart.different (2 ^ n + b), counts (2 ^ n + b), times_here (2 ^ n + b) (x.0 ∷ []), ap (λ y. times (2 ^ n + b) (y ∷ [])) one, times_here (2 ^ n + b) [])) in
             apart_words n (taken_with (held n w f)) apart.disjoint (2 ^ n + b) x.0 (data_at n w b + j) (in_held le is apart b (2 ^ n + b) some (has_node n w b)) (in_held le is apart b x.0 some among) unit
             (in_unit n b (data_at n w b + j) (is.keys.within b some).1 (omega (arith, e, link.2, same)) (omega (arith, e, link.2, same))) in_x
         | inr other ↦
@@ -192,7 +192,7 @@ module _ {n : ℕ} {w : List ℕ} {f : ℕ → List ℕ} {s : BlobState} {count 
       (link_kinds le is.keys within (before_node t)))
       (λ e. absurd (omega (arith, e, block_least n x.0 (data_at n w b + j) in_x)))
 
-  cut_same : (b : ℕ) → 0 < times b (nodes_of n f) → Same n w w' b
+  cut_same : (b : ℕ) → 0 < times b (blocks_of_buckets n f) → Same n w w' b
   cut_same b some = blob_same n w w' b (is.blobs b some) (removed.node_stays le (omega arith) is.keys within t un b 1 some (omega arith) (omega arith)) (removed.node_stays le (omega arith) is.keys within t un b 3 some (omega arith) (omega arith)) (cut_body b some)
 
   pub cut_keys : HasKeys n w' left (finite.remove s key) count
@@ -209,14 +209,14 @@ module _ {n : ℕ} {w : List ℕ} {f : ℕ → List ℕ} {s : BlobState} {count 
   pub cut_held : (c : ℕ) → times c (held n w f) ≡ times c (held n w' left) + times c (blocks_in (blob_at n w t.block))
   cut_held c =
       let at = removed.parts le (omega arith) is.keys within t un in
-      let same = held_same (blob_at n w) (blob_at n w') (nodes_of n left) (λ b some. (cut_same b (was_there b some)).blob) in
+      let same = held_same (blob_at n w) (blob_at n w') (blocks_of_buckets n left) (λ b some. (cut_same b (was_there b some)).blob) in
       omega (arith, ap (times c) same, ap (λ us. times c (held_by (blob_at n w) us)) at.2, ap (λ us. times c (held_by (blob_at n w) us)) at.3, held_between (blob_at n w) c at.0 at.1 t.block)
 
   pub cut_tree : (k : ℕ) → 17 ≤ k → k < block_of n 0 → slice_index w' k ≡ slice_index w k
   cut_tree k least most = removed.removed_low le (omega arith) is.keys within t un k most (omega (arith, least))
 
 -- with a new key, whose node is a unit that was free
-module _ {n : ℕ} {w : List ℕ} {f : ℕ → List ℕ} {s : BlobState} {count : ℕ} (is : HasKeys n w f s count) {node : Node} {block : ℕ} (may : added.MayAdd n 3 w f node.key block) {w' : List ℕ} (linked : IsLinked 3 (first_place n node.key w) (block_of n block) node w w')
+module _ {n : ℕ} {w : List ℕ} {f : ℕ → List ℕ} {s : BlobState} {count : ℕ} (is : HasKeys n w f s count) {node : Node} {block : ℕ} (may : added.MayAdd n 3 w f node.key block) {w' : List ℕ} (linked : IsNodeLinked 3 (first_place n node.key w) (block_of n block) node w w')
     (apart : AreBlobsApart n (held n w f)) (free : taken_with (held n w f) (2 ^ n + block) ≡ false) (disjoint : IsDisjoint n (taking (2 ^ n + block) (taken_with (held n w f)))) (new : IsBlob n w' block) where
   abbrev front : Between n f node.key (first_place n node.key w)
   front = added.at_front may.are may.within
@@ -228,7 +228,7 @@ module _ {n : ℕ} {w : List ℕ} {f : ℕ → List ℕ} {s : BlobState} {count 
   y = 2 ^ n + block
 
   -- no byte of a key is a word of the node, the bucket's head, or the size
-  link_body : (b : ℕ) → 0 < times b (nodes_of n f) → (j : ℕ) → 8 * j < len_at n w b → slice_index w' (data_at n w b + j) ≡ slice_index w (data_at n w b + j)
+  link_body : (b : ℕ) → 0 < times b (blocks_of_buckets n f) → (j : ℕ) → 8 * j < len_at n w b → slice_index w' (data_at n w b + j) ≡ slice_index w (data_at n w b + j)
   link_body b some j lt =
       let fits = is.blobs b some in
       let x = fits.block (λ e. absurd (omega (arith, e, lt))) in
@@ -249,7 +249,7 @@ module _ {n : ℕ} {w : List ℕ} {f : ℕ → List ℕ} {s : BlobState} {count 
       (λ e. not_in_table may.least is apart b x.0 k some among in_x (in_table n k may.least (omega (arith, e)) (omega (arith, e, head_before n (bucket_of n node.key) may.least may.within))))
       (λ e. absurd (omega (arith, e, block_least n x.0 k in_x)))
 
-  link_same : (b : ℕ) → 0 < times b (nodes_of n f) → Same n w w' b
+  link_same : (b : ℕ) → 0 < times b (blocks_of_buckets n f) → Same n w w' b
   link_same b some = blob_same n w w' b (is.blobs b some) (added.node_stays may front linked b 1 some (omega arith) (omega arith)) (added.node_stays may front linked b 3 some (omega arith) (omega arith)) (link_body b some)
 
   pub link_keys : HasKeys n w' more (finite.insert s node.key (blob_at n w' block)) count
@@ -268,7 +268,7 @@ module _ {n : ℕ} {w : List ℕ} {f : ℕ → List ℕ} {s : BlobState} {count 
   pub link_held : (c : ℕ) → times c (held n w' more) ≡ times c (held n w f) + times c (blocks_in (blob_at n w' block))
   link_held c =
       let at = added.parts may front linked in
-      let same = held_same (blob_at n w) (blob_at n w') (nodes_of n f) (λ b some. (link_same b some).blob) in
+      let same = held_same (blob_at n w) (blob_at n w') (blocks_of_buckets n f) (λ b some. (link_same b some).blob) in
       omega (arith, ap (times c) same, ap (λ us. times c (held_by (blob_at n w') us)) at.2, ap (λ us. times c (held_by (blob_at n w') us)) at.3, held_between (blob_at n w') c at.0 at.1 block)
 
 -- Where the words of one key's node and bytes changed alone: a byte that changed stands in a block of no
@@ -279,7 +279,7 @@ pub record Own (n : ℕ) (w : List ℕ) (f : ℕ → List ℕ) (block k : ℕ) :
   pub disjoint : IsDisjoint n (taking home (taken_with (held n w f)))
   pub not_table : home ≢ 16
   pub not_node : home ≢ 2 ^ n + block
-  pub not_others : (b : ℕ) → 0 < times b (nodes_of n f) → b ≢ block → times home (blocks_in (blob_at n w b)) ≡ 0
+  pub not_others : (b : ℕ) → 0 < times b (blocks_of_buckets n f) → b ≢ block → times home (blocks_in (blob_at n w b)) ≡ 0
 
 module _ {n : ℕ} {w : List ℕ} {f : ℕ → List ℕ} {s : BlobState} {count : ℕ} (le : 4 ≤ n) (is : HasKeys n w f s count) (apart : AreBlobsApart n (held n w f)) {key : ℕ} {place : Place} (within : bucket_of n key < buckets n) (t : There n w f key place)
     (w' : List ℕ) (long : length w' ≡ length w) (changed : (k : ℕ) → (slice_index w' k ≡ slice_index w k) ⊎ (((k ≡ block_of n t.block + 1) ⊎ (k ≡ block_of n t.block + 3)) ⊎ Own n w f t.block k)) (new : IsBlob n w' t.block) where
@@ -287,7 +287,7 @@ module _ {n : ℕ} {w : List ℕ} {f : ℕ → List ℕ} {s : BlobState} {count 
   set = taken_with (held n w f)
 
   -- no word of another key or of the table changed
-  others_stay : (z k : ℕ) → set z ≡ true → InBlock n z k → z ≢ 2 ^ n + t.block → ((h : ℕ) → h ≡ z → ((b : ℕ) → 0 < times b (nodes_of n f) → b ≢ t.block → times h (blocks_in (blob_at n w b)) ≡ 0) → h ≢ 16 → ⊥) → slice_index w' k ≡ slice_index w k
+  others_stay : (z k : ℕ) → set z ≡ true → InBlock n z k → z ≢ 2 ^ n + t.block → ((h : ℕ) → h ≡ z → ((b : ℕ) → 0 < times b (blocks_of_buckets n f) → b ≢ t.block → times h (blocks_in (blob_at n w b)) ≡ 0) → h ≢ 16 → ⊥) → slice_index w' k ≡ slice_index w k
   others_stay z k there in_z ne other = ⊎_elim (λ same. same)
       (λ wrong. absurd (⊎_elim
       (λ node.
@@ -298,10 +298,10 @@ module _ {n : ℕ} {w : List ℕ} {f : ℕ → List ℕ} {s : BlobState} {count 
       wrong))
       (changed k)
 
-  again_stay : (b : ℕ) → 0 < times b (nodes_of n f) → b ≢ t.block → Stays n w w' b
+  again_stay : (b : ℕ) → 0 < times b (blocks_of_buckets n f) → b ≢ t.block → Stays n w w' b
   again_stay b some ne = untouched le is apart w' b some (λ y k among in_y.
       others_stay y k (in_held le is apart b y some among) in_y
-      (λ e. absurd (omega (arith, held_two (blob_at n w) y b t.block (nodes_of n f) ne some t.among, apart.different y, among, has_node n w t.block, ap (λ x. times x (blocks_in (blob_at n w t.block))) e)))
+      (λ e. absurd (omega (arith, held_two (blob_at n w) y b t.block (blocks_of_buckets n f) ne some t.among, apart.different y, among, has_node n w t.block, ap (λ x. times x (blocks_in (blob_at n w t.block))) e)))
       (λ h e none beside. absurd (omega (arith, none b some ne, among, ap (λ x. times x (blocks_in (blob_at n w b))) e))))
 
   -- and no key or link of the node itself
@@ -315,7 +315,7 @@ module _ {n : ℕ} {w : List ℕ} {f : ℕ → List ℕ} {s : BlobState} {count 
       wrong))
       (changed (block_of n t.block + j))
 
-  word_stays : (c j : ℕ) → 0 < times c (nodes_of n f) → j < 4 → j ≢ 1 → j ≢ 3 → slice_index w' (block_of n c + j) ≡ slice_index w (block_of n c + j)
+  word_stays : (c j : ℕ) → 0 < times c (blocks_of_buckets n f) → j < 4 → j ≢ 1 → j ≢ 3 → slice_index w' (block_of n c + j) ≡ slice_index w (block_of n c + j)
   word_stays c j some lt not_one not_three = elim (cases_eq c t.block) [
     | inl same ↦ subst (λ a. slice_index w' (block_of n a + j) ≡ slice_index w (block_of n a + j)) (sym same) (node_stays j lt not_one not_three)
     | inr other ↦ (again_stay c some other).node j lt
@@ -331,10 +331,10 @@ module _ {n : ℕ} {w : List ℕ} {f : ℕ → List ℕ} {s : BlobState} {count 
 
   again_heads : (i : ℕ) → i < buckets n → slice_index w' (head_of n i) ≡ slice_index w (head_of n i)
   again_heads i lt = others_stay 16 (head_of n i) (taken_table (held n w f)) (in_table n (head_of n i) le (omega arith) (head_before n i le lt))
-      (λ e. not_table n (held n w f) apart (2 ^ n + t.block) (omega (arith, held_has (blob_at n w) (2 ^ n + t.block) t.block (nodes_of n f) t.among, has_node n w t.block)) (sym e))
+      (λ e. not_table n (held n w f) apart (2 ^ n + t.block) (omega (arith, held_has (blob_at n w) (2 ^ n + t.block) t.block (blocks_of_buckets n f) t.among, has_node n w t.block)) (sym e))
       (λ h e none beside. beside e)
 
-  again_same : (b : ℕ) → 0 < times b (nodes_of n f) → b ≢ t.block → Same n w w' b
+  again_same : (b : ℕ) → 0 < times b (blocks_of_buckets n f) → b ≢ t.block → Same n w w' b
   again_same b some ne = stays_same n w w' b (is.blobs b some) (again_stay b some ne)
 
   pub again_keys : HasKeys n w' f (finite.insert s key (blob_at n w' t.block)) count
@@ -357,7 +357,7 @@ module _ {n : ℕ} {w : List ℕ} {f : ℕ → List ℕ} {s : BlobState} {count 
       let parts = nodes_whole is.keys key within t.front t.block t.back t.blocks t.holds in
       let apart_from : (b : ℕ) → 0 < times b (a.ahead ++ a.behind) → b ≢ t.block = λ b some e.
       absurd (omega (arith, some, ap (λ x. times x (a.ahead ++ a.behind)) e, times-append t.block a.ahead a.behind, ap (times t.block) parts, times-append t.block a.ahead (t.block ∷ a.behind), times_here t.block a.behind, is.keys.different t.block)) in
-      let in_nodes : (b : ℕ) → 0 < times b (a.ahead ++ a.behind) → 0 < times b (nodes_of n f) = λ b some.
+      let in_nodes : (b : ℕ) → 0 < times b (a.ahead ++ a.behind) → 0 < times b (blocks_of_buckets n f) = λ b some.
       omega (arith, some, times-append b a.ahead a.behind, ap (times b) parts, times-append b a.ahead (t.block ∷ a.behind), times_more b t.block a.behind) in
       let same = held_same (blob_at n w) (blob_at n w') (a.ahead ++ a.behind) (λ b some. (again_same b (in_nodes b some) (apart_from b some)).blob) in
       omega (

@@ -6,7 +6,7 @@ use Rattle.std.proofs.Math.Nat.{mul-le-mul_right}
 use Rattle.std.proofs.lemmas.Nat.{pow-add}
 use Rattle.rom_model.specs.Blocks.{IsNode, IsFree, IsLowest, NoneFree, up}
 use Rattle.rom_model.proofs.Nodes.{two_pow, up_up, root, up_least}
-use Rattle.rom_blob_region.specs.State.{any_below, lies_in, is_free, first_passing, lowest}
+use Rattle.rom_blob_region.specs.State.{any_below, lies_in, is_free, first_number_where, lowest}
 
 pub none_below : (m : ℕ) (test : ℕ → Bool) → any_below m test ≡ false → (k : ℕ) → k < m → test k ≡ false
 none_below zero test none k lt = absurd (omega (arith, lt))
@@ -121,7 +121,7 @@ module _ (n : ℕ) (T : ℕ → Bool) (none : T 0 ≡ false) where
       ap not shut
 
   -- the first that passes
-  first_here : (test : ℕ → Bool) (many at i : ℕ) → at ≤ i → i < at + many → test i ≡ true → ((y : ℕ) → at ≤ y → y < i → test y ≡ false) → first_passing test at many ≡ Some i
+  first_here : (test : ℕ → Bool) (many at i : ℕ) → at ≤ i → i < at + many → test i ≡ true → ((y : ℕ) → at ≤ y → y < i → test y ≡ false) → first_number_where test at many ≡ Some i
   first_here test zero at i lo hi here before = absurd (omega (arith, lo, hi))
   first_here test (suc many) at i lo hi here before = elim (cases_lt at i) [
     | inl less ↦ rw (before at (omega arith) less) (first_here test many (at + 1) i (omega (arith, less)) (omega (arith, hi)) here (λ y ge lt. before y (omega (arith, ge)) lt))
@@ -131,7 +131,7 @@ module _ (n : ℕ) (T : ℕ → Bool) (none : T 0 ≡ false) where
         rw passes (ap (λ x. Some x) same)
   ]
 
-  first_none : (test : ℕ → Bool) (many at : ℕ) → ((y : ℕ) → at ≤ y → y < at + many → test y ≡ false) → first_passing test at many ≡ None
+  first_none : (test : ℕ → Bool) (many at : ℕ) → ((y : ℕ) → at ≤ y → y < at + many → test y ≡ false) → first_number_where test at many ≡ None
   first_none test zero at none = refl
   first_none test (suc many) at none = rw (none at (omega arith) (omega arith)) (first_none test many (at + 1) (λ y lo hi. none y (omega (arith, lo)) (omega (arith, hi))))
 

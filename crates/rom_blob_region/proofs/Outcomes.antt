@@ -13,8 +13,8 @@ use Rattle.rom_blob_region.specs.State.{order_for, taken_with}
 use Rattle.rom_blob_region.specs.Region.{len_at}
 use Rattle.rom_blob_region.proofs.Places.{order_small}
 use Rattle.rom_blob_region.specs.Tests.{blob_root_tests, key_tests, end_tests, size_tests}
-use Rattle.rom_blob_region.specs.Walks.{LeadsToBlob, FollowsBlobLink, Arrives, Body, held, next_blob_link, Node, ReachesBlobs, BreaksBlobs, WalksBlobs}
-use Rattle.rom_blob_region.specs.Parts.{BucketByBucket, BlobTree, Ending, BlobInspection}
+use Rattle.rom_blob_region.specs.Walks.{LeadsToBlob, FollowsBlobLink, Arrives, Body, held, next_blob_link, Node, ReachesBlobs, BreaksBlobWalk, WalksBlobs}
+use Rattle.rom_blob_region.specs.Parts.{BucketByBucket, BlobAllocatorTree, Ending, BlobInspection}
 use Rattle.rom_blob_region.proofs.Placing.{one_node}
 
 module _ (n : ℕ) (w : List ℕ) (le : 4 ≤ n) where
@@ -76,7 +76,7 @@ module _ (n : ℕ) (w : List ℕ) (le : 4 ≤ n) (i : ℕ) (seen : List ℕ) whe
   ends_there : (bs : List ℕ) → slice_index w (next_blob_link n i bs) ≡ 0 → GoesOn bs → ⊥
   ends_there bs none on = omega (arith, none, on.node.1.here)
 
-  breaks_there : (bs : List ℕ) (e : Break) → BreaksBlobs n w i seen bs e → GoesOn bs → ⊥
+  breaks_there : (bs : List ℕ) (e : Break) → BreaksBlobWalk n w i seen bs e → GoesOn bs → ⊥
   breaks_there bs e broke on = not_both on.unit e (node_single n w le i seen bs (Ok on.unit) (Err e) on.node broke.1)
 
   -- the longer of two walks goes on behind the shorter
@@ -89,7 +89,7 @@ module _ (n : ℕ) (w : List ℕ) (le : 4 ≤ n) (i : ℕ) (seen : List ℕ) whe
     ]
   ]
 
-  ended_broke : (bs cs : List ℕ) (e : Break) → ReachesBlobs n w i seen bs → slice_index w (next_blob_link n i bs) ≡ 0 → ReachesBlobs n w i seen cs → BreaksBlobs n w i seen cs e → ⊥
+  ended_broke : (bs cs : List ℕ) (e : Break) → ReachesBlobs n w i seen bs → slice_index w (next_blob_link n i bs) ≡ 0 → ReachesBlobs n w i seen cs → BreaksBlobWalk n w i seen cs e → ⊥
   ended_broke bs cs e f none g broke = reached bs cs f g (ends_there bs none) (breaks_there cs e broke) (λ same. broke.0 (subst (λ (xs : List ℕ). slice_index w (next_blob_link n i xs) ≡ 0) same none))
 
   pub walks_single : IsSingle (WalksBlobs n w i seen)
@@ -117,7 +117,7 @@ module _ (n : ℕ) (w : List ℕ) (le : 4 ≤ n) where
     ]
   ]
 
-  tree_single : (units : List ℕ) → IsSingle (BlobTree n w units)
+  tree_single : (units : List ℕ) → IsSingle (BlobAllocatorTree n w units)
   tree_single units (Ok x) (Ok y) f g = refl
   tree_single units (Ok x) (Err e) f g = absurd (g.1.differs (f g.1.depth g.1.order g.1.node g.1.deep g.1.is_node))
   tree_single units (Err e) (Ok x) f g = absurd (f.1.differs (g f.1.depth f.1.order f.1.node f.1.deep f.1.is_node))
@@ -127,7 +127,7 @@ module _ (n : ℕ) (w : List ℕ) (le : 4 ≤ n) where
       λ i. Err record { offset = place i; rule = rules i }
 
   ending_single : (units : List ℕ) → IsSingle (Ending n w units)
-  ending_single units = then_single (λ r. r ≡ checked (size_tests w units)) (λ done. BlobTree n w units) (one_value (checked (size_tests w units))) (λ done. tree_single units)
+  ending_single units = then_single (λ r. r ≡ checked (size_tests w units)) (λ done. BlobAllocatorTree n w units) (one_value (checked (size_tests w units))) (λ done. tree_single units)
 
   pub inspection_single : IsSingle (BlobInspection n w)
   inspection_single =

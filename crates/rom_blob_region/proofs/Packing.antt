@@ -3,7 +3,7 @@ use Rattle.std.proofs.Common.{◌≡◌, ℕ, zero, suc, ◌+◌, ◌*◌, ◌/�
 use Rattle.std.specs.Prelude.{slice_index}
 use Rattle.std.proofs.lemmas.Grind.{same_number_lists}
 use Rattle.rom_blob_region.specs.Bytes.{bytes_at, word_from_bytes, words_from_bytes}
-use Rattle.rom_blob_region.specs.Packed.{long_at, byte_of, word_at}
+use Rattle.rom_blob_region.specs.Packed.{long_at, byte_of, packed_word_at}
 
 -- a byte of a number of eight
 module _ (a b c d e f g h : ℕ) (la : a < 256) (lb : b < 256) (lc : c < 256) (ld : d < 256) (le : e < 256) (lf : f < 256) (lg : g < 256) (lh : h < 256) where
@@ -77,4 +77,4 @@ module _ (bytes : List ℕ) (small : (k : ℕ) → slice_index bytes k < 256) wh
       (λ k lt.
       let inside : k < length bytes = omega (arith, lt, long_at (words_from_bytes bytes many) 0 (length bytes)) in
       let e : 0 + k / 8 ≡ k / 8 = omega arith in
-      byte_of (words_from_bytes bytes many) 0 (length bytes) k inside ∙ ap (λ x. x / 256 ^ (k % 8) % 256) (ap (λ j. slice_index (words_from_bytes bytes many) j) e ∙ word_at bytes many (k / 8) (omega (arith, inside, fit))) ∙ byte_back k)
+      byte_of (words_from_bytes bytes many) 0 (length bytes) k inside ∙ ap (λ x. x / 256 ^ (k % 8) % 256) (ap (λ j. slice_index (words_from_bytes bytes many) j) e ∙ packed_word_at bytes many (k / 8) (omega (arith, inside, fit))) ∙ byte_back k)

@@ -13,9 +13,9 @@ use Rattle.std.proofs.lemmas.Bool.Decides.{nat_tests}
 use Rattle.rom_model.specs.Blocks.{IsNode}
 use Rattle.rom_model.specs.Chains.{times}
 use Rattle.rom_model.proofs.Times.{times_here, times_more}
-use Rattle.rom_bucket.specs.Buckets.{nodes_of, entries_of}
+use Rattle.rom_bucket.specs.Buckets.{blocks_of_buckets, entries_of}
 use Rattle.rom_blob_region.specs.Packed.{long_at}
-use Rattle.rom_blob_region.specs.State.{Blob, BlobState, order_for, blocks_taken, taking_some, first_passing, lowest, is_free, new_body, next_body, set_node, set_new, set_again, set_blob, cut_blob, blob_step}
+use Rattle.rom_blob_region.specs.State.{Blob, BlobState, order_for, blocks_taken, taking_some, first_number_where, lowest, is_free, new_body, next_body, set_node, set_new, set_again, set_blob, cut_blob, blob_step}
 use Rattle.rom_blob_region.specs.declared.call.BlobCall.{BlobCall}
 use Rattle.rom_blob_region.specs.declared.call.BlobCall.TheVariants.{Set, Cut}
 use Rattle.rom_blob_region.specs.Region.{len_at, data_at, blob_at, IsBlob, BlobContents}
@@ -39,11 +39,11 @@ some_same : {A : Type 0} (a b : A) → Some a ≡ Some b → a ≡ b
 some_same a b is = cc
 
 -- what is found stands in the range
-pub in_range : (test : ℕ → Bool) (many at x : ℕ) → first_passing test at many ≡ Some x → (at ≤ x) × (x < at + many)
+pub in_range : (test : ℕ → Bool) (many at x : ℕ) → first_number_where test at many ≡ Some x → (at ≤ x) × (x < at + many)
 in_range test zero at x is = absurd (let never : None ≡ Some x = is in cc)
 in_range test (suc many) at x is = go (test at) (λ rest. in_range test many (at + 1) x rest) is
   where
-    go : (b : Bool) → (first_passing test (at + 1) many ≡ Some x → (at + 1 ≤ x) × (x < at + 1 + many)) → (if b then Some at else first_passing test (at + 1) many) ≡ Some x → (at ≤ x) × (x < at + suc many)
+    go : (b : Bool) → (first_number_where test (at + 1) many ≡ Some x → (at + 1 ≤ x) × (x < at + 1 + many)) → (if b then Some at else first_number_where test (at + 1) many) ≡ Some x → (at ≤ x) × (x < at + suc many)
     go true rest here = let same : at ≡ x = some_same at x here in (omega (arith, same), omega (arith, same))
     go false rest there = let both = rest there in (omega (arith, both), omega (arith, both))
 
@@ -223,4 +223,4 @@ module _ {n : ℕ} {w : List ℕ} where
   contents_ranged {s} {k} held =
       let is = held.1 in
       subst (λ (m : BlobState). IsRanged n m) is.state_is
-      (map_ranged n (entries_of n w (blob_at n w) (nodes_of n held.0)) (entries_ranged is.order.least (nodes_of n held.0) (λ b some. (is.blobs b some, (is.keys.within b some).1))))
+      (map_ranged n (entries_of n w (blob_at n w) (blocks_of_buckets n held.0)) (entries_ranged is.order.least (blocks_of_buckets n held.0) (λ b some. (is.blobs b some, (is.keys.within b some).1))))

@@ -8,7 +8,7 @@ use Rattle.std.proofs.lemmas.List.{get_or_past, get_or_append_left, get_or-appen
 use Rattle.std.proofs.lemmas.Nat.{pow-add}
 use Rattle.std.proofs.Math.Nat.{zero-div, div-eq_of_lt, div-div-eq-div-mul}
 use Rattle.rom_blob_region.specs.Bytes.{bytes_at, bytes_in, same_words, words_for, word_from_bytes, words_from_bytes, EndsInZeros, IsChunk}
-use Rattle.rom_blob_region.specs.Packed.{long_at, words_long, word_at, word_is}
+use Rattle.rom_blob_region.specs.Packed.{long_at, words_long, packed_word_at, word_is}
 use Rattle.rom_blob_region.proofs.Carried.{from_zero, all_zeros, bytes_same, byte_small, loaded}
 use Rattle.rom_blob_region.proofs.Packing.{byte_back, bytes_back}
 
@@ -105,7 +105,7 @@ module _ (words : List ℕ) (len : ℕ) (few : len ≤ 256) (whole : length word
       let are : words_from_bytes bytes (words_for len) ≡ words = same_number_lists (words_from_bytes bytes (words_for len)) words (words_long bytes (words_for len) ∙ sym whole)
       (λ k lt.
       let inside : k < words_for len = omega (arith, lt, words_long bytes (words_for len)) in
-      word_at bytes (words_for len) k inside ∙ ap (λ bs. word_from_bytes bs k) (sym read_bytes) ∙ word_is len (filled words) read_chunk k ∙ same k inside) in
+      packed_word_at bytes (words_for len) k inside ∙ ap (λ bs. word_from_bytes bs k) (sym read_bytes) ∙ word_is len (filled words) read_chunk k ∙ same k inside) in
       let test : same_words (words_from_bytes bytes (words_for len)) words ≡ true = ap (λ ws. same_words ws words) are ∙ same_self words in
       let most : nat_le len 256 ≡ true = grind (arith, nat_tests, few) in
       ap (λ t. if t && same_words (words_from_bytes bytes (words_for len)) words then Some bytes else None) most ∙ ap (λ t. if t then Some bytes else None) test
@@ -118,7 +118,7 @@ words_end words len are =
       λ k ge lt.
           let e : 0 + k / 8 ≡ k / 8 = omega arith in
           ap (λ j. slice_index words j / 256 ^ (k % 8) % 256) e ∙ ap (λ ws. slice_index ws (k / 8) / 256 ^ (k % 8) % 256) (sym are)
-          ∙ ap (λ x. x / 256 ^ (k % 8) % 256) (word_at bytes (words_for len) (k / 8) (omega (arith, lt))) ∙ byte_back bytes (byte_small words 0 len) k ∙ get_or_past bytes k 0 (omega (arith, ge, long_at words 0 len)),
+          ∙ ap (λ x. x / 256 ^ (k % 8) % 256) (packed_word_at bytes (words_for len) (k / 8) (omega (arith, lt))) ∙ byte_back bytes (byte_small words 0 len) k ∙ get_or_past bytes k 0 (omega (arith, ge, long_at words 0 len)),
     )
 
 -- no bytes have these words

@@ -8,7 +8,7 @@ use Rattle.rom_model.specs.Blocks.{AreWords, block_of}
 use Rattle.rom_model.specs.Chains.{times}
 use Rattle.rom_model.proofs.Room.{tree_stays}
 use Rattle.rom_bucket.specs.Walk.{head_of}
-use Rattle.rom_bucket.specs.Buckets.{nodes_of}
+use Rattle.rom_bucket.specs.Buckets.{blocks_of_buckets}
 use Rattle.rom_bucket.proofs.Keys.{entries_same, buckets_same}
 use Rattle.rom_blob_region.specs.State.{BlobState, taken_with}
 use Rattle.rom_blob_region.specs.Region.{data_at, blob_at, AreBlobsApart, IsBlobs, BlobContents}
@@ -21,7 +21,7 @@ module _ {n : ℕ} {w w' : List ℕ} {f : ℕ → List ℕ} {s : BlobState} {k :
   high : (j : ℕ) → 3 ≤ j → slice_index w' j ≡ slice_index w j
   high j ge = only.behind j (omega (arith, ge))
 
-  same : (b : ℕ) → 0 < times b (nodes_of n f) → Same n w w' b
+  same : (b : ℕ) → 0 < times b (blocks_of_buckets n f) → Same n w w' b
   same b some = stays_same n w w' b (is.blobs b some) record {
     node = λ j lt. high (block_of n b + j) (omega arith);
     body = λ j lt.
@@ -30,7 +30,7 @@ module _ {n : ℕ} {w w' : List ℕ} {f : ℕ → List ℕ} {s : BlobState} {k :
   }
 
   stay : held n w' f ≡ held n w f
-  stay = held_same (blob_at n w) (blob_at n w') (nodes_of n f) (λ b some. (same b some).blob)
+  stay = held_same (blob_at n w) (blob_at n w') (blocks_of_buckets n f) (λ b some. (same b some).blob)
 
   recounted : IsBlobs n w' f s (k + 1)
   recounted = record {
@@ -47,7 +47,7 @@ module _ {n : ℕ} {w w' : List ℕ} {f : ℕ → List ℕ} {s : BlobState} {k :
     };
     keys = buckets_same w' (λ i lt. high (head_of n i) (omega arith)) (high 3 (omega arith)) (λ c some. high (block_of n c + 0) (omega arith)) (λ c some. high (block_of n c + 2) (omega arith)) is.keys;
     blobs = λ b some. (same b some).is;
-    state_is = ap (λ es. finite.from_entries es) (entries_same n w w' (blob_at n w) (blob_at n w') (nodes_of n f) (λ c some. high (block_of n c + 0) (omega arith)) (λ c some. (same c some).blob)) ∙ is.state_is;
+    state_is = ap (λ es. finite.from_entries es) (entries_same n w w' (blob_at n w) (blob_at n w') (blocks_of_buckets n f) (λ c some. high (block_of n c + 0) (omega arith)) (λ c some. (same c some).blob)) ∙ is.state_is;
     apart = subst (λ ys. AreBlobsApart n ys) (sym stay) is.apart;
     tree = subst (λ ys. AreWords n (taken_with ys) w') (sym stay) (tree_stays n (taken_with (held n w f)) w w' (λ j least most. high j (omega (arith, least))) is.tree);
   }

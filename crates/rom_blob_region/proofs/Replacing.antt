@@ -9,7 +9,7 @@ use Rattle.rom_model.specs.Blocks.{IsOrder, IsNode, IsDisjoint, taking, block_of
 use Rattle.rom_model.specs.Chains.{times}
 use Rattle.rom_model.proofs.Times.{times_here, times_more, times-append}
 use Rattle.rom_model.proofs.Room.{tree_stays}
-use Rattle.rom_bucket.specs.Buckets.{nodes_of, There}
+use Rattle.rom_bucket.specs.Buckets.{blocks_of_buckets, There}
 use Rattle.rom_bucket.specs.declared.walk.Place.{Place}
 use Rattle.rom_bucket.proofs.Finding.{own_within}
 use Rattle.rom_bucket.proofs.Keys.{get_here}
@@ -32,7 +32,7 @@ pub record Home (n : ℕ) (w : List ℕ) (f : ℕ → List ℕ) (block x : ℕ) 
   pub disjoint : IsDisjoint n (taking x (taken_with (held n w f)))
   pub not_table : x ≢ 16
   pub not_node : x ≢ 2 ^ n + block
-  pub not_others : (b : ℕ) → 0 < times b (nodes_of n f) → b ≢ block → times x (blocks_in (blob_at n w b)) ≡ 0
+  pub not_others : (b : ℕ) → 0 < times b (blocks_of_buckets n f) → b ≢ block → times x (blocks_in (blob_at n w b)) ≡ 0
 
 module _ {n : ℕ} {w : List ℕ} {f : ℕ → List ℕ} {s : BlobState} {count : ℕ} {key : ℕ} {place : Place} (o : IsOrder n) (is : HasKeys n w f s count) (apart : AreBlobsApart n (held n w f)) (t : There n w f key place)
     {at : ℕ} {body : Option ℕ} {bytes w' : List ℕ} (few : length bytes ≤ 256) (placed : Placed n (length bytes) at body) (bare : length bytes ≡ 0 → at ≡ 0) (home : (x : ℕ) → body ≡ Some x → Home n w f t.block x) (filled : IsFilled place.node at bytes w w') where
@@ -163,12 +163,12 @@ module _ {n : ℕ} {w : List ℕ} {f : ℕ → List ℕ} {s : BlobState} {count 
       let xs = held n w f in
       let counts : times x (blocks_in was) ≡ times x ((2 ^ n + t.block) ∷ x ∷ []) = ap (λ o. times x ((2 ^ n + t.block) ∷ some_block o)) at in
       let among : 0 < times x (blocks_in was) = omega (arith, counts, times_here x [], times_more x (2 ^ n + t.block) (x ∷ [])) in
-      let there : taken_with xs x ≡ true = taken_block xs x (omega (arith, among, held_has (blob_at n w) x t.block (nodes_of n f) t.among)) in
+      let there : taken_with xs x ≡ true = taken_block xs x (omega (arith, among, held_has (blob_at n w) x t.block (blocks_of_buckets n f) t.among)) in
       record {
         disjoint = disjoint_same n (taken_with xs) (taking x (taken_with xs)) (taking_known x (taken_with xs) there) is.apart.disjoint;
-        not_table = not_table n xs is.apart x (omega (arith, among, held_has (blob_at n w) x t.block (nodes_of n f) t.among));
-        not_node = λ e. absurd (omega (arith, counts, ap (λ z. times x (z ∷ x ∷ [])) (sym e), times_here x (x ∷ []), times_here x [], held_has (blob_at n w) x t.block (nodes_of n f) t.among, is.apart.different x));
-        not_others = λ b some ne. omega (arith, held_two (blob_at n w) x b t.block (nodes_of n f) ne some t.among, among, is.apart.different x);
+        not_table = not_table n xs is.apart x (omega (arith, among, held_has (blob_at n w) x t.block (blocks_of_buckets n f) t.among));
+        not_node = λ e. absurd (omega (arith, counts, ap (λ z. times x (z ∷ x ∷ [])) (sym e), times_here x (x ∷ []), times_here x [], held_has (blob_at n w) x t.block (blocks_of_buckets n f) t.among, is.apart.different x));
+        not_others = λ b some ne. omega (arith, held_two (blob_at n w) x b t.block (blocks_of_buckets n f) ne some t.among, among, is.apart.different x);
       }
 
   kept_placed : (m : ℕ) → len0 ≢ 0 → m ≢ 0 → order_for len0 ≡ order_for m → Placed n m (data_at n w t.block) was.body
@@ -235,8 +235,8 @@ module _ {n : ℕ} {w : List ℕ} {f : ℕ → List ℕ} {s : BlobState} {count 
         record {
           disjoint = subst (λ ys. IsDisjoint n (taking x (taken_with ys))) (sym stay) (new_disjoint n xs x one);
           not_table = λ e. absurd (omega (arith, ap (λ c. times c (x ∷ xs)) e, times_here x xs, one.beside));
-          not_node = λ e. absurd (omega (arith, none_now, ap (λ c. times c (held n w1 f)) e, held_has (blob_at n w1) (2 ^ n + t.block) t.block (nodes_of n f) t.among, has_node n w1 t.block));
-          not_others = λ b some ne. omega (arith, none_now, held_has (blob_at n w1) x b (nodes_of n f) some);
+          not_node = λ e. absurd (omega (arith, none_now, ap (λ c. times c (held n w1 f)) e, held_has (blob_at n w1) (2 ^ n + t.block) t.block (blocks_of_buckets n f) t.among, has_node n w1 t.block));
+          not_others = λ b some ne. omega (arith, none_now, held_has (blob_at n w1) x b (blocks_of_buckets n f) some);
         }
 
     pub moved_beside : (place.node + 4 ≤ at) ⊎ (at + words_for len ≤ place.node)

@@ -9,7 +9,7 @@ use Rattle.rom_model.proofs.Members.{under_table}
 use Rattle.rom_model.proofs.Nodes.{pow_small}
 use Rattle.rom_model.proofs.Room.{tree_stays}
 use Rattle.rom_block.specs.Taken.{Takes}
-use Rattle.rom_bucket.specs.Link.{first_place, IsLinked}
+use Rattle.rom_bucket.specs.Link.{first_place, IsNodeLinked}
 use Rattle.rom_bucket.proofs.Keys.{few}
 use Rattle.rom_blob_region.specs.Bytes.{bytes_at, words_for, EndsInZeros}
 use Rattle.rom_blob_region.specs.State.{BlobState, some_block, blocks_taken, taken_with, taking_some, lowest, new_body, set_new, set_node}
@@ -149,7 +149,7 @@ module _ {n : ℕ} {w : List ℕ} {f : ℕ → List ℕ} {s : BlobState} {count 
         size_small = omega (arith, after.keys.keys.len, few after.keys.keys, pow_small n o.most)
 
         -- the key is there
-        pub new_key : {w4 : List ℕ} (key : ℕ) → finite.get s key ≡ None → IsLinked 3 (first_place n key w3) node record { key = key; second = len; last = at } w3 w4 → BlobContents n w4 (finite.insert s key record { bytes = bytes; node = takes.node; body = r.body }) count
+        pub new_key : {w4 : List ℕ} (key : ℕ) → finite.get s key ≡ None → IsNodeLinked 3 (first_place n key w3) node record { key = key; second = len; last = at } w3 w4 → BlobContents n w4 (finite.insert s key record { bytes = bytes; node = takes.node; body = r.body }) count
         new_key {w4} key absent linked =
             let all = some_block r.body ++ xs in
             let late = unit_late n takes.node all o.least takes.lowest in
@@ -161,4 +161,4 @@ module _ {n : ℕ} {w : List ℕ} {f : ℕ → List ℕ} {s : BlobState} {count 
             let words_now : AreWords n (taking (2 ^ n + b) (taken_with (some_block r.body ++ held n w3 f))) w3 = subst (λ ys. AreWords n (taking (2 ^ n + b) (taken_with (some_block r.body ++ ys))) w3) (sym stay3) (subst (λ z. AreWords n (taking z (taken_with all)) w3) same words) in
             subst (λ z. BlobContents n w4 (finite.insert s key record { bytes = bytes; node = z; body = r.body }) count) (sym same)
             (added_key b o few_bytes after.keys r.placed r.bare (subst (λ ys. AreBlobsApart n (some_block r.body ++ ys)) (sym stay3) r.apart) stored.bytes_are stored.ends absent node_at free disjoint
-            (subst (λ a. IsLinked 3 (first_place n key w3) a record { key = key; second = len; last = at } w3 w4) node_is linked) words_now)
+            (subst (λ a. IsNodeLinked 3 (first_place n key w3) a record { key = key; second = len; last = at } w3 w4) node_is linked) words_now)

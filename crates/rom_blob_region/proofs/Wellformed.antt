@@ -12,7 +12,7 @@ use Rattle.rom_model.proofs.Contents.{one_all}
 use Rattle.rom_model.proofs.Outcomes.{one_ok}
 use Rattle.rom_model.proofs.Holding.{all_hold, hold_both, held_zeros}
 use Rattle.rom_bucket.specs.Walk.{head_of}
-use Rattle.rom_bucket.specs.Buckets.{nodes_of, with_chain, AreBuckets, keyed}
+use Rattle.rom_bucket.specs.Buckets.{blocks_of_buckets, with_chain, AreBuckets, keyed}
 use Rattle.rom_bucket.proofs.Chained.{chain_here, chain_other}
 use Rattle.rom_bucket.proofs.Keys.{in_bucket}
 use Rattle.rom_blob_region.specs.State.{taken_with}
@@ -120,8 +120,8 @@ module _ (n : ℕ) (w : List ℕ) (o : IsOrder n) (long : length w ≡ region_le
   abbrev bucket : ℕ → List ℕ
   bucket = walked.bucket
 
-  apart : AreBlobsApart n (held n w (nodes_of n bucket))
-  apart = apart_same n (held n w m) (held n w (nodes_of n bucket)) (λ x. sym (walked.counts x)) (all_apart n w le (buckets n) m one)
+  apart : AreBlobsApart n (held n w (blocks_of_buckets n bucket))
+  apart = apart_same n (held n w m) (held n w (blocks_of_buckets n bucket)) (λ x. sym (walked.counts x)) (all_apart n w le (buckets n) m one)
 
   -- what is known of each node
   fit : (i b : ℕ) → i < buckets n → 0 < times b (bucket i) → (seen : List ℕ) × (before : List ℕ) × Fits n w i seen before b
@@ -136,7 +136,7 @@ module _ (n : ℕ) (w : List ℕ) (o : IsOrder n) (long : length w ≡ region_le
     len = eqb-true (slice_index w 3) (length m) (all_hold (is_word w 3 Count (length m)) [] tt tt size).here ∙ sym walked.long;
     own_bucket = λ i b lt some. (fit i b lt some).2.key.own;
     keys_differ = λ i key lt. let is = walked.each i lt in omega (arith, ap (λ (us : List ℕ). times key (each_word n w 0 us)) is.order, keys_onward n w key is.reached [], keys_once n w le i is.seen is.reached key is.reaches);
-    different = unit_once n w (nodes_of n bucket) apart;
+    different = unit_once n w (blocks_of_buckets n bucket) apart;
     within = λ b some.
         let x = in_bucket bucket (buckets n) b some in
         let at = fit x.0 b x.1 x.2 in
@@ -158,7 +158,7 @@ module _ (n : ℕ) (w : List ℕ) (o : IsOrder n) (long : length w ≡ region_le
         blobs = λ b some. let x = in_bucket bucket (buckets n) b some in (fit x.0 b x.1 x.2).2.blob;
         state_is = refl;
         apart = apart;
-        tree = tree_same n (held n w m) (held n w (nodes_of n bucket)) w (λ x. sym (walked.counts x)) tree;
+        tree = tree_same n (held n w m) (held n w (blocks_of_buckets n bucket)) w (λ x. sym (walked.counts x)) tree;
       },
     ),
   )

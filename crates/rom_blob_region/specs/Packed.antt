@@ -78,10 +78,10 @@ words_long bytes zero = refl
 words_long bytes (suc many) = let e : many + 1 ≡ suc many = omega arith in length-append (words_from_bytes bytes many) (word_from_bytes bytes many ∷ []) ∙ ap (λ m. m + 1) (words_long bytes many) ∙ e
 
 -- word i of the words that were asked for is word i of the bytes
-pub word_at : (bytes : List ℕ) (many i : ℕ) → i < many → slice_index (words_from_bytes bytes many) i ≡ word_from_bytes bytes i
-word_at bytes zero i lt = absurd (omega arith)
-word_at bytes (suc many) i lt = elim (cases_lt i many) [
-  | inl less ↦ get_or_append_left (words_from_bytes bytes many) (word_from_bytes bytes many ∷ []) 0 i (omega (arith, less, words_long bytes many)) ∙ word_at bytes many i less
+pub packed_word_at : (bytes : List ℕ) (many i : ℕ) → i < many → slice_index (words_from_bytes bytes many) i ≡ word_from_bytes bytes i
+packed_word_at bytes zero i lt = absurd (omega arith)
+packed_word_at bytes (suc many) i lt = elim (cases_lt i many) [
+  | inl less ↦ get_or_append_left (words_from_bytes bytes many) (word_from_bytes bytes many ∷ []) 0 i (omega (arith, less, words_long bytes many)) ∙ packed_word_at bytes many i less
   | inr ge ↦
       let last : i ≡ length (words_from_bytes bytes many) = omega (arith, lt, ge, words_long bytes many) in
       let back : many ≡ i = omega (arith, lt, ge) in
@@ -91,4 +91,4 @@ word_at bytes (suc many) i lt = elim (cases_lt i many) [
 -- cells are the words of their bytes
 pub packed_again : (len : ℕ) (cells : List ℕ) → IsChunk len cells → words_from_bytes (bytes_at cells 0 len) 32 ≡ cells
 packed_again len cells is = same_number_lists (words_from_bytes (bytes_at cells 0 len) 32) cells (words_long (bytes_at cells 0 len) 32 ∙ sym is.whole)
-    (λ k lt. word_at (bytes_at cells 0 len) 32 k (omega (arith, lt, words_long (bytes_at cells 0 len) 32)) ∙ word_is len cells is k)
+    (λ k lt. packed_word_at (bytes_at cells 0 len) 32 k (omega (arith, lt, words_long (bytes_at cells 0 len) 32)) ∙ word_is len cells is k)

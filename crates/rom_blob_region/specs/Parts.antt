@@ -18,13 +18,13 @@ BucketByBucket n words zero r = r ≡ Ok []
 BucketByBucket n words (suc i) r = Then (BucketByBucket n words i) (λ before. Then (WalksBlobs n words i before) (λ units r. r ≡ Ok (units ++ before))) r
 
 -- the words of the allocator's tree, of which taken are the bucket table and the blocks of these nodes
-abbrev pub BlobTree : ℕ → List ℕ → List ℕ → Result (Unit {0}) Break → Type 0
-BlobTree n words units (Ok done) = AreWords n (taken_with (held n words units)) words
-BlobTree n words units (Err e) = (e.rule ≡ rule.Tree) × DiffersFirst n (taken_with (held n words units)) words e.offset
+abbrev pub BlobAllocatorTree : ℕ → List ℕ → List ℕ → Result (Unit {0}) Break → Type 0
+BlobAllocatorTree n words units (Ok done) = AreWords n (taken_with (held n words units)) words
+BlobAllocatorTree n words units (Err e) = (e.rule ≡ rule.Tree) × DiffersFirst n (taken_with (held n words units)) words e.offset
 
 -- the nodes that were reached are as many as there are keys, and then the tree
 abbrev pub Ending : ℕ → List ℕ → List ℕ → Result (Unit {0}) Break → Type 0
-Ending n words units = Then (λ r. r ≡ checked (size_tests words units)) (λ done. BlobTree n words units)
+Ending n words units = Then (λ r. r ≡ checked (size_tests words units)) (λ done. BlobAllocatorTree n words units)
 
 -- All parts: the root words, all buckets, the number of keys and the tree.
 abbrev pub BlobInspection : ℕ → List ℕ → Result (Unit {0}) Break → Type 0

@@ -5,7 +5,7 @@ use Rattle.std.specs.Prelude.{◌≡◌, ◌≢◌, ℕ, ◌+◌, ◌-◌, ◌*�
 use Rattle.rom_model.specs.Blocks.{IsOrder, IsNode, IsDisjoint, AreWords, block_of, block_at, region_len}
 use Rattle.rom_model.specs.Chains.{times}
 use Rattle.rom_model.specs.History.{LAST_COUNT}
-use Rattle.rom_bucket.specs.Buckets.{nodes_of, AreBuckets, keyed}
+use Rattle.rom_bucket.specs.Buckets.{blocks_of_buckets, AreBuckets, keyed}
 use Rattle.rom_blob_region.specs.Bytes.{bytes_at, EndsInZeros}
 use Rattle.rom_blob_region.specs.State.{Blob, BlobState, order_for, blocks_in, taken_with}
 
@@ -65,10 +65,10 @@ pub record IsBlobs (n : ℕ) (words : List ℕ) (bucket : ℕ → List ℕ) (s :
   pub as_long : length words ≡ region_len n
   pub root : IsBlobRoot n words count
   pub keys : AreBuckets n 3 words bucket
-  pub blobs : (b : ℕ) → 0 < times b (nodes_of n bucket) → IsBlob n words b
+  pub blobs : (b : ℕ) → 0 < times b (blocks_of_buckets n bucket) → IsBlob n words b
   pub state_is : keyed n words (blob_at n words) bucket ≡ s
-  pub apart : AreBlobsApart n (held_by (blob_at n words) (nodes_of n bucket))
-  pub tree : AreWords n (taken_with (held_by (blob_at n words) (nodes_of n bucket))) words
+  pub apart : AreBlobsApart n (held_by (blob_at n words) (blocks_of_buckets n bucket))
+  pub tree : AreWords n (taken_with (held_by (blob_at n words) (blocks_of_buckets n bucket))) words
 
 -- The region is well-formed, and stands for this state and count.
 abbrev pub BlobContents : ℕ → List ℕ → BlobState → ℕ → Type 0

@@ -70,13 +70,13 @@ abbrev pub is_free : ℕ → (ℕ → Bool) → ℕ → ℕ → Bool
 is_free n blocks order i = not (any_below (2 ^ order) (λ r. lies_in n blocks (i * 2 ^ order + r)))
 
 -- the first number that passes, of so many from that one on
-abbrev pub first_passing : (ℕ → Bool) → ℕ → ℕ → Option ℕ
-first_passing test at zero = None
-first_passing test at (suc many) = if test at then Some at else first_passing test (at + 1) many
+abbrev pub first_number_where : (ℕ → Bool) → ℕ → ℕ → Option ℕ
+first_number_where test at zero = None
+first_number_where test at (suc many) = if test at then Some at else first_number_where test (at + 1) many
 
 -- the first free block of that order, or none
 abbrev pub lowest : ℕ → (ℕ → Bool) → ℕ → Option ℕ
-lowest n blocks order = first_passing (is_free n blocks order) (2 ^ (n - order)) (2 ^ (n - order))
+lowest n blocks order = first_number_where (is_free n blocks order) (2 ^ (n - order)) (2 ^ (n - order))
 
 -- where bytes go that have no block yet, or none where no block is free: nowhere, or to the lowest
 abbrev pub new_body : ℕ → (ℕ → Bool) → List ℕ → Option (Option ℕ)

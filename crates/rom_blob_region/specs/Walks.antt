@@ -61,13 +61,13 @@ ReachesBlobs n words i seen [] = Unit {0}
 ReachesBlobs n words i seen (b ∷ before) = ReachesBlobs n words i seen before × Node n words i seen before (Ok b)
 
 -- behind these nodes stands a link that is not 0, and what it comes to breaks
-abbrev pub BreaksBlobs : ℕ → List ℕ → ℕ → List ℕ → List ℕ → Break → Type 0
-BreaksBlobs n words i seen before e = (slice_index words (next_blob_link n i before) ≢ 0) × Node n words i seen before (Err e)
+abbrev pub BreaksBlobWalk : ℕ → List ℕ → ℕ → List ℕ → List ℕ → Break → Type 0
+BreaksBlobWalk n words i seen before e = (slice_index words (next_blob_link n i before) ≢ 0) × Node n words i seen before (Err e)
 
 -- What a walk comes to: all nodes of the chain, whose last link is 0, or its first break.
 abbrev pub WalksBlobs : ℕ → List ℕ → ℕ → List ℕ → Result (List ℕ) Break → Type 0
 WalksBlobs n words i seen (Ok units) = ReachesBlobs n words i seen units × (slice_index words (next_blob_link n i units) ≡ 0)
-WalksBlobs n words i seen (Err e) = (before : List ℕ) × ReachesBlobs n words i seen before × BreaksBlobs n words i seen before e
+WalksBlobs n words i seen (Err e) = (before : List ℕ) × ReachesBlobs n words i seen before × BreaksBlobWalk n words i seen before e
 
 -- of all nodes of the tree those of the bucket table and of these blocks are marked
 pub record AreBlobMarks (n : ℕ) (blocks : List ℕ) (marks : List Bool) : Type 0 where

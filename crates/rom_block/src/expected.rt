@@ -1,7 +1,7 @@
 //! The words that the tree must hold for blocks that are taken, and their comparison with a region.
 ghost use Rattle.std.specs.Prelude.{◌≡◌, ℕ, ◌+◌, ◌-◌, ◌*◌, ◌^◌, ◌<◌, ◌≤◌, Bool, List, length, IfOk, MatchOption, slice_index};
 ghost use Rattle.rom_model.specs.Blocks.{AreWords, nothing, word};
-ghost use Rattle.rom_block.specs.Levels.{AreForNodes, IsMarked, AreBelow, AreExpected};
+ghost use Rattle.rom_block.specs.Levels.{AreForNodes, IsMarked, AreNodesBelow, AreExpected};
 ghost use Rattle.rom_block.specs.Walk.{HoldsTree, IsNodeOf};
 ghost use Rattle.rom_block.specs.Taken.{among, AreBlocks, DiffersFirst};
 
@@ -29,7 +29,7 @@ fn mark_nodes(order: u32, taken: &[Taken], marks: &mut [bool])
 fn node_word(order: u32, level: u32, marks: &[bool], words: &[u64], node: u64) -> u64
     requires sized { AreForNodes order marks.now words.now }
     requires node { IsNodeOf order level node }
-    ensures { (taken : ℕ → Bool) → IsMarked taken marks.now → AreBelow order taken level words.now
+    ensures { (taken : ℕ → Bool) → IsMarked taken marks.now → AreNodesBelow order taken level words.now
         → result ≡ word taken level node }
 {
     if marks[node as usize] {
@@ -47,7 +47,7 @@ fn fill_level(order: u32, level: u32, marks: &[bool], words: &mut [u64])
     requires sized { AreForNodes order marks.now words.old }
     requires level { level ≤ order }
     ensures filled { (taken : ℕ → Bool) → IsMarked taken marks.now
-        → AreBelow order taken level words.old → AreBelow order taken (level + 1) words.new }
+        → AreNodesBelow order taken level words.old → AreNodesBelow order taken (level + 1) words.new }
     ensures sized { AreForNodes order marks.now words.new }
 {
     let first = power_of_two(order - level);

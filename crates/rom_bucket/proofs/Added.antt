@@ -12,8 +12,8 @@ use Rattle.rom_model.proofs.Nodes.{pow_positive}
 use Rattle.rom_model.proofs.Frames.{chain_same, each_same}
 use Rattle.rom_model.proofs.Links.{chain_first, chain_moved, each_append}
 use Rattle.rom_bucket.specs.Walk.{head_of}
-use Rattle.rom_bucket.specs.Link.{first_place, IsLinked}
-use Rattle.rom_bucket.specs.Buckets.{nodes_of, with_chain, AreBuckets, Between, entries_of, keyed}
+use Rattle.rom_bucket.specs.Link.{first_place, IsNodeLinked}
+use Rattle.rom_bucket.specs.Buckets.{blocks_of_buckets, with_chain, AreBuckets, Between, entries_of, keyed}
 use Rattle.rom_bucket.specs.declared.node.Node.{Node}
 use Rattle.rom_bucket.specs.declared.walk.Place.{Place}
 use Rattle.rom_bucket.proofs.Heads.{head_before}
@@ -30,9 +30,9 @@ pub record MayAdd (n size : ℕ) (w : List ℕ) (f : ℕ → List ℕ) (key bloc
   pub are : AreBuckets n size w f
   pub block_late : 2 ^ (n - 4) ≤ block
   pub block_most : block < 2 ^ n
-  pub absent : times block (nodes_of n f) ≡ 0
+  pub absent : times block (blocks_of_buckets n f) ≡ 0
   pub within : bucket_of n key < buckets n
-  pub missing : times key (each_word n w 0 (nodes_of n f)) ≡ 0
+  pub missing : times key (each_word n w 0 (blocks_of_buckets n f)) ≡ 0
 
 module _ {n size : ℕ} {w : List ℕ} {f : ℕ → List ℕ} {key block : ℕ} {place : Place} (may : MayAdd n size w f key block) (b : Between n f key place) where
   -- the link of the place is no word of the block, and leads elsewhere
@@ -40,7 +40,7 @@ module _ {n size : ℕ} {w : List ℕ} {f : ℕ → List ℕ} {key block : ℕ} 
   link_outside = ⊎_elim
       (λ at. inl (omega (arith, at, head_before n (bucket_of n key) may.least may.within, may.block_late)))
       (λ x.
-      let ne : x.0 ≢ block = λ e. absurd (omega (arith, x.1, ap (λ c. times c (nodes_of n f)) e, may.absent)) in
+      let ne : x.0 ≢ block = λ e. absurd (omega (arith, x.1, ap (λ c. times c (blocks_of_buckets n f)) e, may.absent)) in
       elim (cases_lt x.0 block) [ inl less ↦ inl (omega (arith, x.2, less)) | inr ge ↦ inr (omega (arith, x.2, ge, ne)) ])
       (link_kinds may.least may.are may.within b)
 
@@ -49,7 +49,7 @@ module _ {n size : ℕ} {w : List ℕ} {f : ℕ → List ℕ} {key block : ℕ} 
       let none : times block b.back ≡ 0 = omega (arith, in_own may.least may.are may.within b block, times_bucket f (buckets n) (bucket_of n key) block may.within, may.absent) in
       first_other n block b.back none (sym b.node_is ∙ sym (link_leads may.least may.are may.within b) ∙ e)
 
-module _ {n size : ℕ} {w w' : List ℕ} {f : ℕ → List ℕ} {node : Node} {block : ℕ} {place : Place} (may : MayAdd n size w f node.key block) (b : Between n f node.key place) (linked : IsLinked size place (block_of n block) node w w') where
+module _ {n size : ℕ} {w w' : List ℕ} {f : ℕ → List ℕ} {node : Node} {block : ℕ} {place : Place} (may : MayAdd n size w f node.key block) (b : Between n f node.key place) (linked : IsNodeLinked size place (block_of n block) node w w') where
   abbrev key : ℕ
   key = node.key
 
@@ -62,30 +62,30 @@ module _ {n size : ℕ} {w w' : List ℕ} {f : ℕ → List ℕ} {node : Node} {
   place_in : Cut f own (buckets n) b.front b.back
   place_in = cut f own (buckets n) b.front b.back may.within
 
-  before : nodes_of n f ≡ place_in.ahead ++ place_in.behind
+  before : blocks_of_buckets n f ≡ place_in.ahead ++ place_in.behind
   before = place_in.are f (λ j ne. refl) [] b.blocks
 
-  after : nodes_of n next ≡ place_in.ahead ++ block ∷ place_in.behind
+  after : blocks_of_buckets n next ≡ place_in.ahead ++ block ∷ place_in.behind
   after = place_in.are next (λ j ne. chain_other f own j (b.front ++ block ∷ b.back) ne) (block ∷ []) (chain_here f own (b.front ++ block ∷ b.back))
 
   -- the nodes before and after
-  pub parts : (ahead behind : List ℕ) × (nodes_of n f ≡ ahead ++ behind) × (nodes_of n next ≡ ahead ++ block ∷ behind)
+  pub parts : (ahead behind : List ℕ) × (blocks_of_buckets n f ≡ ahead ++ behind) × (blocks_of_buckets n next ≡ ahead ++ block ∷ behind)
   parts = (place_in.ahead, place_in.behind, before, after)
 
-  pub one_node_more : (c : ℕ) → times c (nodes_of n next) ≡ times c (nodes_of n f) + times c (block ∷ [])
+  pub one_node_more : (c : ℕ) → times c (blocks_of_buckets n next) ≡ times c (blocks_of_buckets n f) + times c (block ∷ [])
   one_node_more c = omega (arith, ap (times c) after, ap (times c) before, times-append c place_in.ahead (block ∷ place_in.behind), times-append c place_in.ahead place_in.behind)
 
   -- a word of another block is none of the new one's
-  away : (c j : ℕ) → 0 < times c (nodes_of n f) → j < 4 → (block_of n c + j < block_of n block) ⊎ (block_of n block + 4 ≤ block_of n c + j)
+  away : (c j : ℕ) → 0 < times c (blocks_of_buckets n f) → j < 4 → (block_of n c + j < block_of n block) ⊎ (block_of n block + 4 ≤ block_of n c + j)
   away c j some lt =
-      let ne : c ≢ block = λ e. absurd (omega (arith, some, ap (λ x. times x (nodes_of n f)) e, may.absent)) in
+      let ne : c ≢ block = λ e. absurd (omega (arith, some, ap (λ x. times x (blocks_of_buckets n f)) e, may.absent)) in
       elim (cases_lt c block) [ inl less ↦ inl (omega (arith, less, lt)) | inr ge ↦ inr (omega (arith, ge, ne)) ]
 
   -- the other nodes' words stay, but for the link
-  stays : (c j : ℕ) → 0 < times c (nodes_of n f) → j < 4 → (j ≡ 2 → times c b.front ≡ 0) → slice_index w' (block_of n c + j) ≡ slice_index w (block_of n c + j)
+  stays : (c j : ℕ) → 0 < times c (blocks_of_buckets n f) → j < 4 → (j ≡ 2 → times c b.front ≡ 0) → slice_index w' (block_of n c + j) ≡ slice_index w (block_of n c + j)
   stays c j some lt beside = linked.others (block_of n c + j) (away c j some lt) (not_link may.least may.are may.within b c j lt (may.are.within c some).0 beside) (λ e. absurd (omega (arith, e, may.root, pow_positive n)))
 
-  pub node_stays : (c j : ℕ) → 0 < times c (nodes_of n f) → j < 4 → j ≢ 2 → slice_index w' (block_of n c + j) ≡ slice_index w (block_of n c + j)
+  pub node_stays : (c j : ℕ) → 0 < times c (blocks_of_buckets n f) → j < 4 → j ≢ 2 → slice_index w' (block_of n c + j) ≡ slice_index w (block_of n c + j)
   node_stays c j some lt ne = stays c j some lt (λ e. absurd (ne e))
 
   in_place : (c : ℕ) → times c (f own) ≡ times c b.front + times c b.back
@@ -160,7 +160,7 @@ module _ {n size : ℕ} {w w' : List ℕ} {f : ℕ → List ℕ} {node : Node} {
   none_own : times key (each_word n w 0 (f own)) ≡ 0
   none_own =
       let c = cut f own (buckets n) [] [] may.within in
-      let whole : nodes_of n f ≡ c.ahead ++ (f own ++ c.behind) = c.are f (λ j ne. refl) (f own) (sym (append-nil (f own))) in
+      let whole : blocks_of_buckets n f ≡ c.ahead ++ (f own ++ c.behind) = c.are f (λ j ne. refl) (f own) (sym (append-nil (f own))) in
       let first = ap (λ bs. times key (each_word n w 0 bs)) whole ∙ ap (times key) (each_append n 0 w c.ahead (f own ++ c.behind)) ∙ times-append key (each_word n w 0 c.ahead) (each_word n w 0 (f own ++ c.behind)) in
       let second = ap (times key) (each_append n 0 w (f own) c.behind) ∙ times-append key (each_word n w 0 (f own)) (each_word n w 0 c.behind) in
       omega (arith, first, second, may.missing)
@@ -191,7 +191,7 @@ module _ {n size : ℕ} {w w' : List ℕ} {f : ℕ → List ℕ} {node : Node} {
     own_bucket = own_bucket;
     keys_differ = keys_differ;
     different = λ c. elim (cases_eq block c) [
-      | inl same ↦ subst (λ d. times d (nodes_of n next) ≤ 1) same (omega (arith, one_node_more block, may.absent, times_here block []))
+      | inl same ↦ subst (λ d. times d (blocks_of_buckets n next) ≤ 1) same (omega (arith, one_node_more block, may.absent, times_here block []))
       | inr other ↦ omega (arith, one_node_more c, times_away c block [] other, may.are.different c)
     ];
     within = λ c some. elim (cases_eq block c) [
@@ -200,14 +200,14 @@ module _ {n size : ℕ} {w w' : List ℕ} {f : ℕ → List ℕ} {node : Node} {
     ];
   }
 
-  some_ahead : (c : ℕ) → 0 < times c place_in.ahead → 0 < times c (nodes_of n f)
+  some_ahead : (c : ℕ) → 0 < times c place_in.ahead → 0 < times c (blocks_of_buckets n f)
   some_ahead c some = omega (arith, some, ap (times c) before, times-append c place_in.ahead place_in.behind)
 
-  some_behind : (c : ℕ) → 0 < times c place_in.behind → 0 < times c (nodes_of n f)
+  some_behind : (c : ℕ) → 0 < times c place_in.behind → 0 < times c (blocks_of_buckets n f)
   some_behind c some = omega (arith, some, ap (times c) before, times-append c place_in.ahead place_in.behind)
 
-  module _ {V : Type 0} (value value' : ℕ → V) (same : (c : ℕ) → 0 < times c (nodes_of n f) → value' c ≡ value c) where
-    entries_now : entries_of n w' value' (nodes_of n next) ≡ entries_of n w value place_in.ahead ++ (key, value' block) ∷ entries_of n w value place_in.behind
+  module _ {V : Type 0} (value value' : ℕ → V) (same : (c : ℕ) → 0 < times c (blocks_of_buckets n f) → value' c ≡ value c) where
+    entries_now : entries_of n w' value' (blocks_of_buckets n next) ≡ entries_of n w value place_in.ahead ++ (key, value' block) ∷ entries_of n w value place_in.behind
     entries_now =
         let one = entries_same n w w' value value' place_in.ahead (λ c some. node_stays c 0 (some_ahead c some) (omega arith) (omega arith)) (λ c some. same c (some_ahead c some)) in
         let two = entries_same n w w' value value' place_in.behind (λ c some. node_stays c 0 (some_behind c some) (omega arith) (omega arith)) (λ c some. same c (some_behind c some)) in

@@ -8,8 +8,8 @@ use Rattle.rom_model.specs.Chains.{times, each_word}
 use Rattle.rom_model.specs.Region.{buckets, bucket_of}
 use Rattle.rom_model.proofs.Times.{times_here, times-append}
 use Rattle.rom_model.proofs.Looks.{looks_most}
-use Rattle.rom_bucket.specs.Walk.{IsBucket, StartsWith, IsPlace, Finds}
-use Rattle.rom_bucket.specs.Buckets.{nodes_of, AreBuckets, There, keyed, keys_beside}
+use Rattle.rom_bucket.specs.Walk.{IsBucket, StartsWithKey, IsPlaceInBucket, Finds}
+use Rattle.rom_bucket.specs.Buckets.{blocks_of_buckets, AreBuckets, There, keyed, keys_beside}
 use Rattle.rom_bucket.specs.declared.walk.Place.{Place}
 use Rattle.rom_bucket.proofs.Heads.{bucket_within}
 use Rattle.rom_bucket.proofs.Walking.{along, whole, first, blocks}
@@ -18,7 +18,7 @@ use Rattle.rom_bucket.proofs.Keys.{in_all, placed_in, nowhere, get_nowhere, get_
 pub own_within : {n : ℕ} (key : ℕ) → IsOrder n → bucket_of n key < buckets n
 own_within {n} key o = bucket_within n key o.least o.most
 
-module _ {n size : ℕ} {w : List ℕ} {f : ℕ → List ℕ} (is : AreBuckets n size w f) {key : ℕ} (lt : bucket_of n key < buckets n) (place : Place) (at : IsPlace n w (f (bucket_of n key)) key place) where
+module _ {n size : ℕ} {w : List ℕ} {f : ℕ → List ℕ} (is : AreBuckets n size w f) {key : ℕ} (lt : bucket_of n key < buckets n) (place : Place) (at : IsPlaceInBucket n w (f (bucket_of n key)) key place) where
   pub missing : place.node ≡ 0 → times key (each_word n w 0 (f (bucket_of n key))) ≡ 0
   missing none = ap (λ bs. times key (each_word n w 0 bs)) (whole (along (is.chains (bucket_of n key) lt) at.walked) none) ∙ at.walked.passed
 
@@ -26,7 +26,7 @@ module _ {n size : ℕ} {w : List ℕ} {f : ℕ → List ℕ} (is : AreBuckets n
   there some =
       let x = along (is.chains (bucket_of n key) lt) at.walked in
       let t = first x some in
-      let starts : StartsWith key (each_word n w 0 (t.block ∷ t.behind)) = subst (λ bs. StartsWith key (each_word n w 0 bs)) t.are at.stops in
+      let starts : StartsWithKey key (each_word n w 0 (t.block ∷ t.behind)) = subst (λ bs. StartsWithKey key (each_word n w 0 bs)) t.are at.stops in
       let are : f (bucket_of n key) ≡ at.walked.front ++ t.block ∷ t.behind = blocks x some in
       let stands : 0 < times t.block (f (bucket_of n key)) = omega (arith, ap (times t.block) are, times-append t.block at.walked.front (t.block ∷ t.behind), times_here t.block t.behind) in
       record {
@@ -42,7 +42,7 @@ module _ {n size : ℕ} {w : List ℕ} {f : ℕ → List ℕ} (is : AreBuckets n
       }
 
 module _ {M : Type 0} {shown : ShownSpace M} {n size key : ℕ} {place : Place} {old mid : M} {f : ℕ → List ℕ} (o : IsOrder n) (is : AreBuckets n size (shown.image old) f) (finds : Finds shown n key place old mid) where
-  pub found : IsPlace n (shown.image old) (f (bucket_of n key)) key place
+  pub found : IsPlaceInBucket n (shown.image old) (f (bucket_of n key)) key place
   found = finds.is (f (bucket_of n key)) (is.chains (bucket_of n key) (own_within key o))
 
   pub looked : Looks shown (1 + 2 * length (f (bucket_of n key))) old mid
@@ -52,7 +52,7 @@ module _ {M : Type 0} {shown : ShownSpace M} {n size key : ℕ} {place : Place} 
   image_same = looked.image
 
   -- where there is no node
-  pub no_key : place.node ≡ 0 → times key (each_word n (shown.image old) 0 (nodes_of n f)) ≡ 0
+  pub no_key : place.node ≡ 0 → times key (each_word n (shown.image old) 0 (blocks_of_buckets n f)) ≡ 0
   no_key none = nowhere is key (missing is (own_within key o) place found none)
 
   -- where there is one

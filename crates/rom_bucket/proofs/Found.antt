@@ -9,7 +9,7 @@ use Rattle.rom_model.specs.Chains.{times, each_word}
 use Rattle.rom_model.specs.Walks.{keys_under, end_loads}
 use Rattle.rom_model.specs.Region.{buckets, bucket_of}
 use Rattle.rom_model.proofs.Looks.{looks_most}
-use Rattle.rom_bucket.specs.Buckets.{nodes_of, AreBuckets, There, keyed}
+use Rattle.rom_bucket.specs.Buckets.{blocks_of_buckets, AreBuckets, There, keyed}
 use Rattle.rom_bucket.specs.Rising.{KeysRise, IsSought, Seeks, last_load}
 use Rattle.rom_bucket.specs.declared.rising.Sought.{Sought}
 use Rattle.rom_bucket.proofs.Finding.{own_within}
@@ -32,7 +32,7 @@ module _ {M : Type 0} {shown : ShownSpace M} {n size key : ℕ} {sought : Sought
   image_same = walked.image
 
   -- where the key was not found
-  pub no_key : sought.found ≡ false → times key (each_word n (shown.image old) 0 (nodes_of n f)) ≡ 0
+  pub no_key : sought.found ≡ false → times key (each_word n (shown.image old) 0 (blocks_of_buckets n f)) ≡ 0
   no_key missing = nowhere is key (none_there is rising own_lt stopped missing)
 
   -- where it was

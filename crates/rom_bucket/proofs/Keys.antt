@@ -18,7 +18,7 @@ use Rattle.rom_model.proofs.Links.{each_append}
 use Rattle.rom_model.proofs.Frames.{chain_same, each_same}
 use Rattle.rom_model.proofs.Contents.{each_in, keys_once}
 use Rattle.rom_bucket.specs.Walk.{head_of, HoldsBucket}
-use Rattle.rom_bucket.specs.Buckets.{nodes_of, AreBuckets, entries_of, keyed, keys_beside}
+use Rattle.rom_bucket.specs.Buckets.{blocks_of_buckets, AreBuckets, entries_of, keyed, keys_beside}
 use Rattle.rom_bucket.proofs.Entries.{firsts, entries_map, find_there, get_at, get_absent, insert_again, count_keys}
 use Rattle.rom_bucket.proofs.Chained.{Cut, cut}
 
@@ -83,7 +83,7 @@ in_bucket f (suc m) b some = elim (cases_lt 0 (times b (f m))) [
 
 -- the chains stay where their links, keys and heads do
 pub buckets_same : {n size : ℕ} {w : List ℕ} {f : ℕ → List ℕ} (w' : List ℕ) → ((i : ℕ) → i < buckets n → slice_index w' (head_of n i) ≡ slice_index w (head_of n i)) → slice_index w' size ≡ slice_index w size
-    → ((c : ℕ) → 0 < times c (nodes_of n f) → slice_index w' (block_of n c + 0) ≡ slice_index w (block_of n c + 0)) → ((c : ℕ) → 0 < times c (nodes_of n f) → slice_index w' (block_of n c + 2) ≡ slice_index w (block_of n c + 2))
+    → ((c : ℕ) → 0 < times c (blocks_of_buckets n f) → slice_index w' (block_of n c + 0) ≡ slice_index w (block_of n c + 0)) → ((c : ℕ) → 0 < times c (blocks_of_buckets n f) → slice_index w' (block_of n c + 2) ≡ slice_index w (block_of n c + 2))
     → AreBuckets n size w f → AreBuckets n size w' f
 buckets_same {n} {size} {w} {f} w' heads len keys links is = record {
   chains = λ i lt. chain_same n (head_of n i) 2 w w' (f i) (heads i lt) (λ c some. links c (omega (arith, some, times_bucket f (buckets n) i c lt))) (is.chains i lt);
@@ -96,14 +96,14 @@ buckets_same {n} {size} {w} {f} w' heads len keys links is = record {
 
 module _ {n size : ℕ} {w : List ℕ} {f : ℕ → List ℕ} (is : AreBuckets n size w f) where
   -- no key stands twice
-  pub keys_single : (key : ℕ) → times key (each_word n w 0 (nodes_of n f)) ≤ 1
+  pub keys_single : (key : ℕ) → times key (each_word n w 0 (blocks_of_buckets n f)) ≤ 1
   keys_single key = (keys_once n w f (buckets n) is.own_bucket is.keys_differ key).0
 
   -- a key that its bucket has not is nowhere
-  pub nowhere : (key : ℕ) → times key (each_word n w 0 (f (bucket_of n key))) ≡ 0 → times key (each_word n w 0 (nodes_of n f)) ≡ 0
-  nowhere key none = elim (cases_lt 0 (times key (each_word n w 0 (nodes_of n f)))) [
+  pub nowhere : (key : ℕ) → times key (each_word n w 0 (f (bucket_of n key))) ≡ 0 → times key (each_word n w 0 (blocks_of_buckets n f)) ≡ 0
+  nowhere key none = elim (cases_lt 0 (times key (each_word n w 0 (blocks_of_buckets n f)))) [
     | inl some ↦
-        let x = each_in n w 0 key (nodes_of n f) some in
+        let x = each_in n w 0 key (blocks_of_buckets n f) some in
         let at = in_bucket f (buckets n) x.0 x.1 in
         let own : bucket_of n key ≡ at.0 = ap (bucket_of n) (sym x.2) ∙ is.own_bucket at.0 x.0 at.1 at.2 in
         let has = each_has n w 0 (f at.0) x.0 at.2 in
@@ -112,11 +112,11 @@ module _ {n size : ℕ} {w : List ℕ} {f : ℕ → List ℕ} (is : AreBuckets n
   ]
 
   -- the table's blocks are not among them
-  pub few : length (nodes_of n f) < 2 ^ n
-  few = omega (arith, pow_positive n, pow_positive (n - 4), at_most (2 ^ (n - 4)) (2 ^ n - 2 ^ (n - 4)) (nodes_of n f) is.different (λ b some. let at = is.within b some in (at.0, omega (arith, at.1))))
+  pub few : length (blocks_of_buckets n f) < 2 ^ n
+  few = omega (arith, pow_positive n, pow_positive (n - 4), at_most (2 ^ (n - 4)) (2 ^ n - 2 ^ (n - 4)) (blocks_of_buckets n f) is.different (λ b some. let at = is.within b some in (at.0, omega (arith, at.1))))
 
   module _ (i : ℕ) (lt : i < buckets n) where
-    pub in_all : (c : ℕ) → 0 < times c (f i) → 0 < times c (nodes_of n f)
+    pub in_all : (c : ℕ) → 0 < times c (f i) → 0 < times c (blocks_of_buckets n f)
     in_all c some = omega (arith, some, times_bucket f (buckets n) i c lt)
 
     pub single_in : (c : ℕ) → times c (f i) ≤ 1
@@ -134,16 +134,16 @@ module _ {n size : ℕ} {w : List ℕ} {f : ℕ → List ℕ} (is : AreBuckets n
     }
 
   module _ {V : Type 0} (value : ℕ → V) where
-    pub once : (key : ℕ) → times key (firsts (entries_of n w value (nodes_of n f))) ≤ 1
-    once key = subst (λ xs. times key xs ≤ 1) (sym (entry_keys n w value (nodes_of n f))) (keys_single key)
+    pub once : (key : ℕ) → times key (firsts (entries_of n w value (blocks_of_buckets n f))) ≤ 1
+    once key = subst (λ xs. times key xs ≤ 1) (sym (entry_keys n w value (blocks_of_buckets n f))) (keys_single key)
 
     pub get_nowhere : (key : ℕ) → times key (each_word n w 0 (f (bucket_of n key))) ≡ 0 → finite.get (keyed n w value f) key ≡ None
-    get_nowhere key none = get_absent (entries_of n w value (nodes_of n f)) key (ap (times key) (entry_keys n w value (nodes_of n f)) ∙ nowhere key none)
+    get_nowhere key none = get_absent (entries_of n w value (blocks_of_buckets n f)) key (ap (times key) (entry_keys n w value (blocks_of_buckets n f)) ∙ nowhere key none)
 
     -- a key that has nothing stands nowhere
-    pub none_stands : (key : ℕ) → finite.get (keyed n w value f) key ≡ None → times key (each_word n w 0 (nodes_of n f)) ≡ 0
-    none_stands key none = elim (cases_lt 0 (times key (each_word n w 0 (nodes_of n f)))) [
-      | inl some ↦ absurd (find_there key (entries_of n w value (nodes_of n f)) (omega (arith, some, ap (times key) (entry_keys n w value (nodes_of n f)))) (sym (finite.get-from_entries nat_cmp_total (entries_of n w value (nodes_of n f)) key) ∙ none))
+    pub none_stands : (key : ℕ) → finite.get (keyed n w value f) key ≡ None → times key (each_word n w 0 (blocks_of_buckets n f)) ≡ 0
+    none_stands key none = elim (cases_lt 0 (times key (each_word n w 0 (blocks_of_buckets n f)))) [
+      | inl some ↦ absurd (find_there key (entries_of n w value (blocks_of_buckets n f)) (omega (arith, some, ap (times key) (entry_keys n w value (blocks_of_buckets n f)))) (sym (finite.get-from_entries nat_cmp_total (entries_of n w value (blocks_of_buckets n f)) key) ∙ none))
       | inr gone ↦ omega (arith, gone)
     ]
 
@@ -152,11 +152,11 @@ module _ {n size : ℕ} {w : List ℕ} {f : ℕ → List ℕ} (is : AreBuckets n
     passing_few p i lt front mid back are passes =
         let one : ℕ × V → ℕ = λ e. cond (p e.0) 1 0 in
         let c = cut f i (buckets n) front back lt in
-        let whole : nodes_of n f ≡ c.ahead ++ (mid ++ c.behind) = c.are f (λ j ne. refl) mid are in
+        let whole : blocks_of_buckets n f ≡ c.ahead ++ (mid ++ c.behind) = c.are f (λ j ne. refl) mid are in
         let all = all_counted n w value p mid passes in
         let first = ap (λ bs. sum_by one (entries_of n w value bs)) whole ∙ ap (sum_by one) (entries_append n w value c.ahead (mid ++ c.behind)) ∙ sum_by-append one (entries_of n w value c.ahead) (entries_of n w value (mid ++ c.behind)) in
         let second = ap (sum_by one) (entries_append n w value mid c.behind) ∙ sum_by-append one (entries_of n w value mid) (entries_of n w value c.behind) in
-        let total = count_keys p (entries_of n w value (nodes_of n f)) once in
+        let total = count_keys p (entries_of n w value (blocks_of_buckets n f)) once in
         omega (arith, all, first, second, total)
 
     -- the keys of a bucket
@@ -166,18 +166,18 @@ module _ {n size : ℕ} {w : List ℕ} {f : ℕ → List ℕ} (is : AreBuckets n
         passes : (b : ℕ) → bucket_of n (slice_index w (block_of n b + 0)) ≡ bucket_of n key → (bucket_of n (slice_index w (block_of n b + 0)) == bucket_of n key) ≡ true
         passes b e = grind (arith, nat_tests)
 
-    pub many : finite.len (keyed n w value f) ≡ length (nodes_of n f)
-    many = len_entries n w value (nodes_of n f) keys_single
+    pub many : finite.len (keyed n w value f) ≡ length (blocks_of_buckets n f)
+    many = len_entries n w value (blocks_of_buckets n f) keys_single
 
   -- a block of a bucket that has the key
   module _ (key : ℕ) (lt : bucket_of n key < buckets n) (front : List ℕ) (block : ℕ) (back : List ℕ) (blocks : f (bucket_of n key) ≡ front ++ block ∷ back) (holds : slice_index w (block_of n block + 0) ≡ key) where
     pub around : Cut f (bucket_of n key) (buckets n) front back
     around = cut f (bucket_of n key) (buckets n) front back lt
 
-    pub whole : nodes_of n f ≡ around.ahead ++ block ∷ around.behind
+    pub whole : blocks_of_buckets n f ≡ around.ahead ++ block ∷ around.behind
     whole = around.are f (λ j ne. refl) (block ∷ []) blocks
 
-    pub counted : (c : ℕ) → times c (nodes_of n f) ≡ times c around.ahead + times c (block ∷ around.behind)
+    pub counted : (c : ℕ) → times c (blocks_of_buckets n f) ≡ times c around.ahead + times c (block ∷ around.behind)
     counted c = ap (times c) whole ∙ times-append c around.ahead (block ∷ around.behind)
 
     alone : times key (each_word n w 0 around.ahead) + times key (each_word n w 0 around.behind) ≡ 0
@@ -203,11 +203,11 @@ module _ {n size : ℕ} {w : List ℕ} {f : ℕ → List ℕ} (is : AreBuckets n
       get_here = ap (λ m. finite.get m key) (sym entries_here) ∙ get_at (entries_of n w value around.ahead) (entries_of n w value around.behind) key none_ahead (value block)
 
       -- the key has something else, and each other key what it had
-      pub again : (w' : List ℕ) (value' : ℕ → V) → ((c : ℕ) → 0 < times c (nodes_of n f) → slice_index w' (block_of n c + 0) ≡ slice_index w (block_of n c + 0)) → ((c : ℕ) → 0 < times c (nodes_of n f) → (c ≡ block → ⊥) → value' c ≡ value c)
+      pub again : (w' : List ℕ) (value' : ℕ → V) → ((c : ℕ) → 0 < times c (blocks_of_buckets n f) → slice_index w' (block_of n c + 0) ≡ slice_index w (block_of n c + 0)) → ((c : ℕ) → 0 < times c (blocks_of_buckets n f) → (c ≡ block → ⊥) → value' c ≡ value c)
           → keyed n w' value' f ≡ finite.insert (keyed n w value f) key (value' block)
       again w' value' keys values =
-          let in_ahead : (c : ℕ) → 0 < times c around.ahead → 0 < times c (nodes_of n f) = λ c some. omega (arith, some, counted c) in
-          let in_behind : (c : ℕ) → 0 < times c around.behind → 0 < times c (nodes_of n f) = λ c some. omega (arith, some, counted c, times_more c block around.behind) in
+          let in_ahead : (c : ℕ) → 0 < times c around.ahead → 0 < times c (blocks_of_buckets n f) = λ c some. omega (arith, some, counted c) in
+          let in_behind : (c : ℕ) → 0 < times c around.behind → 0 < times c (blocks_of_buckets n f) = λ c some. omega (arith, some, counted c, times_more c block around.behind) in
           let not_ahead : (c : ℕ) → 0 < times c around.ahead → c ≡ block → ⊥ = λ c some e. absurd (omega (arith, some, ap (λ x. times x around.ahead) e, counted block, is.different block, times_here block around.behind)) in
           let not_behind : (c : ℕ) → 0 < times c around.behind → c ≡ block → ⊥ = λ c some e. absurd (omega (arith, some, ap (λ x. times x around.behind) e, counted block, is.different block, times_here block around.behind)) in
           let one = entries_same n w w' value value' around.ahead (λ c some. keys c (in_ahead c some)) (λ c some. values c (in_ahead c some) (not_ahead c some)) in

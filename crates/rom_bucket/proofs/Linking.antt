@@ -3,7 +3,7 @@ use Rattle.std.proofs.Common.{◌≡◌, ◌≢◌, ◌⊎◌, ⊎_elim, ℕ, �
 use Rattle.std.specs.Prelude.{slice_index, slice_set}
 use Rattle.std.proofs.lemmas.Grind.{get_or-set_at}
 use Rattle.rom_model.specs.Space.{ChangesOnly}
-use Rattle.rom_bucket.specs.Link.{IsLinked}
+use Rattle.rom_bucket.specs.Link.{IsNodeLinked}
 use Rattle.rom_bucket.specs.declared.node.Node.{Node}
 use Rattle.rom_bucket.specs.declared.walk.Place.{Place}
 
@@ -19,7 +19,7 @@ module _ (size at : ℕ) (place : Place) (node : Node) (len : ℕ) (w f w' : Lis
   plain = omega arith
 
   pub linked : slice_index f at ≡ node.key → slice_index f (at + 1) ≡ node.second → slice_index f (at + 2) ≡ place.node → slice_index f (at + 3) ≡ node.last → len ≡ slice_index (slice_set f place.link at) size
-      → IsLinked size place at node w w'
+      → IsNodeLinked size place at node w w'
   linked first second third fourth many = record {
     as_long = ap length is ∙ length-set (slice_set f place.link at) size (len + 1) ∙ length-set f place.link at ∙ filled.as_long;
     key_is = ap (λ k. slice_index w' k) (sym plain) ∙ kept 0 (omega arith) ∙ ap (λ k. slice_index f k) plain ∙ first;

@@ -13,8 +13,8 @@ use Rattle.rom_model.specs.Region.{buckets, bucket_of}
 use Rattle.rom_model.proofs.Times.{times_here, times_away, times_one, times-append, times_bucket}
 use Rattle.rom_model.proofs.Frames.{each_same}
 use Rattle.rom_model.proofs.Links.{each_append}
-use Rattle.rom_bucket.specs.Link.{IsLinked, IsUnlinked}
-use Rattle.rom_bucket.specs.Buckets.{nodes_of, AreBuckets, Between, There, keyed}
+use Rattle.rom_bucket.specs.Link.{IsNodeLinked, IsNodeUnlinked}
+use Rattle.rom_bucket.specs.Buckets.{blocks_of_buckets, AreBuckets, Between, There, keyed}
 use Rattle.rom_model.specs.Walks.{keys_under, keys_over, end_loads}
 use Rattle.rom_bucket.specs.Rising.{KeysRise, IsSought, last_load}
 use Rattle.rom_bucket.specs.declared.node.Node.{Node}
@@ -26,7 +26,7 @@ use Rattle.rom_bucket.proofs.Added as added
 use Rattle.rom_bucket.proofs.Removed as removed
 
 -- they rise where the keys stay
-pub rising_same : (n : ℕ) (w w' : List ℕ) (f : ℕ → List ℕ) → ((c : ℕ) → 0 < times c (nodes_of n f) → slice_index w' (block_of n c + 0) ≡ slice_index w (block_of n c + 0)) → KeysRise n w f → KeysRise n w' f
+pub rising_same : (n : ℕ) (w w' : List ℕ) (f : ℕ → List ℕ) → ((c : ℕ) → 0 < times c (blocks_of_buckets n f) → slice_index w' (block_of n c + 0) ≡ slice_index w (block_of n c + 0)) → KeysRise n w f → KeysRise n w' f
 rising_same n w w' f keys rising i lt = subst IsRising (sym (each_same n 0 w w' (f i) (λ c some. keys c (omega (arith, some, times_bucket f (buckets n) i c lt))))) (rising i lt)
 
 -- the first block has the key
@@ -174,7 +174,7 @@ module _ {n size : ℕ} {w : List ℕ} {f : ℕ → List ℕ} {key : ℕ} {sough
 
 -- they rise with a node more, at the place where the walk stopped
 module _ {n size : ℕ} {w w' : List ℕ} {f : ℕ → List ℕ} {node : Node} {block : ℕ} {sought : Sought} (may : added.MayAdd n size w f node.key block) (rising : KeysRise n w f) (at : IsSought n w (f (bucket_of n node.key)) node.key sought) (missing : sought.found ≡ false)
-    (linked : IsLinked size sought.place (block_of n block) node w w') where
+    (linked : IsNodeLinked size sought.place (block_of n block) node w w') where
   abbrev spot : Between n f node.key sought.place
   spot = between may.are rising may.within at
 
@@ -187,7 +187,7 @@ module _ {n size : ℕ} {w w' : List ℕ} {f : ℕ → List ℕ} {node : Node} {
   ]
 
 -- and with a node fewer
-module _ {n size : ℕ} {w w' : List ℕ} {f : ℕ → List ℕ} {key : ℕ} {place : Place} (le : 4 ≤ n) (root : size ≤ 16) (is : AreBuckets n size w f) (within : bucket_of n key < buckets n) (t : There n w f key place) (un : IsUnlinked size place w w') (rising : KeysRise n w f) where
+module _ {n size : ℕ} {w w' : List ℕ} {f : ℕ → List ℕ} {key : ℕ} {place : Place} (le : 4 ≤ n) (root : size ≤ 16) (is : AreBuckets n size w f) (within : bucket_of n key < buckets n) (t : There n w f key place) (un : IsNodeUnlinked size place w w') (rising : KeysRise n w f) where
   pub removed_rising : KeysRise n w' (removed.next le root is within t un)
   removed_rising i less = elim (cases_eq i (bucket_of n key)) [
     | inl same ↦

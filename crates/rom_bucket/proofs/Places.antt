@@ -9,7 +9,7 @@ use Rattle.rom_model.specs.Region.{buckets, bucket_of}
 use Rattle.rom_model.proofs.Times.{times-append}
 use Rattle.rom_model.proofs.Links.{IsLink, link_in, chain_back, chain_first, chain_relinked}
 use Rattle.rom_bucket.specs.Walk.{head_of}
-use Rattle.rom_bucket.specs.Buckets.{nodes_of, AreBuckets, Between, There}
+use Rattle.rom_bucket.specs.Buckets.{blocks_of_buckets, AreBuckets, Between, There}
 use Rattle.rom_bucket.specs.declared.walk.Place.{Place}
 use Rattle.rom_bucket.proofs.Heads.{head_before, head_within}
 use Rattle.rom_bucket.proofs.Keys.{in_all, single_in, placed_in}
@@ -29,7 +29,7 @@ module _ {n size : ℕ} {w : List ℕ} {f : ℕ → List ℕ} {key : ℕ} {place
   late c some = (placed_in is own within c (omega (arith, in_own c, some))).0
 
   -- the link is the bucket's head, or the third word of a node before
-  pub link_kinds : (place.link ≡ head_of n own) ⊎ ((c : ℕ) × (0 < times c (nodes_of n f)) × (place.link ≡ block_of n c + 2))
+  pub link_kinds : (place.link ≡ head_of n own) ⊎ ((c : ℕ) × (0 < times c (blocks_of_buckets n f)) × (place.link ≡ block_of n c + 2))
   link_kinds = ⊎_elim (λ at. inl (b.link_is ∙ at)) (λ x. inr (x.0, in_all is own within x.0 (omega (arith, in_own x.0, x.1)), b.link_is ∙ x.2)) (link_in n (head_of n own) 2 b.front)
 
   pub not_link : (c j : ℕ) → j < 4 → 2 ^ (n - 4) ≤ c → (j ≡ 2 → times c b.front ≡ 0) → block_of n c + j ≢ place.link

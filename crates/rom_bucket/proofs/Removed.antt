@@ -12,8 +12,8 @@ use Rattle.rom_model.proofs.Nodes.{pow_positive}
 use Rattle.rom_model.proofs.Frames.{chain_same, each_same}
 use Rattle.rom_model.proofs.Links.{chain_first, chain_moved, each_append}
 use Rattle.rom_bucket.specs.Walk.{head_of}
-use Rattle.rom_bucket.specs.Link.{IsUnlinked}
-use Rattle.rom_bucket.specs.Buckets.{nodes_of, with_chain, AreBuckets, There, entries_of, keyed}
+use Rattle.rom_bucket.specs.Link.{IsNodeUnlinked}
+use Rattle.rom_bucket.specs.Buckets.{blocks_of_buckets, with_chain, AreBuckets, There, entries_of, keyed}
 use Rattle.rom_bucket.specs.declared.walk.Place.{Place}
 use Rattle.rom_bucket.proofs.Entries.{entries_map, remove_between}
 use Rattle.rom_bucket.proofs.Chained.{Cut, chain_here, chain_other}
@@ -29,7 +29,7 @@ module _ {n size : ℕ} {w : List ℕ} {f : ℕ → List ℕ} {key : ℕ} {place
   own_of c = in_own le is within (before_node t) c
 
   pub size_some : 0 < slice_index w size
-  size_some = omega (arith, is.len, positive (nodes_of n f) t.among)
+  size_some = omega (arith, is.len, positive (blocks_of_buckets n f) t.among)
     where
       positive : (bs : List ℕ) → 0 < times t.block bs → 0 < length bs
       positive [] some = absurd (omega (arith, some))
@@ -42,31 +42,31 @@ module _ {n size : ℕ} {w : List ℕ} {f : ℕ → List ℕ} {key : ℕ} {place
       let none : times t.block t.back ≡ 0 = omega (arith, own_of t.block, single_in is own within t.block, times_here t.block t.back) in
       first_other n t.block t.back none (sym (chain_first n (block_of n t.block + 2) 2 w t.back rest.1) ∙ ap (λ a. slice_index w (a + 2)) (sym t.node_is) ∙ sym e ∙ link_leads le is within (before_node t) ∙ t.node_is)
 
-  module _ {w' : List ℕ} (un : IsUnlinked size place w w') where
+  module _ {w' : List ℕ} (un : IsNodeUnlinked size place w w') where
     abbrev pub next : ℕ → List ℕ
     next = with_chain f own (t.front ++ t.back)
 
     abbrev place_in : Cut f own (buckets n) t.front t.back
     place_in = around is key within t.front t.block t.back t.blocks t.holds
 
-    before : nodes_of n f ≡ place_in.ahead ++ t.block ∷ place_in.behind
+    before : blocks_of_buckets n f ≡ place_in.ahead ++ t.block ∷ place_in.behind
     before = whole is key within t.front t.block t.back t.blocks t.holds
 
-    after : nodes_of n next ≡ place_in.ahead ++ place_in.behind
+    after : blocks_of_buckets n next ≡ place_in.ahead ++ place_in.behind
     after = place_in.are next (λ j ne. chain_other f own j (t.front ++ t.back) ne) [] (chain_here f own (t.front ++ t.back))
 
     -- the nodes before and after
-    pub parts : (ahead behind : List ℕ) × (nodes_of n f ≡ ahead ++ t.block ∷ behind) × (nodes_of n next ≡ ahead ++ behind)
+    pub parts : (ahead behind : List ℕ) × (blocks_of_buckets n f ≡ ahead ++ t.block ∷ behind) × (blocks_of_buckets n next ≡ ahead ++ behind)
     parts = (place_in.ahead, place_in.behind, before, after)
 
-    pub one_node_fewer : (c : ℕ) → times c (nodes_of n f) ≡ times c (nodes_of n next) + times c (t.block ∷ [])
+    pub one_node_fewer : (c : ℕ) → times c (blocks_of_buckets n f) ≡ times c (blocks_of_buckets n next) + times c (t.block ∷ [])
     one_node_fewer c = omega (arith, ap (times c) after, ap (times c) before, times-append c place_in.ahead (t.block ∷ place_in.behind), times-append c place_in.ahead place_in.behind)
 
     -- the nodes' words stay, but for the link
-    stays : (c j : ℕ) → 0 < times c (nodes_of n f) → j < 4 → (j ≡ 2 → times c t.front ≡ 0) → slice_index w' (block_of n c + j) ≡ slice_index w (block_of n c + j)
+    stays : (c j : ℕ) → 0 < times c (blocks_of_buckets n f) → j < 4 → (j ≡ 2 → times c t.front ≡ 0) → slice_index w' (block_of n c + j) ≡ slice_index w (block_of n c + j)
     stays c j some lt beside = un.others (block_of n c + j) (not_link le is within (before_node t) c j lt (is.within c some).0 beside) (λ e. absurd (omega (arith, e, root, pow_positive n)))
 
-    pub node_stays : (c j : ℕ) → 0 < times c (nodes_of n f) → j < 4 → j ≢ 2 → slice_index w' (block_of n c + j) ≡ slice_index w (block_of n c + j)
+    pub node_stays : (c j : ℕ) → 0 < times c (blocks_of_buckets n f) → j < 4 → j ≢ 2 → slice_index w' (block_of n c + j) ≡ slice_index w (block_of n c + j)
     node_stays c j some lt ne = stays c j some lt (λ e. absurd (ne e))
 
     -- and so do all words of the one that goes
@@ -100,7 +100,7 @@ module _ {n size : ℕ} {w : List ℕ} {f : ℕ → List ℕ} {key : ℕ} {place
       | inr ne ↦ omega (arith, some, ap (times c) (chain_other f own i (t.front ++ t.back) ne))
     ]
 
-    pub stood_all : (c : ℕ) → 0 < times c (nodes_of n next) → 0 < times c (nodes_of n f)
+    pub stood_all : (c : ℕ) → 0 < times c (blocks_of_buckets n next) → 0 < times c (blocks_of_buckets n f)
     stood_all c some = omega (arith, some, one_node_fewer c)
 
     -- the bucket's keys, without this one
@@ -138,10 +138,10 @@ module _ {n size : ℕ} {w : List ℕ} {f : ℕ → List ℕ} {key : ℕ} {place
     }
 
     -- the key is gone
-    pub removed_keyed : {V : Type 0} (value value' : ℕ → V) → ((c : ℕ) → 0 < times c (nodes_of n next) → value' c ≡ value c) → keyed n w' value' next ≡ finite.remove (keyed n w value f) key
+    pub removed_keyed : {V : Type 0} (value value' : ℕ → V) → ((c : ℕ) → 0 < times c (blocks_of_buckets n next) → value' c ≡ value c) → keyed n w' value' next ≡ finite.remove (keyed n w value f) key
     removed_keyed value value' same =
         ap (λ es. entries_map es)
-        (entries_same n w w' value value' (nodes_of n next) (λ c some. node_stays c 0 (stood_all c some) (omega arith) (omega arith)) same
+        (entries_same n w w' value value' (blocks_of_buckets n next) (λ c some. node_stays c 0 (stood_all c some) (omega arith) (omega arith)) same
         ∙ ap (entries_of n w value) after ∙ entries_append n w value place_in.ahead place_in.behind)
         ∙ remove_between (entries_of n w value place_in.ahead) (entries_of n w value place_in.behind) key (none_ahead is key within t.front t.block t.back t.blocks t.holds value) (value t.block) (none_else is key within t.front t.block t.back t.blocks t.holds value)
         ∙ ap (λ m. finite.remove m key) (entries_here is key within t.front t.block t.back t.blocks t.holds value)

@@ -8,7 +8,7 @@ use Rattle.rom_model.specs.Links.{link_after, first_of}
 use Rattle.rom_model.specs.Region.{bucket_of}
 use Rattle.rom_model.proofs.Times.{times_here, times_away, times_more, times-append}
 use Rattle.rom_model.proofs.Links.{link_push, chain_back, chain_first, each_append}
-use Rattle.rom_bucket.specs.Walk.{head_of, IsBucket, StartsWith, Walked, IsPlace}
+use Rattle.rom_bucket.specs.Walk.{head_of, IsBucket, StartsWithKey, HasWalkedBucket, IsPlaceInBucket}
 
 -- the first block of a chain that is not empty
 pub record First (n node : ℕ) (back : List ℕ) : Type 0 where
@@ -99,7 +99,7 @@ module _ {n l : ℕ} {w bs : List ℕ} {node : ℕ} (x : Along n l w bs node) wh
         omega (arith, one, two)
 
 -- the walk to a key
-pub at_head : {n : ℕ} {w bs : List ℕ} (key link node : ℕ) → IsBucket n w (bucket_of n key) bs → link ≡ head_of n (bucket_of n key) → node ≡ slice_index w link → Walked n w bs key link node
+pub at_head : {n : ℕ} {w bs : List ℕ} (key link node : ℕ) → IsBucket n w (bucket_of n key) bs → link ≡ head_of n (bucket_of n key) → node ≡ slice_index w link → HasWalkedBucket n w bs key link node
 at_head {n} {w} {bs} key link node is here load = record {
   front = [];
   back = bs;
@@ -109,7 +109,7 @@ at_head {n} {w} {bs} key link node is here load = record {
   node_is = load ∙ ap (λ k. slice_index w k) here ∙ chain_first n (head_of n (bucket_of n key)) 2 w bs is;
 }
 
-module _ {n : ℕ} {w bs : List ℕ} {key link node : ℕ} (is : IsBucket n w (bucket_of n key) bs) (x : Walked n w bs key link node) where
+module _ {n : ℕ} {w bs : List ℕ} {key link node : ℕ} (is : IsBucket n w (bucket_of n key) bs) (x : HasWalkedBucket n w bs key link node) where
   abbrev pub along : Along n (head_of n (bucket_of n key)) w bs node
   along = record { front = x.front; back = x.back; chain = is; are = x.blocks_are; node_is = x.node_is }
 
@@ -117,10 +117,10 @@ module _ {n : ℕ} {w bs : List ℕ} {key link node : ℕ} (is : IsBucket n w (b
   front_few = omega (arith, ap length x.blocks_are, length-append x.front x.back)
 
   -- at the chain's end
-  pub at_end : node ≡ 0 → IsPlace n w bs key (record { link = link; node = node })
+  pub at_end : node ≡ 0 → IsPlaceInBucket n w bs key (record { link = link; node = node })
   at_end none = record {
     walked = x;
-    stops = subst (λ cs. StartsWith key (each_word n w 0 cs)) (sym (no_node n node x.back x.node_is none)) tt;
+    stops = subst (λ cs. StartsWithKey key (each_word n w 0 cs)) (sym (no_node n node x.back x.node_is none)) tt;
   }
 
   module _ (some : node ≡ 0 → ⊥) where
@@ -134,14 +134,14 @@ module _ {n : ℕ} {w bs : List ℕ} {key link node : ℕ} (is : IsBucket n w (b
     front_fewer = omega (arith, ap length x.blocks_are, length-append x.front x.back, ap length here.are)
 
     -- at the key's node
-    pub at_key : slice_index w node ≡ key → IsPlace n w bs key (record { link = link; node = node })
+    pub at_key : slice_index w node ≡ key → IsPlaceInBucket n w bs key (record { link = link; node = node })
     at_key same = record {
       walked = x;
-      stops = subst (λ cs. StartsWith key (each_word n w 0 cs)) (sym here.are) (ap (λ k. slice_index w k) plain ∙ same);
+      stops = subst (λ cs. StartsWithKey key (each_word n w 0 cs)) (sym here.are) (ap (λ k. slice_index w k) plain ∙ same);
     }
 
     -- one step more
-    pub step : (next : ℕ) → slice_index w node ≢ key → next ≡ slice_index w (node + 2) → (y : Walked n w bs key (node + 2) next) × (length y.front ≡ length x.front + 1)
+    pub step : (next : ℕ) → slice_index w node ≢ key → next ≡ slice_index w (node + 2) → (y : HasWalkedBucket n w bs key (node + 2) next) × (length y.front ≡ length x.front + 1)
     unfolding further first
     step next other load =
         let word = slice_index w (block_of n here.block + 0) in

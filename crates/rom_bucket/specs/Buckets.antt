@@ -10,8 +10,8 @@ use Rattle.rom_bucket.specs.Walk.{head_of}
 use Rattle.rom_bucket.specs.declared.walk.Place.{Place}
 
 -- the blocks of all buckets, one bucket after another
-abbrev pub nodes_of : ℕ → (ℕ → List ℕ) → List ℕ
-nodes_of n bucket = all_of bucket (buckets n)
+abbrev pub blocks_of_buckets : ℕ → (ℕ → List ℕ) → List ℕ
+blocks_of_buckets n bucket = all_of bucket (buckets n)
 
 -- the same chains, but for one bucket's
 abbrev pub with_chain : (ℕ → List ℕ) → ℕ → List ℕ → ℕ → List ℕ
@@ -22,11 +22,11 @@ with_chain bucket i blocks j = if j == i then blocks else bucket j
 -- first 2 ^ (n - 4) blocks are the bucket table.
 pub record AreBuckets (n size : ℕ) (words : List ℕ) (bucket : ℕ → List ℕ) : Type 0 where
   pub chains : (i : ℕ) → i < buckets n → Chain n words (head_of n i) 2 (bucket i)
-  pub len : slice_index words size ≡ length (nodes_of n bucket)
+  pub len : slice_index words size ≡ length (blocks_of_buckets n bucket)
   pub own_bucket : (i b : ℕ) → i < buckets n → 0 < times b (bucket i) → bucket_of n (slice_index words (block_of n b + 0)) ≡ i
   pub keys_differ : (i key : ℕ) → i < buckets n → times key (each_word n words 0 (bucket i)) ≤ 1
-  pub different : (b : ℕ) → times b (nodes_of n bucket) ≤ 1
-  pub within : (b : ℕ) → 0 < times b (nodes_of n bucket) → (2 ^ (n - 4) ≤ b) × (b < 2 ^ n)
+  pub different : (b : ℕ) → times b (blocks_of_buckets n bucket) ≤ 1
+  pub within : (b : ℕ) → 0 < times b (blocks_of_buckets n bucket) → (2 ^ (n - 4) ≤ b) × (b < 2 ^ n)
 
 -- The place stands between these blocks of the chain of the key's bucket.
 pub record Between (n : ℕ) (bucket : ℕ → List ℕ) (key : ℕ) (place : Place) : Type 0 where
@@ -47,7 +47,7 @@ pub record There (n : ℕ) (words : List ℕ) (bucket : ℕ → List ℕ) (key :
   pub node_is : place.node ≡ block_of n block
   pub link_is : place.link ≡ link_after n (head_of n (bucket_of n key)) 2 front
   pub within : (2 ^ (n - 4) ≤ block) × (block < 2 ^ n)
-  pub among : 0 < times block (nodes_of n bucket)
+  pub among : 0 < times block (blocks_of_buckets n bucket)
 
 -- each block's key, with what the key has there
 abbrev pub entries_of : {V : Type 0} → ℕ → List ℕ → (ℕ → V) → List ℕ → List (ℕ × V)
@@ -55,7 +55,7 @@ entries_of n words value blocks = map (λ b. (slice_index words (block_of n b + 
 
 -- all keys, each with what it has
 abbrev pub keyed : {V : Type 0} → ℕ → List ℕ → (ℕ → V) → (ℕ → List ℕ) → finite.FinMap nat_cmp V
-keyed n words value bucket = finite.from_entries (entries_of n words value (nodes_of n bucket))
+keyed n words value bucket = finite.from_entries (entries_of n words value (blocks_of_buckets n bucket))
 
 -- of the keys those in the bucket of this one
 abbrev pub keys_beside : {V : Type 0} → ℕ → finite.FinMap nat_cmp V → ℕ → ℕ

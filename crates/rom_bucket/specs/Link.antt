@@ -11,7 +11,7 @@ first_place n key words = let head = head_of n (bucket_of n key) in record { lin
 
 -- The node begins there and stands at that place: the place's link leads to it, and its own to the node
 -- that the place told. The word at the offset `size` counts one key more, and no other word differs.
-pub record IsLinked (size : ℕ) (place : Place) (at : ℕ) (node : Node) (old new : List ℕ) : Type 0 where
+pub record IsNodeLinked (size : ℕ) (place : Place) (at : ℕ) (node : Node) (old new : List ℕ) : Type 0 where
   pub as_long : length new ≡ length old
   pub key_is : slice_index new at ≡ node.key
   pub second_is : slice_index new (at + 1) ≡ node.second
@@ -23,7 +23,7 @@ pub record IsLinked (size : ℕ) (place : Place) (at : ℕ) (node : Node) (old n
 
 -- The link leads to the node behind. The word at the offset `size` counts one key fewer, and no other word
 -- differs.
-pub record IsUnlinked (size : ℕ) (place : Place) (old new : List ℕ) : Type 0 where
+pub record IsNodeUnlinked (size : ℕ) (place : Place) (old new : List ℕ) : Type 0 where
   pub as_long : length new ≡ length old
   pub link : slice_index new place.link ≡ slice_index old (place.node + 2)
   pub len : slice_index new size ≡ slice_index old size - 1

@@ -23,12 +23,12 @@ pub record HoldsBucket (n i : ℕ) (words : List ℕ) : Type 0 where
   pub few : length blocks ≤ 2 ^ n
 
 -- the first of the keys, where there is one, is this key
-abbrev pub StartsWith : ℕ → List ℕ → Type 0
-StartsWith key [] = Unit {0}
-StartsWith key (x ∷ xs) = x ≡ key
+abbrev pub StartsWithKey : ℕ → List ℕ → Type 0
+StartsWithKey key [] = Unit {0}
+StartsWithKey key (x ∷ xs) = x ≡ key
 
 -- a way along the chain of these blocks, which passed none with the key and came to that link and that node
-pub record Walked (n : ℕ) (words blocks : List ℕ) (key link node : ℕ) : Type 0 where
+pub record HasWalkedBucket (n : ℕ) (words blocks : List ℕ) (key link node : ℕ) : Type 0 where
   pub front : List ℕ
   pub back : List ℕ
   pub blocks_are : blocks ≡ front ++ back
@@ -37,13 +37,13 @@ pub record Walked (n : ℕ) (words blocks : List ℕ) (key link node : ℕ) : Ty
   pub node_is : node ≡ first_of n back
 
 -- it stopped at the first node that has the key, or at the chain's end
-pub record IsPlace (n : ℕ) (words blocks : List ℕ) (key : ℕ) (place : Place) : Type 0 where
-  pub walked : Walked n words blocks key place.link place.node
-  pub stops : StartsWith key (each_word n words 0 walked.back)
+pub record IsPlaceInBucket (n : ℕ) (words blocks : List ℕ) (key : ℕ) (place : Place) : Type 0 where
+  pub walked : HasWalkedBucket n words blocks key place.link place.node
+  pub stops : StartsWithKey key (each_word n words 0 walked.back)
 
 -- The place of the key in whatever blocks are its bucket's nodes. The first link took one load, and each node that was passed two; the node that has the key took one more.
 pub record Finds {M : Type 0} (shown : ShownSpace M) (n key : ℕ) (place : Place) (old new : M) : Type 0 where
-  pub is : (blocks : List ℕ) → IsBucket n (shown.image old) (bucket_of n key) blocks → IsPlace n (shown.image old) blocks key place
+  pub is : (blocks : List ℕ) → IsBucket n (shown.image old) (bucket_of n key) blocks → IsPlaceInBucket n (shown.image old) blocks key place
   pub looks : (blocks : List ℕ) → IsBucket n (shown.image old) (bucket_of n key) blocks → Looks shown (1 + 2 * length blocks) old new
   pub found : (front : List ℕ) (block : ℕ) (back : List ℕ) → IsBucket n (shown.image old) (bucket_of n key) (front ++ block ∷ back)
       → slice_index (shown.image old) (block_of n block + 0) ≡ key → Looks shown (2 + 2 * length front) old new

@@ -4,7 +4,7 @@ ghost use Rattle.rom_model.specs.Space.{Costs, HasRoom, IsSparing};
 ghost use Rattle.rom_model.specs.Blocks.{IsOrder, block_of, region_len};
 ghost use Rattle.rom_model.specs.Region.{bucket_of};
 ghost use Rattle.rom_bucket.specs.Walk.{head_of};
-ghost use Rattle.rom_bucket.specs.Link.{first_place, IsLinked, IsUnlinked};
+ghost use Rattle.rom_bucket.specs.Link.{first_place, IsNodeLinked, IsNodeUnlinked};
 
 use crate::node::{BUCKET_LINK, Node};
 use crate::walk::{Place, head_of};
@@ -23,7 +23,7 @@ pub fn link_at<M: Space>(space: &mut M, size: u64, place: Place, at: u64, node: 
     requires len { slice_index (M.shown.image space.old) size < 2 ^ 63 }
     requires room { HasRoom M.shown 6 space.old }
     // The node stands at that place. Beside its words only the place's link and the count of keys differ.
-    ensures linked { IsLinked size place at node (M.shown.image space.old)
+    ensures linked { IsNodeLinked size place at node (M.shown.image space.old)
         (M.shown.image space.new) }
     ensures costs { Costs M.shown 5 6 space.old space.new }
     // If the link did not lead to that block before, no more stores are counted than words differ.
@@ -48,7 +48,7 @@ pub fn link_first<M: Space>(space: &mut M, order: u32, size: u64, at: u64, node:
     requires room { HasRoom M.shown 6 space.old }
     // The node is the first of its key's bucket. Beside its words only the bucket's first link and the count
     // of keys differ.
-    ensures linked { IsLinked size (first_place order node.key (M.shown.image space.old)) at node
+    ensures linked { IsNodeLinked size (first_place order node.key (M.shown.image space.old)) at node
         (M.shown.image space.old) (M.shown.image space.new) }
     ensures costs { Costs M.shown 6 6 space.old space.new }
     // If the bucket did not begin at that block before, no more stores are counted than words differ.
@@ -72,7 +72,7 @@ pub fn unlink_node<M: Space>(space: &mut M, size: u64, place: Place)
     requires len { 0 < slice_index (M.shown.image space.old) size }
     requires room { HasRoom M.shown 2 space.old }
     // The place's link leads to the node behind. Only that link and the count of keys differ.
-    ensures unlinked { IsUnlinked size place (M.shown.image space.old) (M.shown.image space.new) }
+    ensures unlinked { IsNodeUnlinked size place (M.shown.image space.old) (M.shown.image space.new) }
     ensures costs { Costs M.shown 2 2 space.old space.new }
     // If the link did not lead to the node behind before, no more stores are counted than words differ.
     ensures sparing { slice_index (M.shown.image space.old) place.link

@@ -1,7 +1,7 @@
 -- Images that are made before the commit.
 use Rattle.std.proofs.Common.{◌≡◌, ◌⊎◌, inl, inr, ⊎_elim, ℕ, ◌<◌, List, length, set, slice_index, refl, sym, ap, ◌∙◌, subst, arith}
 use Rattle.std.proofs.lemmas.List.{length-set, get_or-set_same}
-use Rattle.rom_device.specs.Device.{ShownDevice, After, Becomes, Runs, Writes}
+use Rattle.rom_device.specs.Device.{ShownDevice, After, Becomes, Runs, WritesWord}
 use Rattle.rom_header.specs.Layout.{STATE}
 use Rattle.rom_header.specs.Regions.{IsCurrentRegion}
 use Rattle.rom_twin.specs.Images.{Twins, HasBack, Repairing}
@@ -41,7 +41,7 @@ module _ (order : ℕ) (c i : List ℕ) where
 
 -- a run of which two things are known
 pub runs_both : {D : Type 0} (shown : ShownDevice D) (at value : ℕ) (P Q : List ℕ → Type 0) (a b : D) → ((x i : List ℕ) → i ≡ set x at value → P i → Q i)
-    → Runs shown (Becomes P) a b → Runs shown (Writes at value) a b → Runs shown (Becomes Q) a b
+    → Runs shown (Becomes P) a b → Runs shown (WritesWord at value) a b → Runs shown (Becomes Q) a b
 runs_both shown at value P Q a b joins becomes writes = record {
   later = becomes.later;
   now = λ i left. meet i (becomes.now i left) (writes.now i left);
@@ -49,7 +49,7 @@ runs_both shown at value P Q a b joins becomes writes = record {
   keeps = becomes.keeps;
 }
   where
-    meet : (i : List ℕ) → After (Becomes P) (shown.leaves a) i → After (Writes at value) (shown.leaves a) i → After (Becomes Q) (shown.leaves a) i
+    meet : (i : List ℕ) → After (Becomes P) (shown.leaves a) i → After (WritesWord at value) (shown.leaves a) i → After (Becomes Q) (shown.leaves a) i
     meet i here there = ⊎_elim
         (λ same. record { from = here.from; was = here.was; by = inl same })
         (λ has. ⊎_elim

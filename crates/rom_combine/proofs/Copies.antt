@@ -7,7 +7,7 @@ use Rattle.rom_lr.specs.Side.{other_side, side_number}
 use Rattle.rom_lr.specs.declared.side.Side.{Side}
 use Rattle.rom_lr.specs.declared.side.Side.TheVariants.{Back, Main}
 use Rattle.rom_ranges.specs.Changes.{SameBut}
-use Rattle.rom_ranges.specs.Ranges.{IsIn}
+use Rattle.rom_ranges.specs.Ranges.{IsInRange}
 use Rattle.rom_ranges.specs.declared.range.Range.{Range}
 use Rattle.rom_rule.specs.Readers.{Settled}
 use Rattle.rom_rule.specs.Views.{plan_of}
@@ -70,7 +70,7 @@ copied_range range at source old new past end is = record {
   others = λ k not. is.others k (out k not end);
 }
   where
-    out : (k : ℕ) → (IsIn range k → ⊥) → (at ≤ range.end) ⊎ (at ≡ range.start) → (k < range.start) ⊎ (at ≤ k)
+    out : (k : ℕ) → (IsInRange range k → ⊥) → (at ≤ range.end) ⊎ (at ≡ range.start) → (k < range.start) ⊎ (at ≤ k)
     out k not (inl le) = ⊎_elim (λ before. inl before) (λ ge. ⊎_elim (λ high. absurd (not (ge, high))) (λ behind. inr (omega (arith, behind, le))) (cases_lt k range.end)) (cases_lt k range.start)
     out k not (inr e) = ⊎_elim (λ before. inl before) (λ ge. inr (omega (arith, ge, e))) (cases_lt k range.start)
 

@@ -3,7 +3,7 @@ use Rattle.std.proofs.Common.{◌≡◌, ◌≢◌, ◌⊎◌, inl, inr, sym, ap
 use Rattle.std.proofs.lemmas.Bool.{cases_eq}
 use Rattle.rom_device.specs.Device.{ShownDevice}
 use Rattle.rom_header.specs.Regions.{IsCurrentRegion}
-use Rattle.rom_twin.specs.Images.{ImageOf, Twins, Stands, HasBack, HasMain, Repairing}
+use Rattle.rom_twin.specs.Images.{ImageOf, Twins, IsHeapInState, HasBack, HasMain, Repairing}
 use Rattle.rom_header.specs.declared.header.State.TheVariants.{Mutating, Copying}
 use Rattle.rom_twin.specs.Seen.{Seen, InPhase, NeedsRepair, Rests, committed, committed_in, main_now}
 use Rattle.rom_twin.specs.declared.phase.Phase.{Phase}
@@ -28,14 +28,14 @@ module _ (n : ℕ) (c i : List ℕ) where
   pub main_region : HasMain n c i → IsCurrentRegion n i c
   main_region is = record { heap = is.heap; counts = inr (inr (is.state_is, is.main_is)) }
 
-  pub mutating_region : (m : List ℕ) → Stands n Mutating m c i → IsCurrentRegion n i c
+  pub mutating_region : (m : List ℕ) → IsHeapInState n Mutating m c i → IsCurrentRegion n i c
   mutating_region m is = record { heap = is.heap; counts = inr (inl (is.state_is, is.back_is)) }
 
-  pub copying_region : (b : List ℕ) → Stands n Copying c b i → IsCurrentRegion n i c
+  pub copying_region : (b : List ℕ) → IsHeapInState n Copying c b i → IsCurrentRegion n i c
   copying_region b is = record { heap = is.heap; counts = inr (inr (is.state_is, is.main_is)) }
 
   -- under MUTATING back is certain
-  pub stands_back : (m : List ℕ) → Stands n Mutating m c i → HasBack n c i
+  pub stands_back : (m : List ℕ) → IsHeapInState n Mutating m c i → HasBack n c i
   stands_back m is = record { heap = is.heap; state_is = is.state_is; back_is = is.back_is }
 
   -- what a repair makes
@@ -79,7 +79,7 @@ module _ {D : Type 0} (shown : ShownDevice D) (t : Seen D) where
   committed_region is reads known i left =
       let all = each_of Committed is known in
       let new_is : known.new ≡ main_now shown t = sym (all (shown.words t.device) reads).main_is in
-      copying_region t.order (main_now shown t) i (committed shown t) (subst (λ (z : List ℕ). Stands t.order Copying z (committed shown t) i) new_is (all i left))
+      copying_region t.order (main_now shown t) i (committed shown t) (subst (λ (z : List ℕ). IsHeapInState t.order Copying z (committed shown t) i) new_is (all i left))
 
   -- after a batch, and before its repair
   pub after_region : (t.phase ≡ Clean) ⊎ (t.phase ≡ Redo) → shown.leaves t.device (shown.words t.device) → InPhase shown t → (i : List ℕ) → shown.leaves t.device i → IsCurrentRegion t.order i (committed shown t)

@@ -34,7 +34,7 @@ use Rattle.rom_rule.specs.Records.{IsCall}
 use Rattle.rom_rule.specs.CallKinds.{beginning}
 use Rattle.rom_rule.specs.Kinds.{IsBatch, making, record_list}
 use Rattle.rom_rule.proofs.Told.{length_map, at_some}
-use Rattle.rom_announce.specs.Answering.{fate_of}
+use Rattle.rom_announce.specs.Answering.{fate_of_place}
 use Rattle.rom_combine.specs.declared.answering.CallAnswer.{CallAnswer}
 use Rattle.rom_combine.specs.declared.scanning.Posted.{Posted}
 use Rattle.rom_combine.specs.Scanning.{but_requests, IsUnanswered, IsScan}
@@ -94,13 +94,13 @@ failing_refused shown d outcome.Doubt unpublished found_some failed doubt = doub
 
 module _ {S : Type 0} (Contents : ℕ → List ℕ → S → ℕ → Type 0) (step : ℕ → S → ℕ → List ℕ → Option (S × List ℕ)) where
   -- the first answer that is still to be given
-  pub first_left : (b : Base) (f : Fate) (before now : ℕ) (p : Plan) (items : List CallAnswer) → HasGiven Contents step b f before now p 0 items → 0 < length p.requests → (x : CallAnswer) × (get_elem? items 0 ≡ some x) × (fate_of x.place ≡ f)
+  pub first_left : (b : Base) (f : Fate) (before now : ℕ) (p : Plan) (items : List CallAnswer) → HasGiven Contents step b f before now p 0 items → 0 < length p.requests → (x : CallAnswer) × (get_elem? items 0 ≡ some x) × (fate_of_place x.place ≡ f)
   first_left b f before now p items l some_found = let found = at_some p.requests 0 some_found in
       let long : 0 < length items = omega (arith, some_found, ap length l.same, length_map caller_in p.requests, length_map caller_of items) in
       let x = at_some items 0 long in (x.0, x.1, (l.left 0 found.0 x.0 (omega arith) found.1 x.1).1)
 
   -- the record that the answers made, where the plan had none
-  pub made_by : (b : Base) (q u : Plan) (before now : ℕ) (items : List CallAnswer) (f : Fate) (x : CallAnswer) → get_elem? items 0 ≡ some x → fate_of x.place ≡ f → q.mine ≡ [] → IsRecordedBy Contents step b q u before now items
+  pub made_by : (b : Base) (q u : Plan) (before now : ℕ) (items : List CallAnswer) (f : Fate) (x : CallAnswer) → get_elem? items 0 ≡ some x → fate_of_place x.place ≡ f → q.mine ≡ [] → IsRecordedBy Contents step b q u before now items
       → (k : ℕ) × (more : List Entry) × IsBatch Contents step b q k more × (but_requests u ≡ but_requests (making f before now k more q))
   made_by b q u before now items f x at same unmade by = let h = by x at in let g = h.1.1 (ap is_made unmade) in
       (g.0, g.1, g.2, h.3 ∙ ap but_requests (g.4 ∙ ap (λ (z : Fate). making z before now g.0 g.1 q) same))

@@ -16,7 +16,7 @@ use Rattle.rom_rule.specs.Calls.{AreScanned, answer_words, caller_in, found_of, 
 use Rattle.rom_rule.specs.CallKinds.{CanMakeRecord, alter, altered}
 use Rattle.rom_rule.specs.Kinds.{record_list}
 use Rattle.rom_rule.proofs.Told.{map_map, map_alike, at_mapped, at_low, length_map, scanned_one, scanned_at}
-use Rattle.rom_announce.specs.Answering.{CanAnswer, HasRecord, undone, fate_of, answered_with}
+use Rattle.rom_announce.specs.Answering.{CanAnswer, HasRecord, undone, fate_of_place, answered_with}
 use Rattle.rom_announce.proofs.Recording.{recorded_same, answer_in}
 use Rattle.rom_combine.specs.declared.answering.CallAnswer.{CallAnswer}
 use Rattle.rom_combine.specs.Scanning.{but_requests}
@@ -61,7 +61,7 @@ module _ {S : Type 0} (Contents : ℕ → List ℕ → S → ℕ → Type 0) (st
       by_record false e = let m = h.1 e in ap (λ (z : Plan). is_made z.mine) m.4 ∙ made_some (map found_of p.requests) _ j (found_of f) (at_map found_of p.requests j f at)
 
   -- another call's answer may still be given
-  answer_on : (p q : Plan) (c place j : ℕ) (laid : List ℕ) (f : Request) (x : CallAnswer) → HasRecord Contents step b p q fate faults now → get_elem? p.requests j ≡ some f → f.answered ≡ false → fate_of x.place ≡ fate → CanAnswer Contents step b p f x.place x.reply faults now
+  answer_on : (p q : Plan) (c place j : ℕ) (laid : List ℕ) (f : Request) (x : CallAnswer) → HasRecord Contents step b p q fate faults now → get_elem? p.requests j ≡ some f → f.answered ≡ false → fate_of_place x.place ≡ fate → CanAnswer Contents step b p f x.place x.reply faults now
       → CanAnswer Contents step b (altered c (answered_with place laid) q) f x.place x.reply faults now
   answer_on p q c place j laid f x h at pending same can = (
     (λ _. let a = answer_in Contents step b p fate faults now q f.caller f x.place x.reply h (j, at, refl, pending) can.0 (λ e. subst (λ (z : Fate). CanMakeRecord Contents step b p z faults now × (answer_words (undone z) ≡ x.place ∷ packed x.reply)) same (can.1 e)) in (a.0, a.1, a.2)),
@@ -80,7 +80,7 @@ module _ {S : Type 0} (Contents : ℕ → List ℕ → S → ℕ → Type 0) (st
         left = λ j a y le e at'. let m = at_mapped (alter c g) q.requests j a e in let old : get_elem? p.requests j ≡ some m.0 = subst (λ (fs : List Request). get_elem? fs j ≡ some m.0) requests m.1 in
             let ne : m.0.caller ≢ c = (λ is. let same_place = scanned_one 0 b.callers (map caller_in p.requests) j i c l.rising (at_map caller_in p.requests j m.0 old ∙ ap some is) (at_map caller_in p.requests i f at ∙ ap some who) in omega arith) in
             let is : m.0 ≡ a = sym (else_is c g m.0 ne) ∙ m.2 in let k = l.left j m.0 y (omega arith) old at' in
-            subst (λ (z : Request). (z.answered ≡ false) × (fate_of y.place ≡ fate) × CanAnswer Contents step b (altered c g q) z y.place y.reply faults now) is (k.0, k.1, answer_on p q c x.place j laid m.0 y h old k.0 k.1 k.2);
+            subst (λ (z : Request). (z.answered ≡ false) × (fate_of_place y.place ≡ fate) × CanAnswer Contents step b (altered c g q) z y.place y.reply faults now) is (k.0, k.1, answer_on p q c x.place j laid m.0 y h old k.0 k.1 k.2);
       }
 
   recorded_scanned : (p q : Plan) → HasRecord Contents step b p q fate faults now → q.scanned ≡ p.scanned
@@ -98,11 +98,11 @@ module _ {S : Type 0} (Contents : ℕ → List ℕ → S → ℕ → Type 0) (st
   )
 
   -- which record the answers so far have made: the first makes it, and the others keep it
-  pub recorded_on : (o p q u : Plan) (i : ℕ) (f : Request) (x : CallAnswer) (laid : List ℕ) → (i ≡ 0 → p ≡ o) → (0 < i → IsRecordedBy Contents step b o p faults now items) → get_elem? items i ≡ some x → get_elem? p.requests i ≡ some f → fate_of x.place ≡ fate
+  pub recorded_on : (o p q u : Plan) (i : ℕ) (f : Request) (x : CallAnswer) (laid : List ℕ) → (i ≡ 0 → p ≡ o) → (0 < i → IsRecordedBy Contents step b o p faults now items) → get_elem? items i ≡ some x → get_elem? p.requests i ≡ some f → fate_of_place x.place ≡ fate
       → HasRecord Contents step b p q fate faults now → u ≡ altered x.caller (answered_with x.place laid) q → IsRecordedBy Contents step b o u faults now items
   recorded_on o p q u i f x laid first later at found same h is y at₀ = dite (ℕ_discrete i 0)
       (λ zero. let one : x ≡ y = some-injective x y (sym at ∙ (ap (get_elem? items) zero ∙ at₀)) in
-      (q, subst (λ (z : Plan × Fate). HasRecord Contents step b z.0 q z.1 faults now) (λ j. (first zero j, (sym same ∙ ap (λ (g : CallAnswer). fate_of g.place) one) j)) h, recorded_made p q i f h found, ap but_requests is))
+      (q, subst (λ (z : Plan × Fate). HasRecord Contents step b z.0 q z.1 faults now) (λ j. (first zero j, (sym same ∙ ap (λ (g : CallAnswer). fate_of_place g.place) one) j)) h, recorded_made p q i f h found, ap but_requests is))
       (λ more. let old = later (omega arith) y at₀ in let made : is_made p.mine ≡ true = ap (λ (z : Plan). is_made z.mine) old.3 ∙ old.2 in
       (old.0, old.1, old.2, ap but_requests is ∙ (ap but_requests (h.0 made) ∙ old.3)))
 

@@ -150,7 +150,7 @@ module _ {S : Type 0} (Contents : ℕ → List ℕ → S → ℕ → Type 0) (st
   pub none_answered : (b : Base) (p q : Plan) (callers : ℕ) (items : List Posted) → IsScan (IsCall step b) p q callers items → length items ≡ 0 → Each (λ _ f. f.answered ≡ true) q.requests
   none_answered b p q callers items scan zero j f e = absurd (mathlib.Core.Option.some-ne-none f (sym (subst (λ (l : List Request). lib.ListN.get_elem? l j ≡ mathlib.Core.Option.some f) (none_found items q.requests zero scan.items_are) e)))
 
-raised_list : (n : ℕ) (fs : List Rattle.rom_model.specs.declared.record.Found.Found) (r : PassRecord) → map (Rattle.rom_rule.specs.Kinds.raised n) (record_list fs r) ≡ record_list fs (Rattle.rom_rule.specs.Kinds.raised n r)
+raised_list : (n : ℕ) (fs : List Rattle.rom_model.specs.declared.record.Found.Found) (r : PassRecord) → map (Rattle.rom_rule.specs.Kinds.with_faults_after n) (record_list fs r) ≡ record_list fs (Rattle.rom_rule.specs.Kinds.with_faults_after n r)
 raised_list n [] r = refl
 raised_list n (f ∷ fs) r = refl
 
@@ -176,7 +176,7 @@ pass_published Contents step b p q m u callers before mid end version clear many
         batch = pb.batch;
         done = done_is;
         history = history ∙ ap (λ (l : List Entry). l ++ pb.more) st.history;
-        records = ap records_of kept ∙ ((λ j. (pb.records ∙ ap (λ (z : Plan). z.records) scan.rest) j ++ map (Rattle.rom_rule.specs.Kinds.raised end) (pb.mine j))
+        records = ap records_of kept ∙ ((λ j. (pb.records ∙ ap (λ (z : Plan). z.records) scan.rest) j ++ map (Rattle.rom_rule.specs.Kinds.with_faults_after end) (pb.mine j))
             ∙ ap (λ (l : List PassRecord). records_of p ++ l) (raised_list end (map found_of q.requests) _ ∙ ap (λ (k : ℕ). record_list (map found_of q.requests) (record { found = map found_of q.requests; fate = fate.Published; faults_before = before; faults_after = end; len = k })) long));
         told = ap (λ (z : Plan). z.told) kept ∙ (pb.told ∙ ap (λ l. l ++ Rattle.rom_model.specs.Passes.fate_told fate.Published pb.front (map found_of q.requests) pb.more) (ap (λ (z : Plan). z.told) scan.rest));
         answered = answered;

@@ -4,7 +4,7 @@ use Rattle.std.proofs.Common.{Ok, Err, refl, ◌∙◌, arith}
 use Rattle.rom_model.specs.Blocks.{region_len}
 use Rattle.rom_model.specs.Faults.{HasCause, counted}
 use Rattle.rom_model.specs.Space.{ChangesOnly}
-use Rattle.rom_device.specs.Device.{ShownDevice, Counts, Does, Makes, Writes}
+use Rattle.rom_device.specs.Device.{ShownDevice, CountsCalls, Does, Makes, WritesWord}
 use Rattle.rom_device.proofs.Going.{does_by, does_on, runs_none}
 use Rattle.rom_header.specs.Layout.{MAIN, STATE, back_at}
 use Rattle.rom_header.specs.Writing.{StateOrWithin}
@@ -50,8 +50,8 @@ module _ {D : Type 0} (shown : ShownDevice D) (n : ℕ) where
   pub within_then : (a b c : D) → Does shown (WithinHeap n) a b → Does shown (WithinHeap n) b c → Does shown (WithinHeap n) a c
   within_then a b c first second = does_on shown (WithinHeap n) (state_or_joins MAIN (2 * region_len n)) a b c first second
 
-  pub within_state : (v : ℕ) (a b : D) → Does shown (Writes STATE v) a b → Does shown (WithinHeap n) a b
-  within_state v a b does = does_by shown (Writes STATE v) (WithinHeap n) (state_or_writes MAIN (2 * region_len n) v (omega arith)) a b does
+  pub within_state : (v : ℕ) (a b : D) → Does shown (WritesWord STATE v) a b → Does shown (WithinHeap n) a b
+  within_state v a b does = does_by shown (WritesWord STATE v) (WithinHeap n) (state_or_writes MAIN (2 * region_len n) v (omega arith)) a b does
 
   pub within_main : (ranges : List Range) (image : List ℕ) → length image ≡ region_len n → (a b : D) → Does shown (WritesRanges ranges MAIN image) a b → Does shown (WithinHeap n) a b
   within_main ranges image long a b does = does_by shown (WritesRanges ranges MAIN image) (WithinHeap n) (λ x y w. region_within n MAIN (length image) (omega arith) (omega (arith, long)) x y w.only) a b does
@@ -81,7 +81,7 @@ module _ {D : Type 0} (shown : ShownDevice D) (n : ℕ) where
   }
 
   -- one call, which reads nothing
-  pub writes_counts : {T E : Type 0} (writes syncs : ℕ) (a b : D) (result : Result T E) → shown.faults a < 2 ^ 64 → Does shown (WithinHeap n) a b → Counts shown 0 writes syncs a b result → WritesHeap shown n a b
+  pub writes_counts : {T E : Type 0} (writes syncs : ℕ) (a b : D) (result : Result T E) → shown.faults a < 2 ^ 64 → Does shown (WithinHeap n) a b → CountsCalls shown 0 writes syncs a b result → WritesHeap shown n a b
   writes_counts writes syncs a b result fits does counts = record {
     only = record { size = does.size; reads = omega (arith, counts.reads_made) };
     does = does;

@@ -19,7 +19,7 @@ use Rattle.rom_rule.specs.Calls.{AreScanned, answer_words, caller_in, found_of, 
 use Rattle.rom_rule.specs.Records.{IsCall}
 use Rattle.rom_rule.specs.Kinds.{CanSwitchToMain, IsBatch, TellsEach, making, switched}
 use Rattle.rom_rule.proofs.Told.{length_map, at_mapped, at_low, at_some}
-use Rattle.rom_announce.specs.Answering.{fate_of}
+use Rattle.rom_announce.specs.Answering.{fate_of_place}
 use Rattle.rom_combine.specs.declared.answering.CallAnswer.{CallAnswer}
 use Rattle.rom_combine.specs.Answering.{HasGiven}
 use Rattle.rom_combine.specs.Scanning.{IsUnanswered}
@@ -43,7 +43,7 @@ low_place k (suc i) (f ∷ fs) [] x le e = low_place k i fs [] x le e
 low_place k zero (f ∷ fs) (y ∷ es) x le e = (k, packed y.reply, ap (λ (z : Told). answer_words z.1) (sym (some-injective (f, told.Done y.reply k) x e)), omega arith)
 low_place k (suc i) (f ∷ fs) (y ∷ es) x le e = low_place (k + 1) i fs es x (omega arith) e
 
-pub no_fault : (place : ℕ) → place ≤ LAST_COUNT → fate_of place ≡ Published
+pub no_fault : (place : ℕ) → place ≤ LAST_COUNT → fate_of_place place ≡ Published
 no_fault place le = ap (λ (t : Rattle.std.proofs.Common.Bool). cond t Rattle.rom_model.specs.declared.record.Fate.TheVariants.Failed (cond (eqb place (2 ^ 62 + 2)) Rattle.rom_model.specs.declared.record.Fate.TheVariants.Doubt Published)) (ne_eqb place (2 ^ 62 + 1) (λ e. omega arith))
     ∙ ap (λ (t : Rattle.std.proofs.Common.Bool). cond t Rattle.rom_model.specs.declared.record.Fate.TheVariants.Doubt Published) (ne_eqb place (2 ^ 62 + 2) (λ e. omega arith))
 
@@ -79,7 +79,7 @@ module _ {S : Type 0} (Contents : ℕ → List ℕ → S → ℕ → Type 0) (st
             let words : answer_words t.1 ≡ x.place ∷ packed x.reply = ap (λ (z : ℕ × List ℕ). z.1) m.2 in
             let low = low_place k₀ j (take i (map found_of p.requests)) (batch_first Contents step b s n p i) t fits (subst (λ (l : List Told). get_elem? l j ≡ some t) told_same m.1) in
             let place : x.place ≡ low.0 = ap (λ (l : List ℕ). Rattle.std.proofs.Common.get_or l 0 0) (sym words ∙ low.2) in let le' = low.3 in
-            let mine : get_elem? (Rattle.rom_rule.specs.Calls.told_to (p.told ++ batch_told k (map found_of p.requests) more) f.caller) f.seq ≡ some t = tells j f t e m.1 in
+            let mine : get_elem? (Rattle.rom_rule.specs.Calls.told_to_caller (p.told ++ batch_told k (map found_of p.requests) more) f.caller) f.seq ≡ some t = tells j f t e m.1 in
             let found : t.0 ≡ found_of f = found_at k (map found_of p.requests) more j t (found_of f) m.1 (at_map found_of p.requests j f e) in (
               (fresh j f e).0,
               no_fault x.place (omega arith),

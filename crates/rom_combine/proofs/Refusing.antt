@@ -11,7 +11,7 @@ use Rattle.rom_rule.specs.Views.{Each, is_made}
 use Rattle.rom_rule.specs.Calls.{AreScanned, answer_words, caller_in, packed}
 use Rattle.rom_rule.specs.Records.{IsCall}
 use Rattle.rom_rule.specs.CallKinds.{CanMakeRecord}
-use Rattle.rom_announce.specs.Answering.{CanAnswer, fate_of, undone}
+use Rattle.rom_announce.specs.Answering.{CanAnswer, fate_of_place, undone}
 use Rattle.rom_combine.specs.declared.answering.CallAnswer.{CallAnswer}
 use Rattle.rom_combine.specs.declared.scanning.Posted.{Posted}
 use Rattle.rom_combine.specs.Scanning.{posted_of, IsUnanswered}
@@ -23,14 +23,14 @@ callers_refused code [] = refl
 callers_refused code (f ∷ fs) = ap (λ (l : List ℕ). f.caller ∷ l) (callers_refused code fs)
 
 module _ {S : Type 0} (Contents : ℕ → List ℕ → S → ℕ → Type 0) (step : ℕ → S → ℕ → List ℕ → Option (S × List ℕ)) (b : Base) where
-  pub is_refused : (code : ℕ) (fate : Fate) (p : Plan) (before now : ℕ) (found : List Posted) (given : List CallAnswer) → fate_of code ≡ fate → answer_words (undone fate) ≡ code ∷ packed [] → CanMakeRecord Contents step b p fate before now
+  pub is_refused : (code : ℕ) (fate : Fate) (p : Plan) (before now : ℕ) (found : List Posted) (given : List CallAnswer) → fate_of_place code ≡ fate → answer_words (undone fate) ≡ code ∷ packed [] → CanMakeRecord Contents step b p fate before now
       → AreScanned 0 b.callers (map caller_in p.requests) → Each (λ _ f. IsUnanswered (IsCall step b) f) p.requests → found ≡ map posted_of p.requests → given ≡ map (refused code) found → HasGiven Contents step b fate before now p 0 given
   is_refused code fate p before now found given is words can rising fresh found_are answers_are = let all : given ≡ map (refused code) (map posted_of p.requests) = answers_are ∙ ap (map (refused code)) found_are in record {
     rising = rising;
     same = callers_refused code p.requests ∙ ap (map caller_of) (sym all);
     done = λ j f e lt. absurd (omega arith);
     left = λ j f x le e at. let mine : refused code (posted_of f) ≡ x = some-injective (refused code (posted_of f)) x (sym (at_map (refused code) (map posted_of p.requests) j (posted_of f) (at_map posted_of p.requests j f e)) ∙ (ap (λ (l : List CallAnswer). get_elem? l j) (sym all) ∙ at)) in
-        subst (λ (y : CallAnswer). (f.answered ≡ false) × (fate_of y.place ≡ fate) × CanAnswer Contents step b p f y.place y.reply before now) mine
+        subst (λ (y : CallAnswer). (f.answered ≡ false) × (fate_of_place y.place ≡ fate) × CanAnswer Contents step b p f y.place y.reply before now) mine
         ((fresh j f e).0, is, ((λ made. absurd (let z : false ≡ true = sym (ap is_made can.unmade) ∙ made in cc)), (λ _. (subst (λ (z : Fate). CanMakeRecord Contents step b p z before now) (sym is) can, ap (λ (z : Fate). answer_words (undone z)) is ∙ words))));
   }
 

@@ -2,7 +2,7 @@
 use Rattle.std.proofs.Common.{◌≡◌, ℕ, List, [], ◌∷◌, ◌++◌, map, refl, true, false, arith}
 use Rattle.rom_model.specs.declared.record.Found.{Found}
 use Rattle.rom_model.specs.declared.record.PassRecord.{PassRecord}
-use Rattle.rom_rule.specs.Kinds.{MayRaise, raised, record_list}
+use Rattle.rom_rule.specs.Kinds.{MayRaise, record_list, with_faults_after}
 use Rattle.rom_rule.specs.Views.{is_made}
 
 -- the one record of a pass, where a call was found, may have a higher count of faults
@@ -17,6 +17,6 @@ faults_last f (q ∷ rs) r = faults_last q.faults_after rs r
 
 -- the last count is the one that settling raised
 pub faults_rested : (n f : ℕ) (rs : List PassRecord) (fs : List Rattle.rom_model.specs.declared.record.Found.Found) (r : PassRecord) → is_made (Rattle.rom_rule.specs.Kinds.record_list fs r) ≡ true
-    → Rattle.rom_model.specs.Passes.faults_after f (rs ++ map (raised n) (Rattle.rom_rule.specs.Kinds.record_list fs r)) ≡ n
+    → Rattle.rom_model.specs.Passes.faults_after f (rs ++ map (with_faults_after n) (Rattle.rom_rule.specs.Kinds.record_list fs r)) ≡ n
 faults_rested n f rs [] r made = absurd (let z : false ≡ true = made in cc)
-faults_rested n f rs (x ∷ fs) r made = faults_last f rs (raised n r)
+faults_rested n f rs (x ∷ fs) r made = faults_last f rs (with_faults_after n r)

@@ -1,7 +1,7 @@
 -- Steps of the writer's, one after another.
 use Rattle.std.proofs.Common.{◌≡◌, ℕ, List, sym, ap, ◌∙◌, subst, Option, Some}
 use Rattle.rom_lr.specs.Seats.{plan, writer_view}
-use Rattle.rom_lr.specs.Writing.{Writes}
+use Rattle.rom_lr.specs.Writing.{SetsPlan}
 use Rattle.rom_lr.specs.declared.seats.WriterSeat.{WriterSeat}
 use Rattle.rom_rule.specs.Views.{plan_of}
 use Rattle.rom_rule.specs.declared.views.Plan.{Plan}
@@ -29,8 +29,8 @@ pub keeps_then : (u v w : View) → KeepsView u v → KeepsView v w → KeepsVie
 keeps_then u v w e f = writes_chain u v w (plan_of v) (plan_of w) e f
 
 -- the writer's seat after some steps, and after some more
-pub seat_by : (s t : WriterSeat) (p : Plan) → Writes s t p → Writes s t (plan t)
+pub seat_by : (s t : WriterSeat) (p : Plan) → SetsPlan s t p → SetsPlan s t (plan t)
 seat_by s t p e = (e.0, e.1, keeps_by (writer_view s) (writer_view t) p e.2)
 
-pub seat_then : (s t u : WriterSeat) → Writes s t (plan t) → Writes t u (plan u) → Writes s u (plan u)
+pub seat_then : (s t u : WriterSeat) → SetsPlan s t (plan t) → SetsPlan t u (plan u) → SetsPlan s u (plan u)
 seat_then s t u e f = (f.0 ∙ e.0, f.1 ∙ e.1, keeps_then (writer_view s) (writer_view t) (writer_view u) e.2 f.2)

@@ -1,7 +1,7 @@
 -- How the device stands as a batch begins, and why one failed, as the device shows it.
 use Rattle.std.specs.Prelude.{ℕ, ◌≤◌, List, IsTrue}
 use Rattle.rom_model.specs.Faults.{Adds, AtMost, FailedLast, Rose}
-use Rattle.rom_device.specs.Device.{ShownDevice, Becomes, Does, Runs, Writes}
+use Rattle.rom_device.specs.Device.{ShownDevice, Becomes, Does, Runs, WritesWord}
 use Rattle.rom_header.specs.Headers.{state_word}
 use Rattle.rom_header.specs.Layout.{STATE}
 use Rattle.rom_header.specs.declared.header.State.TheVariants.{Copying}
@@ -38,7 +38,7 @@ module _ {D : Type 0} (shown : ShownDevice D) (phase : Phase) (order : ℕ) (reg
     pub before : IsTrue shown.tells_images → Runs shown (Becomes (BeforeCommit phase order region)) old at
     pub mutating : IsTrue shown.tells_images → (i : List ℕ) → shown.leaves at i → HasBack order region i
     -- from then on COPYING alone was written
-    pub does : Does shown (Writes STATE (state_word Copying)) at new
+    pub does : Does shown (WritesWord STATE (state_word Copying)) at new
     pub failed : FailedLast (shown.faults at) (shown.faults new) (shown.failing new)
     pub written : Adds 1 (shown.writes at) (shown.writes new)
     pub synced : AtMost 1 (shown.syncs at) (shown.syncs new)

@@ -2,7 +2,7 @@
 use Rattle.std.specs.Prelude.{◌≡◌, ℕ, List, slice_index}
 use Rattle.rom_lr.specs.declared.side.Side.{Side}
 use Rattle.rom_lr.specs.declared.side.Side.TheVariants.{Back, Main}
-use Rattle.rom_ranges.specs.Ranges.{IsIn}
+use Rattle.rom_ranges.specs.Ranges.{IsInRange}
 use Rattle.rom_ranges.specs.declared.range.Range.{Range}
 use Rattle.rom_rule.specs.declared.views.Plan.{Plan}
 
@@ -18,5 +18,5 @@ with_side Back words p = record p { back = words }
 
 -- The words in the range are those of the source, and the others are as they were.
 pub record Copies (range : Range) (source old new : List ℕ) : Type 0 where
-  pub held : (k : ℕ) → IsIn range k → slice_index new k ≡ slice_index source k
-  pub others : (k : ℕ) → (IsIn range k → ⊥) → slice_index new k ≡ slice_index old k
+  pub held : (k : ℕ) → IsInRange range k → slice_index new k ≡ slice_index source k
+  pub others : (k : ℕ) → (IsInRange range k → ⊥) → slice_index new k ≡ slice_index old k

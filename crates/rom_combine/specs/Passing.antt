@@ -56,7 +56,7 @@ module _ {D S C Q R A : Type 0} (shown : ShownDevice D) (Contents : ℕ → List
         ImageAt Contents (on_words machine) old.view.base s n new.twin.phase (plan_of new.view) i
 
   -- The pass did a call. A call stores so many words at most for each unit of its weight.
-  pub record HasDone (stores : ℕ) : Type 0 where
+  pub record HasDoneBatch (stores : ℕ) : Type 0 where
     -- the device at the commit
     pub mid : D
     -- No more was called until then than up to the commit's sync.

@@ -1,7 +1,7 @@
 -- A pass that has come to rest.
 use Rattle.std.specs.Prelude.{ℕ, List}
 use Rattle.rom_lr.specs.Seats.{plan}
-use Rattle.rom_lr.specs.Writing.{Writes}
+use Rattle.rom_lr.specs.Writing.{SetsPlan}
 use Rattle.rom_lr.specs.declared.seats.WriterSeat.{WriterSeat}
 use Rattle.rom_rule.specs.Kinds.{raising, switched}
 use Rattle.rom_rule.specs.declared.views.Plan.{Plan}
@@ -14,4 +14,4 @@ rested faults version clear p = record (switched 1 (raising faults (record p { b
 pub record HasRested (faults : ℕ) (s t : WriterSeat) : Type 0 where
   pub version : ℕ
   pub clear : List (ℕ × ℕ)
-  pub writes : Writes s t (rested faults version clear (plan s))
+  pub writes : SetsPlan s t (rested faults version clear (plan s))

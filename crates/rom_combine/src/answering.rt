@@ -6,7 +6,7 @@ ghost use Rattle.rom_model.specs.declared.record.Fate.{Fate};
 ghost use Rattle.rom_combine.specs.Answering.{HasGiven, IsRecordedBy, SameCalls, refused};
 ghost use Rattle.rom_combine.specs.Scanning.{but_requests};
 ghost use Rattle.rom_lr.specs.Seats.{IsWriterOf, plan, writer_view};
-ghost use Rattle.rom_lr.specs.Writing.{Writes};
+ghost use Rattle.rom_lr.specs.Writing.{SetsPlan};
 ghost use Rattle.rom_rule.specs.Views.{Each, is_made, plan_of};
 
 use crate::per_caller::PerCaller;
@@ -65,7 +65,7 @@ pub(crate) fn answer_all<O: Object>(
     requires left { let v = writer_view seat.old in (fate : Fate)
         × HasGiven O.Contents (on_words O.machine) v.base fate before after (plan_of v) 0
         answers.now }
-    ensures same { Writes seat.old seat.new (plan seat.new) }
+    ensures same { SetsPlan seat.old seat.new (plan seat.new) }
     ensures kept { let p = plan seat.old in is_made p.mine ≡ true →
         but_requests (plan seat.new) ≡ but_requests p }
     ensures calls { SameCalls (plan seat.old) (plan seat.new) }

@@ -8,7 +8,7 @@ ghost use Rattle.rom_combine.specs.declared.answering.CallAnswer.{CallAnswer};
 ghost use Rattle.rom_combine.specs.Costs.{weights};
 ghost use Rattle.rom_combine.specs.Scanning.{IsUnanswered, posted_of};
 ghost use Rattle.rom_lr.specs.Seats.{IsWriterOf, plan, writer_view};
-ghost use Rattle.rom_lr.specs.Writing.{NobodyReads, Writes};
+ghost use Rattle.rom_lr.specs.Writing.{NobodyReads, SetsPlan};
 ghost use Rattle.rom_lr.specs.declared.side.Side.TheVariants.{Main};
 ghost use Rattle.rom_ranges.specs.Changes.{IsLogOf};
 ghost use Rattle.rom_rule.specs.Readers.{Held};
@@ -47,7 +47,7 @@ pub(crate) fn apply_all<O: Object>(
     requires clear { log.old.added ≡ 0 }
     requires room { O.STORES * O.WEIGHT * length found.now ≤ log.old.room }
     ensures kept { let p = plan seat.old in
-        Writes seat.old seat.new (record p { main = (plan seat.new).main }) }
+        SetsPlan seat.old seat.new (record p { main = (plan seat.new).main }) }
     ensures applied { let b = (writer_view seat.old).base in let p = plan seat.old in
         (s : O.State) × (n : ℕ) × O.Contents b.order b.image s n
         × IsApplied O.Contents (on_words O.machine) b s n p (plan seat.new).main
@@ -85,7 +85,7 @@ fn apply_next<O: Object>(
     requires room { log.old.added + O.STORES * O.WEIGHT ≤ log.old.room }
     requires next { length answers.old.items < MAX_CALLERS }
     ensures kept { let p = plan seat.old in
-        Writes seat.old seat.new (record p { main = (plan seat.new).main }) }
+        SetsPlan seat.old seat.new (record p { main = (plan seat.new).main }) }
     ensures done { let v = writer_view seat.old in
         (told : CallAnswer) × IsDoneOne O.Contents (on_words O.machine) v.base one.now place
         (plan_of v).main (plan seat.new).main told
@@ -120,7 +120,7 @@ fn apply_one<O: Object>(
     requires logged { let p = plan seat.old in IsLogOf p.back p.main log.old }
     requires room { log.old.added + O.STORES * O.WEIGHT ≤ log.old.room }
     ensures kept { let p = plan seat.old in
-        Writes seat.old seat.new (record p { main = (plan seat.new).main }) }
+        SetsPlan seat.old seat.new (record p { main = (plan seat.new).main }) }
     ensures done { let v = writer_view seat.old in
         IsDoneOne O.Contents (on_words O.machine) v.base one.now place (plan_of v).main
         (plan seat.new).main told.new }

@@ -10,7 +10,7 @@ ghost use Rattle.rom_combine.specs.Publishing.{IsReadyToPublish};
 ghost use Rattle.rom_combine.specs.Scanning.{posted_of};
 ghost use Rattle.rom_combine.specs.Told.{fate_of};
 ghost use Rattle.rom_lr.specs.Seats.{IsWriterOf, plan, writer_view};
-ghost use Rattle.rom_lr.specs.Writing.{Writes};
+ghost use Rattle.rom_lr.specs.Writing.{SetsPlan};
 
 use crate::answering::{CallAnswer, refuse};
 use crate::applying::apply_all;
@@ -50,7 +50,7 @@ pub(crate) fn publish<D: Device, O: Object>(
 
     // However it ends.
     ensures some { result ≢ Outcome.Nothing }
-    ensures same { Writes seat.old seat.new (plan seat.new) }
+    ensures same { SetsPlan seat.old seat.new (plan seat.new) }
     ensures calls { SameCalls (plan seat.old) (plan seat.new) }
     ensures order { twin.new.order ≡ twin.old.order }
     ensures room { log.new.room ≡ log.old.room }

@@ -9,7 +9,7 @@ ghost use Rattle.rom_combine.specs.AtRest.{IsAtRest, IsCoreOf, IsReady};
 ghost use Rattle.rom_combine.specs.Causes.{BeginsIn};
 ghost use Rattle.rom_combine.specs.Costs.{SpendsAtMost, WritesHeap, batch_syncs, batch_writes, weights_found};
 ghost use Rattle.rom_combine.specs.Ends.{EndsFailed, EndsInDoubt};
-ghost use Rattle.rom_combine.specs.Passing.{HasDone, HasPassed};
+ghost use Rattle.rom_combine.specs.Passing.{HasDoneBatch, HasPassed};
 ghost use Rattle.rom_combine.specs.Told.{fate_of};
 ghost use Rattle.rom_rule.specs.Views.{opening_plan, plan_of};
 
@@ -157,7 +157,7 @@ impl<D: Device, O: Object> Core<D, O> {
 
         // By how it ends. Where it did a call, the batch lasts from the commit on, and the phase is at rest.
         ensures done { 0 < result.done →
-            HasDone D.shown O.Contents O.machine self.old self.new O.STORES }
+            HasDoneBatch D.shown O.Contents O.machine self.old self.new O.STORES }
         // A published pass that did no call, as where the count stands at its limit, leaves the device alone.
         ensures spent { result.outcome ≡ Outcome.Published → result.done ≡ 0 →
             self.new.twin ≡ self.old.twin }
@@ -177,7 +177,7 @@ impl<D: Device, O: Object> Core<D, O> {
         ensures doubt { result.outcome ≡ Outcome.Doubt →
             EndsInDoubt D.shown (plan_of self.old.view).main self.old.twin self.new.twin }
 
-        // However a pass ends, it makes no more writes and syncs than `spends` of `HasDone` says, where k is
+        // However a pass ends, it makes no more writes and syncs than `spends` of `HasDoneBatch` says, where k is
         // the sum of the weights of all calls that it found.
         ensures most { SpendsAtMost D.shown (batch_writes self.old.twin.phase self.old.twin.order
             (O.STORES * weights_found (weight_on_words O.machine) (plan_of self.new.view)))

@@ -2,7 +2,7 @@
 ghost use Rattle.std.specs.Prelude.{◌≡◌, ℕ};
 ghost use Rattle.rom_combine.specs.Looking.{unstepped};
 ghost use Rattle.rom_lr.specs.Seats.{IsWriterOf, plan, writer_view};
-ghost use Rattle.rom_lr.specs.Writing.{Writes};
+ghost use Rattle.rom_lr.specs.Writing.{SetsPlan};
 ghost use Rattle.rom_rule.specs.Views.{plan_of};
 
 use rom_lr::{Shared, WriterSeat};
@@ -54,7 +54,7 @@ pub fn ask_main<O: Object>(shared: &Shared<O>, seat: &mut WriterSeat, query: &O:
     // Shared main stands for some state and count of the object.
     requires region { let v = writer_view seat.old in
         (s : O.State) × (k : ℕ) × O.Contents v.base.order (plan_of v).main s k }
-    ensures same { Writes seat.old seat.new (plan seat.old) }
+    ensures same { SetsPlan seat.old seat.new (plan seat.old) }
     // The answer is the object's in the state that shared main stands for.
     ensures told { let v = writer_view seat.old in (s : O.State) (k : ℕ) →
         O.Contents v.base.order (plan_of v).main s k → result ≡ O.machine.tell s query.now }

@@ -5,7 +5,7 @@ ghost use Rattle.rom_model.specs.declared.limits.TheConstants.{MAX_CALLERS};
 ghost use Rattle.rom_announce.specs.Scanning.{MayScan, scanned_from, with_words};
 ghost use Rattle.rom_combine.specs.Scanning.{IsScan, IsVisit};
 ghost use Rattle.rom_lr.specs.Seats.{IsWriterOf, plan, writer_view};
-ghost use Rattle.rom_lr.specs.Writing.{Writes};
+ghost use Rattle.rom_lr.specs.Writing.{SetsPlan};
 ghost use Rattle.rom_rule.specs.CallKinds.{IsPending, altered};
 ghost use Rattle.rom_rule.specs.Calls.{packed};
 ghost use Rattle.rom_rule.specs.Records.{IsCall};
@@ -45,7 +45,7 @@ pub(crate) fn scan<O: Object>(
     ensures scanned { let v = writer_view seat.old in
         IsScan (IsCall (on_words O.machine) v.base) (plan_of v) (plan seat.new)
         shared.now.layout.callers found.new.items }
-    ensures same { Writes seat.old seat.new (plan seat.new) }
+    ensures same { SetsPlan seat.old seat.new (plan seat.new) }
 {
     // In the order of the callers' numbers nothing need be sorted, and no caller can stand twice. Only the
     // load of caller 1's turn begins a pass, also one that finds nothing. So a body that looks at no turn
@@ -73,7 +73,7 @@ fn visit<O: Object>(
     ensures visited { let v = writer_view seat.old in
         IsVisit (IsCall (on_words O.machine) v.base) (scanned_from caller (plan_of v))
         (plan seat.new) caller found.old.items found.new.items }
-    ensures same { Writes seat.old seat.new (plan seat.new) }
+    ensures same { SetsPlan seat.old seat.new (plan seat.new) }
 {
     if posted(shared, seat, caller) {
         find(shared, seat, caller, found);
@@ -92,7 +92,7 @@ fn find<O: Object>(
     requires posted { (f : Request) × IsPending (plan seat.old) caller f }
     requires room { length found.old.items < MAX_CALLERS }
     ensures found { (args : List ℕ) × IsCall (on_words O.machine) (writer_view seat.old).base args
-        × Writes seat.old seat.new
+        × SetsPlan seat.old seat.new
         (altered caller (with_words (packed args)) (plan seat.old))
         × (found.new.items ≡ found.old.items ++ record { caller = caller; args = args } ∷ []) }
 {

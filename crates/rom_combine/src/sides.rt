@@ -4,7 +4,7 @@ ghost use Rattle.rom_model.specs.Blocks.{region_len};
 ghost use Rattle.rom_combine.specs.Copying.{Copies, with_side, words_at};
 ghost use Rattle.rom_lr.specs.Seats.{IsWriterOf, plan, writer_view};
 ghost use Rattle.rom_lr.specs.Side.{other_side};
-ghost use Rattle.rom_lr.specs.Writing.{NobodyReads, Writes};
+ghost use Rattle.rom_lr.specs.Writing.{NobodyReads, SetsPlan};
 ghost use Rattle.rom_ranges.specs.Changes.{SameBut};
 ghost use Rattle.rom_ranges.specs.Ranges.{AreWithin};
 
@@ -27,7 +27,7 @@ pub(crate) fn copy_to<O: Object>(
     requires but { let p = plan seat.old in
         SameBut ranges.now (words_at side p) (words_at (other_side side) p) }
     ensures { let p = plan seat.old in
-        Writes seat.old seat.new (with_side side (words_at (other_side side) p) p) }
+        SetsPlan seat.old seat.new (with_side side (words_at (other_side side) p) p) }
 {
     for range in ranges {
         copy_range(shared, seat, side, *range);
@@ -40,7 +40,7 @@ fn copy_range<O: Object>(shared: &Shared<O>, seat: &mut WriterSeat, side: Side, 
     requires unread { NobodyReads seat.old side }
     requires within { range.end ≤ region_len (writer_view seat.old).base.order }
     ensures kept { let p = plan seat.old in
-        Writes seat.old seat.new (with_side side (words_at side (plan seat.new)) p) }
+        SetsPlan seat.old seat.new (with_side side (words_at side (plan seat.new)) p) }
     ensures copied { let p = plan seat.old in
         Copies range (words_at (other_side side) p) (words_at side p)
         (words_at side (plan seat.new)) }
@@ -57,7 +57,7 @@ fn copy_word<O: Object>(shared: &Shared<O>, seat: &mut WriterSeat, side: Side, a
     requires inside { at < region_len (writer_view seat.old).base.order }
     ensures { let p = plan seat.old in
         let word = slice_index (words_at (other_side side) p) at in
-        Writes seat.old seat.new (with_side side (slice_set (words_at side p) at word) p) }
+        SetsPlan seat.old seat.new (with_side side (slice_set (words_at side p) at word) p) }
 {
     match side {
         Side::Main => {

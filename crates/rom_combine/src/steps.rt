@@ -5,7 +5,7 @@ ghost use Rattle.rom_model.specs.Faults.{FailedLast, Rose};
 ghost use Rattle.rom_model.specs.Space.{Looks};
 ghost use Rattle.rom_device.specs.Device.{Becomes, Makes, Runs};
 ghost use Rattle.rom_lr.specs.Seats.{IsWriterOf, plan, writer_view};
-ghost use Rattle.rom_lr.specs.Writing.{Writes};
+ghost use Rattle.rom_lr.specs.Writing.{SetsPlan};
 ghost use Rattle.rom_ranges.specs.Changes.{SameBut};
 ghost use Rattle.rom_ranges.specs.Ranges.{AreWithin, held_count};
 ghost use Rattle.rom_twin.specs.Seen.{KeepsHeap, NeedsRepair, Rests, committed, main_now};
@@ -61,7 +61,7 @@ pub(crate) fn begin_on<D: Device, O: Object>(
     requires order { twin.old.order ≡ (writer_view seat.old).base.order }
     requires committed { IsTrue D.shown.tells_images →
         committed D.shown twin.old ≡ (plan seat.old).main }
-    ensures same { Writes seat.old seat.new (plan seat.old) }
+    ensures same { SetsPlan seat.old seat.new (plan seat.old) }
     ensures ok { OnOk result (twin.new.phase ≡ Phase.Begun) }
     ensures failed { OnErr result ((twin.new.phase ≡ Phase.Undo)
         ⊎ ((twin.new.phase ≡ twin.old.phase) × NeedsRepair twin.old.phase)) }
@@ -104,7 +104,7 @@ pub(crate) fn commit_on<D: Device, O: Object>(
     requires within { AreWithin (region_len twin.old.order) ranges.now }
     requires but { IsTrue D.shown.tells_images →
         SameBut ranges.now (main_now D.shown twin.old) (plan seat.old).main }
-    ensures same { Writes seat.old seat.new (plan seat.old) }
+    ensures same { SetsPlan seat.old seat.new (plan seat.old) }
     ensures ok { OnOk result (twin.new.phase ≡ Phase.Committed) }
     ensures failed { OnErr result ((twin.new.phase ≡ Phase.Undo)
         ⊎ (twin.new.phase ≡ Phase.Doubt)) }
@@ -152,7 +152,7 @@ pub(crate) fn finish_on<D: Device, O: Object>(
         main_now D.shown twin.old ≡ (plan seat.old).main }
     requires but { IsTrue D.shown.tells_images →
         SameBut ranges.now (committed D.shown twin.old) (plan seat.old).main }
-    ensures same { Writes seat.old seat.new (plan seat.old) }
+    ensures same { SetsPlan seat.old seat.new (plan seat.old) }
     ensures phase { (twin.new.phase ≡ Phase.Clean) ⊎ (twin.new.phase ≡ Phase.Redo) }
     ensures kept { KeepsHeap D.shown (plan seat.old).main twin.old twin.new }
     ensures since { IsTrue D.shown.tells_images →

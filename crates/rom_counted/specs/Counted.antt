@@ -9,7 +9,7 @@ pub record CountedWords : Type 0 where
   pub limit : ℕ
 
 -- A blank of that name and with so many parts begins this ledger, and can keep a count.
-pub record Begins (ledger_name ledger_parts name parts : ℕ) : Type 0 where
+pub record BeginsLedger (ledger_name ledger_parts name parts : ℕ) : Type 0 where
   pub same_name : name ≡ ledger_name
   pub same_parts : parts ≡ ledger_parts
   pub some : 0 < parts

@@ -1,7 +1,7 @@
 //! Words in memory whose loads and stores are counted.
 ghost use Rattle.std.specs.Prelude.{◌≡◌, ◌-◌, ◌^◌, min};
-ghost use Rattle.rom_model.specs.VecSpace.{words_of};
-ghost use Rattle.rom_counted.specs.Counted.{Begins};
+ghost use Rattle.rom_model.specs.VecSpace.{words_of_space};
+ghost use Rattle.rom_counted.specs.Counted.{BeginsLedger};
 
 use crate::tally::Tally;
 use rom_model::{Look, Space, VecSpace};
@@ -22,13 +22,13 @@ pub struct Counted<L: Ledger> {
 
 impl<L: Ledger> Model for Counted<L> {
     ghost use Rattle.std.specs.Prelude.{◌≡◌, ◌-◌, ◌^◌, min};
-    ghost use Rattle.rom_model.specs.VecSpace.{words_of};
+    ghost use Rattle.rom_model.specs.VecSpace.{words_of_space};
     ghost use Rattle.rom_counted.specs.Counted.{CountedWords};
 
     ghost Value = { CountedWords };
 
     ghost view = { λ s. record {
-      words = words_of s.space;
+      words = words_of_space s.space;
       loads = s.tally;
       stores = s.stores;
       limit = s.limit;
@@ -42,8 +42,8 @@ impl<L: Ledger> Counted<L> {
     /// The blank names the ledger in which proofs keep the count of loads.
     pub fn begin(space: VecSpace, limit: u64, blank: Blank) -> Counted<L>
         // The blank has the ledger's name and as many parts, at least one: so it can keep a count.
-        requires blank { Begins L.name L.parts blank.name blank.parts }
-        ensures words { result.words ≡ words_of space }
+        requires blank { BeginsLedger L.name L.parts blank.name blank.parts }
+        ensures words { result.words ≡ words_of_space space }
         ensures loads { result.loads ≡ 0 }
         ensures stores { result.stores ≡ 0 }
         ensures limit { result.limit ≡ limit }

@@ -1,6 +1,6 @@
 //! A count that exists in proofs alone.
 ghost use Rattle.std.specs.Prelude.{◌≡◌, ℕ, ◌+◌, ◌<◌};
-ghost use Rattle.rom_counted.specs.Counted.{Begins};
+ghost use Rattle.rom_counted.specs.Counted.{BeginsLedger};
 
 use std::marker::Model;
 use std::sync::ledger::{Blank, Book, Ledger, Share};
@@ -23,7 +23,7 @@ impl<L: Ledger> Model for Tally<L> {
 impl<L: Ledger> Tally<L> {
     /// A count of nothing.
     pub fn begin(blank: Blank) -> Tally<L>
-        requires { Begins L.name L.parts blank.name blank.parts }
+        requires { BeginsLedger L.name L.parts blank.name blank.parts }
         ensures { result ≡ 0 }
     {
         let (book, share) = blank.open();

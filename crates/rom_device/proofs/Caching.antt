@@ -1,8 +1,8 @@
 -- How a cached medium goes on, as its medium does and as words are put behind those that wait.
 use Rattle.std.proofs.Common.{◌≡◌, ◌≢◌, ◌⊎◌, inl, inr, ℕ, ◌+◌, ◌<◌, ◌≤◌, Bool, true, false, IsTrue, List, length, slice_index, Option, Some, None, IfSome, set, refl, sym, ◌∙◌, subst, arith}
-use Rattle.rom_device.specs.Device.{ShownDevice, AreSettled, Stays, Writes, Does, OnlyReads}
+use Rattle.rom_device.specs.Device.{ShownDevice, AreSettled, Stays, WritesWord, Does, OnlyReads}
 use Rattle.rom_device.specs.Medium.{HandsOver}
-use Rattle.rom_device.specs.Run.{nth_of, word_of, with_run, Follows}
+use Rattle.rom_device.specs.Run.{nth_of, word_of_run, with_run, IsNextPlace}
 use Rattle.rom_device.specs.Windows.{Knows}
 use Rattle.rom_device.specs.Cached.{may_leave, shown_by_cached}
 use Rattle.rom_device.specs.declared.run.Run.{Run}
@@ -37,8 +37,8 @@ pub record Longer (at value : ℕ) (a b : Run) : Type 0 where
   pub count : b.count ≡ a.count + 1
   pub place : b.first + a.count ≡ at
   pub first : 0 < a.count → b.first ≡ a.first
-  pub word : word_of b at ≡ Some value
-  pub others : (k : ℕ) → k ≢ at → word_of b k ≡ word_of a k
+  pub word : word_of_run b at ≡ Some value
+  pub others : (k : ℕ) → k ≢ at → word_of_run b k ≡ word_of_run a k
 
 nth_others : (at value : ℕ) (a b : Run) → Longer at value a b → (k : ℕ) → k < a.count → nth_of a k ≡ nth_of b k
 nth_others at value a b longer k lt = nth_by_place a b k (sym (longer.first (omega (arith, lt)))) (sym (longer.others (b.first + k) (omega (arith, lt, longer.place))))
@@ -75,7 +75,7 @@ longer_words at value a b x longer = words_put plain (λ _. 0) (λ _. 0) (λ run
 
 module _ {M : Type 0} {bound : _} (shown : ShownDevice M) where
   pub cached_puts : (at value : ℕ) (a b : Cached M bound) → b.medium ≡ a.medium → b.len ≡ a.len → Longer at value a.pending b.pending
-      → ((i : List ℕ) → IsTrue shown.tells_images → shown.leaves a.medium i → at < length i) → Does (shown_by_cached shown) (Writes at value) a b
+      → ((i : List ℕ) → IsTrue shown.tells_images → shown.leaves a.medium i → at < length i) → Does (shown_by_cached shown) (WritesWord at value) a b
   cached_puts at value a b same long longer inside = over_puts shown (λ c. c.len) (λ c. c.medium) (λ c. c.pending) at value a b record {
     on_medium = same;
     as_long = long;
@@ -105,7 +105,7 @@ module _ {M : Type 0} {bound : _} (shown : ShownDevice M) where
 pub length-with_run : (run : Run) (x : List ℕ) → length (with_run run x) ≡ length x
 length-with_run run x = length-laid run.first (nth_of run) run.count x
 
-pub follows_longer : (at value : ℕ) (a b : Run) → Follows a at → b.count ≡ a.count + 1 → b.first + a.count ≡ at → word_of b at ≡ Some value → ((k : ℕ) → k ≢ at → word_of b k ≡ word_of a k) → Longer at value a b
+pub follows_longer : (at value : ℕ) (a b : Run) → IsNextPlace a at → b.count ≡ a.count + 1 → b.first + a.count ≡ at → word_of_run b at ≡ Some value → ((k : ℕ) → k ≢ at → word_of_run b k ≡ word_of_run a k) → Longer at value a b
 follows_longer at value a b follows count place word others = record {
   count = count;
   place = place;
@@ -114,11 +114,11 @@ follows_longer at value a b follows count place word others = record {
   others = others;
 }
 
-pub found_word : (run : Run) (x : List ℕ) (b : ℕ) (found : Option ℕ) → run.first + run.count ≤ length x → found ≡ word_of run b → IfSome found (λ word. word ≡ slice_index (with_run run x) b)
+pub found_word : (run : Run) (x : List ℕ) (b : ℕ) (found : Option ℕ) → run.first + run.count ≤ length x → found ≡ word_of_run run b → IfSome found (λ word. word ≡ slice_index (with_run run x) b)
 found_word run x b None fits is = tt
 found_word run x b (Some word) fits is = run_has run x b word fits (sym is)
 
 -- after a sync of the medium, where none waits
 pub settled : {M : Type 0} (shown : ShownDevice M) (run : Run) (m : M) (done : Bool) → run.count ≡ 0 → OnTrue done (AreSettled shown m)
-    → OnTrue done ((i : List ℕ) → may_leave shown run m i → (b : ℕ) → (slice_index i b ≡ slice_index (with_run run (shown.words m)) b) ⊎ (shown.doubted m b × (word_of run b ≡ None)))
+    → OnTrue done ((i : List ℕ) → may_leave shown run m i → (b : ℕ) → (slice_index i b ≡ slice_index (with_run run (shown.words m)) b) ⊎ (shown.doubted m b × (word_of_run run b ≡ None)))
 settled shown run m done none medium = on_true done (over_settled shown (λ _. 0) (λ _. m) (λ (r : Run). r) run none) medium

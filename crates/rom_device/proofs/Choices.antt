@@ -4,7 +4,7 @@ use Rattle.std.proofs.Math.Nat.{mod-eq_of_lt}
 use Rattle.std.proofs.lemmas.Bool.{cases_eq, cases_lt}
 use Rattle.std.proofs.lemmas.Bool.Decides.{nat_tests}
 use Rattle.std.proofs.lemmas.Grind.{same_number_lists}
-use Rattle.rom_device.specs.Device.{Writes}
+use Rattle.rom_device.specs.Device.{WritesWord}
 use Rattle.rom_device.specs.Log.{words_after, MayLeave}
 use Rattle.rom_device.specs.Choice.{possible, picked}
 use Rattle.rom_device.specs.declared.call.LoggedCall.{LoggedCall}
@@ -104,7 +104,7 @@ may_among base (Write at value lands ∷ log) i may k lt = written may.from may.
     kept : (x : ℕ) → Among x (possible base log k) → Among x (if at == k then possible base log k ++ value ∷ [] else possible base log k)
     kept x is = elim (at == k) as (λ t. Among x (if t then possible base log k ++ value ∷ [] else possible base log k)) [ true ↦ among_more x value (possible base log k) is | false ↦ is ]
 
-    written : (from : List ℕ) → Writes at value from i → length from ≡ length base → Among (slice_index from k) (possible base log k) → Among (slice_index i k) (if at == k then possible base log k ++ value ∷ [] else possible base log k)
+    written : (from : List ℕ) → WritesWord at value from i → length from ≡ length base → Among (slice_index from k) (possible base log k) → Among (slice_index i k) (if at == k then possible base log k ++ value ∷ [] else possible base log k)
     written from (inl same) long was = subst (λ (w : List ℕ). Among (slice_index w k) (if at == k then possible base log k ++ value ∷ [] else possible base log k)) (sym same) (kept (slice_index from k) was)
     written from (inr changed) long was = elim (cases_eq at k) [
       | inl same ↦

@@ -2,7 +2,7 @@
 use Rattle.std.proofs.Common.{◌≡◌, ◌≢◌, inl, inr, ℕ, zero, suc, ◌+◌, ◌-◌, ◌<◌, ◌≤◌, List, [], ◌∷◌, ◌++◌, length, slice_index, refl, sym, ap, ◌∙◌, subst, arith, set, length-set, get_or-set_other, get_or-set_same}
 use Rattle.std.proofs.lemmas.Bool.{cases_eq, cases_lt}
 use Rattle.std.proofs.lemmas.List.{ext_get_or}
-use Rattle.rom_device.specs.Device.{Writes, WritesMany}
+use Rattle.rom_device.specs.Device.{WritesMany, WritesWord}
 use Rattle.rom_device.specs.Laid.{firsts, laid}
 use Rattle.rom_device.specs.Over.{length-firsts, at-firsts, length-laid, laid_other, laid_here}
 use Rattle.rom_device.proofs.Many.{many_joins, many_writes}
@@ -56,11 +56,11 @@ many_longer at f n x z many =
     }
 
 -- the next of these words
-pub many_next : (at : ℕ) (f : ℕ → ℕ) (n : ℕ) (x y z : List ℕ) → WritesMany at (firsts f n) x y → Writes (at + n) (f n) y z → WritesMany at (firsts f (n + 1)) x z
+pub many_next : (at : ℕ) (f : ℕ → ℕ) (n : ℕ) (x y z : List ℕ) → WritesMany at (firsts f n) x y → WritesWord (at + n) (f n) y z → WritesMany at (firsts f (n + 1)) x z
 many_next at f n x y z many next =
     many_joins at (firsts f (n + 1)) x y z (many_longer at f n x y many)
     (many_writes at (firsts f (n + 1)) n (omega (arith, length-firsts f (n + 1))) y z
-    (subst (λ (v : ℕ). Writes (at + n) v y z) (sym (at-firsts f (n + 1) n (omega arith))) next))
+    (subst (λ (v : ℕ). WritesWord (at + n) v y z) (sym (at-firsts f (n + 1) n (omega arith))) next))
 
 -- the same words, whatever of those was laid before
 pub laid_again : (at : ℕ) (f : ℕ → ℕ) (n : ℕ) (x y : List ℕ) → at + n ≤ length x → WritesMany at (firsts f n) x y → laid at f n y ≡ laid at f n x
@@ -110,7 +110,7 @@ set_twice z i u v inside is = ext_get_or 0 z (set (set z i u) i v) (sym (length-
 pub record Before (at : ℕ) (f : ℕ → ℕ) (n : ℕ) (x z : List ℕ) : Type 0 where
   pub mid : List ℕ
   pub many : WritesMany at (firsts f n) x mid
-  pub last : Writes (at + n) (f n) mid z
+  pub last : WritesWord (at + n) (f n) mid z
 
 pub many_split : (at : ℕ) (f : ℕ → ℕ) (n : ℕ) (x z : List ℕ) → at + n < length x → WritesMany at (firsts f (n + 1)) x z → Before at f n x z
 many_split at f n x z fits many =

@@ -1,6 +1,6 @@
 -- What a stop may leave of a memory device after a write that was listed.
 use Rattle.std.proofs.Common.{◌≡◌, inl, ℕ, ◌+◌, ◌<◌, Bool, true, false, ◌||◌, if◌then◌else◌, List, [], ◌∷◌, ◌++◌, length, reverse, nat_le, is_err, is_some, Result, refl, sym, ◌∙◌, subst, arith}
-use Rattle.rom_device.specs.Device.{After, Does, Writes, WritesMany}
+use Rattle.rom_device.specs.Device.{After, Does, WritesMany, WritesWord}
 use Rattle.rom_device.specs.Laid.{firsts}
 use Rattle.rom_device.specs.Log.{MayLeave}
 use Rattle.rom_device.specs.Images.{length-MayLeave, length-words_after}
@@ -23,7 +23,7 @@ module _ (start : List ℕ) (calls : List LoggedCall) (at value : ℕ) (lands : 
   stays_leaving true i may = may
   stays_leaving false i may = subst (λ (log : List LoggedCall). MayLeave start log i) (sym (newest calls (calls ++ Write at value lands ∷ []) (Write at value lands) refl)) record { from = i; was = may; by = inl refl }
 
-  now_leaving : (full : Bool) → full ≡ false → (i : List ℕ) → After (Writes at value) (MayLeave start (reverse calls)) i → MayLeave start (reverse (made full)) i
+  now_leaving : (full : Bool) → full ≡ false → (i : List ℕ) → After (WritesWord at value) (MayLeave start (reverse calls)) i → MayLeave start (reverse (made full)) i
   now_leaving true is i after = absurd (cc)
   now_leaving false is i after = subst (λ (log : List LoggedCall). MayLeave start log i) (sym (newest calls (calls ++ Write at value lands ∷ []) (Write at value lands) refl)) after
 
@@ -41,7 +41,7 @@ module _ {T E : Type 0} (at value : ℕ) (old new : Memory) (result : Result T E
   pub write_keeps : (i : List ℕ) → shown_by_memory.leaves old i → shown_by_memory.leaves new i
   write_keeps i may = leaving_as i (stays_leaving (start_of old) (calls_of old) at value lands (nat_le (room_of old) (length (calls_of old))) i may)
 
-  pub write_leaves : is_err result ≡ false → (i : List ℕ) → After (Writes at value) (shown_by_memory.leaves old) i → shown_by_memory.leaves new i
+  pub write_leaves : is_err result ≡ false → (i : List ℕ) → After (WritesWord at value) (shown_by_memory.leaves old) i → shown_by_memory.leaves new i
   write_leaves well i after = leaving_as i (now_leaving (start_of old) (calls_of old) at value lands (nat_le (room_of old) (length (calls_of old)))
       (or_false (nat_le (room_of old) (length (calls_of old))) (is_some (trip_of (room_of old) (trips_of old) (calls_of old) (Write at value true))) (sym lists.fails ∙ well)) i after)
 
@@ -61,10 +61,10 @@ pub leaves_first : (at : ℕ) (f : ℕ → ℕ) (a : Memory) (i : List ℕ) → 
 leaves_first at f a i after = subst (λ (l : List ℕ). shown_by_memory.leaves a l) (sym (many_empty at after.from i (subst (λ (vs : List ℕ). WritesMany at vs after.from i) (firsts_none f) after.by))) after.was
 
 -- and of all of them together
-pub does_next : (at : ℕ) (f : ℕ → ℕ) (n total value : ℕ) → n < total → value ≡ f n → (a b c : Memory) → Does shown_by_memory (WritesMany at (firsts f total)) a b → Does shown_by_memory (Writes (at + n) value) b c → Does shown_by_memory (WritesMany at (firsts f total)) a c
+pub does_next : (at : ℕ) (f : ℕ → ℕ) (n total value : ℕ) → n < total → value ≡ f n → (a b c : Memory) → Does shown_by_memory (WritesMany at (firsts f total)) a b → Does shown_by_memory (WritesWord (at + n) value) b c → Does shown_by_memory (WritesMany at (firsts f total)) a c
 does_next at f n total value lt is a b c so_far write =
     many_on shown_by_memory at (firsts f total) n (omega (arith, lt, length-firsts f total)) a b c so_far
-    (subst (λ (v : ℕ). Does shown_by_memory (Writes (at + n) v) b c) (is ∙ sym (at-firsts f total n lt)) write)
+    (subst (λ (v : ℕ). Does shown_by_memory (WritesWord (at + n) v) b c) (is ∙ sym (at-firsts f total n lt)) write)
 
 pub images_long : (m : Memory) (i : List ℕ) → shown_by_memory.leaves m i → length i ≡ length (shown_by_memory.words m)
 images_long m i may = length-MayLeave (start_of m) (reverse (calls_of m)) i may ∙ sym (length-words_after (start_of m) (reverse (calls_of m)))

@@ -3,7 +3,7 @@ use Rattle.std.proofs.Common.{◌≡◌, ◌≢◌, inl, inr, ℕ, ◌+◌, ◌<
 use Rattle.std.proofs.lemmas.Bool.{cases_eq, cases_lt}
 use Rattle.std.proofs.lemmas.List.{set_past}
 use Rattle.rom_model.specs.Space.{ChangesOnly}
-use Rattle.rom_device.specs.Device.{ShownDevice, AreRenewed, DoubtsNoMore, IsRenewed, Runs, Does, Writes, WritesMany}
+use Rattle.rom_device.specs.Device.{ShownDevice, AreRenewed, DoubtsNoMore, IsRenewed, Runs, Does, WritesWord, WritesMany}
 use Rattle.rom_model.proofs.Changes.{changes_joins, changes_set, changes_wider}
 use Rattle.rom_device.proofs.Going.{runs_by, does_on, does_by}
 
@@ -40,7 +40,7 @@ many_set at values x index lt inside = record {
   ];
 }
 
-pub many_writes : (at : ℕ) (values : List ℕ) (index : ℕ) → index < length values → (x y : List ℕ) → Writes (at + index) (slice_index values index) x y → WritesMany at values x y
+pub many_writes : (at : ℕ) (values : List ℕ) (index : ℕ) → index < length values → (x y : List ℕ) → WritesWord (at + index) (slice_index values index) x y → WritesMany at values x y
 many_writes at values index lt x y (inl same) = subst (λ (l : List ℕ). WritesMany at values x l) (sym same) (many_none at values x)
 many_writes at values index lt x y (inr put) = subst (λ (l : List ℕ). WritesMany at values x l) (sym put) (elim (cases_lt (at + index) (length x)) [
   | inl inside ↦ many_set at values x index lt inside
@@ -54,10 +54,10 @@ runs_changes shown at values = runs_by shown (WritesMany at values) (ChangesOnly
 
 -- one write more, of the next of these words
 pub many_on : {D : Type 0} (shown : ShownDevice D) (at : ℕ) (values : List ℕ) (index : ℕ) → index < length values → (a b c : D)
-    → Does shown (WritesMany at values) a b → Does shown (Writes (at + index) (slice_index values index)) b c → Does shown (WritesMany at values) a c
+    → Does shown (WritesMany at values) a b → Does shown (WritesWord (at + index) (slice_index values index)) b c → Does shown (WritesMany at values) a c
 many_on shown at values index lt a b c so_far write =
     does_on shown (WritesMany at values) (many_joins at values) a b c so_far
-    (does_by shown (Writes (at + index) (slice_index values index)) (WritesMany at values) (many_writes at values index lt) b c write)
+    (does_by shown (WritesWord (at + index) (slice_index values index)) (WritesMany at values) (many_writes at values index lt) b c write)
 
 -- places that are not in doubt, and one more
 pub renewed_still : {D : Type 0} (shown : ShownDevice D) (at k : ℕ) (b c : D) → DoubtsNoMore shown b c → AreRenewed shown at k b → AreRenewed shown at k c
@@ -74,6 +74,6 @@ only_one_more : (at k v : ℕ) (x y z : List ℕ) → ChangesOnly at k x y → z
 only_one_more at k v x y z so_far put = subst (λ (l : List ℕ). ChangesOnly at (k + 1) x l) (sym put)
     (changes_joins at (k + 1) x y (set y (at + k) v) (changes_wider at (k + 1) at k (omega arith) (omega arith) x y so_far) (changes_set at (k + 1) y (at + k) v (omega arith) (omega arith)))
 
-pub many_only : (at : ℕ) (k v : ℕ) (x y z : List ℕ) → ChangesOnly at k x y → Writes (at + k) v y z → ChangesOnly at (k + 1) x z
+pub many_only : (at : ℕ) (k v : ℕ) (x y z : List ℕ) → ChangesOnly at k x y → WritesWord (at + k) v y z → ChangesOnly at (k + 1) x z
 many_only at k v x y z so_far (inl same) = subst (λ (l : List ℕ). ChangesOnly at (k + 1) x l) (sym same) (changes_wider at (k + 1) at k (omega arith) (omega arith) x y so_far)
 many_only at k v x y z so_far (inr put) = only_one_more at k v x y z so_far put

@@ -4,10 +4,10 @@ use Rattle.std.proofs.lemmas.Bool.{cases_eq, cases_lt}
 use Rattle.std.proofs.lemmas.Bool.Decides.{nat_tests}
 use Rattle.std.proofs.lemmas.List.{get_or_past}
 use Rattle.std.proofs.lemmas.Grind.{same_number_lists}
-use Rattle.rom_device.specs.Device.{After, Stays, Writes}
+use Rattle.rom_device.specs.Device.{After, Stays, WritesWord}
 use Rattle.rom_device.specs.Images.{may_leave_words}
 use Rattle.rom_device.specs.Log.{words_after, MayLeave}
-use Rattle.rom_device.specs.Memory.{start_of, calls_of, room_of, trips_of, words_of, as_listed, keeps_new, trip_of, Lists}
+use Rattle.rom_device.specs.Memory.{start_of, calls_of, room_of, trips_of, words_of_memory, as_listed, keeps_new, trip_of, Lists}
 use Rattle.rom_device.specs.Older.{IsOver, MayLeaveOlder, MayLeaveOlderSince, handed, stale}
 use Rattle.rom_device.specs.declared.call.LoggedCall.{LoggedCall}
 use Rattle.rom_device.specs.declared.call.LoggedCall.TheVariants.{Read, Write, Sync}
@@ -79,7 +79,7 @@ module _ (older base : List ℕ) (log : List LoggedCall) where
   -- a word that is written: the image is one from before, or one in which that word was as it was
   module _ (at value : ℕ) (lands : Bool) (i : List ℕ) where
     undone : (x y : List ℕ) → MayLeave base log x → y ≡ set x at value → IsOver (stale older base log) older y i → (slice_index i at ≡ slice_index y at) ⊎ (IsTrue (stale older base log at) × (slice_index i at ≡ slice_index older at))
-        → After (Writes at value) (MayLeaveOlder older base log) i
+        → After (WritesWord at value) (MayLeaveOlder older base log) i
     undone x y was put over (inr old) = record {
       from = i;
       was = record {
@@ -140,7 +140,7 @@ module _ (older base : List ℕ) (log : List LoggedCall) where
             let put_there : slice_index (set (set i at (slice_index x at)) at value) at ≡ value = (let fits : at < length (set i at (slice_index x at)) = omega (arith, inside, length-set i at (slice_index x at)) in rw get_or-set_same refl) in
             same ∙ ap (λ (l : List ℕ). slice_index l at) put ∙ put_here ∙ sym put_there
 
-    pub after_write : MayLeaveOlder older base (Write at value lands ∷ log) i → After (Writes at value) (MayLeaveOlder older base log) i
+    pub after_write : MayLeaveOlder older base (Write at value lands ∷ log) i → After (WritesWord at value) (MayLeaveOlder older base log) i
     after_write may = elim may.was.by [
       | inl stays ↦ record { from = i; was = record { words = may.was.from; was = may.was.was; over = subst (λ (x : List ℕ). IsOver (stale older base log) older x i) stays may.over }; by = inl refl }
       | inr put ↦ undone may.was.from may.words may.was.was put may.over (may.over.each at)
@@ -231,7 +231,7 @@ module _ (older : List ℕ) (a b : Memory) (same_start : start_of b ≡ start_of
       none false h true is here = absurd (let never : false ≡ true = here in cc)
       none s h false is here = absurd (let never : false ≡ true = is in cc)
 
-  pub settled_by : (done : Bool) → done ≡ true → log_of b ≡ Sync done ∷ log_of a → (i : List ℕ) → leaves_of older b i → (k : ℕ) → (slice_index i k ≡ slice_index (words_of b) k) ⊎ doubted_of older b k
+  pub settled_by : (done : Bool) → done ≡ true → log_of b ≡ Sync done ∷ log_of a → (i : List ℕ) → leaves_of older b i → (k : ℕ) → (slice_index i k ≡ slice_index (words_of_memory b) k) ⊎ doubted_of older b k
   settled_by done well made i left k =
       let log : List LoggedCall = Sync true ∷ log_of a in
       let is : log_of b ≡ log = made ∙ ap (λ (d : Bool). Sync d ∷ log_of a) well in
@@ -242,7 +242,7 @@ module _ (older : List ℕ) (a b : Memory) (same_start : start_of b ≡ start_of
       twice true false is = is
       twice false h is = is
 
-      settle : MayLeaveOlder older (start_of b) (Sync true ∷ log_of a) i → log_of b ≡ Sync true ∷ log_of a → (k : ℕ) → (slice_index i k ≡ slice_index (words_of b) k) ⊎ doubted_of older b k
+      settle : MayLeaveOlder older (start_of b) (Sync true ∷ log_of a) i → log_of b ≡ Sync true ∷ log_of a → (k : ℕ) → (slice_index i k ≡ slice_index (words_of_memory b) k) ⊎ doubted_of older b k
       settle may is k = ⊎_elim
           (λ reads. inl (reads ∙ ap (λ (x : List ℕ). slice_index x k) may.was ∙ ap (λ (l : List LoggedCall). slice_index (words_after (start_of b) l) k) (sym is)))
           (λ old. inr (subst (λ (l : List LoggedCall). IsTrue (stale older (start_of b) l k && not (handed l k))) (sym is) (twice (stale older (start_of b) (log_of a) k) (handed (log_of a) k) old.0)))

@@ -1,10 +1,10 @@
 -- How the words of a medium with those that wait in their places go on, and what a stop may leave of
 -- both, as the medium does and as words are put behind those that wait.
 use Rattle.std.proofs.Common.{◌≡◌, ◌⊎◌, inl, inr, ⊎_elim, ℕ, zero, suc, ◌+◌, ◌-◌, ◌<◌, ◌≤◌, Bool, true, IsTrue, List, [], length, slice_index, None, set, refl, sym, ap, ◌∙◌, subst, arith}
-use Rattle.rom_device.specs.Device.{ShownDevice, After, Stays, Writes, WritesMany, Runs, Does, OnlyReads, AreSettled}
+use Rattle.rom_device.specs.Device.{ShownDevice, After, Stays, WritesWord, WritesMany, Runs, Does, OnlyReads, AreSettled}
 use Rattle.rom_device.specs.Laid.{firsts, laid}
 use Rattle.rom_device.specs.Medium.{HandsOver}
-use Rattle.rom_device.specs.Run.{nth_of, word_of, words_of, with_run}
+use Rattle.rom_device.specs.Run.{nth_of, word_of_run, words_of_run, with_run}
 use Rattle.rom_device.specs.Cached.{may_leave, shown_over}
 use Rattle.rom_device.specs.declared.run.Run.{Run}
 use Rattle.rom_device.specs.Doubt.{untold}
@@ -26,7 +26,7 @@ many_of_none at f n x y none many = many_empty at x y (subst (λ (vs : List ℕ)
 module _ {M : Type 0} (shown : ShownDevice M) where
   -- what a stop may leave of a medium it may leave with words that wait
   pub left_plain : (run : Run) (m : M) (i : List ℕ) → shown.leaves m i → may_leave shown run m i
-  left_plain run m i left = record { from = i; was = left; by = many_none run.first (words_of run) i }
+  left_plain run m i left = record { from = i; was = left; by = many_none run.first (words_of_run run) i }
 
   pub left_empty : (run : Run) (m : M) (i : List ℕ) → run.count ≡ 0 → may_leave shown run m i → shown.leaves m i
   left_empty run m i none left = subst (λ (l : List ℕ). shown.leaves m l) (sym (many_of_none run.first (nth_of run) run.count left.from i none left.by)) left.was
@@ -38,10 +38,10 @@ module _ {M : Type 0} (shown : ShownDevice M) where
   was_before m m' runs i left = let here = runs.now i left in subst (λ (l : List ℕ). shown.leaves m l) (sym here.by) here.was
 
   -- with other words of the same that wait
-  left_joins : (run : Run) (m m' : M) → Runs shown (WritesMany run.first (words_of run)) m m' → (i : List ℕ) → may_leave shown run m' i → may_leave shown run m i
+  left_joins : (run : Run) (m m' : M) → Runs shown (WritesMany run.first (words_of_run run)) m m' → (i : List ℕ) → may_leave shown run m' i → may_leave shown run m i
   left_joins run m m' runs i left =
       let here = runs.now left.from left.was in
-      record { from = here.from; was = here.was; by = many_joins run.first (words_of run) here.from left.from i here.by left.by }
+      record { from = here.from; was = here.was; by = many_joins run.first (words_of_run run) here.from left.from i here.by left.by }
 
   still : (run : Run) (m : M) (i : List ℕ) → may_leave shown run m i → After Stays (may_leave shown run m) i
   still run m i left = record { from = i; was = left; by = refl }
@@ -77,7 +77,7 @@ module _ {M : Type 0} (shown : ShownDevice M) where
             keeps = λ t i le since. ⊎_elim (λ left. inl (kept told i left)) (λ past. inr ((only.images told).keeps t i le past)) since;
           };
           doubts = λ never. untold never;
-          fewer = λ at is. (only.fewer at is.0, ap (λ (run : Run). word_of run at) (sym same) ∙ is.1);
+          fewer = λ at is. (only.fewer at is.0, ap (λ (run : Run). word_of_run run at) (sym same) ∙ is.1);
           still = λ told i left. kept told i left;
           writes = refl;
           syncs = refl;
@@ -103,7 +103,7 @@ module _ {M : Type 0} (shown : ShownDevice M) where
             keeps = λ t i le since. ⊎_elim (λ left. inl (kept told i left)) (λ past. inr ((hands.does.images told).keeps t i le past)) since;
           };
           doubts = λ never. untold never;
-          fewer = λ at is. (hands.does.fewer at is.0, ap (λ (run : Run). word_of run at) (sym same) ∙ is.1);
+          fewer = λ at is. (hands.does.fewer at is.0, ap (λ (run : Run). word_of_run run at) (sym same) ∙ is.1);
           still = λ told i left. kept told i left;
           writes = refl;
           syncs = refl;
@@ -130,7 +130,7 @@ module _ {M : Type 0} (shown : ShownDevice M) where
           doubts = λ never. untold never;
           fewer = λ at is. (
             hands.does.fewer at is.0,
-            waits_not (waiting a) at (word_of (waiting a) at) refl (λ w there.
+            waits_not (waiting a) at (word_of_run (waiting a) at) refl (λ w there.
                 let place = has_place (waiting a) at w there in
                 hands.renewed (at - (waiting a).first) place.1 (subst (λ (k : ℕ). shown.doubted (medium b) k) (omega (arith, place.0)) is.0)),
           );
@@ -157,7 +157,7 @@ module _ {M : Type 0} (shown : ShownDevice M) where
             keeps = λ t i le since. ⊎_elim (λ left. inr ((does.images told).keeps t i le (counts t i told le (left_empty (waiting a) (medium a) i none left)))) (λ past. inr ((does.images told).keeps t i le past)) since;
           };
           doubts = λ never. untold never;
-          fewer = λ at is. (does.fewer at is.0, ap (λ (run : Run). word_of run at) (sym same) ∙ is.1);
+          fewer = λ at is. (does.fewer at is.0, ap (λ (run : Run). word_of_run run at) (sym same) ∙ is.1);
         }
 
     pub over_settled : (d : D) → (waiting d).count ≡ 0 → AreSettled shown (medium d) → AreSettled over d
@@ -192,10 +192,10 @@ module _ {M : Type 0} (shown : ShownDevice M) where
       none_moves : (from to : ℕ) (x y : List ℕ) → WritesMany from [] x y → WritesMany to [] x y
       none_moves from to x y many = subst (λ (l : List ℕ). WritesMany to [] x l) (sym (many_empty from x y many)) (many_none to [] x)
 
-      many_as : (x y : List ℕ) → WritesMany (waiting a).first (words_of (waiting a)) x y → WritesMany (waiting b).first (firsts (nth_of (waiting b)) (waiting a).count) x y
+      many_as : (x y : List ℕ) → WritesMany (waiting a).first (words_of_run (waiting a)) x y → WritesMany (waiting b).first (firsts (nth_of (waiting b)) (waiting a).count) x y
       many_as x y many = first_by (λ at' vs. WritesMany at' vs x y) (waiting a).count refl (λ none. none_moves (waiting a).first (waiting b).first x y) (subst (λ (vs : List ℕ). WritesMany (waiting a).first vs x y) values_as many)
 
-      many_back : (x y : List ℕ) → WritesMany (waiting b).first (firsts (nth_of (waiting b)) (waiting a).count) x y → WritesMany (waiting a).first (words_of (waiting a)) x y
+      many_back : (x y : List ℕ) → WritesMany (waiting b).first (firsts (nth_of (waiting b)) (waiting a).count) x y → WritesMany (waiting a).first (words_of_run (waiting a)) x y
       many_back x y many = subst (λ (vs : List ℕ). WritesMany (waiting a).first vs x y) (sym values_as) (first_back (λ at' vs. WritesMany at' vs x y) (waiting a).count refl (λ none. none_moves (waiting b).first (waiting a).first x y) many)
 
       laid_as : (n : ℕ) (x : List ℕ) → (waiting a).count ≡ n → laid (waiting b).first (nth_of (waiting b)) n x ≡ laid (waiting a).first (nth_of (waiting b)) n x
@@ -215,7 +215,7 @@ module _ {M : Type 0} (shown : ShownDevice M) where
           ∙ ap (λ (v : ℕ). set (with_run (waiting a) x) at v) puts.last
 
       module _ (inside : (i : List ℕ) → IsTrue shown.tells_images → shown.leaves (medium a) i → at < length i) where
-        written : (x z : List ℕ) → at < length x → WritesMany (waiting b).first (words_of (waiting b)) x z → After (Writes at value) (λ y. WritesMany (waiting a).first (words_of (waiting a)) x y) z
+        written : (x z : List ℕ) → at < length x → WritesMany (waiting b).first (words_of_run (waiting b)) x z → After (WritesWord at value) (λ y. WritesMany (waiting a).first (words_of_run (waiting a)) x y) z
         written x z fits many =
             let n : ℕ = (waiting a).count in
             let more : WritesMany (waiting b).first (firsts (nth_of (waiting b)) (n + 1)) x z = subst (λ (c : ℕ). WritesMany (waiting b).first (firsts (nth_of (waiting b)) c) x z) puts.count many in
@@ -223,10 +223,10 @@ module _ {M : Type 0} (shown : ShownDevice M) where
             record {
               from = split.mid;
               was = many_back x split.mid split.many;
-              by = subst (λ (v : ℕ). Writes at v split.mid z) puts.last (subst (λ (k : ℕ). Writes k (nth_of (waiting b) n) split.mid z) puts.place split.last);
+              by = subst (λ (v : ℕ). WritesWord at v split.mid z) puts.last (subst (λ (k : ℕ). WritesWord k (nth_of (waiting b) n) split.mid z) puts.place split.last);
             }
 
-        now_left : IsTrue shown.tells_images → (i : List ℕ) → may_leave shown (waiting b) (medium b) i → After (Writes at value) (may_leave shown (waiting a) (medium a)) i
+        now_left : IsTrue shown.tells_images → (i : List ℕ) → may_leave shown (waiting b) (medium b) i → After (WritesWord at value) (may_leave shown (waiting a) (medium a)) i
         now_left told i left =
             let was : shown.leaves (medium a) left.from = subst (λ (m : M). shown.leaves m left.from) puts.on_medium left.was in
             let here = written left.from i (inside left.from told was) left.by in
@@ -240,7 +240,7 @@ module _ {M : Type 0} (shown : ShownDevice M) where
               (many_longer (waiting b).first (nth_of (waiting b)) (waiting a).count left.from i (many_as left.from i left.by));
         }
 
-        pub over_puts : Does over (Writes at value) a b
+        pub over_puts : Does over (WritesWord at value) a b
         over_puts = record {
           size = puts.as_long;
           words = λ told. inr words_put;
@@ -254,7 +254,7 @@ module _ {M : Type 0} (shown : ShownDevice M) where
           fewer = λ b' is. (subst (λ (m : M). shown.doubted m b') puts.on_medium is.0, lacked b' (lacks_place (waiting b) b' is.1));
         }
           where
-            lacked : (k : ℕ) → (k < (waiting b).first) ⊎ ((waiting b).first + (waiting b).count ≤ k) → word_of (waiting a) k ≡ None
+            lacked : (k : ℕ) → (k < (waiting b).first) ⊎ ((waiting b).first + (waiting b).count ≤ k) → word_of_run (waiting a) k ≡ None
             lacked k out = elim (cases_eq (waiting a).count 0) [
               | inl none ↦ lacks (waiting a) k (elim (cases_lt k (waiting a).first) [ inl before ↦ inl before | inr behind ↦ inr (omega (arith, behind, none)) ])
               | inr some ↦ lacks (waiting a) k (elim out [

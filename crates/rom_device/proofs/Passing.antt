@@ -6,7 +6,7 @@ use Rattle.std.proofs.lemmas.List.{get_or-take, length-take-le}
 use Rattle.rom_model.specs.Faults.{counted}
 use Rattle.rom_model.specs.Space.{ChangesOnly}
 use Rattle.rom_model.proofs.Changes.{changes_wider}
-use Rattle.rom_device.specs.Device.{ShownDevice, Runs, Counts, Does, Writes, WritesMany, WritesUpTo}
+use Rattle.rom_device.specs.Device.{ShownDevice, Runs, CountsCalls, Does, WritesWord, WritesMany, WritesUpTo}
 use Rattle.rom_device.specs.Fuse.{inner_of, calls_left, own_faults_of, shown_by_fuse, Passes, PassesUpTo, FailsLast, MadeWrites}
 use Rattle.rom_device.specs.declared.fuse.Fuse.{Fuse}
 use Rattle.rom_device.proofs.Going.{does_by}
@@ -29,7 +29,7 @@ many_wider at values k lt x y many =
     }
 
 -- the words so far, where the next is written or stays
-pub still_written : (at index v : ℕ) (values y z : List ℕ) → Writes (at + index) v y z → ((k : ℕ) → k < index → slice_index y (at + k) ≡ slice_index values k)
+pub still_written : (at index v : ℕ) (values y z : List ℕ) → WritesWord (at + index) v y z → ((k : ℕ) → k < index → slice_index y (at + k) ≡ slice_index values k)
     → (k : ℕ) → k < index → slice_index z (at + k) ≡ slice_index values k
 still_written at index v values y z (inl same) so_far k lt = ap (λ (l : List ℕ). slice_index l (at + k)) same ∙ so_far k lt
 still_written at index v values y z (inr put) so_far k lt =
@@ -50,7 +50,7 @@ now_written at index values y z inside put so_far k lt = elim (cases_eq k index)
 ]
 
 pub writes_up_to : (at index : ℕ) (values x y z : List ℕ) → at + index < length y → ChangesOnly at index x y → ((k : ℕ) → k < index → slice_index y (at + k) ≡ slice_index values k)
-    → Writes (at + index) (slice_index values index) y z → WritesUpTo at index values x z
+    → WritesWord (at + index) (slice_index values index) y z → WritesUpTo at index values x z
 writes_up_to at index values x y z inside only so_far writes = record {
   only = many_only at index (slice_index values index) x y z only writes;
   written = still_written at index (slice_index values index) values y z writes so_far;
@@ -61,7 +61,7 @@ writes_up_to at index values x y z inside only so_far writes = record {
 }
 
 module _ {D : Type 0} (shown : ShownDevice D) where
-  fails_on : {T E : Type 0} (a b c : D) (r w s : ℕ) (result : Result T E) → FailsLast shown false a b → Counts shown r w s b c result → FailsLast shown (is_err result) a c
+  fails_on : {T E : Type 0} (a b c : D) (r w s : ℕ) (result : Result T E) → FailsLast shown false a b → CountsCalls shown r w s b c result → FailsLast shown (is_err result) a c
   fails_on a b c r w s result so_far counts =
       let by = λ (t : Bool) (is : is_err result ≡ t). counts.faults ∙ ap (λ (u : Bool). if u then counted (shown.faults b) else shown.faults b) is in
       record {
@@ -75,17 +75,17 @@ module _ {D : Type 0} (shown : ShownDevice D) where
 
   -- one call more that is passed on
   pub made_writes_on : {T E : Type 0} (at : ℕ) (values : List ℕ) (k : ℕ) → k < length values → (a b c : Fuse D) (result : Result T E) → MadeWrites shown at values k false (inner_of a) (inner_of b)
-      → Does (shown_by_fuse shown) (Writes (at + k) (slice_index values k)) b c → Counts shown 0 1 0 (inner_of b) (inner_of c) result
+      → Does (shown_by_fuse shown) (WritesWord (at + k) (slice_index values k)) b c → CountsCalls shown 0 1 0 (inner_of b) (inner_of c) result
       → MadeWrites shown at values (k + 1) (is_err result) (inner_of a) (inner_of c)
   made_writes_on at values k lt a b c result so_far does counts =
       let inside : k < length (take (k + 1) values) = omega (arith, length-take-le (k + 1) values (omega (arith, lt))) in
       let value : slice_index values k ≡ slice_index (take (k + 1) values) k = sym (get_or-take (k + 1) values k 0 (omega arith)) in
-      let next : Does shown (Writes (at + k) (slice_index values k)) (inner_of b) (inner_of c) =
-      record { size = does.size; words = does.words; images = λ told. inner_runs (Writes (at + k) (slice_index values k)) b c (does.images told); doubts = λ told. inner_runs (Writes (at + k) (slice_index values k)) b c (does.doubts told); fewer = does.fewer } in
+      let next : Does shown (WritesWord (at + k) (slice_index values k)) (inner_of b) (inner_of c) =
+      record { size = does.size; words = does.words; images = λ told. inner_runs (WritesWord (at + k) (slice_index values k)) b c (does.images told); doubts = λ told. inner_runs (WritesWord (at + k) (slice_index values k)) b c (does.doubts told); fewer = does.fewer } in
       record {
         does = many_on shown at (take (k + 1) values) k inside (inner_of a) (inner_of b) (inner_of c)
             (does_by shown (WritesMany at (take k values)) (WritesMany at (take (k + 1) values)) (many_wider at values k lt) (inner_of a) (inner_of b) so_far.does)
-            (subst (λ (v : ℕ). Does shown (Writes (at + k) v) (inner_of b) (inner_of c)) value next);
+            (subst (λ (v : ℕ). Does shown (WritesWord (at + k) v) (inner_of b) (inner_of c)) value next);
         reads_made = omega (arith, so_far.reads_made, counts.reads_made);
         writes_made = omega (arith, so_far.writes_made, counts.writes_made);
         syncs_made = omega (arith, so_far.syncs_made, counts.syncs_made);

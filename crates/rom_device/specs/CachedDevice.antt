@@ -2,7 +2,7 @@
 use Rattle.std.specs.Prelude.{◌≡◌, ◌⊎◌, ◌&&◌, ℕ, Bool, IsTrue, IsFalse, None, nat_lt}
 use Rattle.rom_device.specs.Cached as cached
 use Rattle.rom_device.specs.Cached.{may_leave}
-use Rattle.rom_device.specs.Run.{word_of, with_run}
+use Rattle.rom_device.specs.Run.{word_of_run, with_run}
 use Rattle.rom_device.specs.Device.{ShownDevice}
 use Rattle.rom_device.specs.declared.cached_device.CachedDevice.{CachedDevice}
 
@@ -40,12 +40,12 @@ module _ {M : Type 0} {bound : _} where
   has_waiting device = nat_lt 0 device.words.pending.count
 
   -- whether a sync of the medium has failed
-  abbrev pub has_failed_sync : CachedDevice M bound → Bool
-  has_failed_sync device = cached.has_failed_sync device.words
+  abbrev pub device_has_failed_sync : CachedDevice M bound → Bool
+  device_has_failed_sync device = cached.has_failed_sync device.words
 
   -- the words are not all certain: one still waits, or a sync of the medium has failed
   abbrev pub IsUncertain : CachedDevice M bound → Type 0
-  IsUncertain device = IsTrue (has_waiting device) ⊎ IsTrue (has_failed_sync device)
+  IsUncertain device = IsTrue (has_waiting device) ⊎ IsTrue (device_has_failed_sync device)
 
   -- how often the medium has failed
   abbrev pub medium_faults : ShownDevice M → CachedDevice M bound → ℕ
@@ -69,7 +69,7 @@ module _ {M : Type 0} {bound : _} where
     clock = λ d. shown.clock d.words.medium;
     left_since = λ d t i. may_leave shown d.words.pending d.words.medium i ⊎ shown.left_since d.words.medium t i;
     tells_doubts = shown.tells_images;
-    doubted = λ d at. shown.doubted d.words.medium at × (word_of d.words.pending at ≡ None);
+    doubted = λ d at. shown.doubted d.words.medium at × (word_of_run d.words.pending at ≡ None);
     reads = read_count;
     writes = write_count;
     syncs = sync_count;
@@ -82,4 +82,4 @@ module _ {M : Type 0} {bound : _} where
     pub size : length_of new ≡ length_of old
     pub medium : missing (medium_of new) ≡ missing (medium_of old)
     pub none : IsTrue (missing (medium_of old)) → Ends
-    pub failed_sync : has_failed_sync new ≡ has_failed_sync old
+    pub failed_sync : device_has_failed_sync new ≡ device_has_failed_sync old

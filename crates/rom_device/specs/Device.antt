@@ -31,8 +31,8 @@ abbrev pub Stays : List ℕ → List ℕ → Type 0
 Stays old new = new ≡ old
 
 -- that word is as it was, or this value, and the others stay
-abbrev pub Writes : ℕ → ℕ → List ℕ → List ℕ → Type 0
-Writes at value old new = (new ≡ old) ⊎ (new ≡ slice_set old at value)
+abbrev pub WritesWord : ℕ → ℕ → List ℕ → List ℕ → Type 0
+WritesWord at value old new = (new ≡ old) ⊎ (new ≡ slice_set old at value)
 
 -- only the words from that place on differ, as many as these are, and each is as it was or the one of these
 pub record WritesMany (at : ℕ) (values old new : List ℕ) : Type 0 where
@@ -125,7 +125,7 @@ module _ {D : Type 0} (shown : ShownDevice D) where
     pub syncs : shown.syncs new ≡ shown.syncs old
 
   -- One call: exactly so many reads, writes and syncs are counted, and a fault exactly where it fails.
-  pub record Counts {T E : Type 0} (reads writes syncs : ℕ) (old new : D) (result : Result T E) : Type 0 where
+  pub record CountsCalls {T E : Type 0} (reads writes syncs : ℕ) (old new : D) (result : Result T E) : Type 0 where
     pub reads_made : Adds reads (shown.reads old) (shown.reads new)
     pub writes_made : Adds writes (shown.writes old) (shown.writes new)
     pub syncs_made : Adds syncs (shown.syncs old) (shown.syncs new)

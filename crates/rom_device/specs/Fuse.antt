@@ -1,7 +1,7 @@
 -- What a contract sees of a device that passes so many calls on, and what it passes on.
 use Rattle.std.specs.Prelude.{◌≡◌, ℕ, ◌+◌, ◌-◌, ◌<◌, ◌≤◌, min, Bool, true, false, IsTrue, List, length, take, slice_index, nat_lt, is_err, IsErr, Result}
 use Rattle.rom_model.specs.Faults.{Adds, FailedLast, LAST, counted}
-use Rattle.rom_device.specs.Device.{ShownDevice, Counts, Does, OnlyReads, WritesMany}
+use Rattle.rom_device.specs.Device.{ShownDevice, CountsCalls, Does, OnlyReads, WritesMany}
 use Rattle.rom_device.specs.declared.fuse.Fuse.{Fuse}
 
 -- the device within
@@ -17,7 +17,7 @@ abbrev pub own_faults_of : {D : Type 0} → Fuse D → ℕ
 own_faults_of fuse = fuse.failed
 
 -- no call was counted, and none failed of itself
-pub record CountsNothing {D : Type 0} (fuse : Fuse D) : Type 0 where
+pub record FuseCountsNothing {D : Type 0} (fuse : Fuse D) : Type 0 where
   pub own_faults : own_faults_of fuse ≡ 0
   pub reads : fuse.reads ≡ 0
   pub writes : fuse.writes ≡ 0
@@ -48,7 +48,7 @@ module _ {D : Type 0} (shown : ShownDevice D) where
   -- One call, which is passed on as this one where the fuse has a call left, and otherwise fails and is not.
   pub record Passes {T E : Type 0} (reads writes syncs : ℕ) (old new : Fuse D) (result : Result T E) : Type 0 where
     pub left : calls_left new ≡ calls_left old - 1
-    pub passed : 0 < calls_left old → Counts shown reads writes syncs (inner_of old) (inner_of new) result × (own_faults_of new ≡ own_faults_of old)
+    pub passed : 0 < calls_left old → CountsCalls shown reads writes syncs (inner_of old) (inner_of new) result × (own_faults_of new ≡ own_faults_of old)
     pub spent : calls_left old ≡ 0 → IsErr result × (inner_of new ≡ inner_of old) × (own_faults_of new ≡ counted (own_faults_of old))
 
   -- of these calls the last one failed, or none

@@ -1,7 +1,7 @@
 -- What holds of the words and images of a list of calls, by which a memory device meets the laws of a
 -- device.
 use Rattle.std.proofs.Common.{◌≡◌, inl, inr, ℕ, true, false, List, [], ◌∷◌, length, refl, arith, length-set, ap, ◌∙◌}
-use Rattle.rom_device.specs.Device.{Writes}
+use Rattle.rom_device.specs.Device.{WritesWord}
 use Rattle.rom_device.specs.Log.{words_after, MayLeave, MayLeaveSince}
 use Rattle.rom_device.specs.declared.call.LoggedCall.{LoggedCall}
 use Rattle.rom_device.specs.declared.call.LoggedCall.TheVariants.{Read, Write, Sync}
@@ -29,7 +29,7 @@ length-MayLeave base [] i is = ap length is
 length-MayLeave base (Read at ∷ log) i may = length-MayLeave base log i may
 length-MayLeave base (Write at value lands ∷ log) i may = Writes_length at value may.from i may.by ∙ length-MayLeave base log may.from may.was
   where
-    Writes_length : (at value : ℕ) (old new : List ℕ) → Writes at value old new → length new ≡ length old
+    Writes_length : (at value : ℕ) (old new : List ℕ) → WritesWord at value old new → length new ≡ length old
     Writes_length at value old new (inl same) = ap length same
     Writes_length at value old new (inr set_there) = ap length set_there ∙ length-set old at value
 length-MayLeave base (Sync true ∷ log) i is = ap length is ∙ length-words_after base log

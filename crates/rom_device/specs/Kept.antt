@@ -5,6 +5,6 @@ use Rattle.rom_device.specs.declared.call.LoggedCall.{LoggedCall}
 use Rattle.rom_device.specs.declared.kept.Kept.{Kept}
 
 -- a log has the newest call first
-pub record IsKept (older base : List ℕ) (log : List LoggedCall) (word : Kept) : Type 0 where
+pub record IsKeptWord (older base : List ℕ) (log : List LoggedCall) (word : Kept) : Type 0 where
   pub handed_is : word.handed ≡ handed log word.at
   pub stale_is : word.stale ≡ stale older base log word.at

@@ -1,17 +1,17 @@
 -- What the calls of a memory device leave. A log has the newest call first, so that each definition
 -- says what one call more changes.
 use Rattle.std.specs.Prelude.{◌≡◌, ◌⊎◌, ℕ, ◌≤◌, true, false, if◌then◌else◌, List, [], ◌∷◌, length, slice_set}
-use Rattle.rom_device.specs.Device.{After, Writes}
+use Rattle.rom_device.specs.Device.{After, WritesWord}
 use Rattle.rom_device.specs.declared.call.CallKind.{CallKind}
 use Rattle.rom_device.specs.declared.call.CallKind as kind
 use Rattle.rom_device.specs.declared.call.LoggedCall.{LoggedCall}
 use Rattle.rom_device.specs.declared.call.LoggedCall.TheVariants.{Read, Write, Sync}
 
 -- whether a call is a read, a write or a sync
-abbrev pub kind_of : LoggedCall → CallKind
-kind_of (Read at) = kind.TheVariants.Read
-kind_of (Write at value lands) = kind.TheVariants.Write
-kind_of (Sync done) = kind.TheVariants.Sync
+abbrev pub call_kind : LoggedCall → CallKind
+call_kind (Read at) = kind.TheVariants.Read
+call_kind (Write at value lands) = kind.TheVariants.Write
+call_kind (Sync done) = kind.TheVariants.Sync
 
 -- the place of the word that a call reads or writes; a sync is of no word, and has 0
 abbrev pub place_of : LoggedCall → ℕ
@@ -30,7 +30,7 @@ words_after base (Sync done ∷ log) = words_after base log
 abbrev pub MayLeave : List ℕ → List LoggedCall → List ℕ → Type 0
 MayLeave base [] i = i ≡ base
 MayLeave base (Read at ∷ log) i = MayLeave base log i
-MayLeave base (Write at value lands ∷ log) i = After (Writes at value) (MayLeave base log) i
+MayLeave base (Write at value lands ∷ log) i = After (WritesWord at value) (MayLeave base log) i
 MayLeave base (Sync true ∷ log) i = i ≡ words_after base log
 MayLeave base (Sync false ∷ log) i = MayLeave base log i
 

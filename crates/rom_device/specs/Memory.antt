@@ -6,7 +6,7 @@ use Rattle.rom_device.specs.declared.trip.Trip.{Trip}
 use Rattle.rom_device.specs.declared.memory.Memory.{Memory}
 use Rattle.rom_model.specs.Faults.{Adds}
 use Rattle.rom_device.specs.Device.{ShownDevice}
-use Rattle.rom_device.specs.Log.{words_after, kind_of, place_of, MayLeave, MayLeaveSince}
+use Rattle.rom_device.specs.Log.{words_after, call_kind, place_of, MayLeave, MayLeaveSince}
 use Rattle.rom_device.specs.Choice.{picked}
 use Rattle.rom_device.specs.Trips.{trip_at}
 
@@ -27,15 +27,15 @@ abbrev pub trips_of : Memory → List Trip
 trips_of m = m.trips.items
 
 -- the words as they read
-abbrev pub words_of : Memory → List ℕ
-words_of m = words_after (start_of m) (reverse (calls_of m))
+abbrev pub words_of_memory : Memory → List ℕ
+words_of_memory m = words_after (start_of m) (reverse (calls_of m))
 
 -- The moment is the number of calls listed.
 abbrev pub shown_by_memory : ShownDevice Memory
 shown_by_memory = record {
   size = λ m. length (start_of m);
   tells_words = true;
-  words = words_of;
+  words = words_of_memory;
   tells_images = true;
   leaves = λ m. MayLeave (start_of m) (reverse (calls_of m));
   clock = λ m. length (reverse (calls_of m));
@@ -50,7 +50,7 @@ shown_by_memory = record {
 }
 
 -- no call was counted, and none failed
-pub record CountsNothing (m : Memory) : Type 0 where
+pub record MemoryCountsNothing (m : Memory) : Type 0 where
   pub reads : shown_by_memory.reads m ≡ 0
   pub writes : shown_by_memory.writes m ≡ 0
   pub syncs : shown_by_memory.syncs m ≡ 0
@@ -62,7 +62,7 @@ pub record CountsNothing (m : Memory) : Type 0 where
 module _ (room : ℕ) (trips : List Trip) where
   -- the trip by which it fails
   abbrev pub trip_of : List LoggedCall → LoggedCall → Option Trip
-  trip_of calls call = trip_at trips calls (kind_of call) (place_of call)
+  trip_of calls call = trip_at trips calls (call_kind call) (place_of call)
 
   -- whether it fails: no room is left, or it trips
   abbrev pub fails : List LoggedCall → LoggedCall → Bool

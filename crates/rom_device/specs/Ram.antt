@@ -3,17 +3,17 @@ use Rattle.std.specs.Prelude.{ℕ, List}
 use Rattle.rom_device.specs.declared.ram.Ram.{Ram}
 
 -- the words
-abbrev pub words_of : Ram → List ℕ
-words_of ram = ram.words.items
+abbrev pub words_of_ram : Ram → List ℕ
+words_of_ram ram = ram.words.items
 
 -- how many reads were called
-abbrev pub read_count : Ram → ℕ
-read_count ram = ram.reads
+abbrev pub reads_of_ram : Ram → ℕ
+reads_of_ram ram = ram.reads
 
 -- how many writes were called
-abbrev pub write_count : Ram → ℕ
-write_count ram = ram.writes
+abbrev pub writes_of_ram : Ram → ℕ
+writes_of_ram ram = ram.writes
 
 -- how many syncs were called
-abbrev pub sync_count : Ram → ℕ
-sync_count ram = ram.syncs
+abbrev pub syncs_of_ram : Ram → ℕ
+syncs_of_ram ram = ram.syncs

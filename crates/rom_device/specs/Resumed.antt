@@ -2,7 +2,7 @@
 use Rattle.std.specs.Prelude.{ℕ, true, false, not, ◌&&◌, IsTrue, List, length, reverse}
 use Rattle.rom_device.specs.Device.{ShownDevice}
 use Rattle.rom_device.specs.Older.{MayLeaveOlder, MayLeaveOlderSince, handed, stale}
-use Rattle.rom_device.specs.Memory.{start_of, calls_of, words_of, shown_by_memory}
+use Rattle.rom_device.specs.Memory.{start_of, calls_of, words_of_memory, shown_by_memory}
 use Rattle.rom_device.specs.declared.call.LoggedCall.{LoggedCall}
 use Rattle.rom_device.specs.declared.memory.Memory.{Memory}
 use Rattle.rom_device.specs.declared.resumed.Resumed.{Resumed}
@@ -24,7 +24,7 @@ abbrev pub shown_by_resumed : ShownDevice Resumed
 shown_by_resumed = record {
   size = λ r. length (start_of r.memory);
   tells_words = true;
-  words = λ r. words_of r.memory;
+  words = λ r. words_of_memory r.memory;
   tells_images = false;
   leaves = λ r. MayLeaveOlder (older_of r) (start_of r.memory) (log_of r);
   clock = λ r. length (log_of r);

@@ -4,7 +4,7 @@ use Rattle.rom_device.specs.declared.call.CallKind.{CallKind}
 use Rattle.rom_device.specs.declared.call.CallKind.TheVariants.{Read, Write, Sync}
 use Rattle.rom_device.specs.declared.call.LoggedCall.{LoggedCall}
 use Rattle.rom_device.specs.declared.trip.Trip.{Trip}
-use Rattle.rom_device.specs.Log.{kind_of, place_of}
+use Rattle.rom_device.specs.Log.{call_kind, place_of}
 
 -- calls of one kind, of which reads and writes are also within some words
 abbrev pub same_calls : CallKind → CallKind → Bool → Bool
@@ -19,7 +19,7 @@ covers trip call at = same_calls trip.call call (nat_le trip.from at && nat_lt a
 
 -- how many of these calls a trip counts
 abbrev pub calls_counted : Trip → List LoggedCall → ℕ
-calls_counted trip calls = count_by (λ made. covers trip (kind_of made) (place_of made)) calls
+calls_counted trip calls = count_by (λ made. covers trip (call_kind made) (place_of made)) calls
 
 -- whether such a call is the one that fails by a trip, where these were made before it
 abbrev pub fires : Trip → List LoggedCall → CallKind → ℕ → Bool

@@ -3,7 +3,7 @@ ghost use Rattle.std.specs.Prelude.{◌≡◌, ◌≢◌, ◌⊎◌, ◌+◌, �
 ghost use Rattle.std.specs.Bool.{OnTrue, OnFalse};
 ghost use Rattle.rom_model.specs.Faults.{counted};
 ghost use Rattle.rom_device.specs.Medium.{Blames, HandsOver};
-ghost use Rattle.rom_device.specs.Run.{nth_of, word_of, with_run};
+ghost use Rattle.rom_device.specs.Run.{nth_of, word_of_run, with_run};
 ghost use Rattle.rom_device.specs.Windows.{word_in, Agrees, IsApart, IsMissed, IsRead, Knows};
 
 use crate::medium::Medium;
@@ -111,7 +111,7 @@ impl<M: Medium> Cached<M> {
     #[inline(never)]
     pub fn flush(&mut self) -> bool
         ensures handed { OnTrue result (self.new.pending.count ≡ 0) }
-        ensures none { OnTrue result ((b : ℕ) → word_of self.new.pending b ≡ None) }
+        ensures none { OnTrue result ((b : ℕ) → word_of_run self.new.pending b ≡ None) }
         ensures kept { OnFalse result (self.new.pending ≡ self.old.pending) }
         ensures waits { OnFalse result (0 < self.new.pending.count) }
         ensures windows { self.new.windows ≡ self.old.windows }
@@ -136,7 +136,7 @@ impl<M: Medium> Cached<M> {
         requires inside { at < self.old.len }
         requires there { IsFalse (M.missing self.old.medium) }
         requires missed { IsMissed self.old.windows at }
-        requires clear { (b : ℕ) → at ≤ b → b < at + 512 → word_of self.old.pending b ≡ None }
+        requires clear { (b : ℕ) → at ≤ b → b < at + 512 → word_of_run self.old.pending b ≡ None }
         ensures read { IfSome result (λ word. word_in self.new.windows at ≡ Some word) }
         ensures word { IsTrue M.shown.tells_words → IfSome result (λ word.
             word ≡ slice_index (with_run self.old.pending (M.shown.words self.old.medium)) at) }
@@ -160,7 +160,7 @@ impl<M: Medium> Cached<M> {
     // elsewhere may go on waiting, and so fill their page. `false` says that they still wait.
     fn make_way(&mut self, at: u64) -> bool
         ensures clear { OnTrue result ((b : ℕ) → at ≤ b → b < at + 512 →
-            word_of self.new.pending b ≡ None) }
+            word_of_run self.new.pending b ≡ None) }
         ensures pending { HandedOver self.old.pending self.new.pending }
         ensures windows { self.new.windows ≡ self.old.windows }
         ensures only { OnlyReads (shown_by_cached M.shown) self.old self.new }
@@ -181,7 +181,7 @@ impl<M: Medium> Cached<M> {
         requires inside { at < self.old.len }
         requires missed { IsMissed self.old.windows at }
         ensures waits { IsFalse (M.missing self.old.medium) →
-            Gives (word_of self.old.pending at) result }
+            Gives (word_of_run self.old.pending at) result }
         ensures word { IsTrue M.shown.tells_words → IfSome result (λ word.
             word ≡ slice_index (with_run self.old.pending (M.shown.words self.old.medium)) at) }
         ensures pending { HandedOver self.old.pending self.new.pending }
@@ -211,7 +211,7 @@ impl<M: Medium> Cached<M> {
     pub fn find(&mut self, at: u64) -> Option<u64>
         requires { at < self.old.len }
         ensures waits { IsFalse (M.missing self.old.medium) →
-            Gives (word_of self.old.pending at) result }
+            Gives (word_of_run self.old.pending at) result }
         ensures word { IsTrue M.shown.tells_words → IfSome result (λ word.
             word ≡ slice_index (with_run self.old.pending (M.shown.words self.old.medium)) at) }
         ensures window { Gives (word_in self.old.windows at) result }

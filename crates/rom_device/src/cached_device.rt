@@ -30,7 +30,7 @@ pub struct CachedDevice<M: Medium> {
 
 impl<M: Medium> CachedDevice<M> {
     ghost use Rattle.rom_model.specs.Faults.{FailedLast};
-    ghost use Rattle.rom_device.specs.CachedDevice.{length_of, fault_count_of, is_failing, medium_of, has_failed_sync, IsUnused};
+    ghost use Rattle.rom_device.specs.CachedDevice.{length_of, fault_count_of, is_failing, medium_of, device_has_failed_sync, IsUnused};
 
     /// So many words of a medium, from its first on.
     pub fn over(medium: M, len: u64) -> CachedDevice<M>
@@ -40,7 +40,7 @@ impl<M: Medium> CachedDevice<M> {
         ensures len { length_of result ≡ len }
         ensures unused { IsUnused result }
         ensures medium { medium_of result ≡ medium }
-        ensures synced { IsFalse (has_failed_sync result) }
+        ensures synced { IsFalse (device_has_failed_sync result) }
     {
         CachedDevice {
             words: Cached::new(medium, len),
@@ -57,7 +57,7 @@ impl<M: Medium> CachedDevice<M> {
     pub fn into_medium(self) -> M
         ensures medium { result ≡ medium_of self }
         // Where no sync of it has failed, it is not `doubtful`, as `Medium` defines that.
-        ensures sure { IsFalse (has_failed_sync self) → IsFalse (M.doubtful result) }
+        ensures sure { IsFalse (device_has_failed_sync self) → IsFalse (M.doubtful result) }
     {
         let CachedDevice {
             words,
@@ -89,10 +89,10 @@ impl<M: Medium> CachedDevice<M> {
 
 impl<M: Medium> Device for CachedDevice<M> {
     ghost use Rattle.std.specs.Prelude.{◌⊎◌, ◌+◌, ◌≤◌, ℕ, nat_lt, slice_index, slice_set, IfOk, IsErr, OnOk, OnErr, is_err, is_ok};
-    ghost use Rattle.rom_device.specs.Device.{AreRenewed, AreSettled, Counts, Does, IsRenewed, IsSynced, Makes, OnlyReads, ReadsUpTo, Stays, Writes, WritesMany, WritingFailed};
+    ghost use Rattle.rom_device.specs.Device.{AreRenewed, AreSettled, CountsCalls, Does, IsRenewed, IsSynced, Makes, OnlyReads, ReadsUpTo, Stays, WritesMany, WritesWord, WritingFailed};
     ghost use Rattle.rom_model.specs.Faults.{counted};
     ghost use Rattle.rom_device.specs.Medium.{Blames};
-    ghost use Rattle.rom_device.specs.CachedDevice.{length_of, is_failing, medium_faults, medium_of, has_failed_sync, shown_by_device, IsUncertain, Keeps};
+    ghost use Rattle.rom_device.specs.CachedDevice.{length_of, is_failing, medium_faults, medium_of, device_has_failed_sync, shown_by_device, IsUncertain, Keeps};
     ghost use Rattle.std.proofs.Common.{arith, refl};
 
     ghost shown = { shown_by_device M.lasting M.shown };
@@ -111,7 +111,7 @@ impl<M: Medium> Device for CachedDevice<M> {
         ensures word { IsTrue M.shown.tells_words → IfOk result (λ word.
             word ≡ slice_index ((shown_by_device M.lasting M.shown).words self.old) at) }
         ensures only { OnlyReads (shown_by_device M.lasting M.shown) self.old self.new }
-        ensures counts { Counts (shown_by_device M.lasting M.shown) 1 0 0 self.old self.new result }
+        ensures counts { CountsCalls (shown_by_device M.lasting M.shown) 1 0 0 self.old self.new result }
         // Without a medium it fails. The size stays, and so does whether there is a medium and whether a
         // sync of it has failed.
         ensures keeps { Keeps M.missing (IsErr result) self.old self.new }
@@ -170,9 +170,9 @@ impl<M: Medium> Device for CachedDevice<M> {
         ensures written { IsTrue M.shown.tells_words →
             OnOk result ((shown_by_device M.lasting M.shown).words self.new
             ≡ slice_set ((shown_by_device M.lasting M.shown).words self.old) at value) }
-        ensures does { Does (shown_by_device M.lasting M.shown) (Writes at value) self.old self.new }
+        ensures does { Does (shown_by_device M.lasting M.shown) (WritesWord at value) self.old self.new }
         ensures renews { OnOk result (IsRenewed (shown_by_device M.lasting M.shown) at self.new) }
-        ensures counts { Counts (shown_by_device M.lasting M.shown) 0 1 0 self.old self.new result }
+        ensures counts { CountsCalls (shown_by_device M.lasting M.shown) 0 1 0 self.old self.new result }
         // Without a medium it fails. The size stays, and so does whether there is a medium and whether a
         // sync of it has failed.
         ensures keeps { Keeps M.missing (IsErr result) self.old self.new }
@@ -230,19 +230,19 @@ impl<M: Medium> Device for CachedDevice<M> {
         ensures settles { IsTrue M.shown.tells_images → OnOk result
             (AreSettled (shown_by_device M.lasting M.shown) self.new) }
         ensures does { Does (shown_by_device M.lasting M.shown) Stays self.old self.new }
-        ensures counts { Counts (shown_by_device M.lasting M.shown) 0 0 1 self.old self.new result }
+        ensures counts { CountsCalls (shown_by_device M.lasting M.shown) 0 0 1 self.old self.new result }
         ensures medium { M.missing (medium_of self.new) ≡ M.missing (medium_of self.old) }
         ensures missing { IsTrue (M.missing (medium_of self.old)) → IsErr result }
         // Where a sync of the medium failed before, this one fails.
-        ensures failed_sync { IsTrue (has_failed_sync self.old) → IsErr result }
-        ensures stays_failed { IsTrue (has_failed_sync self.old) →
-            IsTrue (has_failed_sync self.new) }
-        ensures synced { OnOk result (IsFalse (has_failed_sync self.new)) }
+        ensures failed_sync { IsTrue (device_has_failed_sync self.old) → IsErr result }
+        ensures stays_failed { IsTrue (device_has_failed_sync self.old) →
+            IsTrue (device_has_failed_sync self.new) }
+        ensures synced { OnOk result (IsFalse (device_has_failed_sync self.new)) }
         // After a failure a word still waits, or a sync of the medium has failed.
         ensures noted { OnErr result (IsUncertain self.new) }
         // Where no sync of the medium failed before: if this sync fails the medium's count of faults rises
         // by one, and else that count stays.
-        ensures cause { IsFalse (has_failed_sync self.old) → Blames (is_ok result)
+        ensures cause { IsFalse (device_has_failed_sync self.old) → Blames (is_ok result)
             (medium_faults M.shown self.old) (medium_faults M.shown self.new) }
     {
         self.syncs = self.syncs.saturating_add(1);

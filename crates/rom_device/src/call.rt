@@ -21,11 +21,11 @@ pub enum LoggedCall {
 }
 
 impl LoggedCall {
-    ghost use Rattle.rom_device.specs.Log.{kind_of, place_of};
+    ghost use Rattle.rom_device.specs.Log.{call_kind, place_of};
 
     /// What the call did.
     pub fn kind(&self) -> CallKind
-        ensures { result ≡ kind_of self.now }
+        ensures { result ≡ call_kind self.now }
     {
         match self {
             LoggedCall::Read { at: _ } => CallKind::Read,

@@ -1,6 +1,6 @@
 //! A word that is written between two syncs.
 ghost use Rattle.std.specs.Prelude.{◌≡◌, ◌<◌, ℕ, OnOk, IsTrue, slice_set};
-ghost use Rattle.rom_device.specs.Device.{AreSettled, DoubtsNoMore, IsRenewed, IsSynced, Leaves, Makes, Writes};
+ghost use Rattle.rom_device.specs.Device.{AreSettled, DoubtsNoMore, IsRenewed, IsSynced, Leaves, Makes, WritesWord};
 
 use crate::device::{Device, Failed};
 
@@ -14,12 +14,12 @@ pub fn write_certain<D: Device>(device: &mut D, at: u64, value: u64) -> Result<(
     // Where words are told, whatever it answers: that word is as it was or the value, and no other has
     // changed.
     ensures left { IsTrue D.shown.tells_words
-        → Writes at value (D.shown.words device.old) (D.shown.words device.new) }
+        → WritesWord at value (D.shown.words device.old) (D.shown.words device.new) }
     ensures certain { OnOk result (IsSynced D.shown device.new) }
     // Where images are told, a stop leaves what it might have left before the call, or the words as they
     // read then. In these the value may stand already.
     ensures images { IsTrue D.shown.tells_images
-        → Leaves D.shown (Writes at value (D.shown.words device.old)) device.old device.new }
+        → Leaves D.shown (WritesWord at value (D.shown.words device.old)) device.old device.new }
     // Where images are told with words in doubt, a stop after `Ok` leaves each word as it reads, but for
     // those in doubt.
     ensures settles { IsTrue D.shown.tells_doubts → OnOk result (AreSettled D.shown device.new) }
@@ -29,7 +29,7 @@ pub fn write_certain<D: Device>(device: &mut D, at: u64, value: u64) -> Result<(
     // Where no word is in doubt, images are as of a device of which none ever is.
     ensures doubts { IsTrue D.shown.tells_doubts →
         ((place : ℕ) → IsRenewed D.shown place device.old) →
-        Leaves D.shown (Writes at value (D.shown.words device.old)) device.old device.new }
+        Leaves D.shown (WritesWord at value (D.shown.words device.old)) device.old device.new }
     ensures size { D.shown.size device.new ≡ D.shown.size device.old }
     // After `Ok` one write and two syncs were made, else at most so many. No call follows one that failed.
     ensures makes { Makes D.shown 0 1 2 device.old device.new result }

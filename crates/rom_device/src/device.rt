@@ -1,6 +1,6 @@
 //! A device, and the rules of what a stop may leave of it.
 ghost use Rattle.std.specs.Prelude.{◌≡◌, ◌+◌, ◌<◌, ◌≤◌, ◌^◌, List, ℕ, length, IfOk, OnOk, OnErr, IsTrue, slice_set, slice_index};
-ghost use Rattle.rom_device.specs.Device.{ShownDevice, AreRenewed, AreSettled, Counts, Does, IsRenewed, IsSynced, Makes, OnlyReads, ReadsUpTo, Stays, TellsDoubts, Writes, WritesMany, WritingFailed};
+ghost use Rattle.rom_device.specs.Device.{ShownDevice, AreRenewed, AreSettled, CountsCalls, Does, IsRenewed, IsSynced, Makes, OnlyReads, ReadsUpTo, Stays, TellsDoubts, WritesWord, WritesMany, WritingFailed};
 
 /// A call of a device did not succeed. The device's count of faults rose in that call.
 #[derive(Clone, Copy, Debug, PartialEq, Eq)]
@@ -41,7 +41,7 @@ pub trait Device {
         // comes into doubt.
         ensures only { OnlyReads shown self.old self.new }
         // One read is counted, and a fault exactly where it fails.
-        ensures counts { Counts shown 1 0 0 self.old self.new result };
+        ensures counts { CountsCalls shown 1 0 0 self.old self.new result };
 
     /// Reads words one after another, from that place on, until it has as many as there is room for or a
     /// read fails. It says how many it read, so that these can be used. Where they are fewer, the device
@@ -77,10 +77,10 @@ pub trait Device {
         ensures written { IsTrue shown.tells_words
             → OnOk result (shown.words self.new ≡ slice_set (shown.words self.old) at value) }
         // Whatever it answers: where words and images are told, they change by this write or not at all.
-        ensures does { Does shown (Writes at value) self.old self.new }
+        ensures does { Does shown (WritesWord at value) self.old self.new }
         // After `Ok` the word is not in doubt.
         ensures renews { OnOk result (IsRenewed shown at self.new) }
-        ensures counts { Counts shown 0 1 0 self.old self.new result };
+        ensures counts { CountsCalls shown 0 1 0 self.old self.new result };
 
     /// Writes words one after another, from that place on, up to the first that fails. After `Failed` those
     /// before it are written, it is the old or the new one, and those behind it are as before. A file
@@ -117,7 +117,7 @@ pub trait Device {
         // for those in doubt.
         ensures settles { IsTrue shown.tells_doubts → OnOk result (AreSettled shown self.new) }
         ensures does { Does shown Stays self.old self.new }
-        ensures counts { Counts shown 0 0 1 self.old self.new result };
+        ensures counts { CountsCalls shown 0 0 1 self.old self.new result };
 
     /// A device that tells what a stop may leave tells its words. Without the laws from here on nothing
     /// would follow from "a stop since then might have left this".

@@ -1,6 +1,6 @@
 //! The device over a file.
 ghost use Rattle.std.specs.Prelude.{◌≡◌, ◌/◌, IsFalse, IsTrue};
-ghost use Rattle.rom_device.specs.CachedDevice.{length_of, medium_of, has_failed_sync, IsUnused};
+ghost use Rattle.rom_device.specs.CachedDevice.{length_of, medium_of, device_has_failed_sync, IsUnused};
 ghost use Rattle.rom_device.specs.FileMedium.{faults_of, has_no_file};
 
 use crate::cached_device::CachedDevice;
@@ -17,7 +17,7 @@ impl CachedDevice<FileMedium> {
         ensures length { length_of result ≡ bytes / 8 }
         ensures unused { IsUnused result }
         ensures there { IsFalse (has_no_file (medium_of result)) }
-        ensures synced { IsFalse (has_failed_sync result) }
+        ensures synced { IsFalse (device_has_failed_sync result) }
         ensures unfailed { faults_of (medium_of result) ≡ 0 }
     {
         CachedDevice::over(FileMedium::new(Some(file)), bytes / 8)

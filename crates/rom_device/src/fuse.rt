@@ -21,14 +21,14 @@ pub struct Fuse<D> {
 }
 
 impl<D: Device> Fuse<D> {
-    ghost use Rattle.rom_device.specs.Fuse.{inner_of, calls_left, own_faults_of, shown_by_fuse, CountsNothing};
+    ghost use Rattle.rom_device.specs.Fuse.{inner_of, calls_left, own_faults_of, shown_by_fuse, FuseCountsNothing};
 
     /// A device that passes `calls` calls on to this one.
     pub fn new(inner: D, calls: u64) -> Fuse<D>
         ensures inner { inner_of result ≡ inner }
         ensures left { calls_left result ≡ calls }
         ensures faults { (shown_by_fuse D.shown).faults result ≡ D.shown.faults inner }
-        ensures counts { CountsNothing result }
+        ensures counts { FuseCountsNothing result }
     {
         Fuse {
             inner,
@@ -82,7 +82,7 @@ impl<D: Device> Fuse<D> {
 impl<D: Device> Device for Fuse<D> {
     ghost use Rattle.std.specs.Prelude.{◌+◌, ◌≤◌, ℕ, IfOk, OnOk, OnErr, length, slice_index, slice_set};
     ghost use Rattle.std.proofs.Common.{arith};
-    ghost use Rattle.rom_device.specs.Device.{AreRenewed, AreSettled, Counts, Does, IsRenewed, IsSynced, Makes, OnlyReads, ReadsUpTo, Stays, Writes, WritesMany, WritingFailed};
+    ghost use Rattle.rom_device.specs.Device.{AreRenewed, AreSettled, CountsCalls, Does, IsRenewed, IsSynced, Makes, OnlyReads, ReadsUpTo, Stays, WritesMany, WritesWord, WritingFailed};
     ghost use Rattle.rom_device.specs.Fuse.{inner_of, shown_by_fuse, MadeReads, Passes, PassesUpTo, PassesWrites};
     ghost use Rattle.rom_device.specs.Doubt.{fuse_doubts};
 
@@ -101,7 +101,7 @@ impl<D: Device> Device for Fuse<D> {
         ensures word { IsTrue D.shown.tells_words
             → IfOk result (λ word. word ≡ slice_index (D.shown.words (inner_of self.old)) at) }
         ensures only { OnlyReads (shown_by_fuse D.shown) self.old self.new }
-        ensures counts { Counts (shown_by_fuse D.shown) 1 0 0 self.old self.new result }
+        ensures counts { CountsCalls (shown_by_fuse D.shown) 1 0 0 self.old self.new result }
         // While the fuse has a call left, the read is passed on. Once it has none, the read fails and is
         // not passed on.
         ensures passes { Passes D.shown 1 0 0 self.old self.new result }
@@ -141,9 +141,9 @@ impl<D: Device> Device for Fuse<D> {
         ensures written { IsTrue D.shown.tells_words
             → OnOk result (D.shown.words (inner_of self.new)
             ≡ slice_set (D.shown.words (inner_of self.old)) at value) }
-        ensures does { Does (shown_by_fuse D.shown) (Writes at value) self.old self.new }
+        ensures does { Does (shown_by_fuse D.shown) (WritesWord at value) self.old self.new }
         ensures renews { OnOk result (IsRenewed (shown_by_fuse D.shown) at self.new) }
-        ensures counts { Counts (shown_by_fuse D.shown) 0 1 0 self.old self.new result }
+        ensures counts { CountsCalls (shown_by_fuse D.shown) 0 1 0 self.old self.new result }
         ensures passes { Passes D.shown 0 1 0 self.old self.new result }
     {
         self.writes = self.writes.saturating_add(1);
@@ -178,7 +178,7 @@ impl<D: Device> Device for Fuse<D> {
         ensures settles { IsTrue D.shown.tells_doubts →
             OnOk result (AreSettled (shown_by_fuse D.shown) self.new) }
         ensures does { Does (shown_by_fuse D.shown) Stays self.old self.new }
-        ensures counts { Counts (shown_by_fuse D.shown) 0 0 1 self.old self.new result }
+        ensures counts { CountsCalls (shown_by_fuse D.shown) 0 0 1 self.old self.new result }
         ensures passes { Passes D.shown 0 0 1 self.old self.new result }
     {
         self.syncs = self.syncs.saturating_add(1);

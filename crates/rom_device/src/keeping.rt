@@ -3,14 +3,14 @@ ghost use Rattle.std.specs.Prelude.{◌≡◌, ◌≢◌, ◌+◌, ◌-◌, ◌<
 ghost use Rattle.std.specs.Bool.{OnTrue, OnFalse};
 ghost use Rattle.rom_model.specs.Faults.{counted};
 ghost use Rattle.rom_device.specs.Medium.{Blames};
-ghost use Rattle.rom_device.specs.Run.{word_of, with_run, Follows};
+ghost use Rattle.rom_device.specs.Run.{word_of_run, with_run, IsNextPlace};
 ghost use Rattle.rom_device.specs.Windows.{word_in, PutsMany};
 
 use crate::cached::Cached;
 use crate::medium::Medium;
 
 impl<M: Medium> Cached<M> {
-    ghost use Rattle.rom_device.specs.Device.{AreRenewed, Does, IsRenewed, OnlyReads, Writes, WritesMany, WritesUpTo};
+    ghost use Rattle.rom_device.specs.Device.{AreRenewed, Does, IsRenewed, OnlyReads, WritesMany, WritesUpTo, WritesWord};
     ghost use Rattle.rom_device.specs.Cached.{has_failed_sync, shown_by_cached};
 
     // Hands over what waits, unless the word at that place is the next. `false` says that it still
@@ -22,9 +22,9 @@ impl<M: Medium> Cached<M> {
     // place. A further call of `Medium` that tells of replaced values would save that, and be one more to
     // trust.
     fn make_room(&mut self, at: u64) -> bool
-        ensures follows { OnTrue result (Follows self.new.pending at) }
-        ensures others { (b : ℕ) → word_of self.old.pending b ≡ None →
-            word_of self.new.pending b ≡ None }
+        ensures follows { OnTrue result (IsNextPlace self.new.pending at) }
+        ensures others { (b : ℕ) → word_of_run self.old.pending b ≡ None →
+            word_of_run self.new.pending b ≡ None }
         ensures kept { OnFalse result (self.new.pending ≡ self.old.pending) }
         ensures windows { self.new.windows ≡ self.old.windows }
         ensures faults { Blames result (M.shown.faults self.old.medium) (M.shown.faults self.new.medium) }
@@ -54,15 +54,15 @@ impl<M: Medium> Cached<M> {
     // Puts a word behind those that wait, which it follows.
     fn append(&mut self, at: u64, value: u64)
         requires inside { at < self.old.len }
-        requires follows { Follows self.old.pending at }
-        ensures waits { word_of self.new.pending at ≡ Some value }
+        requires follows { IsNextPlace self.old.pending at }
+        ensures waits { word_of_run self.new.pending at ≡ Some value }
         ensures window { IfSome (word_in self.new.windows at) (λ word. word ≡ value) }
         ensures others { (b : ℕ) → b ≢ at →
             word_in self.new.windows b ≡ word_in self.old.windows b }
         ensures written { IsTrue M.shown.tells_words →
             with_run self.new.pending (M.shown.words self.new.medium)
             ≡ slice_set (with_run self.old.pending (M.shown.words self.old.medium)) at value }
-        ensures does { Does (shown_by_cached M.shown) (Writes at value) self.old self.new }
+        ensures does { Does (shown_by_cached M.shown) (WritesWord at value) self.old self.new }
         ensures faults { M.shown.faults self.new.medium ≡ M.shown.faults self.old.medium }
         ensures missing { M.missing self.new.medium ≡ M.missing self.old.medium }
         ensures failed { has_failed_sync self.new ≡ has_failed_sync self.old }
@@ -77,7 +77,7 @@ impl<M: Medium> Cached<M> {
     #[inline(never)]
     fn keep_anywhere(&mut self, at: u64, value: u64) -> bool
         requires { at < self.old.len }
-        ensures waits { OnTrue result (word_of self.new.pending at ≡ Some value) }
+        ensures waits { OnTrue result (word_of_run self.new.pending at ≡ Some value) }
         ensures window { OnTrue result (IfSome (word_in self.new.windows at)
             (λ word. word ≡ value)) }
         ensures others { (b : ℕ) → b ≢ at →
@@ -85,7 +85,7 @@ impl<M: Medium> Cached<M> {
         ensures written { IsTrue M.shown.tells_words → OnTrue result
             (with_run self.new.pending (M.shown.words self.new.medium)
             ≡ slice_set (with_run self.old.pending (M.shown.words self.old.medium)) at value) }
-        ensures does { Does (shown_by_cached M.shown) (Writes at value) self.old self.new }
+        ensures does { Does (shown_by_cached M.shown) (WritesWord at value) self.old self.new }
         ensures kept { OnFalse result (self.new.pending ≡ self.old.pending) }
         ensures stays { OnFalse result (self.new.windows ≡ self.old.windows) }
         ensures none { IsTrue (M.missing self.old.medium) → IsFalse result }
@@ -108,13 +108,13 @@ impl<M: Medium> Cached<M> {
         requires apart { IsTrue self.old.apart }
         requires room { self.old.pending.count < 512 }
         requires place { self.old.pending.first + self.old.pending.count ≡ at }
-        ensures waits { word_of self.new.pending at ≡ Some value }
+        ensures waits { word_of_run self.new.pending at ≡ Some value }
         ensures window { word_in self.new.windows at ≡ None }
         ensures windows { self.new.windows ≡ self.old.windows }
         ensures written { IsTrue M.shown.tells_words →
             with_run self.new.pending (M.shown.words self.new.medium)
             ≡ slice_set (with_run self.old.pending (M.shown.words self.old.medium)) at value }
-        ensures does { Does (shown_by_cached M.shown) (Writes at value) self.old self.new }
+        ensures does { Does (shown_by_cached M.shown) (WritesWord at value) self.old self.new }
         ensures faults { M.shown.faults self.new.medium ≡ M.shown.faults self.old.medium }
         ensures missing { M.missing self.new.medium ≡ M.missing self.old.medium }
         ensures failed { has_failed_sync self.new ≡ has_failed_sync self.old }
@@ -127,7 +127,7 @@ impl<M: Medium> Cached<M> {
     #[inline(always)]
     pub fn keep(&mut self, at: u64, value: u64) -> bool
         requires { at < self.old.len }
-        ensures waits { OnTrue result (word_of self.new.pending at ≡ Some value) }
+        ensures waits { OnTrue result (word_of_run self.new.pending at ≡ Some value) }
         ensures window { OnTrue result (IfSome (word_in self.new.windows at)
             (λ word. word ≡ value)) }
         ensures others { (b : ℕ) → b ≢ at →
@@ -135,7 +135,7 @@ impl<M: Medium> Cached<M> {
         ensures written { IsTrue M.shown.tells_words → OnTrue result
             (with_run self.new.pending (M.shown.words self.new.medium)
             ≡ slice_set (with_run self.old.pending (M.shown.words self.old.medium)) at value) }
-        ensures does { Does (shown_by_cached M.shown) (Writes at value) self.old self.new }
+        ensures does { Does (shown_by_cached M.shown) (WritesWord at value) self.old self.new }
         ensures renews { OnTrue result (IsRenewed (shown_by_cached M.shown) at self.new) }
         ensures kept { OnFalse result (self.new.pending ≡ self.old.pending) }
         ensures stays { OnFalse result (self.new.windows ≡ self.old.windows) }
@@ -159,7 +159,7 @@ impl<M: Medium> Cached<M> {
         ensures most { result ≤ length values.now }
         ensures windows { PutsMany at result values.now self.old.windows self.new.windows }
         ensures waits { 0 < result
-            → word_of self.new.pending (at + (result - 1))
+            → word_of_run self.new.pending (at + (result - 1))
             ≡ Some (slice_index values.now (result - 1)) }
         ensures written { IsTrue M.shown.tells_words → (k : ℕ) → k < result → slice_index
             (with_run self.new.pending (M.shown.words self.new.medium))

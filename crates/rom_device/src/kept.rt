@@ -21,13 +21,13 @@ struct Kept {
 }
 
 impl Kept {
-    ghost use Rattle.rom_device.specs.Kept.{IsKept};
+    ghost use Rattle.rom_device.specs.Kept.{IsKeptWord};
 
     // The word before any call. A missing older word is 0.
     fn new(older: &[u64], start: &[u64], at: u64) -> Kept
         requires { at < length start.now }
         ensures at { result.at ≡ at }
-        ensures kept { IsKept older.now start.now [] result }
+        ensures kept { IsKeptWord older.now start.now [] result }
     {
         Kept {
             at,
@@ -40,7 +40,7 @@ impl Kept {
     fn after(self, call: LoggedCall) -> Kept
         ensures at { result.at ≡ self.at }
         ensures kept { (older base : List ℕ) (log : List LoggedCall) →
-            IsKept older base log self → IsKept older base (call ∷ log) result }
+            IsKeptWord older base log self → IsKeptWord older base (call ∷ log) result }
     {
         match call {
             LoggedCall::Write {
@@ -63,7 +63,7 @@ impl Kept {
     fn through(older: &[u64], start: &[u64], made: &[LoggedCall], at: u64) -> Kept
         requires { at < length start.now }
         ensures at { result.at ≡ at }
-        ensures kept { IsKept older.now start.now (reverse made.now) result }
+        ensures kept { IsKeptWord older.now start.now (reverse made.now) result }
     {
         let mut word = Kept::new(older, start, at);
         for call in made {

@@ -62,7 +62,7 @@ fn trip_among(trips: &[Trip], made: &[LoggedCall], call: CallKind, at: u64) -> O
 }
 
 impl Memory {
-    ghost use Rattle.rom_device.specs.Memory.{shown_by_memory, start_of, calls_of, room_of, trips_of, words_of, CountsNothing, Picks, IsPicked};
+    ghost use Rattle.rom_device.specs.Memory.{shown_by_memory, start_of, calls_of, room_of, trips_of, words_of_memory, MemoryCountsNothing, Picks, IsPicked};
 
     /// A device of these words, with room for so many calls. It takes no memory later.
     pub fn new(
@@ -75,7 +75,7 @@ impl Memory {
         ensures calls { IfOk result (λ m. calls_of m ≡ []) }
         ensures room { IfOk result (λ m. room_of m ≡ room) }
         ensures trips { IfOk result (λ m. trips_of m ≡ trips.items) }
-        ensures counts { IfOk result (λ m. CountsNothing m) }
+        ensures counts { IfOk result (λ m. MemoryCountsNothing m) }
     {
         Ok(Memory {
             start: words.clone()?,
@@ -93,7 +93,7 @@ impl Memory {
 
     /// The words as they read.
     pub fn words(&self) -> &[u64]
-        ensures { result.now ≡ words_of self.now }
+        ensures { result.now ≡ words_of_memory self.now }
     {
         &self.words
     }
@@ -152,8 +152,8 @@ impl Memory {
 
 impl Device for Memory {
     ghost use Rattle.std.specs.Prelude.{◌+◌, OnErr, OnOk, slice_index, slice_set, refl};
-    ghost use Rattle.rom_device.specs.Device.{Counts, Does, IsSynced, Makes, OnlyReads, ReadsUpTo, Stays, Writes, WritesMany, WritingFailed};
-    ghost use Rattle.rom_device.specs.Memory.{shown_by_memory, start_of, words_of, reads_from, Lists, ListsMany, ListsWrites};
+    ghost use Rattle.rom_device.specs.Device.{CountsCalls, Does, IsSynced, Makes, OnlyReads, ReadsUpTo, Stays, WritesMany, WritesWord, WritingFailed};
+    ghost use Rattle.rom_device.specs.Memory.{shown_by_memory, start_of, words_of_memory, reads_from, Lists, ListsMany, ListsWrites};
     ghost use Rattle.rom_device.specs.declared.call.LoggedCall.TheVariants.{Read, Write, Sync};
 
     ghost shown = { shown_by_memory };
@@ -168,9 +168,9 @@ impl Device for Memory {
 
     fn read(&mut self, at: u64) -> Result<u64, Failed>
         requires { at < length (start_of self.old) }
-        ensures word { IfOk result (λ word. word ≡ slice_index (words_of self.old) at) }
+        ensures word { IfOk result (λ word. word ≡ slice_index (words_of_memory self.old) at) }
         ensures only { OnlyReads shown_by_memory self.old self.new }
-        ensures counts { Counts shown_by_memory 1 0 0 self.old self.new result }
+        ensures counts { CountsCalls shown_by_memory 1 0 0 self.old self.new result }
         // The read is listed where there is room. It fails exactly where there is none or a trip says so.
         ensures lists { Lists (Read at) self.old self.new result }
     {
@@ -188,7 +188,7 @@ impl Device for Memory {
         requires { at + length into.old ≤ length (start_of self.old) }
         ensures len { length into.new ≡ length into.old }
         ensures read { (k : ℕ) → k < result
-            → slice_index into.new k ≡ slice_index (words_of self.old) (at + k) }
+            → slice_index into.new k ≡ slice_index (words_of_memory self.old) (at + k) }
         ensures only { OnlyReads shown_by_memory self.old self.new }
         ensures counts { ReadsUpTo shown_by_memory result (length into.old) self.old self.new }
         // Each word is one call, up to the first that fails. Each is listed where there is room.
@@ -205,9 +205,9 @@ impl Device for Memory {
 
     fn write(&mut self, at: u64, value: u64) -> Result<(), Failed>
         requires { at < length (start_of self.old) }
-        ensures written { OnOk result (words_of self.new ≡ slice_set (words_of self.old) at value) }
-        ensures does { Does shown_by_memory (Writes at value) self.old self.new }
-        ensures counts { Counts shown_by_memory 0 1 0 self.old self.new result }
+        ensures written { OnOk result (words_of_memory self.new ≡ slice_set (words_of_memory self.old) at value) }
+        ensures does { Does shown_by_memory (WritesWord at value) self.old self.new }
+        ensures counts { CountsCalls shown_by_memory 0 1 0 self.old self.new result }
         ensures lists { Lists (Write at value true) self.old self.new result }
     {
         self.writes = self.writes.saturating_add(1);
@@ -229,7 +229,7 @@ impl Device for Memory {
     fn write_words(&mut self, at: u64, values: &[u64]) -> Result<(), Failed>
         requires { at + length values.now ≤ length (start_of self.old) }
         ensures written { OnOk result ((k : ℕ) → k < length values.now
-            → slice_index (words_of self.new) (at + k) ≡ slice_index values.now k) }
+            → slice_index (words_of_memory self.new) (at + k) ≡ slice_index values.now k) }
         ensures failed { OnErr result (WritingFailed shown_by_memory at
             values.now self.old self.new) }
         ensures does { Does shown_by_memory (WritesMany at values.now) self.old self.new }
@@ -245,7 +245,7 @@ impl Device for Memory {
     fn sync(&mut self) -> Result<(), Failed>
         ensures certain { OnOk result (IsSynced shown_by_memory self.new) }
         ensures does { Does shown_by_memory Stays self.old self.new }
-        ensures counts { Counts shown_by_memory 0 0 1 self.old self.new result }
+        ensures counts { CountsCalls shown_by_memory 0 0 1 self.old self.new result }
         ensures lists { Lists (Sync true) self.old self.new result }
     {
         self.syncs = self.syncs.saturating_add(1);

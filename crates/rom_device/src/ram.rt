@@ -19,13 +19,13 @@ pub struct Ram {
 }
 
 impl Ram {
-    ghost use Rattle.rom_device.specs.Ram.{words_of, read_count, write_count, sync_count};
+    ghost use Rattle.rom_device.specs.Ram.{words_of_ram, reads_of_ram, writes_of_ram, syncs_of_ram};
 
     /// So many words, each 0. Words that do not fit into memory are want of memory.
     pub fn zeroed(alloc: Global, len: u64) -> Result<Ram, AllocError>
-        ensures words { IfOk result (λ ram. words_of ram ≡ replicate len 0) }
+        ensures words { IfOk result (λ ram. words_of_ram ram ≡ replicate len 0) }
         ensures counts { IfOk result (λ ram.
-            (read_count ram ≡ 0) × (write_count ram ≡ 0) × (sync_count ram ≡ 0)) }
+            (reads_of_ram ram ≡ 0) × (writes_of_ram ram ≡ 0) × (syncs_of_ram ram ≡ 0)) }
     {
         Ok(Ram {
             words: vec![in alloc; 0; len as usize]?,

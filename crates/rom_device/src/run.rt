@@ -19,13 +19,13 @@ pub struct Run {
 }
 
 impl Run {
-    ghost use Rattle.rom_device.specs.Run.{index_in, nth_of, word_of, Follows};
+    ghost use Rattle.rom_device.specs.Run.{index_in, nth_of, word_of_run, IsNextPlace};
 
     /// No words.
     pub fn empty() -> Run
         ensures first { result.first ≡ 0 }
         ensures count { result.count ≡ 0 }
-        ensures words { (b : ℕ) → word_of result b ≡ None }
+        ensures words { (b : ℕ) → word_of_run result b ≡ None }
     {
         Run {
             first: 0,
@@ -37,7 +37,7 @@ impl Run {
     /// Whether it has no words.
     pub fn is_empty(&self) -> bool
         ensures empty { IsTrue result ↔ (self.now.count ≡ 0) }
-        ensures words { OnTrue result ((b : ℕ) → word_of self.now b ≡ None) }
+        ensures words { OnTrue result ((b : ℕ) → word_of_run self.now b ≡ None) }
     {
         self.count == 0
     }
@@ -59,7 +59,7 @@ impl Run {
     /// The word at that place, if the run has it.
     #[inline(always)]
     pub fn get(&self, at: u64) -> Option<u64>
-        ensures { result ≡ word_of self.now at }
+        ensures { result ≡ word_of_run self.now at }
     {
         let index = self.index_of(at)?;
         Some(self.page.get(index))
@@ -71,7 +71,7 @@ impl Run {
         ensures most { result ≤ length into.old }
         ensures len { length into.new ≡ length into.old }
         ensures words { (k : ℕ) → k < result →
-            word_of self.now (at + k) ≡ Some (slice_index into.new k) }
+            word_of_run self.now (at + k) ≡ Some (slice_index into.new k) }
     {
         let Some(index) = self.index_of(at) else {
             return 0;
@@ -83,7 +83,7 @@ impl Run {
 
     /// Whether it has any of the 512 words from that place on.
     pub fn meets(&self, at: u64) -> bool
-        ensures { OnFalse result ((b : ℕ) → at ≤ b → b < at + 512 → word_of self.now b ≡ None) }
+        ensures { OnFalse result ((b : ℕ) → at ≤ b → b < at + 512 → word_of_run self.now b ≡ None) }
     {
         !self.is_empty()
             && at.saturating_sub(self.first) < self.count as u64
@@ -93,9 +93,9 @@ impl Run {
     /// Replaces the word at that place. `false` says that the run does not have it.
     #[inline(always)]
     pub fn set(&mut self, at: u64, value: u64) -> bool
-        ensures had { IsTrue result ↔ IsSome (word_of self.old at) }
-        ensures replaced { OnTrue result (word_of self.new at ≡ Some value) }
-        ensures others { (b : ℕ) → b ≢ at → word_of self.new b ≡ word_of self.old b }
+        ensures had { IsTrue result ↔ IsSome (word_of_run self.old at) }
+        ensures replaced { OnTrue result (word_of_run self.new at ≡ Some value) }
+        ensures others { (b : ℕ) → b ≢ at → word_of_run self.new b ≡ word_of_run self.old b }
         ensures kept { OnFalse result (self.new ≡ self.old) }
         ensures first { self.new.first ≡ self.old.first }
         ensures count { self.new.count ≡ self.old.count }
@@ -111,7 +111,7 @@ impl Run {
     /// that whole pages are handed over as such.
     #[inline(always)]
     pub fn is_next(&self, at: u64) -> bool
-        ensures { IsTrue result ↔ Follows self.now at }
+        ensures { IsTrue result ↔ IsNextPlace self.now at }
     {
         self.count == 0 || self.goes_on(at)
     }
@@ -120,8 +120,8 @@ impl Run {
     /// the quick part of `is_next`, which also takes the first word of a run.
     #[inline(always)]
     pub fn goes_on(&self, at: u64) -> bool
-        ensures follows { OnTrue result (Follows self.now at) }
-        ensures other { OnFalse result (Follows self.now at → self.now.count ≡ 0) }
+        ensures follows { OnTrue result (IsNextPlace self.now at) }
+        ensures other { OnFalse result (IsNextPlace self.now at → self.now.count ≡ 0) }
         ensures room { OnTrue result (self.now.count < 512) }
         ensures place { OnTrue result (self.now.first + self.now.count ≡ at) }
     {
@@ -135,8 +135,8 @@ impl Run {
     pub fn push(&mut self, at: u64, value: u64)
         requires room { self.old.count < 512 }
         requires place { self.old.first + self.old.count ≡ at }
-        ensures word { word_of self.new at ≡ Some value }
-        ensures others { (b : ℕ) → b ≢ at → word_of self.new b ≡ word_of self.old b }
+        ensures word { word_of_run self.new at ≡ Some value }
+        ensures others { (b : ℕ) → b ≢ at → word_of_run self.new b ≡ word_of_run self.old b }
         ensures first { self.new.first ≡ self.old.first }
         ensures count { self.new.count ≡ self.old.count + 1 }
     {
@@ -146,9 +146,9 @@ impl Run {
 
     /// Adds the next word.
     pub fn append(&mut self, at: u64, value: u64)
-        requires { Follows self.old at }
-        ensures word { word_of self.new at ≡ Some value }
-        ensures others { (b : ℕ) → b ≢ at → word_of self.new b ≡ word_of self.old b }
+        requires { IsNextPlace self.old at }
+        ensures word { word_of_run self.new at ≡ Some value }
+        ensures others { (b : ℕ) → b ≢ at → word_of_run self.new b ≡ word_of_run self.old b }
         ensures first { self.new.first + self.old.count ≡ at }
         ensures count { self.new.count ≡ self.old.count + 1 }
     {
@@ -161,7 +161,7 @@ impl Run {
     /// Forgets the words.
     pub fn clear(&mut self)
         ensures first { self.new.first ≡ 0 }
-        ensures words { (b : ℕ) → word_of self.new b ≡ None }
+        ensures words { (b : ℕ) → word_of_run self.new b ≡ None }
         ensures count { self.new.count ≡ 0 }
     {
         self.first = 0;
@@ -177,12 +177,12 @@ impl Run {
         requires inside { HasPlaces M.shown first count medium.old }
         ensures there { OnTrue result ((self.new.first ≡ first) × (self.new.count ≡ count)) }
         ensures none { OnFalse result (self.new.count ≡ 0) }
-        ensures before { (b : ℕ) → b < first → word_of self.new b ≡ None }
-        ensures behind { (b : ℕ) → first + 512 ≤ b → word_of self.new b ≡ None }
-        ensures told { IsTrue M.shown.tells_words → (b seen : ℕ) → word_of self.new b ≡ Some seen
+        ensures before { (b : ℕ) → b < first → word_of_run self.new b ≡ None }
+        ensures behind { (b : ℕ) → first + 512 ≤ b → word_of_run self.new b ≡ None }
+        ensures told { IsTrue M.shown.tells_words → (b seen : ℕ) → word_of_run self.new b ≡ Some seen
             → seen ≡ slice_index (M.shown.words medium.old) b }
         ensures only { OnlyReads M.shown medium.old medium.new }
-        ensures here { OnTrue result (0 < count → IsSome (word_of self.new first)) }
+        ensures here { OnTrue result (0 < count → IsSome (word_of_run self.new first)) }
         ensures faults { Blames result (M.shown.faults medium.old) (M.shown.faults medium.new) }
         ensures stays { M.missing medium.new ≡ M.missing medium.old }
         ensures sure { M.doubtful medium.new ≡ M.doubtful medium.old }

@@ -18,7 +18,7 @@ pub struct Windows {
 }
 
 impl Windows {
-    ghost use Rattle.rom_device.specs.Windows.{word_in, IsMissed, IsRead, Puts, Reads, ReadsOf};
+    ghost use Rattle.rom_device.specs.Windows.{word_in, IsMissed, IsRead, Puts, ReadsWindow, ReadsOf};
 
     /// No words.
     pub fn empty() -> Windows
@@ -83,8 +83,8 @@ impl Windows {
         requires room { count ≤ 512 }
         requires low { first + count ≤ 2 ^ 64 }
         requires inside { HasPlaces M.shown first count medium.old }
-        ensures left { Reads first self.old.left self.new.left }
-        ensures right { Reads first self.old.right self.new.right }
+        ensures left { ReadsWindow first self.old.left self.new.left }
+        ensures right { ReadsWindow first self.old.right self.new.right }
         ensures left_told { IsTrue M.shown.tells_words
             → ReadsOf (M.shown.words medium.old) self.old.left self.new.left }
         ensures right_told { IsTrue M.shown.tells_words

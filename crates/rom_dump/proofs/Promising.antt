@@ -10,7 +10,7 @@ use Rattle.rom_run.proofs.Showing.{refusal_ends}
 use Rattle.rom_script.proofs.Showing.{put_stops}
 use Rattle.rom_device.specs.Device.{OnlyReads, ShownDevice}
 use Rattle.rom_device.proofs.Going.{runs_none}
-use Rattle.rom_text.specs.Runs.{IsLineTold}
+use Rattle.rom_text.specs.Runs.{IsLineWrittenOrCutShort}
 use Rattle.rom_text.specs.Streams.{ShownSink, StopsWriting}
 use Rattle.rom_dump.specs.Promise.{DumpPromise, IsDumpStatus}
 use Rattle.rom_open.specs.declared.view.alone.Region.{Region}
@@ -64,7 +64,7 @@ module _ {K : Type 0} (sink : ShownSink K) (old new : K) where
   printed_status (Script file from part) line order state count n again = script_status file from part again.elements n again.printed
   printed_status (Check file from) line order state count n put = (inl put.0, put_stops sink old new _ put.1)
 
-  refusal_told : (does : DumpCommand) (why : Why) (n : ℕ) → n ≡ exit_number (refusal_status why) → IsLineTold sink old new (refusal_line why) → IsDumpStatus (Some does) n × StopsWriting sink old new
+  refusal_told : (does : DumpCommand) (why : Why) (n : ℕ) → n ≡ exit_number (refusal_status why) → IsLineWrittenOrCutShort sink old new (refusal_line why) → IsDumpStatus (Some does) n × StopsWriting sink old new
   refusal_told does why n is told = (refused_status does n (refusal_three why n is), put_stops sink old new _ told)
 
   -- each command ends with one of its statuses, and writes nothing behind a write that failed
@@ -91,7 +91,7 @@ module _ {D K : Type 0} (shown : ShownDevice D) (sink : ShownSink K) (was : D) (
     syncs = refl;
   }
 
-  pub no_command : asked ≡ None → status ≡ 2 → IsLineTold sink old new (codes "not a command") → sink.rest new ≡ sink.rest old → DumpPromise shown sink asked was was old new status
+  pub no_command : asked ≡ None → status ≡ 2 → IsLineWrittenOrCutShort sink old new (codes "not a command") → sink.rest new ≡ sink.rest old → DumpPromise shown sink asked was was old new status
   no_command none two told rest = record {
     only_reads = uncalled;
     statuses = subst (λ (o : Option DumpCommand). IsDumpStatus o status) (sym none) two;

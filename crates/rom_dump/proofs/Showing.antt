@@ -25,7 +25,7 @@ use Rattle.rom_rebuild.proofs.Spans.{part_fits, parts_whole}
 use Rattle.rom_run.specs.Refusing.{refusal_line, refusal_status}
 use Rattle.rom_run.specs.Statuses.{exit_number}
 use Rattle.rom_run.specs.declared.status.Status.{Status}
-use Rattle.rom_text.specs.Runs.{IsLineTold}
+use Rattle.rom_text.specs.Runs.{IsLineWrittenOrCutShort}
 use Rattle.rom_text.specs.Streams.{ShownSink}
 use Rattle.rom_open.specs.View.{IsNamedRegion, IsRefusalOf}
 use Rattle.rom_open.specs.declared.view.alone.Region.{Region}
@@ -82,11 +82,11 @@ module _ {D K : Type 0} (shown : ShownDevice D) (sink : ShownSink K) (was now : 
   }
 
   pub is_refused : (why : Why) (status : Status) → status ≡ refusal_status why → (IsTrue shown.tells_words → IsRefusal Contents Rejects (shown.words was) why) → NamesTooFew (shown.size was) why → HasOpeningFaults {T = Unit {0}} (Err why) (shown.faults was) (shown.faults now) (shown.failing now)
-      → IsLineTold sink old new (refusal_line why) → IsAnsweredBy shown sink None asked was now old new (exit_number status)
+      → IsLineWrittenOrCutShort sink old new (refusal_line why) → IsAnsweredBy shown sink None asked was now old new (exit_number status)
   is_refused why status is refused sizes faults told = inr record { why = why; status_is = ap exit_number is; refused = refused; sizes = sizes; faults = faults; told = told }
 
   -- there was no memory for what a script needs
-  pub no_memory : (n : ℕ) (image : List ℕ) (status : Status) → status ≡ refusal_status OutOfMemory → (IsTrue shown.tells_words → IsCurrentRegion n (shown.words was) image) → shown.faults now ≡ shown.faults was → IsLineTold sink old new (refusal_line OutOfMemory)
+  pub no_memory : (n : ℕ) (image : List ℕ) (status : Status) → status ≡ refusal_status OutOfMemory → (IsTrue shown.tells_words → IsCurrentRegion n (shown.words was) image) → shown.faults now ≡ shown.faults was → IsLineWrittenOrCutShort sink old new (refusal_line OutOfMemory)
       → IsAnsweredBy shown sink None asked was now old new (exit_number status)
   no_memory n image status is current faults told = is_refused OutOfMemory status is
       (λ tells. let c = current tells in let e : n ≡ named_order (shown.words was) = sym c.heap.header.order_is in inr (image, subst (λ (m : ℕ). IsCurrentRegion m (shown.words was) image) e c, tt)) tt faults told
@@ -106,10 +106,10 @@ module _ {D K : Type 0} (shown : ShownDevice D) (sink : ShownSink K) (was now : 
     }
 
     pub alone_refused : (why : Why) (status : Status) → status ≡ refusal_status why → (IsTrue shown.tells_words → IsRefusalOf Contents Rejects name (shown.words was) why) → NamesTooFew (shown.size was) why → HasOpeningFaults {T = Unit {0}} (Err why) (shown.faults was) (shown.faults now) (shown.failing now)
-        → IsLineTold sink old new (refusal_line why) → IsAnsweredBy shown sink (Some name) asked was now old new (exit_number status)
+        → IsLineWrittenOrCutShort sink old new (refusal_line why) → IsAnsweredBy shown sink (Some name) asked was now old new (exit_number status)
     alone_refused why status is refused sizes faults told = inr record { why = why; status_is = ap exit_number is; refused = refused; sizes = sizes; faults = faults; told = told }
 
-    pub alone_no_memory : (n : ℕ) (image : List ℕ) (status : Status) → status ≡ refusal_status OutOfMemory → (IsTrue shown.tells_words → IsNamedRegion name n (shown.words was) image) → shown.faults now ≡ shown.faults was → IsLineTold sink old new (refusal_line OutOfMemory)
+    pub alone_no_memory : (n : ℕ) (image : List ℕ) (status : Status) → status ≡ refusal_status OutOfMemory → (IsTrue shown.tells_words → IsNamedRegion name n (shown.words was) image) → shown.faults now ≡ shown.faults was → IsLineWrittenOrCutShort sink old new (refusal_line OutOfMemory)
         → IsAnsweredBy shown sink (Some name) asked was now old new (exit_number status)
     alone_no_memory n image status is named faults told = alone_refused OutOfMemory status is
         (λ tells. let c = named tells in let e : n ≡ named_order (shown.words was) = sym c.heap.header.order_is in inr (image, subst (λ (m : ℕ). IsNamedRegion name m (shown.words was) image) e c, tt)) tt faults told

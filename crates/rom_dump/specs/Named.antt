@@ -6,10 +6,10 @@ use Rattle.rom_dump.specs.declared.words.Dump.{Dump}
 use Rattle.rom_dump.specs.declared.words.Dump.TheVariants as dump
 
 -- the command that was read, if one was
-abbrev pub named_dump : Option Dump → Option DumpCommand
-named_dump (Some (dump.Script file from part)) = Some (Script file.now from part)
-named_dump (Some (dump.Check file from)) = Some (Check file.now from)
-named_dump None = None
+abbrev pub dump_command_read : Option Dump → Option DumpCommand
+dump_command_read (Some (dump.Script file from part)) = Some (Script file.now from part)
+dump_command_read (Some (dump.Check file from)) = Some (Check file.now from)
+dump_command_read None = None
 
 -- the file that was read, if one was
 abbrev pub named_file : Option (Bor (List ℕ)) → Option (List ℕ)

@@ -1,7 +1,7 @@
 -- What the program promises of its words.
 use Rattle.std.specs.Prelude.{◌≡◌, ◌↔◌, ◌⊎◌, ℕ, codes, IfSome, Option, Some, None}
 use Rattle.rom_device.specs.Device.{OnlyReads, ShownDevice}
-use Rattle.rom_text.specs.Runs.{IsLineTold}
+use Rattle.rom_text.specs.Runs.{IsLineWrittenOrCutShort}
 use Rattle.rom_text.specs.Streams.{ShownSink, StopsWriting}
 use Rattle.rom_dump.specs.Shown.{IsCommandAnswered}
 use Rattle.rom_dump.specs.Words.{DumpCommand, Script, Check}
@@ -20,7 +20,7 @@ pub record DumpPromise {D K : Type 0} (shown : ShownDevice D) (sink : ShownSink 
   pub answered : IfSome asked (λ does. IsCommandAnswered shown sink does was now old new status)
   -- the status is 2 exactly where the words are no command; a line says so, and the device is not called
   pub not_a_command : (status ≡ 2) ↔ (asked ≡ None)
-  pub not_a_command_told : status ≡ 2 → IsLineTold sink old new (codes "not a command")
+  pub not_a_command_told : status ≡ 2 → IsLineWrittenOrCutShort sink old new (codes "not a command")
   pub uncalled : status ≡ 2 → now ≡ was
   -- no write of the sink is made after one that failed, and what the sink has beside its bytes stays
   pub writing : StopsWriting sink old new

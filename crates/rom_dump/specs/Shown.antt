@@ -23,7 +23,7 @@ use Rattle.rom_run.specs.Refusing.{refusal_line, refusal_status}
 use Rattle.rom_run.specs.Statuses.{exit_number}
 use Rattle.rom_script.specs.Stat.{IsWrittenOrCutShort, stat_text}
 use Rattle.rom_text.specs.Limits.{FitsScript, IsWithinLimit}
-use Rattle.rom_text.specs.Runs.{IsCutShort, IsLineTold, IsWhollyWritten}
+use Rattle.rom_text.specs.Runs.{IsCutShort, IsLineWrittenOrCutShort, IsWhollyWritten}
 use Rattle.rom_text.specs.Streams.{ShownSink}
 use Rattle.rom_text.specs.Text.{line_text}
 use Rattle.rom_open.specs.View.{HoldsAlone, IsRefusalOf}
@@ -59,7 +59,7 @@ module _ {K : Type 0} (sink : ShownSink K) where
   abbrev pub EndsAsWhole : List Element → K → K → ℕ → Type 0
   EndsAsWhole elements old new status =
       (IsWithinLimit (elements_script elements) × EndsAsText (elements_script elements) old new status)
-      ⊎ (AreTooManyBytes (elements_script elements) × (status ≡ 8) × IsLineTold sink old new (too_long_line (parts_needed elements)))
+      ⊎ (AreTooManyBytes (elements_script elements) × (status ≡ 8) × IsLineWrittenOrCutShort sink old new (too_long_line (parts_needed elements)))
 
   -- of a part that is asked for, or of the whole
   abbrev pub EndsAsScript : Option ℕ → List Element → K → K → ℕ → Type 0
@@ -103,7 +103,7 @@ module _ {D K : Type 0} (shown : ShownDevice D) (sink : ShownSink K) where
     pub refused : IsTrue shown.tells_words → IsRefusal Contents Rejects (shown.words was) why
     pub sizes : NamesTooFew (shown.size was) why
     pub faults : HasOpeningFaults {T = Unit {0}} (Err why) (shown.faults was) (shown.faults now) (shown.failing now)
-    pub told : IsLineTold sink old new (refusal_line why)
+    pub told : IsLineWrittenOrCutShort sink old new (refusal_line why)
 
   -- In a heap of this order, the region of this name by itself stands for this state and this count, whatever the heap's state is and its other region; and what is asked for of these is printed.
   pub record IsShownFrom (name : Region) (asked : DumpCommand) (was now : D) (old new : K) (status : ℕ) : Type 0 where
@@ -123,7 +123,7 @@ module _ {D K : Type 0} (shown : ShownDevice D) (sink : ShownSink K) where
     pub refused : IsTrue shown.tells_words → IsRefusalOf Contents Rejects name (shown.words was) why
     pub sizes : NamesTooFew (shown.size was) why
     pub faults : HasOpeningFaults {T = Unit {0}} (Err why) (shown.faults was) (shown.faults now) (shown.failing now)
-    pub told : IsLineTold sink old new (refusal_line why)
+    pub told : IsLineWrittenOrCutShort sink old new (refusal_line why)
 
   -- a command is answered by the region that counts, or by the one that it names
   abbrev pub IsAnsweredBy : Option Region → DumpCommand → D → D → K → K → ℕ → Type 0

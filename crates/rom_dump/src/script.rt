@@ -12,7 +12,7 @@ ghost use Rattle.rom_rebuild.specs.Parts.{lines_in};
 ghost use Rattle.rom_rebuild.specs.Script.{elements_script};
 ghost use Rattle.rom_run.specs.Refusing.{refusal_line};
 ghost use Rattle.rom_run.specs.Statuses.{exit_number};
-ghost use Rattle.rom_text.specs.Runs.{IsLineTold};
+ghost use Rattle.rom_text.specs.Runs.{IsLineWrittenOrCutShort};
 
 use crate::refusing::refuse;
 use itoa::Buffer;
@@ -28,7 +28,7 @@ use std::alloc::Global;
 /// Says that a script is too long, and how many parts it has.
 fn tell_too_long<O: Sink>(parts: u64, out: &mut O) -> Status
     ensures status { result ≡ Status.ScriptTooLong }
-    ensures told { IsLineTold O.shown out.old out.new (too_long_line parts) }
+    ensures told { IsLineWrittenOrCutShort O.shown out.old out.new (too_long_line parts) }
     ensures rest { O.shown.rest out.new ≡ O.shown.rest out.old }
 {
     tell(
@@ -74,7 +74,7 @@ fn print_script<O: Sink>(
     requires part { IfSome part IsPartNumber }
     ensures printed { (s : model.State) (k : ℕ) → Contents order image.items s k →
         IsPutAgain O.shown order s part out.old out.new (exit_number result)
-        ⊎ ((result ≡ Status.NoMemory) × IsLineTold O.shown out.old out.new (refusal_line OutOfMemory)) }
+        ⊎ ((result ≡ Status.NoMemory) × IsLineWrittenOrCutShort O.shown out.old out.new (refusal_line OutOfMemory)) }
     ensures rest { O.shown.rest out.new ≡ O.shown.rest out.old }
 {
     let mut space = VecSpace::of(image);

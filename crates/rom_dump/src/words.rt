@@ -1,7 +1,7 @@
 //! The words of the command line: `script` or `check` with a file, then the region where one is named, and of
 //! `script` the part where one is asked for.
 ghost use Rattle.std.specs.Prelude.{◌≡◌, IfSome};
-ghost use Rattle.rom_dump.specs.Named.{AsksForPart, IsPartNumber, named_dump, named_file};
+ghost use Rattle.rom_dump.specs.Named.{AsksForPart, IsPartNumber, dump_command_read, named_file};
 ghost use Rattle.rom_dump.specs.Words.{dump_command, file_of};
 ghost use Rattle.rom_dump.specs.Words as asks;
 
@@ -84,7 +84,7 @@ fn read_options(words: &[Name]) -> Option<(Option<Region>, Option<u64>)>
 
 /// The command that the words are. It takes no memory.
 pub fn read_dump(words: &Names) -> Option<Dump<'_>>
-    ensures named { named_dump result ≡ dump_command words.now }
+    ensures named { dump_command_read result ≡ dump_command words.now }
     ensures part { IfSome result AsksForPart }
 {
     let [name, file, options @ ..] = words.as_slice() else {

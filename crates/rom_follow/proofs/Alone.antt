@@ -26,7 +26,7 @@ use Rattle.rom_model.specs.declared.record.Fate.TheVariants as fate
 use Rattle.rom_model.specs.declared.record.Found.{Found}
 use Rattle.rom_model.proofs.Placed.{done_in_append, enumerate_append}
 use Rattle.rom_model.proofs.Recorded.{history_more}
-use Rattle.rom_rule.specs.CallKinds.{IsTold, longer}
+use Rattle.rom_rule.specs.CallKinds.{IsToldByPass, longer}
 use Rattle.rom_rule.specs.Views.{Told}
 use Rattle.rom_rule.specs.declared.views.Base.{Base}
 use Rattle.rom_store.specs.Callers.{Caller}
@@ -123,7 +123,7 @@ not_shorter xs ys = by (nat_lt (length ys) (length xs)) refl
     by false test = omega arith
 
 -- what is told `Spent` was told so at the last count, and the caller had seen all up to it
-pub spent_last : (base : Base) (f : Found) (since : ℕ) (seen seen' : List Entry) (t : IsTold Contents (on_words trio) base (f, Spent) since seen seen') → LAST_COUNT ≤ t.count + length seen'
+pub spent_last : (base : Base) (f : Found) (since : ℕ) (seen seen' : List Entry) (t : IsToldByPass Contents (on_words trio) base (f, Spent) since seen seen') → LAST_COUNT ≤ t.count + length seen'
 spent_last base f since seen seen' t =
     let step = on_words trio in
     let h : List Entry = history_of step base.order t.start t.count t.earlier in
@@ -138,7 +138,7 @@ module _ (one_contents : (order : ℕ) (words : List ℕ) (s t : State) (j k : �
   -- what became of an update
   pub outcome_is : (table : TableId) (base : Base) (p q : Caller) (call : Call) (told : Updated Reply) (s : State) (k : ℕ) → IsAlone table base p → IsAlone table base q → Contents base.order base.image s k
       → q.view.outcomes ≡ p.view.outcomes ++ (found_at (length p.view.outcomes) call, as_words trio told) ∷ []
-      → IsTold Contents (on_words trio) base (found_at (length p.view.outcomes) call, as_words trio told) (length p.view.seen) p.view.seen q.view.seen
+      → IsToldByPass Contents (on_words trio) base (found_at (length p.view.outcomes) call, as_words trio told) (length p.view.seen) p.view.seen q.view.seen
       → ((reply : Reply) (place : ℕ) → told ≡ Done reply place → IsLegal (on_words trio) base.order s k q.view.seen)
       → IsOutcome base.order s k call p.view told q.view
   outcome_is table base p q call told s k alone alone' held tried is_told legal = by told tried is_told legal
@@ -153,7 +153,7 @@ module _ (one_contents : (order : ℕ) (words : List ℕ) (s t : State) (j k : �
       still same = same_seen k q.view.seen p.view.seen (same ∙ append-nil (enumerate_from k p.view.seen))
 
       by : (u : Updated Reply) → q.view.outcomes ≡ p.view.outcomes ++ (found_at (length p.view.outcomes) call, as_words trio u) ∷ []
-          → IsTold Contents (on_words trio) base (found_at (length p.view.outcomes) call, as_words trio u) (length p.view.seen) p.view.seen q.view.seen
+          → IsToldByPass Contents (on_words trio) base (found_at (length p.view.outcomes) call, as_words trio u) (length p.view.seen) p.view.seen q.view.seen
           → ((reply : Reply) (place : ℕ) → u ≡ Done reply place → IsLegal (on_words trio) base.order s k q.view.seen) → IsOutcome base.order s k call p.view u q.view
       by (Done reply place) tried is_told legal =
           let last = last_seen k q.view.seen p.view.seen place (entry_at (length p.view.outcomes) call reply) (since (Done reply place) tried) in

@@ -23,7 +23,7 @@ use Rattle.rom_rule.specs.Views.{Told}
 use Rattle.rom_rule.specs.declared.views.Base.{Base}
 use Rattle.rom_follow.specs.Followed.{Followed, HasDoneUpdates}
 use Rattle.rom_follow.specs.Following.{AgreesBelow, AreFirstOf, AreTries, FollowsHistory, state_after_first, update_of}
-use Rattle.rom_follow.specs.Taking.{AreTaken, TakesFrame, TakesMessage, IsNextFrame, found_at}
+use Rattle.rom_follow.specs.Taking.{AreTaken, TakesFrame, TakesMessage, TakesNextFrame, found_at}
 use Rattle.rom_follow.specs.declared.taken.MessageTaken.{MessageTaken}
 use Rattle.rom_follow.specs.declared.taken.MessageTaken.TheVariants.{Applied, Known, Early, NotAFrame, Diverged, Spent, Failed, Doubt}
 use Rattle.rom_follow.proofs.Histories.{from_element, legal_drop, legal_take}
@@ -99,7 +99,7 @@ module _ (base : Base) (s0 : State) (n0 : ℕ) (history : List Entry) (first : �
         last_told (y ∷ xs) [] x e rest same next = absurd (let long : 0 ≡ suc (length rest) = ap length next in omega (arith, long))
         last_told (y ∷ xs) (d ∷ es) x e rest same next = last_told xs es x e rest (let tail : map update_of (xs ++ x ∷ []) ≡ map update_of (take (suc (length xs)) es) = cc in tail) next
 
-    by_answer : (answer : MessageTaken) → f.place ≡ w.count → IsNextFrame f w answer v → FollowsHistory base s0 n0 history first v × AgreesBelow v.count answer
+    by_answer : (answer : MessageTaken) → f.place ≡ w.count → TakesNextFrame f w answer v → FollowsHistory base s0 n0 history first v × AgreesBelow v.count answer
     by_answer (Applied p) here next =
         let tries = tried_next here (updated.Done (reply_words f.reply) w.count) (ap (λ (x : Followed). x.tried) next.1) in
         (with_tries w v follows done tries (ap (λ (x : Followed). x.diverged) next.1 ∙ follows.agrees), omega (arith, next.0, here, ap (λ (x : Followed). x.count) next.1))

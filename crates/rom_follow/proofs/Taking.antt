@@ -17,14 +17,14 @@ use Rattle.rom_model.specs.declared.call.Reply.{Reply}
 use Rattle.rom_model.specs.declared.call.Updated.{Updated}
 use Rattle.rom_model.specs.declared.call.Updated.TheVariants as updated
 use Rattle.rom_frame.specs.declared.frame.Frame.{Frame}
-use Rattle.rom_rule.specs.CallKinds.{IsTold}
+use Rattle.rom_rule.specs.CallKinds.{IsToldByPass}
 use Rattle.rom_rule.specs.Views.{Told}
 use Rattle.rom_rule.specs.declared.views.Base.{Base}
 use Rattle.rom_store.specs.Callers.{Caller}
 use Rattle.rom_follow.specs.Alone.{IsAlone, IsFollower, IsOutcome, followed, seen_by, tried_by}
 use Rattle.rom_follow.specs.Answers.{IsFrameAnswer, parted_by, updates_done}
 use Rattle.rom_follow.specs.Followed.{Followed, HasDoneUpdates}
-use Rattle.rom_follow.specs.Taking.{IsNextFrame, entry_at, found_at}
+use Rattle.rom_follow.specs.Taking.{TakesNextFrame, entry_at, found_at}
 use Rattle.rom_follow.specs.declared.taken.Divergence.{Divergence}
 use Rattle.rom_follow.specs.declared.taken.MessageTaken.{MessageTaken}
 use Rattle.rom_follow.specs.declared.taken.MessageTaken.TheVariants.{Applied, Known, Early, NotAFrame, Diverged, Spent, Failed, Doubt}
@@ -55,7 +55,7 @@ module _ (table : TableId) (base : Base) (f : Frame) (p q : Caller) (count : ℕ
     pub after : IsAlone table base q
     pub unposted : LAST_COUNT ≤ length p.view.outcomes → (told ≡ updated.Spent) × (q ≡ p)
     pub tried : length p.view.outcomes < LAST_COUNT → q.view.outcomes ≡ p.view.outcomes ++ (found_at (length p.view.outcomes) f.call, as_words trio told) ∷ []
-    pub is_told : length p.view.outcomes < LAST_COUNT → IsTold Contents (on_words trio) base (found_at (length p.view.outcomes) f.call, as_words trio told) (length p.view.seen) p.view.seen q.view.seen
+    pub is_told : length p.view.outcomes < LAST_COUNT → IsToldByPass Contents (on_words trio) base (found_at (length p.view.outcomes) f.call, as_words trio told) (length p.view.seen) p.view.seen q.view.seen
     pub outcome : length p.view.outcomes < LAST_COUNT → (s : State) (k : ℕ) → Contents base.order base.image s k → IsOutcome base.order s k f.call p.view told q.view
     pub done : (s : State) (k : ℕ) → Contents base.order base.image s k → HasDoneUpdates base.order s k (followed count (p ∷ []) None)
 
@@ -66,7 +66,7 @@ module _ (table : TableId) (base : Base) (f : Frame) (p q : Caller) (count : ℕ
   as_is taken = followed (count + updates_done taken) (q ∷ []) (parted_by taken)
 
   posted : (told : Updated Reply) (taken : MessageTaken) (s : State) (k : ℕ) → HasDoneUpdates base.order s k as_was → f.place ≡ count → IsFrameAnswer f.reply told taken
-      → q.view.outcomes ≡ p.view.outcomes ++ (found_at (length p.view.outcomes) f.call, as_words trio told) ∷ [] → IsOutcome base.order s k f.call p.view told q.view → IsNextFrame f as_was taken (as_is taken)
+      → q.view.outcomes ≡ p.view.outcomes ++ (found_at (length p.view.outcomes) f.call, as_words trio told) ∷ [] → IsOutcome base.order s k f.call p.view told q.view → TakesNextFrame f as_was taken (as_is taken)
   posted (updated.Done ours at) (Applied place) s k done is answer tried outcome =
       let here : at ≡ count = outcome.0 ∙ sym done.count_is in (
         answer.0 ∙ here ∙ sym is,
@@ -135,13 +135,13 @@ module _ (table : TableId) (base : Base) (f : Frame) (p q : Caller) (count : ℕ
   unchanged : q ≡ p → as_is Spent ≡ as_was
   unchanged same = λ i. record { count = (let none : count + 0 ≡ count = omega arith in none) i; history = (same i).view.seen; tried = (same i).view.outcomes; diverged = None }
 
-  pub next_is : (told : Updated Reply) (taken : MessageTaken) → Updates told → f.place ≡ count → IsFrameAnswer f.reply told taken → IsNextFrame f as_was taken (as_is taken)
+  pub next_is : (told : Updated Reply) (taken : MessageTaken) → Updates told → f.place ≡ count → IsFrameAnswer f.reply told taken → TakesNextFrame f as_was taken (as_is taken)
   next_is told taken u is answer = elim (cases_lt (length p.view.outcomes) LAST_COUNT) [
     | inl lt ↦ let formed = u.before.formed in
         posted told taken formed.0 formed.1 (u.done formed.0 formed.1 formed.2) is answer (u.tried lt) (u.outcome lt formed.0 formed.1 formed.2)
     | inr le ↦ let spent = u.unposted le in
         let taken_is : taken ≡ Spent = only_spent taken (subst (λ (t : Updated Reply). IsFrameAnswer f.reply t taken) spent.0 answer) in
-        subst (λ (t : MessageTaken). IsNextFrame f as_was t (as_is t)) (sym taken_is) (inr (le, unchanged spent.1))
+        subst (λ (t : MessageTaken). TakesNextFrame f as_was t (as_is t)) (sym taken_is) (inr (le, unchanged spent.1))
   ]
 
   -- what was done, by what became of the update
@@ -216,12 +216,12 @@ module _ (table : TableId) (base : Base) (f : Frame) (p q : Caller) (count : ℕ
   longer_by_one : (xs : List Told) (x : Told) → xs ≡ xs ++ x ∷ [] → ⊥
   longer_by_one xs x same = omega (arith, ap length same, length-append xs (x ∷ []))
 
-  pub next_told : (told : Updated Reply) → Updates told → (x : Told) → q.view.outcomes ≡ p.view.outcomes ++ x ∷ [] → IsTold Contents (on_words trio) base x (length p.view.seen) p.view.seen q.view.seen
+  pub next_told : (told : Updated Reply) → Updates told → (x : Told) → q.view.outcomes ≡ p.view.outcomes ++ x ∷ [] → IsToldByPass Contents (on_words trio) base x (length p.view.seen) p.view.seen q.view.seen
   next_told told u x same = elim (cases_lt (length p.view.outcomes) LAST_COUNT) [
     | inl lt ↦ let y : Told = (found_at (length p.view.outcomes) f.call, as_words trio told) in
         let ends : x ∷ [] ≡ y ∷ [] = append_cancel_left p.view.outcomes (x ∷ []) (y ∷ []) (sym same ∙ u.tried lt) in
         let one : x ≡ y = cc in
-        subst (λ (z : Told). IsTold Contents (on_words trio) base z (length p.view.seen) p.view.seen q.view.seen) (sym one) (u.is_told lt)
+        subst (λ (z : Told). IsToldByPass Contents (on_words trio) base z (length p.view.seen) p.view.seen q.view.seen) (sym one) (u.is_told lt)
     | inr le ↦ absurd (longer_by_one p.view.outcomes x (sym (ap (λ z. z.view.outcomes) (u.unposted le).1) ∙ same))
   ]
 
@@ -243,8 +243,8 @@ module _ (table : TableId) (base : Base) (f : Frame) (passes : List Caller) (p q
   now_is : as_is table base f p q count taken ≡ followed (count + done) (set passes 0 q) parted
   now_is = λ i. followed (count + sym t.done_is i) (sym (put_one passes p q t.one) i) (sym t.parted_is i)
 
-  pub takes_next : IsNextFrame f w taken (followed (count + done) (set passes 0 q) parted)
-  takes_next = subst (λ (x : Followed). IsNextFrame f x taken (followed (count + done) (set passes 0 q) parted)) was (subst (λ (x : Followed). IsNextFrame f (as_was table base f p q count) taken x) now_is
+  pub takes_next : TakesNextFrame f w taken (followed (count + done) (set passes 0 q) parted)
+  takes_next = subst (λ (x : Followed). TakesNextFrame f x taken (followed (count + done) (set passes 0 q) parted)) was (subst (λ (x : Followed). TakesNextFrame f (as_was table base f p q count) taken x) now_is
       (next_is table base f p q count told taken t.updates (t.next ∙ sym (ap (λ (x : Followed). x.count) t.seen_as)) t.answer))
 
   pub takes_done : (s : State) (k : ℕ) → Contents base.order base.image s k → HasDoneUpdates base.order s k w × HasDoneUpdates base.order s k (followed (count + done) (set passes 0 q) parted)
@@ -253,11 +253,11 @@ module _ (table : TableId) (base : Base) (f : Frame) (passes : List Caller) (p q
   pub takes_follower : IsFollower table base (set passes 0 q) (followed (count + done) (set passes 0 q) parted)
   takes_follower = subst (λ (x : Followed). IsFollower table base (set passes 0 q) x) now_is (subst (λ (ps : List Caller). IsFollower table base ps (as_is table base f p q count taken)) (sym (put_one passes p q t.one)) (next_follower table base f p q count told taken t.updates t.answer))
 
-  pub takes_told : (x : Told) → tried_by (set passes 0 q) ≡ w.tried ++ x ∷ [] → IsTold Contents (on_words trio) base x (length w.history) w.history (seen_by (set passes 0 q))
+  pub takes_told : (x : Told) → tried_by (set passes 0 q) ≡ w.tried ++ x ∷ [] → IsToldByPass Contents (on_words trio) base x (length w.history) w.history (seen_by (set passes 0 q))
   takes_told x same =
       let own : q.view.outcomes ≡ p.view.outcomes ++ x ∷ [] = ap tried_by (sym (put_one passes p q t.one)) ∙ same ∙ ap (λ (y : Followed). y.tried ++ x ∷ []) (sym was) in
-      subst (λ (ps : List Caller). IsTold Contents (on_words trio) base x (length w.history) w.history (seen_by ps)) (sym (put_one passes p q t.one))
-      (subst (λ (y : Followed). IsTold Contents (on_words trio) base x (length y.history) y.history q.view.seen) was (next_told table base f p q count told t.updates x own))
+      subst (λ (ps : List Caller). IsToldByPass Contents (on_words trio) base x (length w.history) w.history (seen_by ps)) (sym (put_one passes p q t.one))
+      (subst (λ (y : Followed). IsToldByPass Contents (on_words trio) base x (length y.history) y.history q.view.seen) was (next_told table base f p q count told t.updates x own))
 
 pub few_done : (taken : MessageTaken) → updates_done taken ≤ 1
 few_done (Applied place) = omega arith

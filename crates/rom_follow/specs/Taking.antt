@@ -44,23 +44,23 @@ doing f call reply = record f {
 }
 
 -- What becomes of the frame whose place is the count. It is applied where its update is told the reply of the frame, and done but divergent where it is told another, of other words. Else it was not done, and the state stays: `Spent` comes only where the count is the last, or so many updates were tried that no other can be.
-abbrev pub IsNextFrame : Frame → Followed → MessageTaken → Followed → Type 0
-IsNextFrame f old (Applied place) new = (place ≡ f.place) × (new ≡ doing old f.call f.reply)
-IsNextFrame f old (Diverged place ours theirs) new =
+abbrev pub TakesNextFrame : Frame → Followed → MessageTaken → Followed → Type 0
+TakesNextFrame f old (Applied place) new = (place ≡ f.place) × (new ≡ doing old f.call f.reply)
+TakesNextFrame f old (Diverged place ours theirs) new =
     (place ≡ f.place) × (theirs ≡ f.reply) × (reply_words ours ≢ reply_words theirs)
     × (new ≡ record (doing old f.call ours) { diverged = Some record { place = place; ours = ours; theirs = theirs } })
-IsNextFrame f old Spent new =
+TakesNextFrame f old Spent new =
     ((f.place ≡ LAST_COUNT) × (new ≡ failing old f.call updated.Spent))
     ⊎ ((LAST_COUNT ≤ length old.tried) × (new ≡ old))
-IsNextFrame f old Failed new = new ≡ failing old f.call updated.Failed
-IsNextFrame f old Doubt new = new ≡ failing old f.call updated.Doubt
-IsNextFrame f old other new = ⊥
+TakesNextFrame f old Failed new = new ≡ failing old f.call updated.Failed
+TakesNextFrame f old Doubt new = new ≡ failing old f.call updated.Doubt
+TakesNextFrame f old other new = ⊥
 
 -- What a frame does, by its place: below the count it is known, above it it is early, and both leave the follower as it was.
 pub record TakesFrame (f : Frame) (old : Followed) (answer : MessageTaken) (new : Followed) : Type 0 where
   pub known : f.place < old.count → (answer ≡ Known f.place) × (new ≡ old)
   pub early : old.count < f.place → (answer ≡ Early f.place old.count) × (new ≡ old)
-  pub next : f.place ≡ old.count → IsNextFrame f old answer new
+  pub next : f.place ≡ old.count → TakesNextFrame f old answer new
 
 -- What a message does. The first of these that holds counts: the heaps had parted, and the answer is the same again; it is no frame; it is one.
 pub record TakesMessage (message : List ℕ) (old : Followed) (answer : MessageTaken) (new : Followed) : Type 0 where

@@ -11,7 +11,7 @@ ghost use Rattle.rom_model.specs.Trio.{trio};
 ghost use Rattle.rom_model.specs.declared.entry.Entry.{Entry};
 ghost use Rattle.rom_combine.specs.Costs.{WithinHeap};
 ghost use Rattle.rom_combine.specs.Session.{ImageNow, SessionImage};
-ghost use Rattle.rom_rule.specs.CallKinds.{IsTold};
+ghost use Rattle.rom_rule.specs.CallKinds.{IsToldByPass};
 ghost use Rattle.rom_rule.specs.Views.{Told, base_of};
 ghost use Rattle.rom_store.specs.Callers.{IsNewCaller};
 ghost use Rattle.rom_store.specs.Closing.{HasLeftSince};
@@ -23,7 +23,7 @@ ghost use Rattle.rom_frame.specs.declared.frame.Frame.{Frame};
 ghost use Rattle.rom_follow.specs.Closing.{ArePassesOf};
 ghost use Rattle.rom_follow.specs.Followed.{HasDoneUpdates};
 ghost use Rattle.rom_follow.specs.Following.{AgreesBelow, FollowsHistory, HasWords, HoldsPrefix, MayArrive, state_after_first};
-ghost use Rattle.rom_follow.specs.Taking.{AreTaken, IsFrame, IsNextFrame, IsNoFrame, TakesFrame};
+ghost use Rattle.rom_follow.specs.Taking.{AreTaken, IsFrame, IsNoFrame, TakesFrame, TakesNextFrame};
 ghost use Rattle.rom_follow.specs.declared.taken.MessageTaken.TheVariants as taken;
 
 use crate::taken::{Divergence, MessageTaken};
@@ -128,7 +128,7 @@ impl<D: Device, N: Label> Follower<D, N> {
         // If an update was tried, one pass told what became of it. The record of that pass has the device's
         // count of faults before and after it.
         ensures told { (x : Told) → self.new.tried ≡ self.old.tried ++ x ∷ [] →
-            IsTold Contents (on_words trio) N.base x (length self.old.history) self.old.history
+            IsToldByPass Contents (on_words trio) N.base x (length self.old.history) self.old.history
             self.new.history }
         // What the follower has done is legal from the opening's state and count on, and ends at its count.
         ensures done { (s : State) (k : ℕ) → Contents N.base.order N.base.image s k →
@@ -169,7 +169,7 @@ impl<D: Device, N: Label> Follower<D, N> {
         requires agrees { self.old.diverged ≡ None }
         ensures gives { TakesFrame frame.now self.old result self.new }
         ensures told { (x : Told) → self.new.tried ≡ self.old.tried ++ x ∷ [] →
-            IsTold Contents (on_words trio) N.base x (length self.old.history) self.old.history
+            IsToldByPass Contents (on_words trio) N.base x (length self.old.history) self.old.history
             self.new.history }
         ensures done { (s : State) (k : ℕ) → Contents N.base.order N.base.image s k →
             HasDoneUpdates N.base.order s k self.old × HasDoneUpdates N.base.order s k self.new }
@@ -191,9 +191,9 @@ impl<D: Device, N: Label> Follower<D, N> {
     fn take_next<R: Wait, G: Gate>(&mut self, rt: &R, frame: &Frame, gate: &G) -> MessageTaken
         requires agrees { self.old.diverged ≡ None }
         requires next { frame.now.place ≡ self.old.count }
-        ensures next { IsNextFrame frame.now self.old result self.new }
+        ensures next { TakesNextFrame frame.now self.old result self.new }
         ensures told { (x : Told) → self.new.tried ≡ self.old.tried ++ x ∷ [] →
-            IsTold Contents (on_words trio) N.base x (length self.old.history) self.old.history
+            IsToldByPass Contents (on_words trio) N.base x (length self.old.history) self.old.history
             self.new.history }
         ensures done { (s : State) (k : ℕ) → Contents N.base.order N.base.image s k →
             HasDoneUpdates N.base.order s k self.old × HasDoneUpdates N.base.order s k self.new }

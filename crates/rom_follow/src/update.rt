@@ -7,7 +7,7 @@ ghost use Rattle.rom_model.specs.Region.{Contents};
 ghost use Rattle.rom_model.specs.State.{State};
 ghost use Rattle.rom_model.specs.Trio.{trio};
 ghost use Rattle.rom_model.specs.declared.call.Updated.TheVariants as updated;
-ghost use Rattle.rom_rule.specs.CallKinds.{IsTold};
+ghost use Rattle.rom_rule.specs.CallKinds.{IsToldByPass};
 ghost use Rattle.rom_follow.specs.Alone.{IsAlone, IsOutcome};
 ghost use Rattle.rom_follow.specs.Taking.{found_at};
 
@@ -45,7 +45,7 @@ pub(crate) fn update_alone<D: Device, N: Label, R: Wait, G: Gate>(
         pass.new.view.outcomes ≡ pass.old.view.outcomes
         ++ (found_at (length pass.old.view.outcomes) call.now, as_words trio result) ∷ [] }
     ensures told { length pass.old.view.outcomes < LAST_COUNT →
-        IsTold Contents (on_words trio) N.base
+        IsToldByPass Contents (on_words trio) N.base
         (found_at (length pass.old.view.outcomes) call.now, as_words trio result)
         (length pass.old.view.seen) pass.old.view.seen pass.new.view.seen }
     ensures outcome { length pass.old.view.outcomes < LAST_COUNT → (s : State) (k : ℕ) →

@@ -3,9 +3,9 @@ use Rattle.std.proofs.Common.{◌≡◌, ◌≢◌, inl, inr, ℕ, ◌+◌, ◌*
 use Rattle.rom_model.specs.Space.{ChangesOnly}
 use Rattle.rom_model.specs.Blocks.{IsOrder, region_len}
 use Rattle.rom_model.proofs.Changes.{changes_joins, changes_wider}
-use Rattle.rom_device.specs.Device.{ShownDevice, Does, Writes, WritesMany}
+use Rattle.rom_device.specs.Device.{ShownDevice, Does, WritesWord, WritesMany}
 use Rattle.rom_device.proofs.Going.{does_by, does_on}
-use Rattle.rom_header.specs.Fresh.{IsNew, NoneOrNew, UnreadAreZero, IsLaid}
+use Rattle.rom_header.specs.Fresh.{IsNewHeap, NoneOrNew, UnreadAreZero, IsLaid}
 use Rattle.rom_header.specs.Layout.{back_at, words_needed, MAGIC, MAIN}
 use Rattle.rom_header.proofs.Parts.{part_is}
 
@@ -24,7 +24,7 @@ laid order image x y z size first at_back second at_head version order_is idle u
 }
 
 -- the magic makes it a heap
-pub made : (order : ℕ) (m y : List ℕ) → IsLaid order m y → length m ≡ region_len order → words_needed order ≤ length y → IsOrder order → IsNew order m (set y 0 MAGIC)
+pub made : (order : ℕ) (m y : List ℕ) → IsLaid order m y → length m ≡ region_len order → words_needed order ≤ length y → IsOrder order → IsNewHeap order m (set y 0 MAGIC)
 made order m y laid long room fits =
     let w = set y 0 MAGIC in
     let size : length w ≡ length y = length-set y 0 MAGIC in
@@ -52,9 +52,9 @@ pub still_none : (order at n : ℕ) (m x y : List ℕ) → get_or x 0 0 ≢ MAGI
 still_none order at n m x y none late within = inl (λ e. none (sym (within.before 0 (omega arith)) ∙ e))
 
 -- and then there is the whole heap
-pub sealed : (order : ℕ) (m y i : List ℕ) → get_or y 0 0 ≢ MAGIC → IsLaid order m y → length m ≡ region_len order → words_needed order ≤ length y → IsOrder order → Writes 0 MAGIC y i → NoneOrNew order m i
+pub sealed : (order : ℕ) (m y i : List ℕ) → get_or y 0 0 ≢ MAGIC → IsLaid order m y → length m ≡ region_len order → words_needed order ≤ length y → IsOrder order → WritesWord 0 MAGIC y i → NoneOrNew order m i
 sealed order m y i none laid long room fits (inl same) = inl (subst (λ (l : List ℕ). get_or l 0 0 ≢ MAGIC) (sym same) none)
-sealed order m y i none laid long room fits (inr put) = inr (subst (λ (l : List ℕ). IsNew order m l) (sym put) (made order m y laid long room fits))
+sealed order m y i none laid long room fits (inr put) = inr (subst (λ (l : List ℕ). IsNewHeap order m l) (sym put) (made order m y laid long room fits))
 
 -- the runs of writes are one, in all words of a heap but its magic
 module _ {D : Type 0} (shown : ShownDevice D) (order main back : ℕ) (image : List ℕ) (at_main : main ≡ MAIN) (at_back : back ≡ back_at order) (long : length image ≡ region_len order)

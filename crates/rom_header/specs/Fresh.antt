@@ -11,7 +11,7 @@ abbrev pub UnreadAreZero : List ℕ → Type 0
 UnreadAreZero words = (slice_index words 4 ≡ 0) × (slice_index words 5 ≡ 0) × (slice_index words 6 ≡ 0) × (slice_index words 7 ≡ 0)
 
 -- The words are a heap of this order whose state is IDLE, with zeros in the words that nobody reads and this image in both regions.
-pub record IsNew (order : ℕ) (image words : List ℕ) : Type 0 where
+pub record IsNewHeap (order : ℕ) (image words : List ℕ) : Type 0 where
   pub heap : IsHeap order words
   pub idle : slice_index words STATE ≡ 0
   pub unread : UnreadAreZero words
@@ -20,11 +20,11 @@ pub record IsNew (order : ℕ) (image words : List ℕ) : Type 0 where
 
 -- no heap stands there, or the whole new one
 abbrev pub NoneOrNew : ℕ → List ℕ → List ℕ → Type 0
-NoneOrNew order image words = (slice_index words 0 ≢ MAGIC) ⊎ IsNew order image words
+NoneOrNew order image words = (slice_index words 0 ≢ MAGIC) ⊎ IsNewHeap order image words
 
 -- a heap stands there already, or there are too few words for one
-abbrev pub IsRefused : ℕ → List ℕ → Type 0
-IsRefused order words = (slice_index words 0 ≡ MAGIC) ⊎ (length words < words_needed order)
+abbrev pub IsFormatRefused : ℕ → List ℕ → Type 0
+IsFormatRefused order words = (slice_index words 0 ≡ MAGIC) ⊎ (length words < words_needed order)
 
 -- The answer to the making of a heap in these words: the refusals come in this order, and at `Ok` neither holds.
 abbrev pub IsFormatAnswer : ℕ → List ℕ → Result (Unit {0}) FormatRefused → Type 0

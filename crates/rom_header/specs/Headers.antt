@@ -20,17 +20,17 @@ abbrev pub IsIdle : List ℕ → Type 0
 IsIdle words = slice_index words STATE ≡ state_word Idle
 
 -- The answer is the header, or the first refusal whose test fails. A device that fails may answer so in place of either.
-abbrev pub IsAnswer : List ℕ → Result Header HeaderRefused → Type 0
-IsAnswer words (Ok header) = IsHeap header.geometry words × (slice_index words STATE ≡ state_word header.state)
-IsAnswer words (Err (TooSmall need have)) =
+abbrev pub IsHeaderAnswer : List ℕ → Result Header HeaderRefused → Type 0
+IsHeaderAnswer words (Ok header) = IsHeap header.geometry words × (slice_index words STATE ≡ state_word header.state)
+IsHeaderAnswer words (Err (TooSmall need have)) =
     (have ≡ length words) × (((need ≡ 8) × (have < 8)) ⊎ ((8 ≤ have) × HasOrder words (slice_index words 2) × (need ≡ words_needed (slice_index words 2)) × (have < need)))
-IsAnswer words (Err NotAHeap) = (8 ≤ length words) × (slice_index words 0 ≢ MAGIC)
-IsAnswer words (Err (BadVersion version)) = (8 ≤ length words) × (slice_index words 0 ≡ MAGIC) × (version ≡ slice_index words 1) × (version ≢ 1)
-IsAnswer words (Err (BadOrder order)) =
+IsHeaderAnswer words (Err NotAHeap) = (8 ≤ length words) × (slice_index words 0 ≢ MAGIC)
+IsHeaderAnswer words (Err (BadVersion version)) = (8 ≤ length words) × (slice_index words 0 ≡ MAGIC) × (version ≡ slice_index words 1) × (version ≢ 1)
+IsHeaderAnswer words (Err (BadOrder order)) =
     (8 ≤ length words) × (slice_index words 0 ≡ MAGIC) × (slice_index words 1 ≡ 1) × (order ≡ slice_index words 2) × ((order < 4) ⊎ (16 < order))
-IsAnswer words (Err (BadState state)) =
+IsHeaderAnswer words (Err (BadState state)) =
     HasOrder words (slice_index words 2) × (words_needed (slice_index words 2) ≤ length words) × (state ≡ slice_index words STATE) × (2 < state)
-IsAnswer words (Err Device) = Unit {0}
+IsHeaderAnswer words (Err Device) = Unit {0}
 
 -- so many words are those of a header, or of a heap of some order that there is
 abbrev pub IsNeed : ℕ → Type 0

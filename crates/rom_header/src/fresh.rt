@@ -5,7 +5,7 @@ ghost use Rattle.rom_model.specs.Blocks.{IsOrder, region_len};
 ghost use Rattle.rom_model.specs.Space.{ChangesOnly};
 ghost use Rattle.rom_device.specs.Device.{Does, IsSynced, Leaves, Makes, Stays};
 ghost use Rattle.rom_header.specs.Calls.{format_fault, format_reads, format_writes, format_syncs};
-ghost use Rattle.rom_header.specs.Fresh.{IsNew, NoneOrNew, IsRefused, IsFormatAnswer, HasTooFewFor, IsLaid};
+ghost use Rattle.rom_header.specs.Fresh.{IsNewHeap, NoneOrNew, IsFormatRefused, IsFormatAnswer, HasTooFewFor, IsLaid};
 ghost use Rattle.rom_header.specs.Layout.{words_needed, MAGIC};
 ghost use Rattle.rom_header.specs.Writing.{Alters};
 
@@ -68,7 +68,7 @@ fn build<D: Device>(device: &mut D, geometry: Geometry, image: &[u64]) -> Result
     requires none { IsTrue D.shown.tells_words → slice_index (D.shown.words device.old) 0 ≢ MAGIC }
     requires certain { IsSynced D.shown device.old }
     ensures made { IsTrue D.shown.tells_words →
-        OnOk result (IsNew geometry image.now (D.shown.words device.new)) }
+        OnOk result (IsNewHeap geometry image.now (D.shown.words device.new)) }
     ensures certain { OnOk result (IsSynced D.shown device.new) }
     ensures alters { Alters D.shown (ChangesOnly 0 (words_needed geometry)) device.old device.new }
     ensures images { IsTrue D.shown.tells_images →
@@ -113,7 +113,7 @@ pub fn write_new<D: Device>(device: &mut D, order: u32, image: &[u64]) -> Result
     // Where the device tells its words: after `Ok` a heap whose state is IDLE stands there, with the image in
     // both regions.
     ensures made { IsTrue D.shown.tells_words →
-        OnOk result (IsNew order image.now (D.shown.words device.new)) }
+        OnOk result (IsNewHeap order image.now (D.shown.words device.new)) }
     // Where images are told, a stop after `Ok` leaves the words as they read.
     ensures certain { OnOk result (IsSynced D.shown device.new) }
     // The size stays. Where the device tells its words, none behind those of the heap differs.
@@ -125,7 +125,7 @@ pub fn write_new<D: Device>(device: &mut D, order: u32, image: &[u64]) -> Result
         Leaves D.shown (NoneOrNew order image.now) device.old device.new }
     // Where the device tells its words, and has a heap already or too few words for one, no word changes.
     ensures refused { IsTrue D.shown.tells_words →
-        IsRefused order (D.shown.words device.old) → Does D.shown Stays device.old device.new }
+        IsFormatRefused order (D.shown.words device.old) → Does D.shown Stays device.old device.new }
 
     // No call follows one that failed, and the counts are exact unless one did.
     ensures makes { Makes D.shown (format_reads result) (format_writes order result)

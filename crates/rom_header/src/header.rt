@@ -2,7 +2,7 @@
 ghost use Rattle.std.specs.Prelude.{◌≡◌, ◌<◌, ◌≤◌, IsTrue, IfOk, IfErr, IfSome, IfNone};
 ghost use Rattle.rom_device.specs.Device.{Makes, OnlyReads};
 ghost use Rattle.rom_header.specs.Calls.{header_fault, header_reads};
-ghost use Rattle.rom_header.specs.Headers.{IsAnswer, IsOrderAnswer, HasTooFew};
+ghost use Rattle.rom_header.specs.Headers.{IsHeaderAnswer, IsOrderAnswer, HasTooFew};
 ghost use Rattle.rom_header.specs.Layout.{words_needed};
 
 use crate::geometry::Geometry;
@@ -119,7 +119,7 @@ fn read_order<D: Device>(device: &mut D) -> Result<Geometry, HeaderRefused>
 /// and no sync, and reads no word behind one that it refuses.
 pub fn read_header<D: Device>(device: &mut D) -> Result<Header, HeaderRefused>
     // Where the device tells its words, the answer is exactly theirs.
-    ensures answer { IsTrue D.shown.tells_words → IsAnswer (D.shown.words device.old) result }
+    ensures answer { IsTrue D.shown.tells_words → IsHeaderAnswer (D.shown.words device.old) result }
     ensures fits { IfOk result (λ header. words_needed header.geometry ≤ D.shown.size device.old) }
     // A device of fewer than 8 words is too small for a header, whether or not it tells its words.
     ensures too_small { D.shown.size device.old < 8 →

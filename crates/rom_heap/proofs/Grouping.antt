@@ -13,7 +13,7 @@ use Rattle.rom_model.specs.declared.call.Single.{Single}
 use Rattle.rom_model.specs.declared.call.Single.TheVariants.{Put, Del}
 use Rattle.rom_model.specs.declared.call.SingleReply.{SingleReply}
 use Rattle.rom_model.specs.declared.call.SingleReply.TheVariants as reply
-use Rattle.rom_heap.specs.Updates.{most_stores, most_of_all, Does, DoesAll}
+use Rattle.rom_heap.specs.Updates.{most_stores, most_of_all, DoesUpdate, DoesUpdates}
 use Rattle.rom_heap.proofs.Fitting.{state_append}
 
 -- one update stores no more than this
@@ -44,13 +44,13 @@ replies_append n j [] ys s = refl
 replies_append n j (c ∷ xs) ys s = ap (λ rs. (one n s j c).1 ∷ rs) (replies_append n j xs ys (one n s j c).0)
 
 module _ {M : Type 0} {shown : ShownSpace M} where
-  pub does_none : {n : ℕ} {space : M} → DoesAll shown n [] [] space space
+  pub does_none : {n : ℕ} {space : M} → DoesUpdates shown n [] [] space space
   does_none = record {
     steps_are = λ s j held. (refl, held);
     stores = record { loads_later = λ told. omega arith; stores_later = λ told. omega arith; most_stores = λ told. omega arith; limit = refl; rest = refl };
   }
 
-  pub does_more : (n : ℕ) (calls : List Single) (told : List SingleReply) (c : Single) (r : SingleReply) {old mid new : M} → length told ≡ length calls → DoesAll shown n calls told old mid → Does shown n c r mid new → DoesAll shown n (calls ++ c ∷ []) (told ++ r ∷ []) old new
+  pub does_more : (n : ℕ) (calls : List Single) (told : List SingleReply) (c : Single) (r : SingleReply) {old mid new : M} → length told ≡ length calls → DoesUpdates shown n calls told old mid → DoesUpdate shown n c r mid new → DoesUpdates shown n (calls ++ c ∷ []) (told ++ r ∷ []) old new
   does_more n calls told c r {new = new} long all last =
       let many = most_append n calls told c r long in
       record {

@@ -7,7 +7,7 @@ use Rattle.rom_model.specs.Blocks.{block_of, region_len}
 use Rattle.rom_model.specs.Chains.{times, Chain}
 use Rattle.rom_model.specs.Region.{buckets}
 use Rattle.rom_model.proofs.Times.{times_here, times_more}
-use Rattle.rom_heap.specs.Node.{head_of, AreAt, ChangesLinks}
+use Rattle.rom_heap.specs.Node.{head_of, BeginAtBlocks, ChangesLinks}
 use Rattle.rom_heap.specs.declared.renew.node.Node.{Node}
 use Rattle.rom_heap.proofs.Heads.{head_within, head_apart}
 
@@ -83,7 +83,7 @@ node_at n (x ∷ xs) (b ∷ bs) e (suc k) d lt =
     let y = node_at n xs bs rest k d (omega (arith, lt)) in
     (y.0, omega (arith, y.1, times_more y.0 b bs), y.2)
 
-module _ {n : ℕ} {nodes : List Node} {blocks : List ℕ} (are : AreAt n nodes blocks) where
+module _ {n : ℕ} {nodes : List Node} {blocks : List ℕ} (are : BeginAtBlocks n nodes blocks) where
   pub node_within : (k : ℕ) (d : Node) → k < length nodes → (get_or nodes k d).at + 4 ≤ region_len n
   node_within k d lt = let x = node_at n nodes blocks are.begin k d lt in omega (arith, x.2, are.blocks_are.are.within x.0 x.1)
 

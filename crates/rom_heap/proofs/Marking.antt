@@ -12,7 +12,7 @@ use Rattle.rom_model.proofs.Counting.{at_most}
 use Rattle.rom_model.proofs.Members.{taken_leaf, taking_member, quarter_pow}
 use Rattle.rom_heap.specs.declared.inspect.walk.Walk.{Walk}
 use Rattle.rom_heap.specs.declared.inspect.walk.Walk.TheVariants as along
-use Rattle.rom_heap.specs.Walks.{next_link, Reaches, AreApart, AreMarks, IsWalk}
+use Rattle.rom_heap.specs.Walks.{next_link, Reaches, AreDistinctBlocks, AreMarks, IsWalk}
 
 -- a unit outside of the table has a node of its own
 pub leaf_high : (n b : ℕ) → 4 ≤ n → 2 ^ (n - 4) ≤ b → 16 < 2 ^ n + b
@@ -85,7 +85,7 @@ link_inside n w (along.Bucket i) seen (b ∷ bs) le is f = omega (arith, f.1.mos
 link_inside n w (along.OldBucket i) seen (b ∷ bs) le is f = omega (arith, f.1.most)
 
 -- blocks that are apart are no more than the region has
-pub few : (n : ℕ) (bs seen : List ℕ) → AreApart n (bs ++ seen) → length bs ≤ 2 ^ n
+pub few : (n : ℕ) (bs seen : List ℕ) → AreDistinctBlocks n (bs ++ seen) → length bs ≤ 2 ^ n
 few n bs seen apart =
     let all : length (bs ++ seen) ≤ 2 ^ n = at_most 0 (2 ^ n) (bs ++ seen) apart.different (λ b some. let at = apart.within b some in (omega arith, omega (arith, at.1))) in
     omega (arith, all, length-append bs seen)

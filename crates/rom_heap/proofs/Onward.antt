@@ -11,7 +11,7 @@ use Rattle.rom_heap.specs.declared.inspect.walk.Walk.{Walk}
 use Rattle.rom_heap.specs.declared.inspect.walk.Walk.TheVariants as along
 use Rattle.rom_model.specs.Tests.{checked}
 use Rattle.rom_heap.specs.Tests.{newest}
-use Rattle.rom_heap.specs.Walks.{key_of, is_above, first_link, next_word, next_link, node_tests, Reaches, AreApart}
+use Rattle.rom_heap.specs.Walks.{key_of, is_above, first_link, next_word, next_link, node_tests, Reaches, AreDistinctBlocks}
 use Rattle.rom_heap.proofs.Holding.{queue_pads, set_pads, old_pad, old_own, old_once, bucket_own, bucket_stamp}
 
 -- these, of which the last comes first, in their order before others
@@ -58,7 +58,7 @@ module _ (n : ℕ) (w : List ℕ) (walk : Walk) (seen : List ℕ) where
     | inr other ↦ held bs c f.0 (omega (arith, some, times_away c b bs other))
   ]
 
-  pub apart_onward : (bs : List ℕ) → Reaches n w walk seen bs → AreApart n seen → AreApart n (bs ++ seen)
+  pub apart_onward : (bs : List ℕ) → Reaches n w walk seen bs → AreDistinctBlocks n seen → AreDistinctBlocks n (bs ++ seen)
   apart_onward [] f apart = apart
   apart_onward (b ∷ bs) f apart =
       let before = apart_onward bs f.0 apart in

@@ -13,7 +13,7 @@ use Rattle.rom_heap.specs.Tests.{root_tests, queue_tests, set_tests, map_tests}
 use Rattle.rom_heap.specs.Walks.{bucket_walk, LeadsTo, next_link, node_tests, Reaches, Breaks, Walks}
 use Rattle.rom_model.specs.Parts.{Then}
 use Rattle.rom_model.proofs.Outcomes.{IsSingle, one_err, not_both, one_value, then_single}
-use Rattle.rom_heap.specs.Parts.{Root, Queue, Set, OneByOne, Map, Tree, Structures, Inspection}
+use Rattle.rom_heap.specs.Parts.{Root, Queue, Set, OneByOne, Map, AllocatorTree, Structures, Inspection}
 
 module _ (n : ℕ) (w : List ℕ) (walk : Walk) (seen : List ℕ) where
   one_block : (bs : List ℕ) (b c : ℕ) → LeadsTo n w (bs ++ seen) (next_link n walk bs) b → LeadsTo n w (bs ++ seen) (next_link n walk bs) c → b ≡ c
@@ -111,7 +111,7 @@ module _ (v : Version) (n : ℕ) (w : List ℕ) where
     ]
   ]
 
-  tree_single : (seen : List ℕ) → IsSingle (Tree n w seen)
+  tree_single : (seen : List ℕ) → IsSingle (AllocatorTree n w seen)
   tree_single seen (Ok x) (Ok y) f g = ap (λ (xs : List ℕ). Ok xs) (f.0 ∙ sym g.0)
   tree_single seen (Ok x) (Err e) f g = absurd (g.1.differs (f.1 g.1.depth g.1.order g.1.node g.1.deep g.1.is_node))
   tree_single seen (Err e) (Ok x) f g = absurd (f.1.differs (g.1 f.1.depth f.1.order f.1.node f.1.deep f.1.is_node))
@@ -127,4 +127,4 @@ module _ (v : Version) (n : ℕ) (w : List ℕ) where
       then_single (Set n w seen) (λ seen. Map v n w seen) (set_single seen) map_single))
 
   pub inspection_single : IsSingle (Inspection v n w)
-  inspection_single = then_single (Structures v n w) (λ seen. Tree n w seen) structures_single tree_single
+  inspection_single = then_single (Structures v n w) (λ seen. AllocatorTree n w seen) structures_single tree_single

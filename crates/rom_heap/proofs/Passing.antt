@@ -10,7 +10,7 @@ use Rattle.rom_model.specs.Tests.{Test, tested, checked}
 use Rattle.rom_heap.specs.Tests.{root_tests, queue_tests, set_tests, map_tests}
 use Rattle.rom_heap.specs.Walks.{bucket_walk, Walks}
 use Rattle.rom_model.specs.Parts.{Then}
-use Rattle.rom_heap.specs.Parts.{Queue, Set, OneByOne, Map, Tree, Inspection}
+use Rattle.rom_heap.specs.Parts.{Queue, Set, OneByOne, Map, AllocatorTree, Inspection}
 use Rattle.rom_model.proofs.InTurn.{passed, passing}
 
 -- the blocks of the queue, of the set and of the map, of each the last first
@@ -45,7 +45,7 @@ module _ (v : Version) (n : ℕ) (w : List ℕ) where
       record { blocks = is.0; walk = is.1; ends = p.all; same = p.same }
 
   after_set : (q s seen found : List ℕ) → checked (root_tests v n w) ≡ Ok tt → Walks n w along.Queue [] (Ok q) → checked (queue_tests n w q) ≡ Ok tt → Walks n w along.Set (q ++ []) (Ok s) → checked (set_tests w s) ≡ Ok tt
-      → Map v n w (s ++ (q ++ [])) (Ok seen) → Tree n w seen (Ok found) → Found v n w found
+      → Map v n w (s ++ (q ++ [])) (Ok seen) → AllocatorTree n w seen (Ok found) → Found v n w found
   after_set q s seen found root queue queue_ends set set_ends map tree =
       let m = walked (OneByOne n w (bucket_walk v) (s ++ (q ++ [])) (buckets n)) (map_tests w) (s ++ (q ++ [])) seen map in
       record {
@@ -57,12 +57,12 @@ module _ (v : Version) (n : ℕ) (w : List ℕ) where
       }
 
   after_queue : (q seen found : List ℕ) → checked (root_tests v n w) ≡ Ok tt → Walks n w along.Queue [] (Ok q) → checked (queue_tests n w q) ≡ Ok tt
-      → Then (Set n w (q ++ [])) (λ seen. Map v n w seen) (Ok seen) → Tree n w seen (Ok found) → Found v n w found
+      → Then (Set n w (q ++ [])) (λ seen. Map v n w seen) (Ok seen) → AllocatorTree n w seen (Ok found) → Found v n w found
   after_queue q seen found root queue queue_ends rest tree =
       let s = walked (Walks n w along.Set (q ++ [])) (set_tests w) (q ++ []) rest.0 rest.1 in
       after_set q s.blocks seen found root queue queue_ends s.walk s.ends (subst (λ (xs : List ℕ). Map v n w xs (Ok seen)) s.same rest.2) tree
 
-  after_root : (seen found : List ℕ) → checked (root_tests v n w) ≡ Ok tt → Then (Queue n w []) (λ seen. Then (Set n w seen) (λ seen. Map v n w seen)) (Ok seen) → Tree n w seen (Ok found) → Found v n w found
+  after_root : (seen found : List ℕ) → checked (root_tests v n w) ≡ Ok tt → Then (Queue n w []) (λ seen. Then (Set n w seen) (λ seen. Map v n w seen)) (Ok seen) → AllocatorTree n w seen (Ok found) → Found v n w found
   after_root seen found root rest tree =
       let q = walked (Walks n w along.Queue []) (queue_tests n w) [] rest.0 rest.1 in
       after_queue q.blocks seen found root q.walk q.ends (subst (λ (xs : List ℕ). Then (Set n w xs) (λ seen. Map v n w seen) (Ok seen)) q.same rest.2) tree
@@ -82,5 +82,5 @@ module _ (v : Version) (n : ℕ) (w : List ℕ) where
       let map : Map v n w b (Ok c) = (m, p.map, sym (passing (map_tests w m) c p.map_ends)) in
       let set : Set n w a (Ok b) = (s, p.set, sym (passing (set_tests w s) b p.set_ends)) in
       let queue : Queue n w [] (Ok a) = (q, p.queue, sym (passing (queue_tests n w q) a p.queue_ends)) in
-      let tree : Tree n w c (Ok c) = (refl, p.tree) in
+      let tree : AllocatorTree n w c (Ok c) = (refl, p.tree) in
       (c, ([], sym (passing (root_tests v n w) [] p.root), (a, queue, (b, set, map))), tree)

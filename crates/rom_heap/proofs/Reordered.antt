@@ -7,7 +7,7 @@ use Rattle.rom_model.specs.Blocks.{block_of}
 use Rattle.rom_model.specs.Chains.{times, Chain, each_word}
 use Rattle.rom_model.specs.Rising.{IsRising}
 use Rattle.rom_model.proofs.Frames.{each_same}
-use Rattle.rom_heap.specs.Node.{head_of, nodes_of, IsOldBucket, AreAt, ChangesLinks}
+use Rattle.rom_heap.specs.Node.{head_of, nodes_of, IsOldBucket, BeginAtBlocks, ChangesLinks}
 use Rattle.rom_heap.specs.Renewed.{IsSortedBucket}
 use Rattle.rom_heap.specs.declared.renew.node.Node.{Node}
 use Rattle.rom_heap.proofs.Heads.{head_apart}
@@ -31,7 +31,7 @@ module _ {n i : ℕ} {w blocks : List ℕ} (is : IsOldBucket n i w blocks) {node
   times_order : (b : ℕ) → times b sorted_blocks ≡ times b blocks
   times_order b = times_permuted b blocks sorted_blocks new_order.same
 
-  pub at_order : AreAt n nodes sorted_blocks
+  pub at_order : BeginAtBlocks n nodes sorted_blocks
   at_order = record {
     begin = ap (map (λ (node : Node). node.at)) new_order.nodes_are ∙ begins n w sorted_blocks;
     blocks_are = record {

@@ -17,7 +17,7 @@ use Rattle.rom_model.proofs.Recounted.{recounted_contents}
 use Rattle.rom_queue.specs.Queue.{with_queue, with_last}
 use Rattle.rom_set.specs.Set.{with_members}
 use Rattle.rom_map.specs.Map.{with_pairs}
-use Rattle.rom_heap.specs.Updates.{HasStamp, Does, most_stores}
+use Rattle.rom_heap.specs.Updates.{HasStamp, DoesUpdate, most_stores}
 
 -- a number is not below itself
 not_below : (n : ℕ) (b : Bool) → nat_lt n n ≡ b → b ≡ false
@@ -94,7 +94,7 @@ module _ {n : ℕ} {new : List ℕ} {k : ℕ} where
 
 -- an update that changes nothing
 module _ {M : Type 0} {shown : ShownSpace M} {n : ℕ} {call : Single} {told : SingleReply} {old new : M} where
-  pub stays : {loads : ℕ} → ((s : State) (j : ℕ) → Contents n (shown.image old) s (j + 1) → one n s j call ≡ (s, told)) → most_stores n call told ≡ 0 → Looks shown loads old new → Does shown n call told old new
+  pub stays : {loads : ℕ} → ((s : State) (j : ℕ) → Contents n (shown.image old) s (j + 1) → one n s j call ≡ (s, told)) → most_stores n call told ≡ 0 → Looks shown loads old new → DoesUpdate shown n call told old new
   stays is none looks = record {
     step_is = λ s j held. by_step (one n s j call) s told (is s j held) (subst (λ w. Contents n w s (j + 1)) (sym looks.image) held);
     stores = stores_most (most_stores n call told) (omega (arith, none)) looks.costs;
@@ -102,7 +102,7 @@ module _ {M : Type 0} {shown : ShownSpace M} {n : ℕ} {call : Single} {told : S
 
   -- an update that changes something
   pub changes : {loads stores : ℕ} (after : State → State) → ((s : State) (j : ℕ) → Contents n (shown.image old) s (j + 1) → one n s j call ≡ (after s, told)) →
-      ((s : State) (k : ℕ) → Contents n (shown.image old) s k → Contents n (shown.image new) (after s) k) → stores ≤ most_stores n call told → Costs shown loads stores old new → Does shown n call told old new
+      ((s : State) (k : ℕ) → Contents n (shown.image old) s k → Contents n (shown.image new) (after s) k) → stores ≤ most_stores n call told → Costs shown loads stores old new → DoesUpdate shown n call told old new
   changes after is contents few costs = record {
     step_is = λ s j held. by_step (one n s j call) (after s) told (is s j held) (contents s (j + 1) held);
     stores = stores_most (most_stores n call told) few costs;

@@ -22,7 +22,7 @@ use Rattle.rom_heap.specs.declared.inspect.walk.Walk.{Walk}
 use Rattle.rom_heap.specs.declared.inspect.walk.Walk.TheVariants as along
 use Rattle.rom_model.specs.Tests.{checked, test, is_word, are_zero}
 use Rattle.rom_heap.specs.Tests.{number_of, newest, root_tests}
-use Rattle.rom_heap.specs.Walks.{bucket_walk, key_of, next_link, Reaches, AreApart}
+use Rattle.rom_heap.specs.Walks.{bucket_walk, key_of, next_link, Reaches, AreDistinctBlocks}
 use Rattle.rom_heap.specs.Parts.{OneByOne}
 use Rattle.rom_heap.specs.Answers.{IsFit}
 use Rattle.rom_model.proofs.Outcomes.{one_ok}
@@ -109,14 +109,14 @@ module _ (n : ℕ) (w : List ℕ) (walks : ℕ → Walk) (seen : List ℕ) where
         long = omega (arith, ap (λ (xs : List ℕ). length xs) all, length-append (all_of old.blocks k) (onward bs []), old.long, length_onward bs [], length-append bs before, ap (λ (xs : List ℕ). length xs) whole);
       }
 
-  pub all_apart : (k : ℕ) (m : List ℕ) → OneByOne n w walks seen k (Ok m) → AreApart n seen → AreApart n (m ++ seen)
-  all_apart zero m is apart = subst (λ (xs : List ℕ). AreApart n (xs ++ seen)) (sym (one_ok m [] is)) apart
+  pub all_apart : (k : ℕ) (m : List ℕ) → OneByOne n w walks seen k (Ok m) → AreDistinctBlocks n seen → AreDistinctBlocks n (m ++ seen)
+  all_apart zero m is apart = subst (λ (xs : List ℕ). AreDistinctBlocks n (xs ++ seen)) (sym (one_ok m [] is)) apart
   all_apart (suc k) m is apart =
       let before = is.0 in
       let bs = is.2.0 in
       let whole : m ≡ bs ++ before = one_ok m (bs ++ before) is.2.2 in
       let more = apart_onward n w (walks k) (before ++ seen) bs is.2.1.0 (all_apart k before is.1 apart) in
-      subst (λ (xs : List ℕ). AreApart n (xs ++ seen)) (sym whole) (subst (λ (xs : List ℕ). AreApart n xs) (sym (append_assoc bs before seen)) more)
+      subst (λ (xs : List ℕ). AreDistinctBlocks n (xs ++ seen)) (sym whole) (subst (λ (xs : List ℕ). AreDistinctBlocks n xs) (sym (append_assoc bs before seen)) more)
 
 below_none : (n : ℕ) (w bs : List ℕ) → IsBelow n w bs []
 below_none n w [] = tt
@@ -147,7 +147,7 @@ module _ (n : ℕ) (w : List ℕ) (i : ℕ) (blocks : List ℕ) where
   bucket_stamps : IsWalked n w (along.Bucket i) blocks → (c : ℕ) → 0 < times c blocks → slice_index w (block_of n c + 3) ≤ slice_index w 2
   bucket_stamps is c some = stamps_within n w is.seen is.reached i is.reaches c (in_order c blocks is.reached is.order some)
 
-pub none_apart : (n : ℕ) → AreApart n []
+pub none_apart : (n : ℕ) → AreDistinctBlocks n []
 none_apart n = record { different = λ b. omega arith; within = λ b some. absurd (omega (arith, some)) }
 
 -- the same blocks are taken
@@ -188,7 +188,7 @@ module _ (v : Version) (n : ℕ) (w q s m : List ℕ) (long : length w ≡ regio
   abbrev found : Chains
   found = record { queue = onward q []; set = onward s []; bucket = walked.blocks }
 
-  apart : AreApart n (m ++ (s ++ (q ++ [])))
+  apart : AreDistinctBlocks n (m ++ (s ++ (q ++ [])))
   apart = all_apart n w (bucket_walk v) (s ++ (q ++ [])) (buckets n) m p.map (apart_onward n w along.Set (q ++ []) s p.set.0 (apart_onward n w along.Queue [] q p.queue.0 (none_apart n)))
 
   counted : (c : ℕ) → times c (element_blocks n found) ≡ times c (m ++ (s ++ (q ++ [])))

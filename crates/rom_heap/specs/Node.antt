@@ -27,7 +27,7 @@ pub record IsOldBucket (n i : ℕ) (words blocks : List ℕ) : Type 0 where
   pub keys_differ : (key : ℕ) → times key (each_word n words 0 blocks) ≤ 1
 
 -- the nodes begin where these blocks do
-pub record AreAt (n : ℕ) (nodes : List Node) (blocks : List ℕ) : Type 0 where
+pub record BeginAtBlocks (n : ℕ) (nodes : List Node) (blocks : List ℕ) : Type 0 where
   pub begin : map (λ node. node.at) nodes ≡ map (block_of n) blocks
   pub blocks_are : AreBehind n blocks
 

@@ -36,9 +36,9 @@ abbrev pub Map : Version → ℕ → List ℕ → List ℕ → Result (List ℕ)
 Map v n words seen = Then (OneByOne n words (bucket_walk v) seen (buckets n)) (λ blocks r. r ≡ tested (map_tests words blocks) (blocks ++ seen))
 
 -- the words of the allocator's tree, of which taken are the bucket table and the blocks that were reached
-abbrev pub Tree : ℕ → List ℕ → List ℕ → Result (List ℕ) Break → Type 0
-Tree n words seen (Ok found) = (found ≡ seen) × AreWords n (taken_by n seen) words
-Tree n words seen (Err e) = (e.rule ≡ rule.Tree) × DiffersFirst n (taken_by n seen) words e.offset
+abbrev pub AllocatorTree : ℕ → List ℕ → List ℕ → Result (List ℕ) Break → Type 0
+AllocatorTree n words seen (Ok found) = (found ≡ seen) × AreWords n (taken_by n seen) words
+AllocatorTree n words seen (Err e) = (e.rule ≡ rule.Tree) × DiffersFirst n (taken_by n seen) words e.offset
 
 -- the root words, and then the structures
 abbrev pub Structures : Version → ℕ → List ℕ → Result (List ℕ) Break → Type 0
@@ -46,7 +46,7 @@ Structures v n words = Then (Root v n words) (λ none. Then (Queue n words none)
 
 -- All parts: the root words, the queue, the set, the map and the tree.
 abbrev pub Inspection : Version → ℕ → List ℕ → Result (List ℕ) Break → Type 0
-Inspection v n words = Then (Structures v n words) (λ seen. Tree n words seen)
+Inspection v n words = Then (Structures v n words) (λ seen. AllocatorTree n words seen)
 
 -- The first test of the inspection that does not hold.
 abbrev pub FirstBreak : Version → ℕ → List ℕ → Break → Type 0

@@ -53,12 +53,12 @@ pub record HasStamp (n : ℕ) (words : List ℕ) (stamp : ℕ) : Type 0 where
   pub stamp_is : stamp ≡ place + 1
 
 -- What an update of one structure does that is counted already: the reply and the state are those of it at its place, and so many stores are made at most.
-pub record Does {M : Type 0} (shown : ShownSpace M) (n : ℕ) (call : Single) (told : SingleReply) (old new : M) : Type 0 where
+pub record DoesUpdate {M : Type 0} (shown : ShownSpace M) (n : ℕ) (call : Single) (told : SingleReply) (old new : M) : Type 0 where
   pub step_is : (s : State) (j : ℕ) → Contents n (shown.image old) s (j + 1) → let after = one n s j call in (told ≡ after.1) × Contents n (shown.image new) after.0 (j + 1)
   pub stores : Stores shown (most_stores n call told) old new
 
 -- So of several that are taken in order, all of them at one place.
-pub record DoesAll {M : Type 0} (shown : ShownSpace M) (n : ℕ) (calls : List Single) (told : List SingleReply) (old new : M) : Type 0 where
+pub record DoesUpdates {M : Type 0} (shown : ShownSpace M) (n : ℕ) (calls : List Single) (told : List SingleReply) (old new : M) : Type 0 where
   pub steps_are : (s : State) (j : ℕ) → Contents n (shown.image old) s (j + 1) → (told ≡ replies_to n s j calls) × Contents n (shown.image new) (state_after n s j calls) (j + 1)
   pub stores : Stores shown (most_of_all n calls told) old new
 

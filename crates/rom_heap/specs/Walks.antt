@@ -84,14 +84,14 @@ pub record IsAstray (n : ℕ) (words : List ℕ) (walk : Walk) (seen before : Li
   pub here : e ≡ record { offset = next_link n walk before; rule = Link }
 
 -- Behind these blocks comes a node of which a test does not hold. The break is the first such test's.
-pub record IsRefused (n : ℕ) (words : List ℕ) (walk : Walk) (seen before : List ℕ) (e : Break) : Type 0 where
+pub record IsNodeRefused (n : ℕ) (words : List ℕ) (walk : Walk) (seen before : List ℕ) (e : Break) : Type 0 where
   pub block : ℕ
   pub leads : LeadsTo n words (before ++ seen) (next_link n walk before) block
   pub here : checked (node_tests n words walk before block) ≡ Err e
 
 -- the walk breaks behind these blocks
 abbrev pub Breaks : ℕ → List ℕ → Walk → List ℕ → List ℕ → Break → Type 0
-Breaks n words walk seen before e = IsAstray n words walk seen before e ⊎ IsRefused n words walk seen before e
+Breaks n words walk seen before e = IsAstray n words walk seen before e ⊎ IsNodeRefused n words walk seen before e
 
 -- What a walk comes to: all blocks of the chain, whose last link is 0, or its first break.
 abbrev pub Walks : ℕ → List ℕ → Walk → List ℕ → Result (List ℕ) Break → Type 0
@@ -99,7 +99,7 @@ Walks n words walk seen (Ok blocks) = Reaches n words walk seen blocks × (slice
 Walks n words walk seen (Err e) = (before : List ℕ) × Reaches n words walk seen before × Breaks n words walk seen before e
 
 -- different blocks of the region, none of the bucket table
-pub record AreApart (n : ℕ) (blocks : List ℕ) : Type 0 where
+pub record AreDistinctBlocks (n : ℕ) (blocks : List ℕ) : Type 0 where
   pub different : (b : ℕ) → times b blocks ≤ 1
   pub within : (b : ℕ) → 0 < times b blocks → (2 ^ (n - 4) ≤ b) × (b < 2 ^ n)
 
@@ -107,7 +107,7 @@ pub record AreApart (n : ℕ) (blocks : List ℕ) : Type 0 where
 pub record AreMarks (n : ℕ) (blocks : List ℕ) (marks : List Bool) : Type 0 where
   pub as_long : length marks ≡ 2 * 2 ^ n
   pub marked : IsMarked (taken_by n blocks) marks
-  pub apart : AreApart n blocks
+  pub apart : AreDistinctBlocks n blocks
 
 -- the marks are those of some blocks
 abbrev pub AreSomeMarks : ℕ → List Bool → Type 0
@@ -133,7 +133,7 @@ pub record IsOnWalk (n : ℕ) (words : List ℕ) (walk : Walk) (seen blocks : Li
   pub marked : AreMarks n (blocks ++ seen) marks
 
 -- what code answers of a link, and how it leaves the marks: the block that the link leads to is marked
-pub record Follows (n : ℕ) (words seen : List ℕ) (link node : ℕ) (marks : List Bool) : Type 0 where
+pub record FollowsLink (n : ℕ) (words seen : List ℕ) (link node : ℕ) (marks : List Bool) : Type 0 where
   pub block : ℕ
   pub leads : LeadsTo n words seen link block
   pub here : node ≡ block_of n block

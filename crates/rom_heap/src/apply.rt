@@ -10,7 +10,7 @@ ghost use Rattle.rom_model.specs.History.{LAST_COUNT};
 ghost use Rattle.rom_model.specs.Blocks.{IsOrder};
 ghost use Rattle.rom_model.specs.Region.{IsWellFormed, Contents};
 ghost use Rattle.rom_model.specs.declared.call.Single.TheVariants as call;
-ghost use Rattle.rom_heap.specs.Updates.{HasStamp, Does, DoesAll, DoesNext, DoesWords, most_stores, most_of};
+ghost use Rattle.rom_heap.specs.Updates.{HasStamp, DoesUpdate, DoesUpdates, DoesNext, DoesWords, most_stores, most_of};
 ghost use Rattle.rom_heap.specs.Fits.{IsGroupDone, GroupStores};
 
 use crate::fits::fits;
@@ -42,7 +42,7 @@ fn enq<M: Space>(space: &mut M, order: u32, value: u64) -> SingleReply
     requires order { IsOrder order }
     requires region { IsWellFormed order (M.shown.image space.old) }
     requires room { HasRoom M.shown 31 space.old }
-    ensures does { Does M.shown order (call.Enq value) result space.old space.new }
+    ensures does { DoesUpdate M.shown order (call.Enq value) result space.old space.new }
 {
     if queue_push(space, order, value) {
         SingleReply::Queued
@@ -55,7 +55,7 @@ fn deq<M: Space>(space: &mut M, order: u32) -> SingleReply
     requires order { IsOrder order }
     requires region { IsWellFormed order (M.shown.image space.old) }
     requires room { HasRoom M.shown 31 space.old }
-    ensures does { Does M.shown order call.Deq result space.old space.new }
+    ensures does { DoesUpdate M.shown order call.Deq result space.old space.new }
 {
     match queue_pop(space, order) {
         Some(value) => SingleReply::Head(value),
@@ -67,7 +67,7 @@ fn add<M: Space>(space: &mut M, order: u32, key: u64) -> SingleReply
     requires order { IsOrder order }
     requires region { IsWellFormed order (M.shown.image space.old) }
     requires room { HasRoom M.shown 31 space.old }
-    ensures does { Does M.shown order (call.Add key) result space.old space.new }
+    ensures does { DoesUpdate M.shown order (call.Add key) result space.old space.new }
 {
     match set_insert(space, order, key) {
         Inserted::New => SingleReply::Added,
@@ -80,7 +80,7 @@ fn rem<M: Space>(space: &mut M, order: u32, key: u64) -> SingleReply
     requires order { IsOrder order }
     requires region { IsWellFormed order (M.shown.image space.old) }
     requires room { HasRoom M.shown 31 space.old }
-    ensures does { Does M.shown order (call.Rem key) result space.old space.new }
+    ensures does { DoesUpdate M.shown order (call.Rem key) result space.old space.new }
 {
     if set_remove(space, order, key) {
         SingleReply::Removed
@@ -93,7 +93,7 @@ fn put<M: Space>(space: &mut M, order: u32, key: u64, value: u64, stamp: u64) ->
     requires order { IsOrder order }
     requires region { HasStamp order (M.shown.image space.old) stamp }
     requires room { HasRoom M.shown 31 space.old }
-    ensures does { Does M.shown order (call.Put key value) result space.old space.new }
+    ensures does { DoesUpdate M.shown order (call.Put key value) result space.old space.new }
 {
     match map_put(space, order, key, value, stamp) {
         Put::New => SingleReply::NoPrior,
@@ -106,7 +106,7 @@ fn del<M: Space>(space: &mut M, order: u32, key: u64) -> SingleReply
     requires order { IsOrder order }
     requires region { IsWellFormed order (M.shown.image space.old) }
     requires room { HasRoom M.shown 31 space.old }
-    ensures does { Does M.shown order (call.Del key) result space.old space.new }
+    ensures does { DoesUpdate M.shown order (call.Del key) result space.old space.new }
 {
     match map_del(space, order, key) {
         Some(value) => SingleReply::Was(value),
@@ -125,7 +125,7 @@ fn shift<M: Space>(
     requires order { IsOrder order }
     requires region { HasStamp order (M.shown.image space.old) stamp }
     requires room { HasRoom M.shown 31 space.old }
-    ensures does { Does M.shown order (call.Move from to amount) result space.old space.new }
+    ensures does { DoesUpdate M.shown order (call.Move from to amount) result space.old space.new }
 {
     match map_move(space, order, from, to, amount, stamp) {
         Moved::Done => SingleReply::Moved,
@@ -141,7 +141,7 @@ fn update<M: Space>(space: &mut M, order: u32, call: &Single, stamp: u64) -> Sin
     requires order { IsOrder order }
     requires region { HasStamp order (M.shown.image space.old) stamp }
     requires room { HasRoom M.shown 31 space.old }
-    ensures does { Does M.shown order call.now result space.old space.new }
+    ensures does { DoesUpdate M.shown order call.now result space.old space.new }
 {
     match *call {
         Single::Enq(value) => enq(space, order, value),
@@ -161,7 +161,7 @@ fn update_all<M: Space>(space: &mut M, order: u32, calls: &[Single], stamp: u64)
     requires region { HasStamp order (M.shown.image space.old) stamp }
     requires few { length calls.now ≤ 8 }
     requires room { HasRoom M.shown (31 * length calls.now) space.old }
-    ensures does { DoesAll M.shown order calls.now result space.old space.new }
+    ensures does { DoesUpdates M.shown order calls.now result space.old space.new }
 {
     let mut replies = Replies::new();
     for call in calls {

@@ -52,9 +52,9 @@ updated_as words_reply (became.Done place) words = done_as place (words_reply wo
 updated_as words_reply (became.Undone why) words = undone_as why
 
 -- These are the words of a reply, where the update was done.
-abbrev pub IsReplied : {R : Type 0} → (List ℕ → Option R) → Became → List ℕ → Type 0
-IsReplied words_reply (became.Done place) words = IsSome (words_reply words)
-IsReplied words_reply (became.Undone why) words = Unit {0}
+abbrev pub HasReplyWords : {R : Type 0} → (List ℕ → Option R) → Became → List ℕ → Type 0
+HasReplyWords words_reply (became.Done place) words = IsSome (words_reply words)
+HasReplyWords words_reply (became.Undone why) words = Unit {0}
 
 module _ {R A : Type 0} (words_reply : List ℕ → Option R) where
   -- what became of an update at a place, where its reply is read from words
@@ -75,23 +75,23 @@ module _ {R A : Type 0} (words_reply : List ℕ → Option R) where
   result_of words answers (cell.Read front at) = read_with front (slice_get answers at)
 
   -- The words of a reply stand within those of the results, and are a reply's. An answer stands among the answers.
-  abbrev pub Fits : List ℕ → List A → Cell → Type 0
-  Fits words answers cell.Unread = Unit {0}
-  Fits words answers (cell.Done place from many) = IsRun words_reply REPLY_WORDS words from many
-  Fits words answers (cell.Undone why) = Unit {0}
-  Fits words answers (cell.Read front at) = at < length answers
+  abbrev pub ReplyCellFits : List ℕ → List A → Cell → Type 0
+  ReplyCellFits words answers cell.Unread = Unit {0}
+  ReplyCellFits words answers (cell.Done place from many) = IsRun words_reply REPLY_WORDS words from many
+  ReplyCellFits words answers (cell.Undone why) = Unit {0}
+  ReplyCellFits words answers (cell.Read front at) = at < length answers
 
   -- What is handed out says what became of a line: a reply by its words, of which a `Back` has room for all.
-  abbrev pub IsTold : LineResult R A → Told A → Type 0
-  IsTold it told.Unread = it ≡ result.Unread
-  IsTold it (told.Done words place) = (reply : R) × (it ≡ result.Update (updated.Done reply place)) × (words_reply words.now ≡ Some reply) × (length words.now ≤ REPLY_WORDS)
-  IsTold it (told.Undone why) = it ≡ result.Update (undone_as why)
-  IsTold it (told.Read answer front) = it ≡ result.Read answer.now front
+  abbrev pub SaysResult : LineResult R A → Told A → Type 0
+  SaysResult it told.Unread = it ≡ result.Unread
+  SaysResult it (told.Done words place) = (reply : R) × (it ≡ result.Update (updated.Done reply place)) × (words_reply words.now ≡ Some reply) × (length words.now ≤ REPLY_WORDS)
+  SaysResult it (told.Undone why) = it ≡ result.Update (undone_as why)
+  SaysResult it (told.Read answer front) = it ≡ result.Read answer.now front
 
   -- The result at an index says what became of the line there: this stands after the results before it, and before those that are left.
-  pub record IsToldAt (items : List (LineResult R A)) (i : ℕ) (handed : Told A) : Type 0 where
+  pub record SaysResultAt (items : List (LineResult R A)) (i : ℕ) (handed : Told A) : Type 0 where
     pub line : LineResult R A
-    pub told : IsTold line handed
+    pub told : SaysResult line handed
     pub at : slice_get items i ≡ Some line
     pub before : take (i + 1) items ≡ take i items ++ line ∷ []
     pub left : drop i items ≡ line ∷ drop (i + 1) items

@@ -35,21 +35,21 @@ total_words (cell.Unread ∷ more) = total_words more
 
 module _ {C Q : Type 0} (words_call : List ℕ → Option C) where
   -- what words ask for, which are those of a call
-  abbrev pub asked : Option C → Step C Q
-  asked (Some call) = step.Update call
-  asked None = step.Unread
+  abbrev pub step_of_call : Option C → Step C Q
+  step_of_call (Some call) = step.Update call
+  step_of_call None = step.Unread
 
   -- what a line asks for, by the words of the script
-  abbrev pub step_of : List ℕ → Cell Q → Step C Q
-  step_of words (cell.Update from many) = asked (words_call (run_of words from many))
-  step_of words (cell.Ask query) = step.Ask query
-  step_of words cell.Unread = step.Unread
+  abbrev pub step_of_cell : List ℕ → Cell Q → Step C Q
+  step_of_cell words (cell.Update from many) = step_of_call (words_call (run_of words from many))
+  step_of_cell words (cell.Ask query) = step.Ask query
+  step_of_cell words cell.Unread = step.Unread
 
   -- the words of a line stand within those of the script, and are a call's
-  abbrev pub Fits : List ℕ → Cell Q → Type 0
-  Fits words (cell.Update from many) = IsRun words_call CALL_WORDS words from many
-  Fits words (cell.Ask query) = Unit {0}
-  Fits words cell.Unread = Unit {0}
+  abbrev pub StepCellFits : List ℕ → Cell Q → Type 0
+  StepCellFits words (cell.Update from many) = IsRun words_call CALL_WORDS words from many
+  StepCellFits words (cell.Ask query) = Unit {0}
+  StepCellFits words cell.Unread = Unit {0}
 
   -- A line says what is asked for: a call by its words, of which an `Args` has room for all.
   abbrev pub IsLine : Step C Q → Line Q → Type 0

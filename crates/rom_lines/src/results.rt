@@ -2,7 +2,7 @@
 ghost use Rattle.std.specs.Prelude.{◌≡◌, ◌<◌, ◌≤◌, [], ◌∷◌, ◌++◌, length, IfOk, IsSome, Some, slice_get};
 ghost use Rattle.rom_model.specs.declared.line.LineResult.TheVariants.{Unread, Read, Update};
 ghost use Rattle.rom_model.specs.declared.call.Updated.TheVariants.{Done};
-ghost use Rattle.rom_lines.specs.Replies.{TookRoom, HasRoomFor, IsReplied, IsToldAt, undone_as, updated_as};
+ghost use Rattle.rom_lines.specs.Replies.{TookRoom, HasRoomFor, HasReplyWords, SaysResultAt, undone_as, updated_as};
 
 use crate::script::Script;
 use rom_model::{Back, LineResult, Object, Updated};
@@ -67,7 +67,7 @@ pub struct Results<O: Object> {
 impl<O: Object> Model for Results<O> {
     ghost use Rattle.std.specs.Prelude.{◌+◌, ◌-◌, ◌≤◌, map, All, vec_len, vec_capacity};
     ghost use Rattle.rom_model.specs.declared.line.LineResult.{LineResult};
-    ghost use Rattle.rom_lines.specs.Replies.{Reserved, Fits, result_of};
+    ghost use Rattle.rom_lines.specs.Replies.{Reserved, ReplyCellFits, result_of};
 
     ghost Value = { Reserved (LineResult O.Reply O.Answer) };
 
@@ -78,7 +78,7 @@ impl<O: Object> Model for Results<O> {
     } };
 
     // There is room for an answer wherever there is room for a result. It costs no page before it is used.
-    ghost invariant = { λ s. All (Fits O.machine.words_reply s.words.items s.answers.items) s.cells.items
+    ghost invariant = { λ s. All (ReplyCellFits O.machine.words_reply s.words.items s.answers.items) s.cells.items
         × (vec_capacity s.cells + vec_len s.answers ≤ vec_capacity s.answers + vec_len s.cells) };
 }
 
@@ -138,7 +138,7 @@ impl<O: Object> Results<O> {
 
     /// Adds what became of an update: these are the words of its reply, where it was done.
     pub fn push_update(&mut self, became: Became, words: &Back)
-        requires reply { IsReplied O.machine.words_reply became words.now }
+        requires reply { HasReplyWords O.machine.words_reply became words.now }
         requires line { 0 < self.old.lines }
         requires room { length words.now ≤ self.old.words }
         ensures added { self.new.items ≡ self.old.items
@@ -179,7 +179,7 @@ impl<O: Object> Results<O> {
     /// The result at an index, counted from 0, with the words of its reply.
     pub fn at(&self, i: usize) -> Told<'_, O::Answer>
         requires { i < length self.now.items }
-        ensures { IsToldAt O.machine.words_reply self.now.items i result }
+        ensures { SaysResultAt O.machine.words_reply self.now.items i result }
     {
         match self.cells[i] {
             Cell::Unread => Told::Unread,

@@ -39,13 +39,13 @@ pub struct Script<O: Object> {
 impl<O: Object> Model for Script<O> {
     ghost use Rattle.std.specs.Prelude.{◌≤◌, length, map, All};
     ghost use Rattle.rom_model.specs.declared.line.Step.{Step};
-    ghost use Rattle.rom_lines.specs.Steps.{Items, Fits, step_of, total_words};
+    ghost use Rattle.rom_lines.specs.Steps.{Items, StepCellFits, step_of_cell, total_words};
 
     ghost Value = { Items (Step O.Call O.Query) };
 
-    ghost view = { λ s. record { items = map (step_of O.machine.words_call s.words.items) s.cells.items } };
+    ghost view = { λ s. record { items = map (step_of_cell O.machine.words_call s.words.items) s.cells.items } };
 
-    ghost invariant = { λ s. All (Fits O.machine.words_call s.words.items) s.cells.items
+    ghost invariant = { λ s. All (StepCellFits O.machine.words_call s.words.items) s.cells.items
         × (total_words s.cells.items ≤ length s.words.items) };
 }
 

@@ -13,9 +13,9 @@ dealt_view b dealt = record (opening_view b) { plan = Some (record (opening_plan
 
 module _ {Object Call Query Reply Answer : Type 0} where
   -- the seat of a caller that has seen nothing and done nothing
-  abbrev pub IsNew : Shared Object Call Query Reply Answer → ℕ → Seat → Type 0
-  IsNew shared number s = IsSeatOf shared s × (s.number ≡ number) × (view s ≡ record (fresh_view (opened_with shared)) { number = number })
+  abbrev pub IsNewSeat : Shared Object Call Query Reply Answer → ℕ → Seat → Type 0
+  IsNewSeat shared number s = IsSeatOf shared s × (s.number ≡ number) × (view s ≡ record (fresh_view (opened_with shared)) { number = number })
 
   -- the seats of the callers from 1 on, in their order
-  abbrev pub AreNew : Shared Object Call Query Reply Answer → List Seat → Type 0
-  AreNew shared seats = (i : ℕ) (s : Seat) → slice_get seats i ≡ Some s → IsNew shared (i + 1) s
+  abbrev pub AreNewSeats : Shared Object Call Query Reply Answer → List Seat → Type 0
+  AreNewSeats shared seats = (i : ℕ) (s : Seat) → slice_get seats i ≡ Some s → IsNewSeat shared (i + 1) s

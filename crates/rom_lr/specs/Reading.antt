@@ -5,7 +5,7 @@ use Rattle.rom_model.specs.declared.entry.Entry.{Entry}
 use Rattle.rom_lr.specs.Seats.{view}
 use Rattle.rom_lr.specs.declared.seats.Seat.{Seat}
 use Rattle.rom_rule.specs.Kinds.{entering}
-use Rattle.rom_rule.specs.Readers.{Stands}
+use Rattle.rom_rule.specs.Readers.{IsHeldSinceOpening}
 use Rattle.rom_rule.specs.Records.{KnowsEntries}
 use Rattle.rom_rule.specs.Views.{front_of, image_of, indicator_in, side_read}
 use Rattle.rom_rule.specs.declared.views.View.{View}
@@ -23,6 +23,6 @@ module _ {S : Type 0} (Contents : ℕ → List ℕ → S → ℕ → Type 0) (st
   pub record HasEntered (s : Seat) (t : Seat) : Type 0 where
     pub seen : List Entry
     pub begins : StartsWith seen (view s).seen
-    pub stands : Stands Contents step (view t).base (image_of (view t).position) seen (front_of (view t).position)
+    pub stands : IsHeldSinceOpening Contents step (view t).base (image_of (view t).position) seen (front_of (view t).position)
     pub own : (let v = view s in length v.calls ≡ length v.outcomes → (x : S) (n : ℕ) → Contents v.base.order v.base.image x n → KnowsEntries v.base.callers n (view t))
     pub view : (let q = (view t).position in view t ≡ record (entering (view s) (indicator_in q) (side_read q) (front_of q) (image_of q) seen) { steps = (view s).steps + 3 })

@@ -3,7 +3,7 @@ use Rattle.std.specs.Prelude.{ℕ, List, Option}
 use Rattle.rom_model.specs.declared.entry.Entry.{Entry}
 use Rattle.rom_model.specs.declared.record.Fate.TheVariants.{Published}
 use Rattle.rom_lr.specs.Seats.{plan, writer_view}
-use Rattle.rom_lr.specs.Writing.{Writes}
+use Rattle.rom_lr.specs.Writing.{SetsPlan}
 use Rattle.rom_lr.specs.declared.seats.WriterSeat.{WriterSeat}
 use Rattle.rom_lr.specs.declared.side.Side.{Side}
 use Rattle.rom_lr.specs.declared.side.Side.TheVariants.{Back, Main}
@@ -19,5 +19,5 @@ module _ {S : Type 0} (Contents : ℕ → List ℕ → S → ℕ → Type 0) (st
 
   -- Main: the batch of the calls that were found is published, and where there are any the pass has its record. Back: the record's count of faults is that of now. No indicator counts as loaded any more.
   abbrev pub HasSwitched : WriterSeat → WriterSeat → Side → ℕ → ℕ → Type 0
-  HasSwitched s t Main before now = let p = plan s in (k : ℕ) × (more : List Entry) × IsBatch Contents step (writer_view s).base p k more × TellsEach Published k more p × Writes s t (switched 0 (making Published before now k more p))
-  HasSwitched s t Back before now = let p = plan s in Writes s t (switched 1 (raising now p))
+  HasSwitched s t Main before now = let p = plan s in (k : ℕ) × (more : List Entry) × IsBatch Contents step (writer_view s).base p k more × TellsEach Published k more p × SetsPlan s t (switched 0 (making Published before now k more p))
+  HasSwitched s t Back before now = let p = plan s in SetsPlan s t (switched 1 (raising now p))

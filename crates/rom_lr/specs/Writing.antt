@@ -15,14 +15,14 @@ abbrev pub NobodyReads : WriterSeat → Side → Type 0
 NobodyReads s side = ((plan s).side ≡ side_number (other_side side)) × Settled (writer_view s).base (plan s)
 
 -- After some steps the writer's plan is p, and nothing else of its view has changed but their number.
-abbrev pub Writes : WriterSeat → WriterSeat → Plan → Type 0
-Writes s t p = (t.token.table_id ≡ s.token.table_id) × (t.token.id ≡ s.token.id) × (writer_view t ≡ record (writer_view s) { plan = Some p; steps = (writer_view t).steps })
+abbrev pub SetsPlan : WriterSeat → WriterSeat → Plan → Type 0
+SetsPlan s t p = (t.token.table_id ≡ s.token.table_id) × (t.token.id ≡ s.token.id) × (writer_view t ≡ record (writer_view s) { plan = Some p; steps = (writer_view t).steps })
 
 -- After both waits nothing of the writer's plan has changed but `version` and which indicators count as loaded, and nothing else of its view but the number of its steps.
 pub record HasWaited (s t : WriterSeat) : Type 0 where
   pub version : ℕ
   pub clear : List (ℕ × ℕ)
-  pub writes : Writes s t (record (plan s) { version = version; clear = clear })
+  pub writes : SetsPlan s t (record (plan s) { version = version; clear = clear })
 
 -- the loads of one wait, of the callers up to this number, the last caller's first: each caller's indicator of the version, with what `version` was then
 abbrev pub checks : ℕ → ℕ → ℕ → List (ℕ × ℕ)
@@ -30,12 +30,12 @@ checks version named zero = []
 checks version named (suc n) = (indicator_of (suc n) version, named) ∷ checks version named n
 
 -- The plan after one wait: all callers' indicators of this version were loaded as 0.
-abbrev pub checked : ℕ → ℕ → Plan → Plan
-checked version callers p = record p { clear = checks version p.version callers ++ p.clear }
+abbrev pub plan_after_wait : ℕ → ℕ → Plan → Plan
+plan_after_wait version callers p = record p { clear = checks version p.version callers ++ p.clear }
 
 -- The plan after both waits: all indicators of the other version were loaded as 0 while `version` named the former, then `version` was stored as the other, then all of the former were loaded as 0 while `version` named the other. The list has the last first, each with what `version` was at that load.
-abbrev pub settled : ℕ → Plan → Plan
-settled callers p = checked p.version callers (record (checked (1 - p.version) callers p) { version = 1 - p.version })
+abbrev pub plan_after_both_waits : ℕ → Plan → Plan
+plan_after_both_waits callers p = plan_after_wait p.version callers (record (plan_after_wait (1 - p.version) callers p) { version = 1 - p.version })
 
 -- the writer's view but for main and the number of its steps
 abbrev pub but_main : View → View

@@ -3,9 +3,9 @@ ghost use Rattle.std.specs.Prelude.{◌≡◌, ℕ, ◌<◌, ◌≤◌, length};
 ghost use Rattle.std.specs.List.{AllByRecursion};
 ghost use Rattle.rom_model.specs.Machine.{on_words};
 ghost use Rattle.rom_lr.specs.Seats.{IsAnswered, IsSameWriter, IsSeatOf, IsWriterOf, view, writer_view};
-ghost use Rattle.rom_rule.specs.Calls.{told_to};
+ghost use Rattle.rom_rule.specs.Calls.{told_to_caller};
 ghost use Rattle.rom_rule.specs.Kinds.{informed, planned};
-ghost use Rattle.rom_rule.specs.Records.{IsKept, Recorded};
+ghost use Rattle.rom_rule.specs.Records.{IsKeptInBook, Recorded};
 ghost use Rattle.rom_rule.specs.Views.{book_in, plan_of};
 ghost use Rattle.rom_rule.specs.declared.views.Position.TheVariants.{Out};
 
@@ -55,7 +55,7 @@ impl<O: Object> Shared<O> {
             writer_view writer.new ≡ planned v (plan_of v) }
         // Each caller that was taken in was told of its calls what the records tell.
         ensures told { let v = writer_view writer.new in
-            AllByRecursion (λ k. 0 < k.number → told_to (plan_of v).told k.number ≡ k.told)
+            AllByRecursion (λ k. 0 < k.number → told_to_caller (plan_of v).told k.number ≡ k.told)
             v.joined }
         // The records tell of calls of the table's callers alone.
         ensures known { let v = writer_view writer.new in
@@ -66,7 +66,7 @@ impl<O: Object> Shared<O> {
         ensures kept { let v = writer_view writer.new in
             (s : O.State) (n : ℕ) → O.Contents v.base.order v.base.image s n →
             Recorded (on_words O.machine) v.base s n (book_in (plan_of v))
-            × AllByRecursion (IsKept n (book_in (plan_of v))) v.joined }
+            × AllByRecursion (IsKeptInBook n (book_in (plan_of v))) v.joined }
     {
         self.table
             .shared

@@ -1,6 +1,6 @@
 //! What one caller hands another, so that it sees as much.
 ghost use Rattle.std.specs.Prelude.{◌≡◌, [], None};
-ghost use Rattle.rom_rule.specs.Kinds.{IsIdle};
+ghost use Rattle.rom_rule.specs.Kinds.{IsIdleView};
 
 use rom_rule::Token;
 
@@ -9,6 +9,6 @@ use rom_rule::Token;
 pub struct Note {
     pub token: Token,
     ghost bare: { token.me.1 ≡ [] },
-    ghost idle: { IsIdle token.me.0 },
+    ghost idle: { IsIdleView token.me.0 },
     ghost plain: { token.me.0.plan ≡ None },
 }

@@ -1,7 +1,7 @@
 //! How a table is opened, and its callers get their seats.
 ghost use Rattle.std.specs.Prelude.{◌≡◌, ℕ, ◌+◌, ◌<◌, ◌≤◌, IfOk, length};
 ghost use Rattle.rom_model.specs.Blocks.{IsOrder, region_len};
-ghost use Rattle.rom_lr.specs.Opening.{AreNew, dealt_view};
+ghost use Rattle.rom_lr.specs.Opening.{AreNewSeats, dealt_view};
 ghost use Rattle.rom_lr.specs.Seats.{IsSameWriter, IsSeatOf, IsWriterOf, opened_with, plan, view, writer_view};
 ghost use Rattle.rom_lr.specs.Writing.{NobodyReads};
 ghost use Rattle.rom_lr.specs.declared.side.Side.TheVariants.{Main};
@@ -61,7 +61,7 @@ impl<O: Object> Shared<O> {
         ensures unread { IfOk result (λ opened. NobodyReads opened.1 Main) }
         ensures many { IfOk result (λ opened. length opened.2.items ≡ callers) }
         // The seats are those of the callers from 1 on, in order, which have seen and done nothing.
-        ensures seats { IfOk result (λ opened. AreNew opened.0 opened.2.items) }
+        ensures seats { IfOk result (λ opened. AreNewSeats opened.0 opened.2.items) }
     {
         let (shared, mut writer) = Shared::open(alloc, order, callers, image, faults)?;
         let seats = shared.deal_all(alloc, &mut writer)?;
@@ -116,7 +116,7 @@ impl<O: Object> Shared<O> {
         ensures writer { IfOk result (λ _. writer_view writer.new
             ≡ dealt_view (opened_with self.now) self.now.layout.callers) }
         ensures many { IfOk result (λ seats. length seats.items ≡ self.now.layout.callers) }
-        ensures seats { IfOk result (λ seats. AreNew self.now seats.items) }
+        ensures seats { IfOk result (λ seats. AreNewSeats self.now seats.items) }
     {
         let mut seats = Vec::new(alloc);
         for i in 0..self.layout.callers() {

@@ -2,7 +2,7 @@
 ghost use Rattle.std.specs.Prelude.{◌≡◌, ◌^◌, ◌<◌, ◌≤◌, [], IsTrue, None, length};
 ghost use Rattle.rom_model.specs.Blocks.{region_len};
 ghost use Rattle.rom_lr.specs.Side.{side_number};
-ghost use Rattle.rom_rule.specs.Places.{indicator_at, indicator_of, word_at};
+ghost use Rattle.rom_rule.specs.Places.{indicator_at, indicator_of, side_word_at};
 ghost use Rattle.rom_rule.specs.Views.{IsWriter, indicator_in, is_reading, plan_of, side_read};
 ghost use Rattle.rom_rule.specs.declared.views.Position.TheVariants.{Out};
 
@@ -35,7 +35,7 @@ pub struct Seat {
     ghost known: { IsTrue (is_reading token.me.0.position) →
         (indicator_of number version ≡ indicator_in token.me.0.position) × (version < 2)
         × (side_number side ≡ side_read token.me.0.position)
-        × (first ≡ word_at token.me.0.base.order token.me.0.base.callers
+        × (first ≡ side_word_at token.me.0.base.order token.me.0.base.callers
         (side_read token.me.0.position) 0) },
     ghost near: { first < 2 ^ 32 },
     ghost placed: { (home ≡ indicator_at (indicator_of number 0)) × (home < 2 ^ 32) },

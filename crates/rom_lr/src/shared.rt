@@ -5,7 +5,7 @@
 //! kinds stand in one file, `crates/rom_rule/src/kinds.rt`, as `.ci/steps` sees to. A private table would
 //! need a contract here for each kind.
 ghost use Rattle.std.specs.Prelude.{◌≡◌, ◌^◌, ◌<◌};
-ghost use Rattle.rom_rule.specs.Places.{back_at, main_at, table_len};
+ghost use Rattle.rom_rule.specs.Places.{back_word_at, main_word_at, table_len};
 
 use atomic_table::Table;
 use crossbeam_utils::CachePadded;
@@ -28,8 +28,8 @@ pub struct Shared<O: Object> {
     pub(crate) asleep: CachePadded<AtomicU64>,
     ghost sized: { table.shared.table_id.words ≡ table_len layout.order layout.callers },
     ghost laid: { layout ≡ table.shared.key.layout },
-    ghost placed: { (main ≡ main_at layout.order layout.callers 0)
-        × (back ≡ back_at layout.order layout.callers 0) },
+    ghost placed: { (main ≡ main_word_at layout.order layout.callers 0)
+        × (back ≡ back_word_at layout.order layout.callers 0) },
     ghost near: { (main < 2 ^ 32) × (back < 2 ^ 32) },
 }
 

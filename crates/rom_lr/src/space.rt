@@ -6,7 +6,7 @@ ghost use Rattle.std.specs.Prelude.{◌≡◌, ℕ, ◌+◌, ◌*◌, ◌<◌, �
 ghost use Rattle.rom_model.specs.History.{LAST_COUNT};
 ghost use Rattle.rom_model.specs.Machine.{on_words, weight_on_words};
 ghost use Rattle.rom_lr.specs.Seats.{IsWriterOf, plan, writer_view};
-ghost use Rattle.rom_lr.specs.Writing.{NobodyReads, Writes, but_main};
+ghost use Rattle.rom_lr.specs.Writing.{NobodyReads, SetsPlan, but_main};
 ghost use Rattle.rom_lr.specs.declared.side.Side.TheVariants.{Main};
 ghost use Rattle.rom_ranges.specs.Changes.{IsLogOf, IsLogOf-prop};
 ghost use Rattle.rom_rule.specs.Views.{plan_of};
@@ -93,7 +93,7 @@ pub fn apply_main<O: Object>(
         (result ≡ after.1) × O.Contents v.base.order (plan seat.new).main after.0 (k + 1) }
     // Of what the writer knows only main and the number of its steps change.
     ensures still { let p = plan seat.old in
-        Writes seat.old seat.new (record p { main = (plan seat.new).main }) }
+        SetsPlan seat.old seat.new (record p { main = (plan seat.new).main }) }
     ensures logged { IsLogOf (plan seat.old).back (plan seat.new).main log.new }
     // The log grows by no more than the stores that a call of this weight may make.
     ensures added { log.new.added ≤ log.old.added + O.STORES * O.machine.weight call.now }
@@ -138,7 +138,7 @@ pub fn apply_words_main<O: Object>(
         × O.Contents v.base.order (plan seat.new).main after (k + 1) }
     // Of what the writer knows only main and the number of its steps change.
     ensures still { let p = plan seat.old in
-        Writes seat.old seat.new (record p { main = (plan seat.new).main }) }
+        SetsPlan seat.old seat.new (record p { main = (plan seat.new).main }) }
     ensures logged { IsLogOf (plan seat.old).back (plan seat.new).main log.new }
     // The log grows by no more than the stores that a call of this weight may make.
     ensures added { log.new.added

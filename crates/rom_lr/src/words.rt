@@ -2,7 +2,7 @@
 ghost use Rattle.std.specs.Prelude.{◌≡◌, ℕ, ◌+◌, ◌<◌, slice_index, slice_set};
 ghost use Rattle.rom_model.specs.Blocks.{region_len};
 ghost use Rattle.rom_lr.specs.Seats.{IsWriterOf, plan, steps_of};
-ghost use Rattle.rom_lr.specs.Writing.{NobodyReads, Writes};
+ghost use Rattle.rom_lr.specs.Writing.{NobodyReads, SetsPlan};
 ghost use Rattle.rom_lr.specs.declared.side.Side.TheVariants.{Back, Main};
 
 use crate::seats::WriterSeat;
@@ -16,7 +16,7 @@ impl<O: Object> Shared<O> {
     pub fn load_main(&self, seat: &mut WriterSeat, at: u64) -> u64
         requires of { IsWriterOf self.now seat.old }
         requires inside { at < region_len self.now.layout.order }
-        ensures still { Writes seat.old seat.new (plan seat.old) }
+        ensures still { SetsPlan seat.old seat.new (plan seat.old) }
         ensures step { steps_of seat.new ≡ steps_of seat.old + 1 }
         ensures word { result ≡ slice_index (plan seat.old).main at }
     {
@@ -29,7 +29,7 @@ impl<O: Object> Shared<O> {
     pub fn load_back(&self, seat: &mut WriterSeat, at: u64) -> u64
         requires of { IsWriterOf self.now seat.old }
         requires inside { at < region_len self.now.layout.order }
-        ensures still { Writes seat.old seat.new (plan seat.old) }
+        ensures still { SetsPlan seat.old seat.new (plan seat.old) }
         ensures step { steps_of seat.new ≡ steps_of seat.old + 1 }
         ensures word { result ≡ slice_index (plan seat.old).back at }
     {
@@ -45,7 +45,7 @@ impl<O: Object> Shared<O> {
         // Nobody reads main.
         requires unread { NobodyReads seat.old Main }
         ensures stored { let p = plan seat.old in
-            Writes seat.old seat.new (record p { main = slice_set p.main at value }) }
+            SetsPlan seat.old seat.new (record p { main = slice_set p.main at value }) }
         ensures step { steps_of seat.new ≡ steps_of seat.old + 1 }
     {
         let word = (self.main + at) as usize;
@@ -62,7 +62,7 @@ impl<O: Object> Shared<O> {
         // Nobody reads back.
         requires unread { NobodyReads seat.old Back }
         ensures stored { let p = plan seat.old in
-            Writes seat.old seat.new (record p { back = slice_set p.back at value }) }
+            SetsPlan seat.old seat.new (record p { back = slice_set p.back at value }) }
         ensures step { steps_of seat.new ≡ steps_of seat.old + 1 }
     {
         let word = (self.back + at) as usize;

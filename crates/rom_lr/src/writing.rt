@@ -3,7 +3,7 @@ ghost use Rattle.std.specs.Prelude.{◌≡◌, ◌≢◌, ℕ, ◌+◌, ◌-◌,
 ghost use Rattle.rom_model.specs.Machine.{on_words};
 ghost use Rattle.rom_lr.specs.Seats.{IsWriterOf, plan, steps_of, writer_view};
 ghost use Rattle.rom_lr.specs.Switch.{CanSwitch, HasSwitched};
-ghost use Rattle.rom_lr.specs.Writing.{HasWaited, Writes, checked, settled};
+ghost use Rattle.rom_lr.specs.Writing.{HasWaited, SetsPlan, plan_after_both_waits, plan_after_wait};
 ghost use Rattle.rom_rule.specs.Kinds.{observed};
 ghost use Rattle.rom_rule.specs.Places.{indicator_of};
 ghost use Rattle.rom_rule.specs.Readers.{Settled};
@@ -67,7 +67,7 @@ impl<O: Object> Shared<O> {
         // Of the writer's plan only `version` and which indicators count as loaded may change.
         ensures waited { HasWaited seat.old seat.new }
         // For who asks how it waits: the list of all its loads, with what `version` was at each.
-        ensures loads { plan seat.new ≡ settled self.now.layout.callers (plan seat.old) }
+        ensures loads { plan seat.new ≡ plan_after_both_waits self.now.layout.callers (plan seat.old) }
         // For the crates above, which do not know how many indicators there are: both waits are over.
         ensures settled { Settled (writer_view seat.new).base (plan seat.new) }
     {
@@ -83,7 +83,7 @@ impl<O: Object> Shared<O> {
         requires of { IsWriterOf self.now seat.old }
         requires low { version < 2 }
         requires other { (plan seat.old).version ≢ version }
-        ensures waited { Writes seat.old seat.new (checked version self.now.layout.callers
+        ensures waited { SetsPlan seat.old seat.new (plan_after_wait version self.now.layout.callers
             (plan seat.old)) }
     {
         for i in 0..self.layout.callers() {
@@ -98,7 +98,7 @@ impl<O: Object> Shared<O> {
         requires caller { (1 ≤ caller) × (caller ≤ self.now.layout.callers) }
         requires low { version < 2 }
         requires other { (plan seat.old).version ≢ version }
-        ensures waited { Writes seat.old seat.new (observed (indicator_of caller version) 0
+        ensures waited { SetsPlan seat.old seat.new (observed (indicator_of caller version) 0
             (plan seat.old)) }
     {
         if self.check(seat, caller, version) != 0 {
@@ -114,7 +114,7 @@ impl<O: Object> Shared<O> {
         requires caller { (1 ≤ caller) × (caller ≤ self.now.layout.callers) }
         requires low { version < 2 }
         requires other { (plan seat.old).version ≢ version }
-        ensures waited { Writes seat.old seat.new (observed (indicator_of caller version) 0
+        ensures waited { SetsPlan seat.old seat.new (observed (indicator_of caller version) 0
             (plan seat.old)) }
     {
         // The wait pauses a little longer each time. No clause rests on that.
@@ -135,7 +135,7 @@ impl<O: Object> Shared<O> {
         requires caller { (1 ≤ caller) × (caller ≤ self.now.layout.callers) }
         requires low { version < 2 }
         requires other { (plan seat.old).version ≢ version }
-        ensures checked { Writes seat.old seat.new (observed (indicator_of caller version) result
+        ensures checked { SetsPlan seat.old seat.new (observed (indicator_of caller version) result
             (plan seat.old)) }
     {
         let word = self.layout.indicator(caller, version) as usize;
@@ -148,7 +148,7 @@ impl<O: Object> Shared<O> {
         requires of { IsWriterOf self.now seat.old }
         requires low { version < 2 }
         ensures named { let p = plan seat.old in
-            Writes seat.old seat.new (record p { version = version }) }
+            SetsPlan seat.old seat.new (record p { version = version }) }
     {
         let word = self.layout.version() as usize;
         self.table

@@ -12,7 +12,7 @@ use Rattle.rom_model.proofs.Times.{times_here, times_away, times_more}
 use Rattle.rom_model.proofs.Frames.{pairs_same}
 use Rattle.rom_model.proofs.Links.{link_in}
 use Rattle.rom_bucket.specs.Walk.{head_of}
-use Rattle.rom_bucket.specs.Link.{IsLinked}
+use Rattle.rom_bucket.specs.Link.{IsNodeLinked}
 use Rattle.rom_bucket.specs.Buckets.{Between, keyed}
 use Rattle.rom_bucket.specs.Rising.{IsSought}
 use Rattle.rom_bucket.specs.declared.rising.Sought.{Sought}
@@ -23,7 +23,7 @@ use Rattle.rom_map.specs.Map.{with_bucket, table_block}
 use Rattle.rom_map.proofs.Keyed.{node_of, map_of}
 
 module _ {n : ℕ} {w w' : List ℕ} {p : Chains} {pairs : finite.FinMap nat_cmp Stamped} {count key block value stamp : ℕ} {sought : Sought} (may : MayAdd n 9 w p.bucket key block) (pairs_are : keyed n w (stamped_at n w) p.bucket ≡ pairs) (version : IsVersion n w p count) (most : stamp ≤ count)
-    (at : IsSought n w (p.bucket (bucket_of n key)) key sought) (missing : sought.found ≡ false) (linked : IsLinked 9 sought.place (block_of n block) (node_of key value stamp) w w') where
+    (at : IsSought n w (p.bucket (bucket_of n key)) key sought) (missing : sought.found ≡ false) (linked : IsNodeLinked 9 sought.place (block_of n block) (node_of key value stamp) w w') where
   abbrev pub spot : Between n p.bucket key sought.place
   spot = between may.are version.rising may.within at
 

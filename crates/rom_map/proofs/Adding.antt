@@ -13,7 +13,7 @@ use Rattle.rom_model.proofs.Elements.{AreElements, one_more}
 use Rattle.rom_model.proofs.Frames.{tree_part, part_then, each_same, pairs_same}
 use Rattle.rom_model.proofs.Room.{times_members, tree_stays, region_disjoint, new_block, not_full}
 use Rattle.rom_block.specs.Taken.{Takes}
-use Rattle.rom_bucket.specs.Link.{IsLinked}
+use Rattle.rom_bucket.specs.Link.{IsNodeLinked}
 use Rattle.rom_bucket.specs.Buckets.{Between}
 use Rattle.rom_bucket.specs.Rising.{IsSought}
 use Rattle.rom_bucket.specs.declared.rising.Sought.{Sought}
@@ -22,7 +22,7 @@ use Rattle.rom_bucket.proofs.Keys.{few}
 use Rattle.rom_bucket.proofs.Places.{link_high, link_inside}
 use Rattle.rom_bucket.proofs.Added.{MayAdd, link_outside, link_differs, added_tree}
 use Rattle.rom_bucket.proofs.Ordered.{sought_same, between, over}
-use Rattle.rom_map.specs.Map.{with_bucket, table_block, IsAdded}
+use Rattle.rom_map.specs.Map.{with_bucket, table_block, IsAddedToMap}
 use Rattle.rom_map.proofs.Keyed.{node_of, buckets_of, map_keys}
 use Rattle.rom_map.proofs.Regions.{map_stays, version_stays, remapped}
 use Rattle.rom_map.proofs.Added.{one_block_more, added_has, added_map, added_version, added_stay, added_part}
@@ -93,7 +93,7 @@ module _ {n : ℕ} {w : List ℕ} {p : Chains} {s : State} {k : ℕ} (le : 4 ≤
     pub place_differs : slice_index w1 sought.place.link ≢ at
     place_differs e = link_differs may_add spot (e ∙ here)
 
-    module _ (missing : sought.found ≡ false) (value stamp : ℕ) (most : stamp ≤ k) (w2 : List ℕ) (linked : IsLinked 9 sought.place (block_of n new.block) (node_of key value stamp) w1 w2) where
+    module _ (missing : sought.found ≡ false) (value stamp : ℕ) (most : stamp ≤ k) (w2 : List ℕ) (linked : IsNodeLinked 9 sought.place (block_of n new.block) (node_of key value stamp) w1 w2) where
       abbrev own : ℕ
       own = bucket_of n key
 
@@ -113,7 +113,7 @@ module _ {n : ℕ} {w : List ℕ} {p : Chains} {s : State} {k : ℕ} (le : 4 ≤
       elements : AreElements n (taking takes.node (taken_by n (element_blocks n p))) next
       elements = one_more le is.shape next takes.node new (λ c. omega (arith, times_members n next c, times_members n p c, one_block_more may_add map.pairs_are version most stops missing linked c))
 
-      added_block : IsAdded n w p s k key value stamp w2
+      added_block : IsAddedToMap n w p s k key value stamp w2
       added_block =
           let part = part_then n 9 10 [] touched touched w w1 w2 (λ b some. absurd (omega (arith, some))) (λ b some. some) (tree_part n 9 10 w w1 only) (added_part may_add map.pairs_are version most stops missing linked) in
           record {
@@ -134,5 +134,5 @@ module _ {n : ℕ} {w : List ℕ} {p : Chains} {s : State} {k : ℕ} (le : 4 ≤
             };
           }
 
-    pub added : sought.found ≡ false → (value stamp : ℕ) → stamp ≤ k → (w2 : List ℕ) → IsLinked 9 sought.place at (node_of key value stamp) w1 w2 → IsAdded n w p s k key value stamp w2
-    added missing value stamp most w2 linked = added_block missing value stamp most w2 (subst (λ a. IsLinked 9 sought.place a (node_of key value stamp) w1 w2) here linked)
+    pub added : sought.found ≡ false → (value stamp : ℕ) → stamp ≤ k → (w2 : List ℕ) → IsNodeLinked 9 sought.place at (node_of key value stamp) w1 w2 → IsAddedToMap n w p s k key value stamp w2
+    added missing value stamp most w2 linked = added_block missing value stamp most w2 (subst (λ a. IsNodeLinked 9 sought.place a (node_of key value stamp) w1 w2) here linked)

@@ -9,7 +9,7 @@ use Rattle.rom_model.proofs.Nodes.{pow_positive}
 use Rattle.rom_model.proofs.Frames.{pairs_same}
 use Rattle.rom_model.proofs.Links.{link_in}
 use Rattle.rom_bucket.specs.Walk.{head_of}
-use Rattle.rom_bucket.specs.Link.{IsUnlinked}
+use Rattle.rom_bucket.specs.Link.{IsNodeUnlinked}
 use Rattle.rom_bucket.specs.Buckets.{There}
 use Rattle.rom_bucket.specs.declared.walk.Place.{Place}
 use Rattle.rom_bucket.proofs.Keys.{in_all}
@@ -18,7 +18,7 @@ use Rattle.rom_bucket.proofs.Removed.{one_node_fewer, node_stays, stood_all, rem
 use Rattle.rom_map.specs.Map.{with_bucket, table_block}
 use Rattle.rom_map.proofs.Keyed.{map_keys, map_pairs, map_of}
 
-module _ {n : ℕ} {w w' : List ℕ} {p : Chains} {s : State} {k key : ℕ} {place : Place} (le : 4 ≤ n) (is : IsRegion n w p s k) (within : bucket_of n key < buckets n) (t : There n w p.bucket key place) (un : IsUnlinked 9 place w w') where
+module _ {n : ℕ} {w w' : List ℕ} {p : Chains} {s : State} {k key : ℕ} {place : Place} (le : 4 ≤ n) (is : IsRegion n w p s k) (within : bucket_of n key < buckets n) (t : There n w p.bucket key place) (un : IsNodeUnlinked 9 place w w') where
   abbrev own : ℕ
   own = bucket_of n key
 

@@ -13,7 +13,7 @@ use Rattle.rom_model.proofs.Elements.{AreElements, one_fewer}
 use Rattle.rom_model.proofs.Frames.{pairs_same, tree_part, part_then}
 use Rattle.rom_model.proofs.Room.{times_members, tree_stays, region_disjoint}
 use Rattle.rom_block.specs.Taken.{IsTakenAt}
-use Rattle.rom_bucket.specs.Link.{IsUnlinked}
+use Rattle.rom_bucket.specs.Link.{IsNodeUnlinked}
 use Rattle.rom_bucket.specs.Buckets.{There}
 use Rattle.rom_bucket.specs.declared.walk.Place.{Place}
 use Rattle.rom_bucket.proofs.Heads.{four_each}
@@ -24,7 +24,7 @@ use Rattle.rom_map.proofs.Regions.{map_stays, version_stays, remapped}
 use Rattle.rom_map.proofs.Removed.{one_block_fewer, removed_map, removed_version, removed_part, pairs_stay}
 
 module _ {n : ℕ} {w : List ℕ} {p : Chains} {s : State} {k key : ℕ} {place : Place} (le : 4 ≤ n) (is : IsRegion n w p s k) (within : bucket_of n key < buckets n) (t : There n w p.bucket key place) where
-  module _ {w1 : List ℕ} (un : IsUnlinked 9 place w w1) where
+  module _ {w1 : List ℕ} (un : IsNodeUnlinked 9 place w w1) where
     abbrev own : ℕ
     own = bucket_of n key
 

@@ -16,7 +16,7 @@ use Rattle.rom_bucket.specs.Walk.{head_of, IsBucket}
 use Rattle.rom_bucket.proofs.Walking.{Along, whole, first, further, further-front}
 use Rattle.rom_bucket.proofs.Entries.{sum_entries}
 use Rattle.rom_bucket.proofs.Keys.{once}
-use Rattle.rom_map.specs.Sums.{word_of, taken_from, amount, counted_at}
+use Rattle.rom_map.specs.Sums.{word_of_measure, taken_from, amount, counted_at}
 use Rattle.rom_map.specs.declared.sums.Measure.{Measure}
 use Rattle.rom_map.specs.declared.sums.Measure.TheVariants.{Value, Fresh}
 use Rattle.rom_map.proofs.Keyed.{map_keys, map_pairs}
@@ -99,15 +99,15 @@ pub fresh_few : (s : State) (place : ℕ) → fresh_after s place ≤ finite.len
 fresh_few s place = omega (arith, count_by-le-length (λ (kept : Stamped). nat_lt place kept.stamp) (finite.values s.pairs), length-map (finite.entries s.pairs) (λ e. e.1), finite.len-entries s.pairs)
 
 -- the word that is taken from a node
-taken_word : (measure : Measure) (n : ℕ) (w : List ℕ) (b node : ℕ) → node ≡ block_of n b → slice_index w (node + word_of measure) ≡ taken_from measure (stamped_at n w b)
+taken_word : (measure : Measure) (n : ℕ) (w : List ℕ) (b node : ℕ) → node ≡ block_of n b → slice_index w (node + word_of_measure measure) ≡ taken_from measure (stamped_at n w b)
 taken_word Value n w b node here = ap (λ a. slice_index w (a + 1)) here
 taken_word (Fresh place) n w b node here = ap (λ a. slice_index w (a + 3)) here
 
-pub word_small : (measure : Measure) → word_of measure < 4
+pub word_small : (measure : Measure) → word_of_measure measure < 4
 word_small Value = omega arith
 word_small (Fresh place) = omega arith
 
 -- one key more is counted by the word of its node
-pub next_counted : (measure : Measure) {n i : ℕ} {w bs : List ℕ} {total node : ℕ} (x : Summed (counted_at measure n w) n i w bs total node) (some : node ≡ 0 → ⊥) (word value next : ℕ) → word ≡ slice_index w (node + word_of measure) → value ≡ amount measure word → value < 2 ^ 64 → next ≡ slice_index w (node + 2)
+pub next_counted : (measure : Measure) {n i : ℕ} {w bs : List ℕ} {total node : ℕ} (x : Summed (counted_at measure n w) n i w bs total node) (some : node ≡ 0 → ⊥) (word value next : ℕ) → word ≡ slice_index w (node + word_of_measure measure) → value ≡ amount measure word → value < 2 ^ 64 → next ≡ slice_index w (node + 2)
     → (y : Summed (counted_at measure n w) n i w bs (total + value) next) × (length y.way.front ≡ length x.way.front + 1)
 next_counted measure {n} {i} {w} {bs} {total} {node} x some word value next load is small link = next_summed x some value next (is ∙ ap (amount measure) (load ∙ taken_word measure n w (block_there x some) node (block_here x some))) small link

@@ -50,7 +50,7 @@ IsPut n s count key value stamp Full new = (value_of s key ≡ None) × (live s 
 -- bucket that are below it and those above. Each other element keeps its block, and those of the bucket
 -- all words but the links. No word differs but the map's size, the bucket's word in the table with those
 -- beside it, the tree's, those of the block, and those of the bucket's blocks before it.
-pub record IsAdded (n : ℕ) (old : List ℕ) (p : Chains) (s : State) (count key value stamp : ℕ) (new : List ℕ) : Type 0 where
+pub record IsAddedToMap (n : ℕ) (old : List ℕ) (p : Chains) (s : State) (count key value stamp : ℕ) (new : List ℕ) : Type 0 where
   pub front : List ℕ
   pub block : ℕ
   pub back : List ℕ
@@ -76,7 +76,7 @@ pub record IsReplaced (n : ℕ) (old : List ℕ) (p : Chains) (s : State) (count
 
 -- what a put leaves, where it stores
 abbrev pub PutLeaves : ℕ → List ℕ → Chains → State → ℕ → ℕ → ℕ → ℕ → Put → List ℕ → Type 0
-PutLeaves n old p s count key value stamp New new = IsAdded n old p s count key value stamp new
+PutLeaves n old p s count key value stamp New new = IsAddedToMap n old p s count key value stamp new
 PutLeaves n old p s count key value stamp (Was before) new = IsReplaced n old p s count key value stamp new
 PutLeaves n old p s count key value stamp Full new = Unit {0}
 

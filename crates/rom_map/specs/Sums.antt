@@ -8,9 +8,9 @@ use Rattle.rom_map.specs.declared.sums.Measure.{Measure}
 use Rattle.rom_map.specs.declared.sums.Measure.TheVariants.{Value, Fresh}
 
 -- which word of a key's node a measure is taken from
-abbrev pub word_of : Measure → ℕ
-word_of Value = 1
-word_of (Fresh place) = 3
+abbrev pub word_of_measure : Measure → ℕ
+word_of_measure Value = 1
+word_of_measure (Fresh place) = 3
 
 -- which of a key's two numbers a measure is taken from, the value or the stamp
 abbrev pub taken_from : Measure → Stamped → ℕ

@@ -7,7 +7,7 @@ ghost use Rattle.rom_model.specs.State.{State, total_of, fresh_after};
 ghost use Rattle.rom_model.specs.Blocks.{IsOrder, region_len};
 ghost use Rattle.rom_model.specs.Region.{buckets, IsWellFormed, Contents};
 ghost use Rattle.rom_bucket.specs.Walk.{IsBucket, HoldsBucket};
-ghost use Rattle.rom_map.specs.Sums.{word_of, amount, counted_at, sum_of};
+ghost use Rattle.rom_map.specs.Sums.{word_of_measure, amount, counted_at, sum_of};
 
 use crate::node::{MAP_LINK, MAP_STAMP, MAP_VALUE};
 use rom_model::{Look, blocks_at, power_of_two};
@@ -24,7 +24,7 @@ enum Measure {
 impl Measure {
     /// Which word of a key's node it is taken from.
     fn word(self) -> u64
-        ensures { result ≡ word_of self }
+        ensures { result ≡ word_of_measure self }
     {
         match self {
             Measure::Value => MAP_VALUE,

@@ -14,7 +14,7 @@ use Rattle.rom_model.specs.declared.record.PassRecord.{PassRecord}
 use Rattle.rom_model.specs.History.{after, IsLegal}
 use Rattle.rom_model.specs.Passes.{all_told, history_of}
 use Rattle.rom_model.specs.Story.{Story}
-use Rattle.rom_model.specs.Lawful.{Tells, Answers, Stands, asked, told_to, IsServed, AreServed, IsLawful}
+use Rattle.rom_model.specs.Lawful.{Tells, Answers, IsAnswerAt, asked, told_to, IsServed, AreServed, IsLawful}
 use Rattle.rom_model.specs.Machine.{Machine, on_words}
 use Rattle.rom_model.proofs.Recorded.{history_legal}
 use Rattle.rom_model.specs.declared.kept.Kept.{Kept}
@@ -37,7 +37,7 @@ each_found P (r ∷ rs) all = all_append P r.found (all_found rs) all.0 (each_fo
 
 module _ {S C Q R A : Type 0} (m : Machine S C Q R A) where
   -- a read stands in the history, whose beginning was seen
-  stands : (story : Story S) (seen : List Entry) (q : Q) (a : A) (f : ℕ) → StartsWith story.history seen → IsFront m story f → IsSeenAt m story.order story.opening story.opening_count seen q a f → Stands m story q a f
+  stands : (story : Story S) (seen : List Entry) (q : Q) (a : A) (f : ℕ) → StartsWith story.history seen → IsFront m story f → IsSeenAt m story.order story.opening story.opening_count seen q a f → IsAnswerAt m story q a f
   stands story seen q a f later front s =
       let long : length story.history ≡ length seen + length later.0 = ap length later.1 ∙ length-append seen later.0 in
       let since = s.since in let reached = s.reached in

@@ -1,7 +1,7 @@
 //! What a heap keeps: an object in the words of a region.
 ghost use Rattle.std.specs.Prelude.{◌≡◌, ℕ, ◌+◌, ◌*◌, ◌<◌, ◌≤◌, List, length, Option, Some, Err, IsSome, IfSome, IfOk, OnOk, IfErr, slice_index, false};
 ghost use Rattle.rom_model.specs.Space.{KeepsSpace, Looks, Stores, HasRoom};
-ghost use Rattle.rom_model.specs.VecSpace.{words_of};
+ghost use Rattle.rom_model.specs.VecSpace.{words_of_space};
 ghost use Rattle.rom_model.specs.Machine.{Machine, on_words, weight_on_words};
 ghost use Rattle.rom_model.specs.History.{LAST_COUNT};
 ghost use Rattle.rom_model.specs.Blocks.{IsOrder, region_len};
@@ -218,7 +218,7 @@ pub trait Object {
 /// The words of a new region of that order in memory. There is no other error than want of memory.
 pub fn new_region<O: Object>(alloc: Global, order: u32) -> Result<VecSpace, AllocError>
     requires order { IsOrder order }
-    ensures made { IfOk result (λ space. O.Contents order (words_of space) O.machine.empty 0) }
+    ensures made { IfOk result (λ space. O.Contents order (words_of_space space) O.machine.empty 0) }
 {
     let mut space = VecSpace::zeroed(alloc, region_len(order))?;
     O::format(&mut space, order);

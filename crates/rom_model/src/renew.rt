@@ -3,7 +3,7 @@ ghost use Rattle.std.specs.Prelude.{◌≡◌, ◌≢◌, ℕ, ◌≤◌, ◌==�
 ghost use Rattle.rom_model.specs.Blocks.{IsOrder, region_len};
 ghost use Rattle.rom_model.specs.History.{LAST_COUNT};
 ghost use Rattle.rom_model.specs.Inspected.{IsReason};
-ghost use Rattle.rom_model.specs.VecSpace.{words_of};
+ghost use Rattle.rom_model.specs.VecSpace.{words_of_space};
 ghost use Rattle.rom_model.specs.declared.unfit.Unfit.{Unfit};
 ghost use Rattle.rom_model.specs.declared.unfit.Unfit.TheVariants.{Old};
 
@@ -38,11 +38,11 @@ pub trait Renew: Object {
     fn renew(alloc: Global, space: &mut VecSpace, order: u32) -> Result<(), AllocError>
         requires order { IsOrder order }
         requires region { (s : Self.State) × (k : ℕ)
-            × Self.earlier.Contents order (words_of space.old) s k }
+            × Self.earlier.Contents order (words_of_space space.old) s k }
         // After `Ok` the words stand for the state and the count that those of version 1 stood for.
         ensures renewed { OnOk result ((s : Self.State) (k : ℕ) →
-            Self.earlier.Contents order (words_of space.old) s k →
-            Self.Contents order (words_of space.new) s k) };
+            Self.earlier.Contents order (words_of_space space.old) s k →
+            Self.Contents order (words_of_space space.new) s k) };
 
     /// A region of version 1 stands for one state and one count.
     ghost one_earlier: { (order : ℕ) (words : List ℕ) (s t : Self.Object.State) (j k : ℕ) →

@@ -3,7 +3,7 @@ use Rattle.std.specs.Prelude.{◌≡◌, ℕ, ◌+◌, ◌*◌, ◌≤◌, List,
 use Rattle.std.proofs.Common.{arith}
 use Rattle.rom_model.specs.Blocks.{region_len}
 use Rattle.rom_model.specs.Space.{ChangesOnly}
-use Rattle.rom_device.specs.Device.{ShownDevice, Does, Writes}
+use Rattle.rom_device.specs.Device.{ShownDevice, Does, WritesWord}
 use Rattle.rom_device.proofs.Going.{does_by}
 use Rattle.rom_header.specs.Layout.{MAIN, STATE, back_at}
 use Rattle.rom_header.specs.Writing.{StateOrWithin}
@@ -23,7 +23,7 @@ module _ {D : Type 0} (shown : ShownDevice D) (n : ℕ) where
   pub within_then : (a b c : D) → Does shown (StateOrWithin MAIN (2 * region_len n)) a b → Does shown (StateOrWithin MAIN (2 * region_len n)) b c → Does shown (StateOrWithin MAIN (2 * region_len n)) a c
   within_then = does_both shown MAIN (2 * region_len n)
 
-  pub within_state : (v : ℕ) (a b : D) → Does shown (Writes STATE v) a b → Does shown (StateOrWithin MAIN (2 * region_len n)) a b
+  pub within_state : (v : ℕ) (a b : D) → Does shown (WritesWord STATE v) a b → Does shown (StateOrWithin MAIN (2 * region_len n)) a b
   within_state v = does_state shown MAIN (2 * region_len n) v (omega arith)
 
   pub within_main : (ranges : List Range) (image : List ℕ) → length image ≡ region_len n → (a b : D) → Does shown (WritesRanges ranges MAIN image) a b → Does shown (StateOrWithin MAIN (2 * region_len n)) a b

@@ -1,13 +1,13 @@
 -- The region that counts in the images of a batch.
 use Rattle.std.proofs.Common.{inl, inr, sym, ◌∙◌, subst, ℕ, List, slice_index, arith}
 use Rattle.std.proofs.lemmas.Bool.{cases_eq}
-use Rattle.rom_device.specs.Device.{Writes}
+use Rattle.rom_device.specs.Device.{WritesWord}
 use Rattle.rom_header.specs.Headers.{state_word}
 use Rattle.rom_header.specs.Layout.{STATE}
 use Rattle.rom_header.specs.Regions.{IsCurrentRegion}
 use Rattle.rom_header.specs.declared.header.State.TheVariants.{Idle, Copying}
 use Rattle.rom_header.proofs.Parts.{state_set}
-use Rattle.rom_twin.specs.Images.{Committing, HasBack, HasMain, Stands, Twins}
+use Rattle.rom_twin.specs.Images.{Committing, HasBack, HasMain, IsHeapInState, Twins}
 use Rattle.rom_open.specs.Batch.{CountsEither}
 use Rattle.rom_open.specs.Upgrading.{IsWholeHeap}
 
@@ -36,7 +36,7 @@ either_region n c m i (inl is) = inl (record { heap = is.heap; counts = inr (inl
 either_region n c m i (inr is) = inr (record { heap = is.heap; counts = inr (inr (is.state_is, is.main_is)) })
 
 -- a heap under COPYING with the same regions, of which IDLE is written or not
-pub whole_then : (n : ℕ) (m x y : List ℕ) → Stands n Copying m m x → Writes STATE (state_word Idle) x y → IsWholeHeap n y
+pub whole_then : (n : ℕ) (m x y : List ℕ) → IsHeapInState n Copying m m x → WritesWord STATE (state_word Idle) x y → IsWholeHeap n y
 whole_then n m x y is (inl same) =
     subst (λ (l : List ℕ). IsWholeHeap n l) (sym same) (record { heap = is.heap; state = inr is.state_is; same = is.main_is ∙ sym is.back_is })
 whole_then n m x y is (inr put) =

@@ -1,7 +1,7 @@
 -- What the making of a heap answers and leaves.
 use Rattle.std.specs.Prelude.{◌≡◌, ◌≢◌, ◌⊎◌, ℕ, Bool, List, slice_index, Result, Ok, Err}
 use Rattle.rom_model.specs.Faults.{FailedLast}
-use Rattle.rom_header.specs.Fresh.{IsNew, HasTooFewFor}
+use Rattle.rom_header.specs.Fresh.{IsNewHeap, HasTooFewFor}
 use Rattle.rom_header.specs.Layout.{MAGIC}
 use Rattle.rom_header.specs.declared.fresh.FormatRefused.{FormatRefused}
 use Rattle.rom_header.specs.declared.fresh.FormatRefused.TheVariants as format
@@ -22,7 +22,7 @@ NamesTooFewFor order size (Err refused) = HasTooFewFor order size refused
 
 -- The words are a new heap of this order, whose regions stand for this state and the count 0.
 abbrev pub IsNewWith : {S : Type 0} → (ℕ → List ℕ → S → ℕ → Type 0) → ℕ → S → List ℕ → Type 0
-IsNewWith Contents order state words = (image : List ℕ) × Contents order image state 0 × IsNew order image words
+IsNewWith Contents order state words = (image : List ℕ) × Contents order image state 0 × IsNewHeap order image words
 
 -- no heap stands there, or one of this order that holds this state and the count 0
 abbrev pub NoneOrHolds : {S : Type 0} → (ℕ → List ℕ → S → ℕ → Type 0) → ℕ → S → List ℕ → Type 0

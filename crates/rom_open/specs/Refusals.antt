@@ -2,7 +2,7 @@
 use Rattle.std.specs.Prelude.{◌≡◌, ◌⊎◌, ℕ, List, slice_index, Err}
 use Rattle.rom_model.specs.declared.unfit.Unfit.{Unfit}
 use Rattle.rom_model.specs.declared.unfit.Unfit.TheVariants as unfit
-use Rattle.rom_header.specs.Headers.{IsAnswer, HasTooFew}
+use Rattle.rom_header.specs.Headers.{IsHeaderAnswer, HasTooFew}
 use Rattle.rom_header.specs.Regions.{IsHeap, IsCurrentRegion}
 use Rattle.rom_header.specs.declared.header.HeaderRefused.{HeaderRefused}
 use Rattle.rom_header.specs.declared.header.HeaderRefused.TheVariants as header
@@ -38,11 +38,11 @@ named_order words = slice_index words 2
 
 -- Before the region that counts is looked at, the words are refused by the header, or else by the first difference of the regions under IDLE. A device that fails may answer so in place of either.
 abbrev pub IsUnready : List ℕ → Why → Type 0
-IsUnready words NotAHeap = IsAnswer words (Err header.NotAHeap)
-IsUnready words (BadVersion version) = IsAnswer words (Err (header.BadVersion version))
-IsUnready words (BadOrder order) = IsAnswer words (Err (header.BadOrder order))
-IsUnready words (BadState state) = IsAnswer words (Err (header.BadState state))
-IsUnready words (TooSmall need have) = IsAnswer words (Err (header.TooSmall need have))
+IsUnready words NotAHeap = IsHeaderAnswer words (Err header.NotAHeap)
+IsUnready words (BadVersion version) = IsHeaderAnswer words (Err (header.BadVersion version))
+IsUnready words (BadOrder order) = IsHeaderAnswer words (Err (header.BadOrder order))
+IsUnready words (BadState state) = IsHeaderAnswer words (Err (header.BadState state))
+IsUnready words (TooSmall need have) = IsHeaderAnswer words (Err (header.TooSmall need have))
 IsUnready words (Twins offset main back) = IsHeap (named_order words) words × DifferAt (named_order words) words offset main back
 IsUnready words OldRegion = ⊥
 IsUnready words NewRegion = ⊥

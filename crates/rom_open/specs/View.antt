@@ -2,7 +2,7 @@
 use Rattle.std.specs.Prelude.{◌≡◌, ◌⊎◌, ◌≤◌, ℕ, List, length, Err}
 use Rattle.rom_model.specs.Blocks.{region_len}
 use Rattle.rom_model.specs.declared.unfit.Unfit.{Unfit}
-use Rattle.rom_header.specs.Headers.{IsAnswer}
+use Rattle.rom_header.specs.Headers.{IsHeaderAnswer}
 use Rattle.rom_header.specs.Layout.{MAIN, back_at, back_of, main_of, words_needed}
 use Rattle.rom_header.specs.Regions.{HasOrder, IsCounted}
 use Rattle.rom_header.specs.declared.header.HeaderRefused.TheVariants as header
@@ -49,10 +49,10 @@ pub record HoldsAlone {S : Type 0} (Contents : ℕ → List ℕ → S → ℕ �
 
 -- The words are refused by the header, as at an opening; but its state is none of the reasons. A device that fails may answer so in place of any.
 abbrev pub IsHeaderless : List ℕ → Why → Type 0
-IsHeaderless words NotAHeap = IsAnswer words (Err header.NotAHeap)
-IsHeaderless words (BadVersion version) = IsAnswer words (Err (header.BadVersion version))
-IsHeaderless words (BadOrder order) = IsAnswer words (Err (header.BadOrder order))
-IsHeaderless words (TooSmall need have) = IsAnswer words (Err (header.TooSmall need have))
+IsHeaderless words NotAHeap = IsHeaderAnswer words (Err header.NotAHeap)
+IsHeaderless words (BadVersion version) = IsHeaderAnswer words (Err (header.BadVersion version))
+IsHeaderless words (BadOrder order) = IsHeaderAnswer words (Err (header.BadOrder order))
+IsHeaderless words (TooSmall need have) = IsHeaderAnswer words (Err (header.TooSmall need have))
 IsHeaderless words Device = Unit {0}
 IsHeaderless words (BadState state) = ⊥
 IsHeaderless words (Twins offset main back) = ⊥

@@ -2,10 +2,10 @@
 ghost use Rattle.std.specs.Prelude.{◌≡◌, ◌≤◌, ℕ, List, OnOk, IfErr, IsTrue, Err};
 ghost use Rattle.rom_model.specs.Blocks.{IsOrder};
 ghost use Rattle.rom_model.specs.Space.{ChangesOnly};
-ghost use Rattle.rom_model.specs.VecSpace.{words_of};
+ghost use Rattle.rom_model.specs.VecSpace.{words_of_space};
 ghost use Rattle.rom_device.specs.Device.{Does, IsSynced, Leaves, Makes, Stays};
 ghost use Rattle.rom_header.specs.Calls.{format_fault, format_reads, format_writes, format_syncs};
-ghost use Rattle.rom_header.specs.Fresh.{HasTooFewFor, IsFormatAnswer, IsNew, IsRefused};
+ghost use Rattle.rom_header.specs.Fresh.{HasTooFewFor, IsFormatAnswer, IsFormatRefused, IsNewHeap};
 ghost use Rattle.rom_header.specs.Layout.{words_needed};
 ghost use Rattle.rom_header.specs.Writing.{Alters};
 ghost use Rattle.rom_header.specs.Held.{Holds};
@@ -60,7 +60,7 @@ pub fn write_heap<D: Device, O: Object>(
     region: &VecSpace,
 ) -> Result<(), FormatRefused>
     requires order { IsOrder order }
-    requires region { O.Contents order (words_of region.now) O.machine.empty 0 }
+    requires region { O.Contents order (words_of_space region.now) O.machine.empty 0 }
 
     // The answer is exactly that of the device's words, where it tells them.
     ensures answer { IsTrue D.shown.tells_words →
@@ -71,7 +71,7 @@ pub fn write_heap<D: Device, O: Object>(
 
     // After `Ok` the device's words are the new heap, with the region twice.
     ensures made { IsTrue D.shown.tells_words →
-        OnOk result (IsNew order (words_of region.now) (D.shown.words device.new)) }
+        OnOk result (IsNewHeap order (words_of_space region.now) (D.shown.words device.new)) }
     // After `Ok` the device's words hold the empty state and the count 0.
     ensures held { IsTrue D.shown.tells_words →
         OnOk result (Holds O.Contents order (D.shown.words device.new) O.machine.empty 0) }
@@ -90,7 +90,7 @@ pub fn write_heap<D: Device, O: Object>(
     // Where a heap stood, or there are too few words, every word stays, and a stop leaves no other image than
     // before.
     ensures refused { IsTrue D.shown.tells_words →
-        IsRefused order (D.shown.words device.old) → Does D.shown Stays device.old device.new }
+        IsFormatRefused order (D.shown.words device.old) → Does D.shown Stays device.old device.new }
 
     // No call follows one that failed, and the counts are exact unless one did.
     ensures makes { Makes D.shown (format_reads result) (format_writes order result)
@@ -144,7 +144,7 @@ pub fn format_device<D: Device, O: Object>(
     // Where a heap stood, or there are too few words, every word stays, and a stop leaves no other image than
     // before.
     ensures refused { IsTrue D.shown.tells_words →
-        IsRefused order (D.shown.words device.old) → Does D.shown Stays device.old device.new }
+        IsFormatRefused order (D.shown.words device.old) → Does D.shown Stays device.old device.new }
 
     // No call follows one that failed, and the counts are exact unless one did.
     ensures makes { IfMade result (λ made.

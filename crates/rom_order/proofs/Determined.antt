@@ -12,7 +12,7 @@ use Rattle.rom_order_region.specs.declared.call.OrderReply.{OrderReply}
 use Rattle.rom_order_region.specs.declared.call.OrderReply.TheVariants as reply
 use Rattle.rom_order_region.specs.declared.call.OrderAnswer.{OrderAnswer}
 use Rattle.rom_order_region.specs.declared.call.OrderAnswer.TheVariants as answer
-use Rattle.rom_order_region.specs.Texts.{order_texts, order_answer_text, order_reply_text, OrderAnswerFits, OrderReplyFits}
+use Rattle.rom_order_region.specs.Texts.{index_texts, index_answer_text, index_reply_text, IndexAnswerFits, IndexReplyFits}
 
 -- the reply that a word and a number name
 abbrev reply_of : List ℕ → List (List ℕ) → OrderReply
@@ -26,13 +26,13 @@ answer_of w (k ∷ v ∷ []) = answer.Pair (digits_value 10 k) (digits_value 10 
 answer_of w (c ∷ sum ∷ t ∷ more) = answer.Range (digits_value 10 c) (digits_value 10 t)
 
 -- a reply's text is words that name it
-reply_named : (r : OrderReply) → OrderReplyFits r → IsNamed reply_of (order_reply_text r) r
+reply_named : (r : OrderReply) → IndexReplyFits r → IsNamed reply_of (index_reply_text r) r
 reply_named (reply.Was v) fits = by_two reply_of (codes "was") (decimal v) (reply.Was v) refl (decimal_is_a_word v) (ap reply.Was (decimal_read v (wide v fits)))
 reply_named reply.NoPrior fits = by_word reply_of (codes "none") reply.NoPrior refl refl
 reply_named reply.Full fits = by_word reply_of (codes "full") reply.Full refl refl
 
 -- and so is an answer's
-answer_named : (a : OrderAnswer) → OrderAnswerFits a → IsNamed answer_of (order_answer_text a) a
+answer_named : (a : OrderAnswer) → IndexAnswerFits a → IsNamed answer_of (index_answer_text a) a
 answer_named (answer.Value v) fits = by_two answer_of (codes "value") (decimal v) (answer.Value v) refl (decimal_is_a_word v) (ap answer.Value (decimal_read v (wide v fits)))
 answer_named answer.Missing fits = by_word answer_of (codes "none") answer.Missing refl refl
 answer_named (answer.Pair k v) fits = record {
@@ -53,5 +53,5 @@ answer_named (answer.Range c s) fits = record {
 }
 
 -- two runs with the same text have the same results and the same count
-pub text_determines : TextDetermines order_texts
-text_determines = determined.text_determines order_texts reply_of answer_of reply_named answer_named
+pub text_determines : TextDetermines index_texts
+text_determines = determined.text_determines index_texts reply_of answer_of reply_named answer_named

@@ -8,18 +8,18 @@ use Rattle.rom_order_region.specs.declared.call.OrderQuery.{OrderQuery}
 use Rattle.rom_order_region.specs.declared.call.OrderQuery.TheVariants.{Get, From, Range}
 
 -- the first word of a call's line, and the numbers behind it
-abbrev pub call_phrase : OrderCall → List ℕ × List ℕ
-call_phrase (Put k v) = (codes "put", k ∷ v ∷ [])
-call_phrase (Del k) = (codes "del", k ∷ [])
+abbrev pub index_call_phrase : OrderCall → List ℕ × List ℕ
+index_call_phrase (Put k v) = (codes "put", k ∷ v ∷ [])
+index_call_phrase (Del k) = (codes "del", k ∷ [])
 
 -- those of a query's line
-abbrev pub order_query_phrase : OrderQuery → List ℕ × List ℕ
-order_query_phrase (Get k) = (codes "get", k ∷ [])
-order_query_phrase (From k) = (codes "from", k ∷ [])
-order_query_phrase (Range a b) = (codes "range", a ∷ b ∷ [])
+abbrev pub index_query_phrase : OrderQuery → List ℕ × List ℕ
+index_query_phrase (Get k) = (codes "get", k ∷ [])
+index_query_phrase (From k) = (codes "from", k ∷ [])
+index_query_phrase (Range a b) = (codes "range", a ∷ b ∷ [])
 
 -- a line of this word and these numbers asks for the step, or for none
-abbrev pub AsksOrder : List ℕ → List ℕ → Step OrderCall OrderQuery → Type 0
-AsksOrder name numbers (Update call) = (name, numbers) ≡ call_phrase call
-AsksOrder name numbers (Ask query) = (name, numbers) ≡ order_query_phrase query
-AsksOrder name numbers Unread = ((call : OrderCall) → (name, numbers) ≡ call_phrase call → ⊥) × ((query : OrderQuery) → (name, numbers) ≡ order_query_phrase query → ⊥)
+abbrev pub AsksIndex : List ℕ → List ℕ → Step OrderCall OrderQuery → Type 0
+AsksIndex name numbers (Update call) = (name, numbers) ≡ index_call_phrase call
+AsksIndex name numbers (Ask query) = (name, numbers) ≡ index_query_phrase query
+AsksIndex name numbers Unread = ((call : OrderCall) → (name, numbers) ≡ index_call_phrase call → ⊥) × ((query : OrderQuery) → (name, numbers) ≡ index_query_phrase query → ⊥)

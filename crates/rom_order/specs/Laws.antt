@@ -10,8 +10,8 @@ use Rattle.rom_order_region.specs.declared.call.OrderCall.{OrderCall}
 use Rattle.rom_order_region.specs.declared.call.OrderReply.{OrderReply}
 use Rattle.rom_order_region.specs.declared.call.OrderReply.TheVariants.{Was, NoPrior, Full}
 use Rattle.rom_order.specs.Codes as codes
-use Rattle.rom_order_region.specs.State.{Pairs, order_step}
-use Rattle.rom_order_region.specs.Region.{OrderContents}
+use Rattle.rom_order_region.specs.State.{Pairs, index_step}
+use Rattle.rom_order_region.specs.Region.{IndexContents}
 use Rattle.rom_order.specs.Tagged as tagged
 
 -- two trees that stand where one link leads are one
@@ -29,38 +29,38 @@ one_tree n w (Node b k v l r) (Node c j u x y) same p q =
     λ i. Node (block i) (key i) (value i) (left i) (right i)
 
 -- a region stands for one map and one count
-same_contents : {n : ℕ} {w : List ℕ} {s t : Pairs} {j k : ℕ} → OrderContents n w s j → OrderContents n w t k → (s ≡ t) × (j ≡ k)
+same_contents : {n : ℕ} {w : List ℕ} {s t : Pairs} {j k : ℕ} → IndexContents n w s j → IndexContents n w t k → (s ≡ t) × (j ≡ k)
 same_contents {n} {w} {s} {t} one two =
     let tree = one_tree n w one.0 two.0 (sym one.1.top.at_is ∙ two.1.top.at_is) one.1.top.stands two.1.top.stands in
     (map.same_entries_map s t (one.1.entries_are ∙ ap (λ x. entries x) tree ∙ sym two.1.entries_are), sym one.1.count_is ∙ two.1.count_is)
 
 -- the same, as the trait of an object asks for it
-pub one_contents : (n : ℕ) (words : List ℕ) (s t : Pairs) (j k : ℕ) → OrderContents n words s j → OrderContents n words t k → (s ≡ t) × (j ≡ k)
-one_contents n words s t j k one two = same_contents one two
+pub one_index_contents : (n : ℕ) (words : List ℕ) (s t : Pairs) (j k : ℕ) → IndexContents n words s j → IndexContents n words t k → (s ≡ t) × (j ≡ k)
+one_index_contents n words s t j k one two = same_contents one two
 
 -- A well-formed region has its order's length. Its word 0, the kind, is 3. Its word 2 is the count, which is
 -- at most LAST_COUNT.
-pub contents_within : (n : ℕ) (words : List ℕ) (s : Pairs) (k : ℕ) → OrderContents n words s k → (length words ≡ region_len n) × (slice_index words 2 ≡ k) × (k ≤ LAST_COUNT) × (slice_index words 0 ≡ 3)
-contents_within n words s k is = (is.1.as_long, is.1.count_is, is.1.count_fits, is.1.kind)
+pub index_contents_within : (n : ℕ) (words : List ℕ) (s : Pairs) (k : ℕ) → IndexContents n words s k → (length words ≡ region_len n) × (slice_index words 2 ≡ k) × (k ≤ LAST_COUNT) × (slice_index words 0 ≡ 3)
+index_contents_within n words s k is = (is.1.as_long, is.1.count_is, is.1.count_fits, is.1.kind)
 
 -- words that are read as a call are the words of that call
-pub call_only : (words : List ℕ) (call : OrderCall) → codes.words_order_call words ≡ Some call → codes.order_call_words call ≡ words
-call_only words call is = tagged.call_only words call is
+pub index_call_only : (words : List ℕ) (call : OrderCall) → codes.index_call_from_words words ≡ Some call → codes.index_call_words call ≡ words
+index_call_only words call is = tagged.tagged_call_only words call is
 
 -- the words of the reply to a call are read as that reply
-pub reply_back : (n : ℕ) (s : Pairs) (count : ℕ) (words : List ℕ) (call : OrderCall) → codes.words_order_call words ≡ Some call → let told = (order_step n s count call).1 in codes.words_order_reply (codes.order_reply_words told) ≡ Some told
-reply_back n s count words call is = tagged.reply_back (order_step n s count call).1
+pub index_reply_back : (n : ℕ) (s : Pairs) (count : ℕ) (words : List ℕ) (call : OrderCall) → codes.index_call_from_words words ≡ Some call → let told = (index_step n s count call).1 in codes.index_reply_from_words (codes.index_reply_words told) ≡ Some told
+index_reply_back n s count words call is = tagged.tagged_reply_back (index_step n s count call).1
 
 -- the words of the reply to a call are at most twice as many as those of the call
-pub reply_few : (n : ℕ) (s : Pairs) (count : ℕ) (words : List ℕ) (call : OrderCall) → codes.words_order_call words ≡ Some call → length (codes.order_reply_words (order_step n s count call).1) ≤ 2 * length words
-reply_few n s count [] call is = cc
-reply_few n s count (tag ∷ words) call is = omega (arith, few (order_step n s count call).1)
+pub index_reply_few : (n : ℕ) (s : Pairs) (count : ℕ) (words : List ℕ) (call : OrderCall) → codes.index_call_from_words words ≡ Some call → length (codes.index_reply_words (index_step n s count call).1) ≤ 2 * length words
+index_reply_few n s count [] call is = cc
+index_reply_few n s count (tag ∷ words) call is = omega (arith, few (index_step n s count call).1)
   where
-    few : (told : OrderReply) → length (codes.order_reply_words told) ≤ 2
+    few : (told : OrderReply) → length (codes.index_reply_words told) ≤ 2
     few (Was v) = omega arith
     few NoPrior = omega arith
     few Full = omega arith
 
 -- words that are read as a reply are the words of that reply
-pub reply_only : (words : List ℕ) (reply : OrderReply) → codes.words_order_reply words ≡ Some reply → codes.order_reply_words reply ≡ words
-reply_only words reply is = tagged.reply_only words reply is
+pub index_reply_only : (words : List ℕ) (reply : OrderReply) → codes.index_reply_from_words words ≡ Some reply → codes.index_reply_words reply ≡ words
+index_reply_only words reply is = tagged.tagged_reply_only words reply is

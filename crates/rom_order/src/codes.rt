@@ -7,8 +7,8 @@ use rom_order_region::{OrderCall, OrderReply};
 
 /// Makes the words those of a call, whatever they were.
 pub(crate) fn put_call_words(call: &OrderCall, words: &mut Args)
-    ensures words { words.new ≡ codes.order_call_words call.now }
-    ensures back { codes.words_order_call words.new ≡ Some call.now }
+    ensures words { words.new ≡ codes.index_call_words call.now }
+    ensures back { codes.index_call_from_words words.new ≡ Some call.now }
 {
     words.clear();
     match *call {
@@ -19,8 +19,8 @@ pub(crate) fn put_call_words(call: &OrderCall, words: &mut Args)
 
 /// The words of a call.
 pub(crate) fn call_words(call: &OrderCall) -> Args
-    ensures words { result ≡ codes.order_call_words call.now }
-    ensures back { codes.words_order_call result ≡ Some call.now }
+    ensures words { result ≡ codes.index_call_words call.now }
+    ensures back { codes.index_call_from_words result ≡ Some call.now }
 {
     let mut words = Args::new();
     put_call_words(call, &mut words);
@@ -29,7 +29,7 @@ pub(crate) fn call_words(call: &OrderCall) -> Args
 
 /// The call that the words are those of. It is `None` exactly where they are no call's.
 pub(crate) fn words_call(words: &Args) -> Option<OrderCall>
-    ensures { result ≡ codes.words_order_call words.now }
+    ensures { result ≡ codes.index_call_from_words words.now }
 {
     match words.as_slice() {
         [1, k, v] => Some(OrderCall::Put(*k, *v)),
@@ -40,8 +40,8 @@ pub(crate) fn words_call(words: &Args) -> Option<OrderCall>
 
 /// Makes the words those of a reply, whatever they were.
 pub(crate) fn put_reply_words(reply: &OrderReply, words: &mut Back)
-    ensures words { words.new ≡ codes.order_reply_words reply.now }
-    ensures back { codes.words_order_reply words.new ≡ Some reply.now }
+    ensures words { words.new ≡ codes.index_reply_words reply.now }
+    ensures back { codes.index_reply_from_words words.new ≡ Some reply.now }
 {
     words.clear();
     match *reply {
@@ -53,8 +53,8 @@ pub(crate) fn put_reply_words(reply: &OrderReply, words: &mut Back)
 
 /// The words of a reply.
 pub(crate) fn reply_words(reply: &OrderReply) -> Back
-    ensures words { result ≡ codes.order_reply_words reply.now }
-    ensures back { codes.words_order_reply result ≡ Some reply.now }
+    ensures words { result ≡ codes.index_reply_words reply.now }
+    ensures back { codes.index_reply_from_words result ≡ Some reply.now }
 {
     let mut words = Back::new();
     put_reply_words(reply, &mut words);
@@ -63,7 +63,7 @@ pub(crate) fn reply_words(reply: &OrderReply) -> Back
 
 /// The reply that the words are those of. It is `None` exactly where they are no reply's.
 pub(crate) fn words_reply(words: &Back) -> Option<OrderReply>
-    ensures { result ≡ codes.words_order_reply words.now }
+    ensures { result ≡ codes.index_reply_from_words words.now }
 {
     match words.as_slice() {
         [1, v] => Some(OrderReply::Was(*v)),

@@ -1,10 +1,10 @@
 //! The object.
 ghost use Rattle.rom_model.specs.Earlier.{no_earlier};
 ghost use Rattle.rom_order_region.specs.State.{Pairs};
-ghost use Rattle.rom_order_region.specs.Region.{OrderContents};
+ghost use Rattle.rom_order_region.specs.Region.{IndexContents};
 ghost use Rattle.rom_order.specs.Index.{index};
-ghost use Rattle.rom_order_region.specs.Inspection.{RejectsOrder};
-ghost use Rattle.rom_order.specs.Laws.{one_contents, contents_within, call_only, reply_back, reply_few, reply_only};
+ghost use Rattle.rom_order_region.specs.Inspection.{RejectsIndex};
+ghost use Rattle.rom_order.specs.Laws.{one_index_contents, index_contents_within, index_call_only, index_reply_back, index_reply_few, index_reply_only};
 
 use crate::codes::{
     call_words, put_call_words, put_reply_words, reply_words, words_call, words_reply,
@@ -45,9 +45,9 @@ impl Object for Ordered {
 
     ghost machine = { index };
 
-    ghost Contents = { OrderContents };
+    ghost Contents = { IndexContents };
 
-    ghost Rejects = { RejectsOrder };
+    ghost Rejects = { RejectsIndex };
 
     ghost earlier = { no_earlier };
 
@@ -96,15 +96,15 @@ impl Object for Ordered {
         inspect_order(alloc, region, order)
     }
 
-    ghost call_only = { call_only };
+    ghost call_only = { index_call_only };
 
-    ghost reply_back = { reply_back };
+    ghost reply_back = { index_reply_back };
 
-    ghost reply_only = { reply_only };
+    ghost reply_only = { index_reply_only };
 
-    ghost reply_few = { reply_few };
+    ghost reply_few = { index_reply_few };
 
-    ghost one_contents = { one_contents };
+    ghost one_contents = { one_index_contents };
 
-    ghost contents_within = { contents_within };
+    ghost contents_within = { index_contents_within };
 }

@@ -2,8 +2,8 @@
 ghost use Rattle.std.specs.Prelude.{◌≡◌, ◌≢◌, IfSome, IfNone};
 ghost use Rattle.rom_order_region.specs.declared.call.OrderCall.{OrderCall};
 ghost use Rattle.rom_order_region.specs.declared.call.OrderQuery.{OrderQuery};
-ghost use Rattle.rom_order.specs.Asking.{AsksOrder, call_phrase, order_query_phrase};
-ghost use Rattle.rom_order.specs.Lines.{ReadsOrder};
+ghost use Rattle.rom_order.specs.Asking.{AsksIndex, index_call_phrase, index_query_phrase};
+ghost use Rattle.rom_order.specs.Lines.{ReadsIndex};
 
 use crate::index::Ordered;
 use rom_model::Step;
@@ -12,8 +12,8 @@ use rom_text::{Lines, read_phrase};
 
 /// The call that a line with this first word and these numbers behind it asks for.
 fn asked_call(name: &[u8], numbers: &[u64]) -> Option<OrderCall>
-    ensures some { IfSome result (λ c. (name.now, numbers.now) ≡ call_phrase c) }
-    ensures none { IfNone result ((c : OrderCall) → (name.now, numbers.now) ≢ call_phrase c) }
+    ensures some { IfSome result (λ c. (name.now, numbers.now) ≡ index_call_phrase c) }
+    ensures none { IfNone result ((c : OrderCall) → (name.now, numbers.now) ≢ index_call_phrase c) }
 {
     match (name, numbers) {
         (b"put", [k, v]) => Some(OrderCall::Put(*k, *v)),
@@ -24,8 +24,8 @@ fn asked_call(name: &[u8], numbers: &[u64]) -> Option<OrderCall>
 
 /// The query that such a line asks for.
 fn asked_query(name: &[u8], numbers: &[u64]) -> Option<OrderQuery>
-    ensures some { IfSome result (λ q. (name.now, numbers.now) ≡ order_query_phrase q) }
-    ensures none { IfNone result ((q : OrderQuery) → (name.now, numbers.now) ≢ order_query_phrase q) }
+    ensures some { IfSome result (λ q. (name.now, numbers.now) ≡ index_query_phrase q) }
+    ensures none { IfNone result ((q : OrderQuery) → (name.now, numbers.now) ≢ index_query_phrase q) }
 {
     match (name, numbers) {
         (b"get", [k]) => Some(OrderQuery::Get(*k)),
@@ -37,7 +37,7 @@ fn asked_query(name: &[u8], numbers: &[u64]) -> Option<OrderQuery>
 
 /// What such a line asks for.
 fn asked(name: &[u8], numbers: &[u64]) -> Step<OrderCall, OrderQuery>
-    ensures { AsksOrder name.now numbers.now result }
+    ensures { AsksIndex name.now numbers.now result }
 {
     if let Some(call) = asked_call(name, numbers) {
         return Step::Update(call);
@@ -53,7 +53,7 @@ fn asked(name: &[u8], numbers: &[u64]) -> Step<OrderCall, OrderQuery>
 pub struct OrderLines;
 
 impl Lines<Ordered> for OrderLines {
-    ghost Reads = { ReadsOrder };
+    ghost Reads = { ReadsIndex };
 
     fn read_line(line: &[u8]) -> Step<OrderCall, OrderQuery> {
         match read_phrase(line) {

@@ -6,11 +6,11 @@ ghost use Rattle.rom_run.specs.Played.{IsText};
 ghost use Rattle.rom_run.specs.Promise.{Promise};
 ghost use Rattle.rom_text.specs.Determines.{TextDetermines};
 ghost use Rattle.rom_text.specs.Lines.{AreScripts};
-ghost use Rattle.rom_order_region.specs.Region.{OrderContents};
-ghost use Rattle.rom_order_region.specs.Inspection.{RejectsOrder};
+ghost use Rattle.rom_order_region.specs.Region.{IndexContents};
+ghost use Rattle.rom_order_region.specs.Inspection.{RejectsIndex};
 ghost use Rattle.rom_order.specs.Index.{index};
-ghost use Rattle.rom_order.specs.Lines.{ReadsOrder};
-ghost use Rattle.rom_order_region.specs.Texts.{order_texts};
+ghost use Rattle.rom_order.specs.Lines.{ReadsIndex};
+ghost use Rattle.rom_order_region.specs.Texts.{index_texts};
 
 use crate::index::Ordered;
 use crate::language::OrderLines;
@@ -42,12 +42,12 @@ pub fn run_order<R: Threads + Wait + Sync, D: Device + Send, S: Source, O: Sink,
     requires { length scripts.items ≡ length (plain_scripts (plain_command words.now)) }
 
     // What the words ask for is done so, and printed so: the facts are the record's fields.
-    ensures promise { Promise index OrderContents RejectsOrder no_earlier D.shown S.shown O.shown
-        (AreScripts ReadsOrder S.shown) (IsText O.shown order_texts) (plain_use (plain_command words.now)) device
+    ensures promise { Promise index IndexContents RejectsIndex no_earlier D.shown S.shown O.shown
+        (AreScripts ReadsIndex S.shown) (IsText O.shown index_texts) (plain_use (plain_command words.now)) device
         result.device scripts result.scripts out.old out.new result.status result.session }
 
     // A text is that of one list of results and one count.
-    ensures determined { TextDetermines order_texts }
+    ensures determined { TextDetermines index_texts }
 {
     run_plain::<Ordered, OrderLines, D, S, O, R, G>(rt, alloc, words, device, scripts, out, gate)
 }

@@ -4,7 +4,7 @@ use Rattle.std.specs.Prelude.{slice_index}
 use Rattle.rom_model.specs.Chains.{times}
 use Rattle.rom_model.proofs.Times.{times_here, times-append}
 use Rattle.rom_order_region.specs.Tree.{Tree, Leaf, Node, blocks, balanced, attached}
-use Rattle.rom_order_region.specs.Nodes.{root, TreeStands, IsTree, HasTree, IsFork, HasFork, BecomesTree, level_at}
+use Rattle.rom_order_region.specs.Nodes.{root, TreeStands, IsTree, HasTree, IsFork, HasFork, BuildsTreeAt, level_at}
 use Rattle.rom_order_region.specs.Attach.{IsAttach, MayAttach}
 use Rattle.rom_order_region.proofs.Choice.{of_below}
 use Rattle.rom_order_region.proofs.Members.{count, count-node, count-attached}
@@ -13,7 +13,7 @@ use Rattle.rom_order_region.proofs.Balancing.{TurnedBy}
 
 -- what putting a node into a tree leaves
 abbrev pub AttachedBy : ℕ → ℕ → ℕ → ℕ → List ℕ → List ℕ → ℕ → Type 0
-AttachedBy n top node k w w' at = (b v : ℕ) (t : Tree) → IsAttach n w top node b k v t → BecomesTree n (b ∷ blocks t) w w' (attached b k v t) at
+AttachedBy n top node k w w' at = (b v : ℕ) (t : Tree) → IsAttach n w top node b k v t → BuildsTreeAt n (b ∷ blocks t) w w' (attached b k v t) at
 
 pub attach_tree : {n top node b k v : ℕ} {w : List ℕ} {t : Tree} → IsAttach n w top node b k v t → IsTree n w top t
 attach_tree {b = b} {t = t} a = record { at_is = a.top_is; stands = a.stands; apart = apart_part (b ∷ blocks t) (blocks t) (λ q. omega (arith, times-append q (b ∷ []) (blocks t))) a.apart }
@@ -83,7 +83,7 @@ module _ {n top node b k v c j u : ℕ} {w : List ℕ} {l r : Tree} (a : IsAttac
     apart = apart_part old (b ∷ blocks r) (λ q. omega (arith, a_sums q, more q r)) a.apart;
   }
 
-  fork_left : (left right : ℕ) {w1 : List ℕ} → right ≡ slice_index w (top + 3) → BecomesTree n (b ∷ blocks l) w w1 (attached b k v l) left → IsFork n w1 top left right c j u (attached b k v l) r
+  fork_left : (left right : ℕ) {w1 : List ℕ} → right ≡ slice_index w (top + 3) → BuildsTreeAt n (b ∷ blocks l) w w1 (attached b k v l) left → IsFork n w1 top left right c j u (attached b k v l) r
   fork_left left right right_is one = record {
     top_is = a.top_is;
     left_is = one.at_is;
@@ -94,7 +94,7 @@ module _ {n top node b k v c j u : ℕ} {w : List ℕ} {l r : Tree} (a : IsAttac
     apart = apart_part old (blocks (Node c j u (attached b k v l) r)) (λ q. omega (arith, a_sums q, count-node q c j u (attached b k v l) r, count-attached q b k v l)) a.apart;
   }
 
-  fork_right : (left right : ℕ) {w1 : List ℕ} → left ≡ slice_index w (top + 2) → BecomesTree n (b ∷ blocks r) w w1 (attached b k v r) right → IsFork n w1 top left right c j u l (attached b k v r)
+  fork_right : (left right : ℕ) {w1 : List ℕ} → left ≡ slice_index w (top + 2) → BuildsTreeAt n (b ∷ blocks r) w w1 (attached b k v r) right → IsFork n w1 top left right c j u l (attached b k v r)
   fork_right left right left_is one = record {
     top_is = a.top_is;
     left_is = left_is ∙ a_left;
@@ -105,9 +105,9 @@ module _ {n top node b k v c j u : ℕ} {w : List ℕ} {l r : Tree} (a : IsAttac
     apart = apart_part old (blocks (Node c j u l (attached b k v r))) (λ q. omega (arith, a_sums q, count-node q c j u l (attached b k v r), count-attached q b k v r)) a.apart;
   }
 
-  done_left : {left at : ℕ} {w1 w2 : List ℕ} → k < j → BecomesTree n (b ∷ blocks l) w w1 (attached b k v l) left → BecomesTree n (blocks (Node c j u (attached b k v l) r)) w1 w2 (balanced c j u (attached b k v l) r) at
-      → BecomesTree n old w w2 (attached b k v (Node c j u l r)) at
-  done_left {left} {at} {w1} {w2} lt one two = of_below (λ t. BecomesTree n old w w2 t at) k j (balanced c j u (attached b k v l) r) (balanced c j u l (attached b k v r))
+  done_left : {left at : ℕ} {w1 w2 : List ℕ} → k < j → BuildsTreeAt n (b ∷ blocks l) w w1 (attached b k v l) left → BuildsTreeAt n (blocks (Node c j u (attached b k v l) r)) w1 w2 (balanced c j u (attached b k v l) r) at
+      → BuildsTreeAt n old w w2 (attached b k v (Node c j u l r)) at
+  done_left {left} {at} {w1} {w2} lt one two = of_below (λ t. BuildsTreeAt n old w w2 t at) k j (balanced c j u (attached b k v l) r) (balanced c j u l (attached b k v r))
       (λ _. record {
         at_is = two.at_is;
         becomes = record {
@@ -117,9 +117,9 @@ module _ {n top node b k v c j u : ℕ} {w : List ℕ} {l r : Tree} (a : IsAttac
       })
       (λ ge. absurd (omega arith))
 
-  done_right : {right at : ℕ} {w1 w2 : List ℕ} → j ≤ k → BecomesTree n (b ∷ blocks r) w w1 (attached b k v r) right → BecomesTree n (blocks (Node c j u l (attached b k v r))) w1 w2 (balanced c j u l (attached b k v r)) at
-      → BecomesTree n old w w2 (attached b k v (Node c j u l r)) at
-  done_right {right} {at} {w1} {w2} ge one two = of_below (λ t. BecomesTree n old w w2 t at) k j (balanced c j u (attached b k v l) r) (balanced c j u l (attached b k v r))
+  done_right : {right at : ℕ} {w1 w2 : List ℕ} → j ≤ k → BuildsTreeAt n (b ∷ blocks r) w w1 (attached b k v r) right → BuildsTreeAt n (blocks (Node c j u l (attached b k v r))) w1 w2 (balanced c j u l (attached b k v r)) at
+      → BuildsTreeAt n old w w2 (attached b k v (Node c j u l r)) at
+  done_right {right} {at} {w1} {w2} ge one two = of_below (λ t. BuildsTreeAt n old w w2 t at) k j (balanced c j u (attached b k v l) r) (balanced c j u l (attached b k v r))
       (λ lt. absurd (omega arith))
       (λ _. record {
         at_is = two.at_is;

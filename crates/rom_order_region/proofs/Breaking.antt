@@ -22,8 +22,8 @@ use Rattle.rom_order_region.proofs.Sorted.{of_rise}
 use Rattle.rom_order_region.proofs.Frame.{apart_part}
 use Rattle.rom_order_region.proofs.Walked.{length-entries}
 use Rattle.rom_order_region.specs.State.{Pairs}
-use Rattle.rom_order_region.specs.Region.{taken_pairs, OrderContents}
-use Rattle.rom_order_region.specs.Inspection.{most_levels, Sub, OrderRoot, OrderInspection, RejectsOrder}
+use Rattle.rom_order_region.specs.Region.{taken_pairs, IndexContents}
+use Rattle.rom_order_region.specs.Inspection.{most_levels, Sub, IndexRoot, IndexInspection, RejectsIndex}
 use Rattle.rom_order_region.proofs.Regions.{region_rises, region_size, region_low}
 use Rattle.rom_order_region.proofs.Tested.{most_told, most_true}
 use Rattle.rom_order_region.proofs.OneBreak.{inspection_single}
@@ -38,9 +38,9 @@ module _ {n : ℕ} (w : List ℕ) where
   same_taken bs cs same are = words_same n (taken_pairs n bs) (taken_pairs n cs) w (λ i. ap (λ t. nat_le (2 ^ (n - 1)) i && nat_lt 0 t) (same (i - 2 ^ (n - 1)))) are
 
   -- where it breaks nowhere, the region is well-formed
-  pub accepted : length w ≡ region_len n → (found : Sub) → OrderInspection n w (Ok found) → (s : Pairs) × (k : ℕ) × OrderContents n w s k
+  pub accepted : length w ≡ region_len n → (found : Sub) → IndexInspection n w (Ok found) → (s : Pairs) × (k : ℕ) × IndexContents n w s k
   accepted sized found is =
-      let root : OrderRoot w (Ok tt) = is.1 in
+      let root : IndexRoot w (Ok tt) = is.1 in
       let nodes = is.2.1 in
       let allocator = is.2.2 in
       let sub = nodes.0 in
@@ -76,7 +76,7 @@ module _ {n : ℕ} (w : List ℕ) where
       )
 
   -- where the region is well-formed, it breaks nowhere
-  pub passes : IsOrder n → (s : Pairs) (k : ℕ) → OrderContents n w s k → (found : Sub) × OrderInspection n w (Ok found)
+  pub passes : IsOrder n → (s : Pairs) (k : ℕ) → IndexContents n w s k → (found : Sub) × IndexInspection n w (Ok found)
   passes order s k held =
       let is = held.1 in
       let t = held.0 in
@@ -86,7 +86,7 @@ module _ {n : ℕ} (w : List ℕ) where
       let same_blocks : length (blocks sub.tree) ≡ length (blocks t) = ap (λ x. length (blocks x)) walked.tree_is in
       let size : slice_index w 4 ≡ length sub.seen = omega (arith, is.size, region_size is, length-entries t, sub_is.long, same_blocks) in
       let zeros : checked (are_zero w 5 12 rule.Root) ≡ Ok tt = zeros_hold w 5 12 rule.Root (λ j lt. is.zeros (5 + j) (omega arith) (omega (arith, lt))) in
-      let root : OrderRoot w (Ok tt) = sym (
+      let root : IndexRoot w (Ok tt) = sym (
       word_holds w 0 rule.Root 3 (is_word w 1 rule.Root 1 ∷ test 2 rule.Root (nat_le (slice_index w 2) LAST_COUNT) ∷ are_zero w 5 12 rule.Root) tt is.kind
       ∙ word_holds w 1 rule.Root 1 (test 2 rule.Root (nat_le (slice_index w 2) LAST_COUNT) ∷ are_zero w 5 12 rule.Root) tt is.version
       ∙ holds_more (test 2 rule.Root (nat_le (slice_index w 2) LAST_COUNT)) (are_zero w 5 12 rule.Root) tt (most_true (slice_index w 2) LAST_COUNT (omega (arith, is.count_is, is.count_fits)))
@@ -96,7 +96,7 @@ module _ {n : ℕ} (w : List ℕ) where
       (sub, (tt, root, (sub, (sub, walked.walks, sized), (refl, words))))
 
   -- a first break excludes it
-  pub refused : IsOrder n → (e : Unfit) → RejectsOrder n w e → (s : Pairs) (k : ℕ) → OrderContents n w s k → ⊥
+  pub refused : IsOrder n → (e : Unfit) → RejectsIndex n w e → (s : Pairs) (k : ℕ) → IndexContents n w s k → ⊥
   refused order (Malformed offset rule) broke s k held =
       let p = passes order s k held in
       let e : Break = record { offset = offset; rule = rule } in

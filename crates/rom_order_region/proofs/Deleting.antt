@@ -10,7 +10,7 @@ use Rattle.rom_model.proofs.Times.{times_here}
 use Rattle.rom_model.proofs.Nodes.{pow_positive}
 use Rattle.rom_block.specs.Taken.{IsTakenAt}
 use Rattle.rom_order_region.specs.Tree.{Tree, blocks, detached, block_at_key}
-use Rattle.rom_order_region.specs.Nodes.{node_at, BecomesTree}
+use Rattle.rom_order_region.specs.Nodes.{node_at, BuildsTreeAt}
 use Rattle.rom_order_region.specs.Keys.{EntriesRise}
 use Rattle.rom_order_region.specs.Find.{IsFound}
 use Rattle.rom_order_region.proofs.Members.{count}
@@ -21,17 +21,17 @@ use Rattle.rom_order_region.proofs.Frame.{apart_part}
 use Rattle.rom_order_region.proofs.Revalued.{count-detached}
 use Rattle.rom_order_region.proofs.Detaching.{count-detached_le}
 use Rattle.rom_order_region.specs.declared.call.OrderReply.TheVariants.{Was, NoPrior}
-use Rattle.rom_order_region.specs.State.{Pairs, del_entry}
-use Rattle.rom_order_region.specs.Region.{taken_pairs, IsOrderRegion, OrderContents}
+use Rattle.rom_order_region.specs.State.{Pairs, delete_pair}
+use Rattle.rom_order_region.specs.Region.{taken_pairs, IsIndexRegion, IndexContents}
 use Rattle.rom_order_region.proofs.Pairs.{pair_taken, pair_begins, pairs_disjoint, giving_pair}
 use Rattle.rom_order_region.proofs.Regions.{below_same, tree_same, stands_above, region_rises, region_next}
 use Rattle.rom_order_region.proofs.Asked.{get_is}
 
-module _ {n : ℕ} {w : List ℕ} {t : Tree} {s : Pairs} {k : ℕ} (order : IsOrder n) (is : IsOrderRegion n w t s k) (key node : ℕ) (found : IsFound n w t key node) where
-  pub del_none : (w' : List ℕ) → w' ≡ w → node ≡ 0 → (NoPrior ≡ (del_entry s key (map.get s key)).1) × OrderContents n w' (del_entry s key (map.get s key)).0 k
+module _ {n : ℕ} {w : List ℕ} {t : Tree} {s : Pairs} {k : ℕ} (order : IsOrder n) (is : IsIndexRegion n w t s k) (key node : ℕ) (found : IsFound n w t key node) where
+  pub del_none : (w' : List ℕ) → w' ≡ w → node ≡ 0 → (NoPrior ≡ (delete_pair s key (map.get s key)).1) × IndexContents n w' (delete_pair s key (map.get s key)).0 k
   del_none w' same none =
       let gets = get_is is key ∙ found.none none in
-      subst (λ (o : Option ℕ). (NoPrior ≡ (del_entry s key o).1) × OrderContents n w' (del_entry s key o).0 k) (sym gets) (refl, subst (λ (x : List ℕ). OrderContents n x s k) (sym same) (t, is))
+      subst (λ (o : Option ℕ). (NoPrior ≡ (delete_pair s key o).1) × IndexContents n w' (delete_pair s key o).0 k) (sym gets) (refl, subst (λ (x : List ℕ). IndexContents n x s k) (sym same) (t, is))
 
   module _ (some : node ≡ 0 → ⊥) where
     abbrev b : ℕ
@@ -47,7 +47,7 @@ module _ {n : ℕ} {w : List ℕ} {t : Tree} {s : Pairs} {k : ℕ} (order : IsOr
     counts q = count-detached q key (slice_index w (node + 1)) t (region_rises is) (found.some some)
 
     -- the node is out of the tree
-    module _ {w1 w2 : List ℕ} {to : ℕ} (size : ℕ) (done : BecomesTree n (blocks t) w w1 (detached key t) to) (image : w2 ≡ slice_set (slice_set w1 3 to) 4 size) where
+    module _ {w1 w2 : List ℕ} {to : ℕ} (size : ℕ) (done : BuildsTreeAt n (blocks t) w w1 (detached key t) to) (image : w2 ≡ slice_set (slice_set w1 3 to) 4 size) where
       long : length w2 ≡ length w
       long = ap length image ∙ length-set (slice_set w1 3 to) 4 size ∙ length-set w1 3 to ∙ done.becomes.others.as_long
 
@@ -73,7 +73,7 @@ module _ {n : ℕ} {w : List ℕ} {t : Tree} {s : Pairs} {k : ℕ} (order : IsOr
       -- it was given back
       pub del_was : (w3 : List ℕ) (before : ℕ) → before ≡ slice_index w (node + 1) → size ≡ slice_index w1 4 - 1
           → ((taken : ℕ → Bool) (x : ℕ) → IsDisjoint n taken → AreWords n taken w2 → IsNode (n - 1) x → node ≡ block_at n 1 x → taken x ≡ true → IsDisjoint n (giving x taken) × AreWords n (giving x taken) w3)
-          → ChangesOnly 17 (2 * 2 ^ n - 1) w2 w3 → (Was before ≡ (del_entry s key (map.get s key)).1) × OrderContents n w3 (del_entry s key (map.get s key)).0 k
+          → ChangesOnly 17 (2 * 2 ^ n - 1) w2 w3 → (Was before ≡ (delete_pair s key (map.get s key)).1) × IndexContents n w3 (delete_pair s key (map.get s key)).0 k
       del_was w3 before before_is size_is given only =
           let x = slice_index w (node + 1) in
           let u = detached key t in
@@ -89,7 +89,7 @@ module _ {n : ℕ} {w : List ℕ} {t : Tree} {s : Pairs} {k : ℕ} (order : IsOr
           let after = given (taken_pairs n (blocks t)) (2 ^ (n - 1) + b) (pairs_disjoint (blocks t) order is.top.apart) words is_node begins held in
           let low : (a : ℕ) → a ≤ 16 → (a ≡ 3 → ⊥) → (a ≡ 4 → ⊥) → slice_index w3 a ≡ slice_index w a = λ a le not3 not4. only.before a (omega (arith, le)) ∙ other a not3 not4 ∙ below_same a done.becomes.others (omega (arith, le, pow_positive n)) in
           let size1 : slice_index w1 4 ≡ map.len s = below_same 4 done.becomes.others (omega (arith, pow_positive n)) ∙ is.size in
-          subst (λ (o : Option ℕ). (Was before ≡ (del_entry s key o).1) × OrderContents n w3 (del_entry s key o).0 k) (sym gets) (
+          subst (λ (o : Option ℕ). (Was before ≡ (delete_pair s key o).1) × IndexContents n w3 (delete_pair s key o).0 k) (sym gets) (
             ap (λ y. Was y) before_is,
             (
               u,

@@ -5,7 +5,7 @@ use Rattle.rom_model.specs.Chains.{times}
 use Rattle.rom_model.proofs.Times.{times_here, times-append}
 use Rattle.rom_order_region.specs.declared.tree.remove.First.{First}
 use Rattle.rom_order_region.specs.Tree.{Tree, Leaf, Node, blocks, balanced, leftmost_of, without_first, merged, detached}
-use Rattle.rom_order_region.specs.Nodes.{root, TreeStands, IsTree, HasTree, IsFork, HasFork, BecomesTree}
+use Rattle.rom_order_region.specs.Nodes.{root, TreeStands, IsTree, HasTree, IsFork, HasFork, BuildsTreeAt}
 use Rattle.rom_order_region.specs.Detach.{IsLeftmost, IsPair, HasPair}
 use Rattle.rom_order_region.proofs.Choice.{of_below}
 use Rattle.rom_order_region.proofs.Members.{count, count-node, count-balanced, count-first, count-merged}
@@ -17,10 +17,10 @@ abbrev pub FirstBy : ℕ → ℕ → List ℕ → List ℕ → First → Type 0
 FirstBy n top w w' first = (b k v : ℕ) (l r : Tree) → IsTree n w top (Node b k v l r) → IsLeftmost n w w' b k v l r first
 
 abbrev pub MergedBy : ℕ → ℕ → ℕ → List ℕ → List ℕ → ℕ → Type 0
-MergedBy n left right w w' at = (l r : Tree) → IsPair n w left right l r → BecomesTree n (blocks l ++ blocks r) w w' (merged l r) at
+MergedBy n left right w w' at = (l r : Tree) → IsPair n w left right l r → BuildsTreeAt n (blocks l ++ blocks r) w w' (merged l r) at
 
 abbrev pub DetachedBy : ℕ → ℕ → ℕ → List ℕ → List ℕ → ℕ → Type 0
-DetachedBy n top k w w' at = (t : Tree) → IsTree n w top t → BecomesTree n (blocks t) w w' (detached k t) at
+DetachedBy n top k w w' at = (t : Tree) → IsTree n w top t → BuildsTreeAt n (blocks t) w w' (detached k t) at
 
 -- blocks go, and none comes
 pub count-detached_le : (a k : ℕ) (t : Tree) → count a (detached k t) ≤ count a t
@@ -52,7 +52,7 @@ module _ {n top b k v : ℕ} {w : List ℕ} {l r : Tree} (is : IsTree n w top (N
   once q = omega (arith, count-node q b k v l r, is.apart.different q)
 
   -- the left subtree became another one
-  pub fork_left : {w1 : List ℕ} (at right : ℕ) (m : Tree) → right ≡ slice_index w (top + 3) → ((q : ℕ) → count q m ≤ count q l) → BecomesTree n (blocks l) w w1 m at → IsFork n w1 top at right b k v m r
+  pub fork_left : {w1 : List ℕ} (at right : ℕ) (m : Tree) → right ≡ slice_index w (top + 3) → ((q : ℕ) → count q m ≤ count q l) → BuildsTreeAt n (blocks l) w w1 m at → IsFork n w1 top at right b k v m r
   fork_left at right m right_is few one = record {
     top_is = is.at_is;
     left_is = one.at_is;
@@ -63,7 +63,7 @@ module _ {n top b k v : ℕ} {w : List ℕ} {l r : Tree} (is : IsTree n w top (N
     apart = apart_part (blocks (Node b k v l r)) (blocks (Node b k v m r)) (λ q. omega (arith, count-node q b k v l r, count-node q b k v m r, few q)) is.apart;
   }
 
-  pub fork_right : {w1 : List ℕ} (at left : ℕ) (m : Tree) → left ≡ slice_index w (top + 2) → ((q : ℕ) → count q m ≤ count q r) → BecomesTree n (blocks r) w w1 m at → IsFork n w1 top left at b k v l m
+  pub fork_right : {w1 : List ℕ} (at left : ℕ) (m : Tree) → left ≡ slice_index w (top + 2) → ((q : ℕ) → count q m ≤ count q r) → BuildsTreeAt n (blocks r) w w1 m at → IsFork n w1 top left at b k v l m
   fork_right at left m left_is few one = record {
     top_is = is.at_is;
     left_is = left_is ∙ read_left;
@@ -74,8 +74,8 @@ module _ {n top b k v : ℕ} {w : List ℕ} {l r : Tree} (is : IsTree n w top (N
     apart = apart_part (blocks (Node b k v l r)) (blocks (Node b k v l m)) (λ q. omega (arith, count-node q b k v l r, count-node q b k v l m, few q)) is.apart;
   }
 
-  pub then_left : {w1 w2 : List ℕ} {at to : ℕ} (m : Tree) → ((q : ℕ) → count q m ≤ count q l) → BecomesTree n (blocks l) w w1 m at → BecomesTree n (blocks (Node b k v m r)) w1 w2 (balanced b k v m r) to
-      → BecomesTree n (blocks (Node b k v l r)) w w2 (balanced b k v m r) to
+  pub then_left : {w1 w2 : List ℕ} {at to : ℕ} (m : Tree) → ((q : ℕ) → count q m ≤ count q l) → BuildsTreeAt n (blocks l) w w1 m at → BuildsTreeAt n (blocks (Node b k v m r)) w1 w2 (balanced b k v m r) to
+      → BuildsTreeAt n (blocks (Node b k v l r)) w w2 (balanced b k v m r) to
   then_left m few one two = record {
     at_is = two.at_is;
     becomes = record {
@@ -84,8 +84,8 @@ module _ {n top b k v : ℕ} {w : List ℕ} {l r : Tree} (is : IsTree n w top (N
     };
   }
 
-  pub then_right : {w1 w2 : List ℕ} {at to : ℕ} (m : Tree) → ((q : ℕ) → count q m ≤ count q r) → BecomesTree n (blocks r) w w1 m at → BecomesTree n (blocks (Node b k v l m)) w1 w2 (balanced b k v l m) to
-      → BecomesTree n (blocks (Node b k v l r)) w w2 (balanced b k v l m) to
+  pub then_right : {w1 w2 : List ℕ} {at to : ℕ} (m : Tree) → ((q : ℕ) → count q m ≤ count q r) → BuildsTreeAt n (blocks r) w w1 m at → BuildsTreeAt n (blocks (Node b k v l m)) w1 w2 (balanced b k v l m) to
+      → BuildsTreeAt n (blocks (Node b k v l r)) w w2 (balanced b k v l m) to
   then_right m few one two = record {
     at_is = two.at_is;
     becomes = record {
@@ -229,7 +229,7 @@ module _ {n top key left right : ℕ} {w : List ℕ} (some : top ≡ 0 → ⊥) 
     detach_left_done {w2 = w2} at to lt one two (Node c j u l r) is =
         let was = one l (left_sub is left left_is) in
         let rest = two c j u (detached k l) r (fork_left is at right (detached k l) right_is (λ q. count-detached_le q k l) was) in
-        of_below (λ t. BecomesTree n (blocks (Node c j u l r)) w w2 t to) k j (balanced c j u (detached k l) r) (if nat_lt j k then balanced c j u l (detached k r) else merged l r)
+        of_below (λ t. BuildsTreeAt n (blocks (Node c j u l r)) w w2 t to) k j (balanced c j u (detached k l) r) (if nat_lt j k then balanced c j u l (detached k r) else merged l r)
         (λ _. then_left is (detached k l) (λ q. count-detached_le q k l) was rest)
         (λ ge. absurd (omega (arith, ge, lt, key_is, read_key is)))
 
@@ -238,9 +238,9 @@ module _ {n top key left right : ℕ} {w : List ℕ} (some : top ≡ 0 → ⊥) 
     detach_right_done {w2 = w2} at to gt one two (Node c j u l r) is =
         let was = one r (right_sub is right right_is) in
         let rest = two c j u l (detached k r) (fork_right is at left (detached k r) left_is (λ q. count-detached_le q k r) was) in
-        of_below (λ t. BecomesTree n (blocks (Node c j u l r)) w w2 t to) k j (balanced c j u (detached k l) r) (if nat_lt j k then balanced c j u l (detached k r) else merged l r)
+        of_below (λ t. BuildsTreeAt n (blocks (Node c j u l r)) w w2 t to) k j (balanced c j u (detached k l) r) (if nat_lt j k then balanced c j u l (detached k r) else merged l r)
         (λ lt. absurd (omega (arith, gt, lt, key_is, read_key is)))
-        (λ _. of_below (λ t. BecomesTree n (blocks (Node c j u l r)) w w2 t to) j k (balanced c j u l (detached k r)) (merged l r)
+        (λ _. of_below (λ t. BuildsTreeAt n (blocks (Node c j u l r)) w w2 t to) j k (balanced c j u l (detached k r)) (merged l r)
         (λ _. then_right is (detached k r) (λ q. count-detached_le q k r) was rest)
         (λ le. absurd (omega (arith, gt, le, key_is, read_key is))))
 
@@ -264,9 +264,9 @@ module _ {n top key left right : ℕ} {w : List ℕ} (some : top ≡ 0 → ⊥) 
     detach_here_done to le ge one Leaf is = absurd (some is.at_is)
     detach_here_done {w1} to le ge one (Node c j u l r) is =
         let was = one l r (pair_of is) in
-        of_below (λ t. BecomesTree n (blocks (Node c j u l r)) w w1 t to) k j (balanced c j u (detached k l) r) (if nat_lt j k then balanced c j u l (detached k r) else merged l r)
+        of_below (λ t. BuildsTreeAt n (blocks (Node c j u l r)) w w1 t to) k j (balanced c j u (detached k l) r) (if nat_lt j k then balanced c j u l (detached k r) else merged l r)
         (λ lt. absurd (omega (arith, lt, le, key_is, read_key is)))
-        (λ _. of_below (λ t. BecomesTree n (blocks (Node c j u l r)) w w1 t to) j k (balanced c j u l (detached k r)) (merged l r)
+        (λ _. of_below (λ t. BuildsTreeAt n (blocks (Node c j u l r)) w w1 t to) j k (balanced c j u l (detached k r)) (merged l r)
         (λ lt. absurd (omega (arith, lt, ge, key_is, read_key is)))
         (λ _. record {
           at_is = was.at_is;

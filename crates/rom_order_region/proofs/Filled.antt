@@ -5,12 +5,12 @@ use Rattle.std.proofs.lemmas.Bool.{cases_lt}
 use Rattle.rom_model.specs.Space.{ChangesOnly}
 use Rattle.rom_model.proofs.Times.{times_here}
 use Rattle.rom_order_region.specs.Tree.{Leaf, Node}
-use Rattle.rom_order_region.specs.Nodes.{node_at, TurnsIntoTree}
+use Rattle.rom_order_region.specs.Nodes.{node_at, BuildsTree}
 
 pub single : (n b at key value : ℕ) (w w1 w2 : List ℕ) → at ≡ node_at n b → ChangesOnly at 4 w w1 → ChangesOnly (at + 4) 4 w1 w2
     → slice_index w1 at ≡ key → slice_index w1 (at + 1) ≡ value → slice_index w1 (at + 2) ≡ 0 → slice_index w1 (at + 3) ≡ 0
     → slice_index w2 (at + 4) ≡ 1 → slice_index w2 (at + 4 + 1) ≡ 0 → slice_index w2 (at + 4 + 2) ≡ 0 → slice_index w2 (at + 4 + 3) ≡ 0
-    → TurnsIntoTree n (b ∷ []) w w2 (Node b key value Leaf Leaf)
+    → BuildsTree n (b ∷ []) w w2 (Node b key value Leaf Leaf)
 single n b at key value w w1 w2 here one two first second third fourth fifth sixth seventh eighth =
     let e5 : at + 4 + 1 ≡ at + 5 = omega arith in
     let e6 : at + 4 + 2 ≡ at + 6 = omega arith in

@@ -7,7 +7,7 @@ use Rattle.rom_model.specs.Blocks.{IsOrder, region_len}
 use Rattle.rom_model.specs.Chains.{times}
 use Rattle.rom_model.proofs.Times.{times_here, times_one}
 use Rattle.rom_order_region.specs.Tree.{Tree, Node, height}
-use Rattle.rom_order_region.specs.Nodes.{node_at, ChangesNodes, IsFork, TurnsIntoTree}
+use Rattle.rom_order_region.specs.Nodes.{node_at, ChangesNodes, IsFork, BuildsTree}
 use Rattle.rom_order_region.proofs.Members.{count}
 use Rattle.rom_order_region.proofs.Frame.{fork_within, stands_apart, not_left, not_right}
 
@@ -42,7 +42,7 @@ module _ (w : List ℕ) (at left right high : ℕ) (within : at + 8 ≤ length w
   linked_four = get_or-set_at (slice_set (slice_set w (at + 2) left) (at + 3) right) (at + 4) (at + 4) high 0 refl (omega (arith, length-set (slice_set w (at + 2) left) (at + 3) right, length-set w (at + 2) left))
 
 pub joined : {n : ℕ} {w : List ℕ} {top left right b k v : ℕ} {l r : Tree} (w' : List ℕ) (high : ℕ) → IsOrder n → length w ≡ region_len n → (f : IsFork n w top left right b k v l r) → high ≡ max (height l) (height r) + 1
-    → w' ≡ slice_set (slice_set (slice_set w (top + 2) left) (top + 3) right) (top + 4) high → TurnsIntoTree n (b ∷ []) w w' (Node b k v l r)
+    → w' ≡ slice_set (slice_set (slice_set w (top + 2) left) (top + 3) right) (top + 4) high → BuildsTree n (b ∷ []) w w' (Node b k v l r)
 unfolding linked
 joined {n} {w} {top} {left} {right} {b} {k} {v} {l} {r} w' high order sized f high_is is =
     let at = node_at n b in

@@ -12,7 +12,7 @@ use Rattle.rom_model.proofs.Outcomes.{IsSingle, one_value, one_err, then_single}
 use Rattle.rom_block.specs.Taken.{DiffersFirst}
 use Rattle.rom_order_region.specs.Nodes.{node_at}
 use Rattle.rom_order_region.specs.Region.{taken_pairs}
-use Rattle.rom_order_region.specs.Inspection.{most_levels, Sub, LeadsToNode, FollowsChild, entry_tests, height_tests, node_over, Subtree, order_root_tests, OrderRoot, Nodes, Allocator, OrderInspection, FirstOrderBreak, RejectsOrder}
+use Rattle.rom_order_region.specs.Inspection.{most_levels, Sub, LeadsToNode, FollowsChild, entry_tests, height_tests, node_over, Subtree, index_root_tests, IndexRoot, Nodes, IndexAllocatorTree, IndexInspection, FirstIndexBreak, RejectsIndex}
 
 module _ (n : ℕ) (w : List ℕ) where
   one_leads : (seen : List ℕ) (link x y : ℕ) → LeadsToNode n w seen link x → LeadsToNode n w seen link y → x ≡ y
@@ -72,20 +72,20 @@ module _ (n : ℕ) (w : List ℕ) where
   same_break : (e d : Break) → e.offset ≡ d.offset → e.rule ≡ d.rule → e ≡ d
   same_break e d offset rule_is = λ i. record { offset = offset i; rule = rule_is i }
 
-  allocator_single : (sub : Sub) → IsSingle (Allocator n w sub)
+  allocator_single : (sub : Sub) → IsSingle (IndexAllocatorTree n w sub)
   allocator_single sub (Ok x) (Ok y) f g = ap (λ (z : Sub). Ok z) (f.0 ∙ sym g.0)
   allocator_single sub (Ok x) (Err e) f g = absurd (g.1.differs (f.1 g.1.depth g.1.order g.1.node g.1.deep g.1.is_node))
   allocator_single sub (Err e) (Ok x) f g = absurd (f.1.differs (g.1 f.1.depth f.1.order f.1.node f.1.deep f.1.is_node))
   allocator_single sub (Err e) (Err d) f g = ap (λ (z : Break). Err z) (same_break e d (one_offset (taken_pairs n sub.seen) e.offset d.offset f.1 g.1) (f.0 ∙ sym g.0))
 
-  pub inspection_single : IsSingle (OrderInspection n w)
-  inspection_single = then_single (OrderRoot w) (λ none. Then (Nodes n w) (λ sub. Allocator n w sub)) (one_value (tested {A = Unit {0}} (order_root_tests w) tt)) (λ none.
-      then_single (Nodes n w) (λ sub. Allocator n w sub) nodes_single (λ sub. allocator_single sub))
+  pub inspection_single : IsSingle (IndexInspection n w)
+  inspection_single = then_single (IndexRoot w) (λ none. Then (Nodes n w) (λ sub. IndexAllocatorTree n w sub)) (one_value (tested {A = Unit {0}} (index_root_tests w) tt)) (λ none.
+      then_single (Nodes n w) (λ sub. IndexAllocatorTree n w sub) nodes_single (λ sub. allocator_single sub))
 
-  breaks_once : (e d : Break) → FirstOrderBreak n w e → FirstOrderBreak n w d → e ≡ d
+  breaks_once : (e d : Break) → FirstIndexBreak n w e → FirstIndexBreak n w d → e ≡ d
   breaks_once e d broke also = one_err {A = Sub} e d (inspection_single (Err e) (Err d) broke also)
 
-  pub rejects_once : (e d : Unfit) → RejectsOrder n w e → RejectsOrder n w d → e ≡ d
+  pub rejects_once : (e d : Unfit) → RejectsIndex n w e → RejectsIndex n w d → e ≡ d
   rejects_once (Malformed offset rule) (Malformed place other) broke also =
       let same = breaks_once record { offset = offset; rule = rule } record { offset = place; rule = other } broke also in
       λ i. Malformed (same i).offset (same i).rule

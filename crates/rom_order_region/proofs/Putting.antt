@@ -12,7 +12,7 @@ use Rattle.rom_model.proofs.Times.{times_here, times_one, times-append}
 use Rattle.rom_model.proofs.Nodes.{pow_positive}
 use Rattle.rom_block.specs.Taken.{Takes}
 use Rattle.rom_order_region.specs.Tree.{Tree, Leaf, Node, entries, blocks, attached, block_at_key, revalued}
-use Rattle.rom_order_region.specs.Nodes.{node_at, TreeStands, AreNodesApart, TurnsIntoTree, BecomesTree}
+use Rattle.rom_order_region.specs.Nodes.{node_at, TreeStands, AreNodesApart, BuildsTree, BuildsTreeAt}
 use Rattle.rom_order_region.specs.Attach.{IsAttach}
 use Rattle.rom_order_region.specs.Keys.{EntriesRise}
 use Rattle.rom_order_region.specs.Find.{IsFound}
@@ -25,8 +25,8 @@ use Rattle.rom_order_region.proofs.Revalued.{of_three, revalue, balance-revalued
 use Rattle.rom_order_region.proofs.Walked.{length-entries}
 use Rattle.rom_order_region.specs.declared.call.OrderReply.{OrderReply}
 use Rattle.rom_order_region.specs.declared.call.OrderReply.TheVariants.{Was, NoPrior, Full}
-use Rattle.rom_order_region.specs.State.{Pairs, put_entry}
-use Rattle.rom_order_region.specs.Region.{taken_pairs, room_for, IsOrderRegion, OrderContents}
+use Rattle.rom_order_region.specs.State.{Pairs, put_pair}
+use Rattle.rom_order_region.specs.Region.{taken_pairs, room_for, IsIndexRegion, IndexContents}
 use Rattle.rom_order_region.proofs.Pairs.{NewPair, new_pair, pair_begins, taking_pair, pairs_lack, pairs_full}
 use Rattle.rom_order_region.proofs.Regions.{below_same, tree_same, stands_above, region_rises, region_size, region_next}
 use Rattle.rom_order_region.proofs.Asked.{get_is}
@@ -36,10 +36,10 @@ blocks-revalued k v Leaf = refl
 blocks-revalued k v (Node c j u l r) = of_three (λ t. blocks t ≡ blocks (Node c j u l r)) k j (Node c j u (revalued k v l) r) (Node c j u l (revalued k v r)) (Node c k v l r)
     (λ _. ap (λ bs. c ∷ (bs ++ blocks r)) (blocks-revalued k v l)) (λ _. ap (λ bs. c ∷ (blocks l ++ bs)) (blocks-revalued k v r)) (λ _. refl)
 
-module _ {n : ℕ} {w : List ℕ} {t : Tree} {s : Pairs} {k : ℕ} (order : IsOrder n) (is : IsOrderRegion n w t s k) (key value : ℕ) where
+module _ {n : ℕ} {w : List ℕ} {t : Tree} {s : Pairs} {k : ℕ} (order : IsOrder n) (is : IsIndexRegion n w t s k) (key value : ℕ) where
   -- the key had a value
   module _ (node before : ℕ) (found : IsFound n w t key node) (some : node ≡ 0 → ⊥) (before_is : before ≡ slice_index w (node + 1)) where
-    pub put_region : (w' : List ℕ) → w' ≡ slice_set w (node + 1) value → IsOrderRegion n w' (revalued key value t) (map.insert s key value) k
+    pub put_region : (w' : List ℕ) → w' ≡ slice_set w (node + 1) value → IsIndexRegion n w' (revalued key value t) (map.insert s key value) k
     put_region w' image =
         let u = slice_index w (node + 1) in
         let b = block_at_key key t in
@@ -67,25 +67,25 @@ module _ {n : ℕ} {w : List ℕ} {t : Tree} {s : Pairs} {k : ℕ} (order : IsOr
         (changed ∙ sym (p.change value))
         (subst (λ bs. AreWords n (taken_pairs n bs) w') (sym (blocks-revalued key value t)) (tree_same n (taken_pairs n (blocks t)) w w' (λ a lo hi. low a hi) is.tree))
 
-    pub put_was : (w' : List ℕ) → w' ≡ slice_set w (node + 1) value → (Was before ≡ (put_entry n s key value (map.get s key)).1) × OrderContents n w' (put_entry n s key value (map.get s key)).0 k
+    pub put_was : (w' : List ℕ) → w' ≡ slice_set w (node + 1) value → (Was before ≡ (put_pair n s key value (map.get s key)).1) × IndexContents n w' (put_pair n s key value (map.get s key)).0 k
     put_was w' image =
         let gets = get_is is key ∙ found.some some in
-        subst (λ (o : Option ℕ). (Was before ≡ (put_entry n s key value o).1) × OrderContents n w' (put_entry n s key value o).0 k) (sym gets) (ap (λ x. Was x) before_is, (revalued key value t, put_region w' image))
+        subst (λ (o : Option ℕ). (Was before ≡ (put_pair n s key value o).1) × IndexContents n w' (put_pair n s key value o).0 k) (sym gets) (ap (λ x. Was x) before_is, (revalued key value t, put_region w' image))
 
   module _ (node : ℕ) (found : IsFound n w t key node) (none : node ≡ 0) where
     gets : map.get s key ≡ None
     gets = get_is is key ∙ found.none none
 
-    with_none : (room : Bool) → nat_lt (map.len s) (room_for n) ≡ room → put_entry n s key value (map.get s key) ≡ (if room then (map.insert s key value, NoPrior) else (s, Full))
-    with_none room test = ap (λ (o : Option ℕ). put_entry n s key value o) gets ∙ ap (λ b. if b then (map.insert s key value, NoPrior) else (s, Full)) test
+    with_none : (room : Bool) → nat_lt (map.len s) (room_for n) ≡ room → put_pair n s key value (map.get s key) ≡ (if room then (map.insert s key value, NoPrior) else (s, Full))
+    with_none room test = ap (λ (o : Option ℕ). put_pair n s key value o) gets ∙ ap (λ b. if b then (map.insert s key value, NoPrior) else (s, Full)) test
 
     -- there is no room
-    pub put_full : (w' : List ℕ) → w' ≡ w → NoneFree n (taken_pairs n (blocks t)) 1 → (Full ≡ (put_entry n s key value (map.get s key)).1) × OrderContents n w' (put_entry n s key value (map.get s key)).0 k
+    pub put_full : (w' : List ℕ) → w' ≡ w → NoneFree n (taken_pairs n (blocks t)) 1 → (Full ≡ (put_pair n s key value (map.get s key)).1) × IndexContents n w' (put_pair n s key value (map.get s key)).0 k
     put_full w' same full =
         let many : 2 ^ (n - 1) ≤ length (blocks t) = pairs_full (blocks t) order is.top.apart full in
         let le : room_for n ≤ map.len s = omega (arith, many, region_size is, length-entries t) in
         let test : nat_lt (map.len s) (room_for n) ≡ false = no_room (map.len s) (room_for n) le in
-        subst (λ (x : Pairs × OrderReply). (Full ≡ x.1) × OrderContents n w' x.0 k) (sym (with_none false test)) (refl, subst (λ (x : List ℕ). OrderContents n x s k) (sym same) (t, is))
+        subst (λ (x : Pairs × OrderReply). (Full ≡ x.1) × IndexContents n w' x.0 k) (sym (with_none false test)) (refl, subst (λ (x : List ℕ). IndexContents n x s k) (sym same) (t, is))
       where
         no_room : (a b : ℕ) → b ≤ a → nat_lt a b ≡ false
         no_room a b le = grind (arith, nat_tests)
@@ -118,7 +118,7 @@ module _ {n : ℕ} {w : List ℕ} {t : Tree} {s : Pairs} {k : ℕ} (order : IsOr
       taken_stands : TreeStands n w1 t
       taken_stands = stands_above n w w1 t (λ a le. only.behind a (omega (arith, le, pow_positive n))) is.top.stands
 
-      module _ {w2 : List ℕ} (filled : TurnsIntoTree n (pair.block ∷ []) w1 w2 (Node pair.block key value Leaf Leaf)) where
+      module _ {w2 : List ℕ} (filled : BuildsTree n (pair.block ∷ []) w1 w2 (Node pair.block key value Leaf Leaf)) where
         pub is_attach : (top : ℕ) → top ≡ slice_index w 3 → IsAttach n w2 top at pair.block key value t
         is_attach top top_is = record {
           top_is = top_is ∙ is.top.at_is;
@@ -131,14 +131,14 @@ module _ {n : ℕ} {w : List ℕ} {t : Tree} {s : Pairs} {k : ℕ} (order : IsOr
           apart = more_apart;
         }
 
-        module _ {w3 : List ℕ} {to : ℕ} (done : BecomesTree n (pair.block ∷ blocks t) w2 w3 (attached pair.block key value t) to) where
+        module _ {w3 : List ℕ} {to : ℕ} (done : BuildsTreeAt n (pair.block ∷ blocks t) w2 w3 (attached pair.block key value t) to) where
           low_same : (a : ℕ) → a ≤ 16 → slice_index w3 a ≡ slice_index w a
           low_same a le = below_same a done.becomes.others (omega (arith, le, pow_positive n)) ∙ below_same a filled.others (omega (arith, le, pow_positive n)) ∙ only.before a (omega (arith, le))
 
           pub size_now : slice_index w3 4 ≡ map.len s
           size_now = low_same 4 (omega arith) ∙ is.size
 
-          pub put_new : (w4 : List ℕ) (size : ℕ) → size ≡ slice_index w3 4 → w4 ≡ slice_set (slice_set w3 3 to) 4 (size + 1) → (NoPrior ≡ (put_entry n s key value (map.get s key)).1) × OrderContents n w4 (put_entry n s key value (map.get s key)).0 k
+          pub put_new : (w4 : List ℕ) (size : ℕ) → size ≡ slice_index w3 4 → w4 ≡ slice_set (slice_set w3 3 to) 4 (size + 1) → (NoPrior ≡ (put_pair n s key value (map.get s key)).1) × IndexContents n w4 (put_pair n s key value (map.get s key)).0 k
           put_new w4 size size_is image =
               let b = pair.block in
               let u = attached b key value t in
@@ -159,7 +159,7 @@ module _ {n : ℕ} {w : List ℕ} {t : Tree} {s : Pairs} {k : ℕ} (order : IsOr
               (tree_same n (taking (2 ^ (n - 1) + b) (taken_pairs n (blocks t))) w1 w4
               (λ a lo hi. other a (λ e. absurd (omega (arith, e, lo))) (λ e. absurd (omega (arith, e, lo))) ∙ below_same a done.becomes.others hi ∙ below_same a filled.others hi)
               (subst (λ x. AreWords n (taking x (taken_pairs n (blocks t))) w1) pair.node_is takes.words_are)) in
-              subst (λ (x : Pairs × OrderReply). (NoPrior ≡ x.1) × OrderContents n w4 x.0 k) (sym (with_none true test)) (
+              subst (λ (x : Pairs × OrderReply). (NoPrior ≡ x.1) × IndexContents n w4 x.0 k) (sym (with_none true test)) (
                 refl,
                 (
                   u,

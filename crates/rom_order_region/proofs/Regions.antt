@@ -7,7 +7,7 @@ use Rattle.std.specs.FinMap.{find}
 use Rattle.rom_model.specs.Blocks.{IsOrder, AreWords}
 use Rattle.rom_model.proofs.Nodes.{node_fits, pow_positive}
 use Rattle.rom_order_region.specs.Tree.{Tree, entries, blocks, height, IsBalanced}
-use Rattle.rom_order_region.specs.Nodes.{TreeStands, ChangesNodes, IsTree, BecomesTree, level_at}
+use Rattle.rom_order_region.specs.Nodes.{TreeStands, ChangesNodes, IsTree, BuildsTreeAt, level_at}
 use Rattle.rom_order_region.specs.Find.{HasOrdered, IsFound}
 use Rattle.rom_order_region.specs.Keys.{EntriesRise}
 use Rattle.rom_order_region.specs.High.{high}
@@ -16,7 +16,7 @@ use Rattle.rom_order_region.proofs.Sorted.{rises}
 use Rattle.rom_order_region.proofs.High.{height_high, high_most}
 use Rattle.rom_order_region.proofs.Walked.{length-entries}
 use Rattle.rom_order_region.proofs.Placed.{not_none}
-use Rattle.rom_order_region.specs.Region.{taken_pairs, IsOrderRegion}
+use Rattle.rom_order_region.specs.Region.{taken_pairs, IsIndexRegion}
 
 -- the words below the nodes stay where nodes alone change
 pub below_same : {n : ℕ} {bs w w' : List ℕ} (k : ℕ) → ChangesNodes n bs w w' → k < 16 + 2 * 2 ^ n → slice_index w' k ≡ slice_index w k
@@ -31,7 +31,7 @@ tree_same n taken w w' same are depth order i deep node =
 pub stands_above : (n : ℕ) (w w' : List ℕ) (t : Tree) → ((k : ℕ) → 16 + 2 * 2 ^ n ≤ k → slice_index w' k ≡ slice_index w k) → TreeStands n w t → TreeStands n w' t
 stands_above n w w' t same stands = stands_same w w' t (λ c k some inside. same k (omega (arith, inside.least))) stands
 
-module _ {n : ℕ} {w : List ℕ} {t : Tree} {s : map.FinMap nat_cmp ℕ} {k : ℕ} (is : IsOrderRegion n w t s k) where
+module _ {n : ℕ} {w : List ℕ} {t : Tree} {s : map.FinMap nat_cmp ℕ} {k : ℕ} (is : IsIndexRegion n w t s k) where
   -- its keys rise
   pub region_rises : EntriesRise (entries t)
   region_rises = subst (λ es. EntriesRise es) is.entries_are (rises s)
@@ -47,9 +47,9 @@ module _ {n : ℕ} {w : List ℕ} {t : Tree} {s : map.FinMap nat_cmp ℕ} {k : �
   region_level = omega (arith, level_is n (slice_index w 3) w t is.top.at_is is.top.stands, height_high t is.balance, ap (λ m. high m) region_size)
 
 -- after a call that changes the tree, the words 3 and 4, and words of nodes and of the allocator
-pub region_next : {n : ℕ} {w : List ℕ} {t : Tree} {s : map.FinMap nat_cmp ℕ} {k : ℕ} (w' : List ℕ) (u : Tree) (m : map.FinMap nat_cmp ℕ) → IsOrderRegion n w t s k
+pub region_next : {n : ℕ} {w : List ℕ} {t : Tree} {s : map.FinMap nat_cmp ℕ} {k : ℕ} (w' : List ℕ) (u : Tree) (m : map.FinMap nat_cmp ℕ) → IsIndexRegion n w t s k
     → length w' ≡ length w → ((j : ℕ) → j ≤ 16 → j ≢ 3 → j ≢ 4 → slice_index w' j ≡ slice_index w j)
-    → IsTree n w' (slice_index w' 3) u → IsBalanced u → slice_index w' 4 ≡ map.len m → map.entries m ≡ entries u → AreWords n (taken_pairs n (blocks u)) w' → IsOrderRegion n w' u m k
+    → IsTree n w' (slice_index w' 3) u → IsBalanced u → slice_index w' 4 ≡ map.len m → map.entries m ≡ entries u → AreWords n (taken_pairs n (blocks u)) w' → IsIndexRegion n w' u m k
 region_next w' u m is long same top balance size entries_are tree = record {
   as_long = long ∙ is.as_long;
   kind = same 0 (omega arith) (omega arith) (omega arith) ∙ is.kind;
@@ -65,7 +65,7 @@ region_next w' u m is long same top balance size entries_are tree = record {
 }
 
 -- the bounds of a region's tree
-module _ {n : ℕ} {w : List ℕ} {t : Tree} {s : map.FinMap nat_cmp ℕ} {k : ℕ} (order : IsOrder n) (is : IsOrderRegion n w t s k) where
+module _ {n : ℕ} {w : List ℕ} {t : Tree} {s : map.FinMap nat_cmp ℕ} {k : ℕ} (order : IsOrder n) (is : IsIndexRegion n w t s k) where
   pub region_few : map.len s ≤ 32768
   region_few = omega (arith, region_size is, length-entries t, few_nodes (blocks t) is.top.apart, half_small n order)
 
@@ -73,12 +73,12 @@ module _ {n : ℕ} {w : List ℕ} {t : Tree} {s : map.FinMap nat_cmp ℕ} {k : �
   region_low = omega (arith, height_high t is.balance, ap (λ m. high m) (region_size is), high_most (map.len s) region_few)
 
   -- the words that are below the nodes stay where a tree becomes another
-  pub size_kept : {w1 : List ℕ} {bs : List ℕ} {u : Tree} {to : ℕ} → BecomesTree n bs w w1 u to → slice_index w1 4 ≡ map.len s
+  pub size_kept : {w1 : List ℕ} {bs : List ℕ} {u : Tree} {to : ℕ} → BuildsTreeAt n bs w w1 u to → slice_index w1 4 ≡ map.len s
   size_kept done = below_same 4 done.becomes.others (omega (arith, pow_positive n)) ∙ is.size
 
 some_entries : (key u : ℕ) (es : List (ℕ × ℕ)) → find nat_cmp key es ≡ Some u → 1 ≤ length es
 some_entries key u [] found = absurd (not_none u (sym found))
 some_entries key u (e ∷ es) found = omega arith
 
-pub region_some : {n : ℕ} {w : List ℕ} {t : Tree} {s : map.FinMap nat_cmp ℕ} {k : ℕ} (key node : ℕ) → IsOrderRegion n w t s k → IsFound n w t key node → (node ≡ 0 → ⊥) → 1 ≤ map.len s
+pub region_some : {n : ℕ} {w : List ℕ} {t : Tree} {s : map.FinMap nat_cmp ℕ} {k : ℕ} (key node : ℕ) → IsIndexRegion n w t s k → IsFound n w t key node → (node ≡ 0 → ⊥) → 1 ≤ map.len s
 region_some {w = w} {t = t} key node is found some = omega (arith, region_size is, some_entries key (slice_index w (node + 1)) (entries t) (found.some some))

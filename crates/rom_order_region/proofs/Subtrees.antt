@@ -14,9 +14,9 @@ use Rattle.rom_order_region.specs.Tree.{Leaf, blocks}
 use Rattle.rom_order_region.specs.Nodes.{node_at, AreNodesApart}
 use Rattle.rom_order_region.proofs.Frame.{few_nodes, height_few, half_small, apart_part}
 use Rattle.rom_order_region.specs.declared.inspection.Reached.{Reached}
-use Rattle.rom_order_region.specs.Inspection.{most_levels, Sub, LeadsToNode, entry_tests, height_tests, node_over, Subtree, order_root_tests, OrderRoot, Nodes, FirstOrderBreak}
+use Rattle.rom_order_region.specs.Inspection.{most_levels, Sub, LeadsToNode, entry_tests, height_tests, node_over, Subtree, index_root_tests, IndexRoot, Nodes, FirstIndexBreak}
 use Rattle.rom_order_region.specs.Region.{taken_pairs}
-use Rattle.rom_order_region.specs.Marks.{AreNodeMarks, HasWalkedTree, AnswersSub, AnswersNodes, IsOrderInspected}
+use Rattle.rom_order_region.specs.Marks.{AreNodeMarks, HasWalkedTree, AnswersSub, AnswersNodes, IsIndexInspected}
 use Rattle.rom_order_region.proofs.Pairs.{pair_absent}
 use Rattle.rom_order_region.proofs.Breaking.{accepted}
 use Rattle.rom_order_region.proofs.Accepted.{sound}
@@ -102,10 +102,10 @@ module _ (n : ℕ) (w seen : List ℕ) (link : ℕ) (low high : Option ℕ) (mar
 
 -- the whole tree, and then its size
 module _ (n : ℕ) (w : List ℕ) (marks : List Bool) where
-  pub root_broke : (e : Break) → checked (order_root_tests w) ≡ Err e → AnswersNodes n w (Err e) marks
+  pub root_broke : (e : Break) → checked (index_root_tests w) ≡ Err e → AnswersNodes n w (Err e) marks
   root_broke e broke = inl (sym broke)
 
-  module _ (holds : checked (order_root_tests w) ≡ Ok tt) where
+  module _ (holds : checked (index_root_tests w) ≡ Ok tt) where
     pub nodes_broke : (e : Break) → Subtree most_levels n w [] 3 None None (Err e) → AnswersNodes n w (Err e) marks
     nodes_broke e broke = inr (tt, sym holds, inl broke)
 
@@ -120,13 +120,13 @@ module _ (n : ℕ) (w : List ℕ) (marks : List Bool) where
         inr (tt, sym holds, inr (h.sub, h.walks, sym (breaking (is_word w 4 rule.Count (length h.sub.seen) ∷ []) h.sub e broke)))
 
 -- after the allocator's tree
-pub after_tree : (n : ℕ) (w : List ℕ) (sub : Sub) (r : Result (Unit {0}) Unfit) → length w ≡ region_len n → Then (OrderRoot w) (λ none. Nodes n w) (Ok sub) → IsTreeAnswer n (taken_pairs n sub.seen) w r → IsOrderInspected n w r
+pub after_tree : (n : ℕ) (w : List ℕ) (sub : Sub) (r : Result (Unit {0}) Unfit) → length w ≡ region_len n → Then (IndexRoot w) (λ none. Nodes n w) (Ok sub) → IsTreeAnswer n (taken_pairs n sub.seen) w r → IsIndexInspected n w r
 after_tree n w sub (Ok done) long nodes tree = accepted w long sub (nodes.0, nodes.1, (sub, nodes.2, (refl, tree)))
 after_tree n w sub (Err (Malformed offset rule)) long nodes tree = inr (nodes.0, nodes.1, inr (sub, nodes.2, tree))
 after_tree n w sub (Err Old) long nodes tree = tree
 after_tree n w sub (Err OutOfMemory) long nodes tree = tt
 
-pub before_tree : (n : ℕ) (w : List ℕ) (e : Break) → Then (OrderRoot w) (λ none. Nodes n w) (Err e) → FirstOrderBreak n w e
+pub before_tree : (n : ℕ) (w : List ℕ) (e : Break) → Then (IndexRoot w) (λ none. Nodes n w) (Err e) → FirstIndexBreak n w e
 before_tree n w e broke = ⊎_elim (λ root. inl root) (λ nodes. inr (nodes.0, nodes.1, inl nodes.2)) broke
 
 -- nothing is marked

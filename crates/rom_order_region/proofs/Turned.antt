@@ -4,7 +4,7 @@ use Rattle.rom_model.specs.Chains.{times}
 use Rattle.rom_model.proofs.Times.{times_here}
 use Rattle.rom_order_region.specs.declared.tree.turn.Side.{Side}
 use Rattle.rom_order_region.specs.Tree.{Tree, blocks, height}
-use Rattle.rom_order_region.specs.Nodes.{node_at, root, TreeStands, IsTree, TurnsIntoTree, BecomesTree}
+use Rattle.rom_order_region.specs.Nodes.{node_at, root, TreeStands, IsTree, BuildsTree, BuildsTreeAt}
 use Rattle.rom_order_region.specs.Sides.{over, turned, IsForkOn, HasForkOn}
 use Rattle.rom_order_region.proofs.Members.{count}
 use Rattle.rom_order_region.proofs.Frame.{stands_apart, entry_apart, apart_part, changes_then}
@@ -16,7 +16,7 @@ SubtreesBy n w side at near far = (b k v : ℕ) (x y : Tree) → IsTree n w at (
 
 -- what putting a node over two trees leaves
 abbrev pub JoinedOn : ℕ → Side → ℕ → ℕ → ℕ → List ℕ → List ℕ → Type 0
-JoinedOn n side top near far w w' = (b k v : ℕ) (x y : Tree) → IsForkOn n w side top near far b k v x y → TurnsIntoTree n (b ∷ []) w w' (over side b k v x y)
+JoinedOn n side top near far w w' = (b k v : ℕ) (x y : Tree) → IsForkOn n w side top near far b k v x y → BuildsTree n (b ∷ []) w w' (over side b k v x y)
 
 -- a tree that is a node, whose subtrees those are
 pub record IsOpened (n : ℕ) (w : List ℕ) (side : Side) (near far : ℕ) (t : Tree) : Type 0 where
@@ -76,7 +76,7 @@ module _ {n : ℕ} {w : List ℕ} {side : Side} {top near far outer inner b k v 
   single_one = record { block = b; key = k; value = v; on_near = o.node.far; on_far = r; is = single_fork }
 
   module _ {w1 : List ℕ} (joined : JoinedOn n side top inner far w w1) where
-    one : TurnsIntoTree n (b ∷ []) w w1 (under_b o.node.far r)
+    one : BuildsTree n (b ∷ []) w w1 (under_b o.node.far r)
     one = joined b k v o.node.far r single_fork
 
     top_fork : IsForkOn n w1 side near outer top c o.node.key o.node.value o.node.near (under_b o.node.far r)
@@ -93,11 +93,11 @@ module _ {n : ℕ} {w : List ℕ} {side : Side} {top near far outer inner b k v 
     pub single_two : HasForkOn n w1 side near outer top
     single_two = record { block = c; key = o.node.key; value = o.node.value; on_near = o.node.near; on_far = under_b o.node.far r; is = top_fork }
 
-    pub single_done : {w2 : List ℕ} → JoinedOn n side near outer top w1 w2 → height o.node.far ≤ height o.node.near → BecomesTree n (blocks whole) w w2 (turned side b k v t r) near
+    pub single_done : {w2 : List ℕ} → JoinedOn n side near outer top w1 w2 → height o.node.far ≤ height o.node.near → BuildsTreeAt n (blocks whole) w w2 (turned side b k v t r) near
     single_done {w2} again low =
         let two = again c o.node.key o.node.value o.node.near (under_b o.node.far r) top_fork in
         let same = ap (λ s. turned side b k v s r) o.node.is ∙ turned_once b k v c o.node.key o.node.value o.node.near side o.node.far r low in
-        subst (λ (s : Tree). BecomesTree n (blocks whole) w w2 s near) (sym same) record {
+        subst (λ (s : Tree). BuildsTreeAt n (blocks whole) w w2 s near) (sym same) record {
           at_is = near_is o.node.near (under_b o.node.far r);
           becomes = record {
             stands = two.stands;
@@ -149,7 +149,7 @@ module _ {n : ℕ} {w : List ℕ} {side : Side} {top near far outer inner b k v 
     double_one = record { block = c; key = o.node.key; value = o.node.value; on_near = o.node.near; on_far = p.node.near; is = near_fork }
 
     module _ {w1 : List ℕ} (joined : JoinedOn n side near outer low w w1) where
-      first : TurnsIntoTree n (c ∷ []) w w1 on_near
+      first : BuildsTree n (c ∷ []) w w1 on_near
       first = joined c o.node.key o.node.value o.node.near p.node.near near_fork
 
       far_fork : IsForkOn n w1 side top high far b k v p.node.far r
@@ -167,7 +167,7 @@ module _ {n : ℕ} {w : List ℕ} {side : Side} {top near far outer inner b k v 
       double_two = record { block = b; key = k; value = v; on_near = p.node.far; on_far = r; is = far_fork }
 
       module _ {w2 : List ℕ} (again : JoinedOn n side top high far w1 w2) where
-        second : TurnsIntoTree n (b ∷ []) w1 w2 on_far
+        second : BuildsTree n (b ∷ []) w1 w2 on_far
         second = again b k v p.node.far r far_fork
 
         last_fork : IsForkOn n w2 side inner near top d p.node.key p.node.value on_near on_far
@@ -185,13 +185,13 @@ module _ {n : ℕ} {w : List ℕ} {side : Side} {top near far outer inner b k v 
         pub double_three : HasForkOn n w2 side inner near top
         double_three = record { block = d; key = p.node.key; value = p.node.value; on_near = on_near; on_far = on_far; is = last_fork }
 
-        pub double_done : {w3 : List ℕ} → JoinedOn n side inner near top w2 w3 → height o.node.near < height o.node.far → BecomesTree n (blocks whole) w w3 (turned side b k v t r) inner
+        pub double_done : {w3 : List ℕ} → JoinedOn n side inner near top w2 w3 → height o.node.near < height o.node.far → BuildsTreeAt n (blocks whole) w w3 (turned side b k v t r) inner
         double_done {w3} last deep =
             let third = last d p.node.key p.node.value on_near on_far last_fork in
             let is = o.node.is ∙ ap (λ s. under_c o.node.near s) p.node.is in
             let deep_too = subst (λ (s : Tree). height o.node.near < height s) p.node.is deep in
             let same = ap (λ s. turned side b k v s r) is ∙ turned_twice b k v c o.node.key o.node.value o.node.near side d p.node.key p.node.value p.node.near p.node.far r deep_too in
-            subst (λ (s : Tree). BecomesTree n (blocks whole) w w3 s inner) (sym same) record {
+            subst (λ (s : Tree). BuildsTreeAt n (blocks whole) w w3 s inner) (sym same) record {
               at_is = inner_is on_near on_far;
               becomes = record {
                 stands = third.stands;

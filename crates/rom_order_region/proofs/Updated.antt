@@ -13,7 +13,7 @@ use Rattle.rom_model.proofs.Members.{words_same}
 use Rattle.rom_order_region.specs.Tree.{Leaf, blocks}
 use Rattle.rom_order_region.proofs.Sorted.{has_entries}
 use Rattle.rom_order_region.specs.State.{Pairs}
-use Rattle.rom_order_region.specs.Region.{taken_pairs, OrderContents}
+use Rattle.rom_order_region.specs.Region.{taken_pairs, IndexContents}
 use Rattle.rom_order_region.proofs.Pairs.{pair_absent}
 use Rattle.rom_order_region.proofs.Regions.{tree_same, stands_above}
 
@@ -21,7 +21,7 @@ no_entries : map.entries (map.empty {X = ℕ} {R = nat_cmp}) ≡ []
 no_entries = has_entries (map.empty {X = ℕ} {R = nat_cmp}) [] tt (λ q. map.get-empty nat_cmp q)
 
 pub fresh : (n : ℕ) (w0 w1 w2 w3 w4 : List ℕ) → IsOrder n → length w0 ≡ region_len n → ((k : ℕ) → 0 ≤ k → k < 0 + 16 → slice_index w1 k ≡ 0) → ChangesOnly 0 16 w0 w1 → w2 ≡ slice_set w1 0 3 → w3 ≡ slice_set w2 1 1
-    → AreWords n nothing w4 → slice_index w4 16 ≡ 0 → ChangesOnly 16 (2 * 2 ^ n) w3 w4 → OrderContents n w4 map.empty 0
+    → AreWords n nothing w4 → slice_index w4 16 ≡ 0 → ChangesOnly 16 (2 * 2 ^ n) w3 w4 → IndexContents n w4 map.empty 0
 fresh n w0 w1 w2 w3 w4 order sized zeros only one two words last tree =
     let long2 : length w2 ≡ length w0 = ap length one ∙ length-set w1 0 3 ∙ only.as_long in
     let long3 : length w3 ≡ length w0 = ap length two ∙ length-set w2 1 1 ∙ long2 in
@@ -48,7 +48,7 @@ fresh n w0 w1 w2 w3 w4 order sized zeros only one two words last tree =
     )
 
 -- one update more is counted
-pub raised : {n : ℕ} {w w' : List ℕ} {s : Pairs} {k : ℕ} → k < LAST_COUNT → slice_index w' 2 ≡ slice_index w 2 + 1 → ChangesOnly 2 1 w w' → OrderContents n w s k → OrderContents n w' s (k + 1)
+pub raised : {n : ℕ} {w w' : List ℕ} {s : Pairs} {k : ℕ} → k < LAST_COUNT → slice_index w' 2 ≡ slice_index w 2 + 1 → ChangesOnly 2 1 w w' → IndexContents n w s k → IndexContents n w' s (k + 1)
 raised {n} {w} {w'} {s} {k} lt word only held =
     let is = held.1 in
     let t = held.0 in

@@ -68,12 +68,12 @@ Subtree (suc d) n words seen link low high r =
     s ≡ tested (height_tests n words b left.tree right.tree) record { tree = node_over n words b left.tree right.tree; seen = right.seen })))) r)
 
 -- the root words
-abbrev pub order_root_tests : List ℕ → List Test
-order_root_tests words = is_word words 0 rule.Root 3 ∷ is_word words 1 rule.Root 1 ∷ test 2 rule.Root (nat_le (slice_index words 2) LAST_COUNT) ∷ are_zero words 5 12 rule.Root
+abbrev pub index_root_tests : List ℕ → List Test
+index_root_tests words = is_word words 0 rule.Root 3 ∷ is_word words 1 rule.Root 1 ∷ test 2 rule.Root (nat_le (slice_index words 2) LAST_COUNT) ∷ are_zero words 5 12 rule.Root
 
 -- what the tests of the root words come to
-abbrev pub OrderRoot : List ℕ → Result (Unit {0}) Break → Type 0
-OrderRoot words r = r ≡ tested {A = Unit {0}} (order_root_tests words) tt
+abbrev pub IndexRoot : List ℕ → Result (Unit {0}) Break → Type 0
+IndexRoot words r = r ≡ tested {A = Unit {0}} (index_root_tests words) tt
 
 -- Above so many levels no node may stand. (It stays shut, so that no goal takes the levels apart.)
 unfoldable pub most_levels : ℕ
@@ -84,20 +84,20 @@ abbrev pub Nodes : ℕ → List ℕ → Result Sub Break → Type 0
 Nodes n words = Then (Subtree most_levels n words [] 3 None None) (λ sub r. r ≡ tested (is_word words 4 rule.Count (length sub.seen) ∷ []) sub)
 
 -- the words of the allocator's tree, of which the blocks that were reached are taken
-abbrev pub Allocator : ℕ → List ℕ → Sub → Result Sub Break → Type 0
-Allocator n words sub (Ok found) = (found ≡ sub) × AreWords n (taken_pairs n sub.seen) words
-Allocator n words sub (Err e) = (e.rule ≡ rule.Tree) × DiffersFirst n (taken_pairs n sub.seen) words e.offset
+abbrev pub IndexAllocatorTree : ℕ → List ℕ → Sub → Result Sub Break → Type 0
+IndexAllocatorTree n words sub (Ok found) = (found ≡ sub) × AreWords n (taken_pairs n sub.seen) words
+IndexAllocatorTree n words sub (Err e) = (e.rule ≡ rule.Tree) × DiffersFirst n (taken_pairs n sub.seen) words e.offset
 
 -- All parts.
-abbrev pub OrderInspection : ℕ → List ℕ → Result Sub Break → Type 0
-OrderInspection n words = Then (OrderRoot words) (λ none. Then (Nodes n words) (λ sub. Allocator n words sub))
+abbrev pub IndexInspection : ℕ → List ℕ → Result Sub Break → Type 0
+IndexInspection n words = Then (IndexRoot words) (λ none. Then (Nodes n words) (λ sub. IndexAllocatorTree n words sub))
 
 -- The first test of the inspection that does not hold.
-abbrev pub FirstOrderBreak : ℕ → List ℕ → Break → Type 0
-FirstOrderBreak n words e = OrderInspection n words (Err e)
+abbrev pub FirstIndexBreak : ℕ → List ℕ → Break → Type 0
+FirstIndexBreak n words e = IndexInspection n words (Err e)
 
 -- Words are not accepted for their first break; there was no version before.
-abbrev pub RejectsOrder : ℕ → List ℕ → Unfit → Type 0
-RejectsOrder n words (Malformed offset rule) = FirstOrderBreak n words (record { offset = offset; rule = rule })
-RejectsOrder n words Old = ⊥
-RejectsOrder n words OutOfMemory = ⊥
+abbrev pub RejectsIndex : ℕ → List ℕ → Unfit → Type 0
+RejectsIndex n words (Malformed offset rule) = FirstIndexBreak n words (record { offset = offset; rule = rule })
+RejectsIndex n words Old = ⊥
+RejectsIndex n words OutOfMemory = ⊥

@@ -7,9 +7,9 @@ use Rattle.rom_model.specs.declared.unfit.Unfit.TheVariants.{Malformed, Old, Out
 use Rattle.rom_block.specs.Levels.{IsMarked}
 use Rattle.rom_order_region.specs.Tree.{blocks, height}
 use Rattle.rom_order_region.specs.Nodes.{AreNodesApart, node_at}
-use Rattle.rom_order_region.specs.Region.{taken_pairs, OrderContents}
+use Rattle.rom_order_region.specs.Region.{taken_pairs, IndexContents}
 use Rattle.rom_order_region.specs.State.{Pairs}
-use Rattle.rom_order_region.specs.Inspection.{Sub, LeadsToNode, Subtree, OrderRoot, Nodes, FirstOrderBreak}
+use Rattle.rom_order_region.specs.Inspection.{Sub, LeadsToNode, Subtree, IndexRoot, Nodes, FirstIndexBreak}
 use Rattle.rom_order_region.specs.declared.inspection.Reached.{Reached}
 
 -- of all nodes of the allocator's tree those of these blocks are marked
@@ -43,11 +43,11 @@ AnswersSub d n words seen link low high result marks = MatchResult result (λ re
 
 -- what code answers of the parts before the allocator's tree
 abbrev pub AnswersNodes : ℕ → List ℕ → Result (Unit {0}) Break → List Bool → Type 0
-AnswersNodes n words result marks = MatchResult result (λ done. (sub : Sub) × Then (OrderRoot words) (λ none. Nodes n words) (Ok sub) × AreNodeMarks n sub.seen marks) (λ e. Then (OrderRoot words) (λ none. Nodes n words) (Err e))
+AnswersNodes n words result marks = MatchResult result (λ done. (sub : Sub) × Then (IndexRoot words) (λ none. Nodes n words) (Ok sub) × AreNodeMarks n sub.seen marks) (λ e. Then (IndexRoot words) (λ none. Nodes n words) (Err e))
 
 -- What the inspection answers: well-formed, or the first break, or nothing for want of memory.
-abbrev pub IsOrderInspected : ℕ → List ℕ → Result (Unit {0}) Unfit → Type 0
-IsOrderInspected n words (Ok done) = (s : Pairs) × (k : ℕ) × OrderContents n words s k
-IsOrderInspected n words (Err (Malformed offset rule)) = FirstOrderBreak n words record { offset = offset; rule = rule }
-IsOrderInspected n words (Err Old) = ⊥
-IsOrderInspected n words (Err OutOfMemory) = Unit {0}
+abbrev pub IsIndexInspected : ℕ → List ℕ → Result (Unit {0}) Unfit → Type 0
+IsIndexInspected n words (Ok done) = (s : Pairs) × (k : ℕ) × IndexContents n words s k
+IsIndexInspected n words (Err (Malformed offset rule)) = FirstIndexBreak n words record { offset = offset; rule = rule }
+IsIndexInspected n words (Err Old) = ⊥
+IsIndexInspected n words (Err OutOfMemory) = Unit {0}

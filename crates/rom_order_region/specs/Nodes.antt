@@ -77,7 +77,7 @@ pub record HasFork (n : ℕ) (words : List ℕ) (top left right : ℕ) : Type 0 
   pub is : IsFork n words top left right block key value on_left on_right
 
 -- The tree stands in the new words, and of the old ones no word differs but those of these blocks.
-pub record TurnsIntoTree (n : ℕ) (bs old new : List ℕ) (t : Tree) : Type 0 where
+pub record BuildsTree (n : ℕ) (bs old new : List ℕ) (t : Tree) : Type 0 where
   pub stands : TreeStands n new t
   pub others : ChangesNodes n bs old new
 
@@ -86,6 +86,6 @@ abbrev pub level_at : List ℕ → ℕ → ℕ
 level_at words at = if at == 0 then 0 else slice_index words (at + 4)
 
 -- The same, and the tree's top node begins there.
-pub record BecomesTree (n : ℕ) (bs old new : List ℕ) (t : Tree) (at : ℕ) : Type 0 where
+pub record BuildsTreeAt (n : ℕ) (bs old new : List ℕ) (t : Tree) (at : ℕ) : Type 0 where
   pub at_is : at ≡ root n t
-  pub becomes : TurnsIntoTree n bs old new t
+  pub becomes : BuildsTree n bs old new t

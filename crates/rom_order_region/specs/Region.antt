@@ -18,7 +18,7 @@ room_for n = 2 ^ (n - 1)
 
 -- The root words, the tree of nodes, and the tree of the allocator, of which these nodes are taken. The
 -- order n is 4 to 16.
-pub record IsOrderRegion (n : ℕ) (words : List ℕ) (t : Tree) (s : map.FinMap nat_cmp ℕ) (count : ℕ) : Type 0 where
+pub record IsIndexRegion (n : ℕ) (words : List ℕ) (t : Tree) (s : map.FinMap nat_cmp ℕ) (count : ℕ) : Type 0 where
   pub as_long : length words ≡ region_len n
   pub kind : slice_index words 0 ≡ 3
   pub version : slice_index words 1 ≡ 1
@@ -32,12 +32,12 @@ pub record IsOrderRegion (n : ℕ) (words : List ℕ) (t : Tree) (s : map.FinMap
   pub tree : AreWords n (taken_pairs n (blocks t)) words
 
 -- The region is well-formed, and stands for this map and this count.
-abbrev pub OrderContents : ℕ → List ℕ → map.FinMap nat_cmp ℕ → ℕ → Type 0
-OrderContents n words s count = (t : Tree) × IsOrderRegion n words t s count
+abbrev pub IndexContents : ℕ → List ℕ → map.FinMap nat_cmp ℕ → ℕ → Type 0
+IndexContents n words s count = (t : Tree) × IsIndexRegion n words t s count
 
 -- The region is well-formed.
-pub record IsOrderWellFormed (n : ℕ) (words : List ℕ) : Type 0 where
+pub record IsIndexWellFormed (n : ℕ) (words : List ℕ) : Type 0 where
   pub tree : Tree
   pub state : map.FinMap nat_cmp ℕ
   pub count : ℕ
-  pub region : IsOrderRegion n words tree state count
+  pub region : IsIndexRegion n words tree state count

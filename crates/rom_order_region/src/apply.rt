@@ -3,8 +3,8 @@ ghost use Rattle.std.specs.Prelude.{◌≡◌, ◌+◌, ◌<◌, ℕ, length, sl
 ghost use Rattle.rom_model.specs.Space.{ChangesOnly, Counts, HasRoom, Looks, Stores};
 ghost use Rattle.rom_model.specs.History.{LAST_COUNT};
 ghost use Rattle.rom_model.specs.Blocks.{IsOrder};
-ghost use Rattle.rom_order_region.specs.State.{Pairs, order_step, order_tell, order_cost};
-ghost use Rattle.rom_order_region.specs.Region.{IsOrderWellFormed, OrderContents};
+ghost use Rattle.rom_order_region.specs.State.{Pairs, index_step, index_tell, index_cost};
+ghost use Rattle.rom_order_region.specs.Region.{IndexContents, IsIndexWellFormed};
 
 use crate::call::{OrderAnswer, OrderCall, OrderQuery, OrderReply};
 use crate::ordered::{order_del, order_from, order_get, order_put, order_range};
@@ -27,11 +27,11 @@ fn raise_count<M: Space>(space: &mut M)
 /// Does an update that is counted already.
 fn update<M: Space>(space: &mut M, order: u32, call: &OrderCall) -> OrderReply
     requires order { IsOrder order }
-    requires region { IsOrderWellFormed order (M.shown.image space.old) }
+    requires region { IsIndexWellFormed order (M.shown.image space.old) }
     requires room { HasRoom M.shown 255 space.old }
-    ensures done { (s : Pairs) (k j : ℕ) → OrderContents order (M.shown.image space.old) s k
-        → let after = order_step order s j call.now in
-        (result ≡ after.1) × OrderContents order (M.shown.image space.new) after.0 k }
+    ensures done { (s : Pairs) (k j : ℕ) → IndexContents order (M.shown.image space.old) s k
+        → let after = index_step order s j call.now in
+        (result ≡ after.1) × IndexContents order (M.shown.image space.new) after.0 k }
     ensures stores { Stores M.shown 255 space.old space.new }
 {
     match *call {
@@ -43,13 +43,13 @@ fn update<M: Space>(space: &mut M, order: u32, call: &OrderCall) -> OrderReply
 /// Does an update. The raised count is stored first, also where nothing else changes.
 pub fn apply_order<M: Space>(space: &mut M, order: u32, call: &OrderCall) -> OrderReply
     requires order { IsOrder order }
-    requires region { (s : Pairs) × (k : ℕ) × OrderContents order (M.shown.image space.old) s k
+    requires region { (s : Pairs) × (k : ℕ) × IndexContents order (M.shown.image space.old) s k
         × (k < LAST_COUNT) }
     requires room { HasRoom M.shown 256 space.old }
     // The reply is the step's. The region then stands for the map after it, and counts one update more.
-    ensures done { (s : Pairs) (k : ℕ) → OrderContents order (M.shown.image space.old) s k
-        → let after = order_step order s k call.now in
-        (result ≡ after.1) × OrderContents order (M.shown.image space.new) after.0 (k + 1) }
+    ensures done { (s : Pairs) (k : ℕ) → IndexContents order (M.shown.image space.old) s k
+        → let after = index_step order s k call.now in
+        (result ≡ after.1) × IndexContents order (M.shown.image space.new) after.0 (k + 1) }
     ensures stores { Stores M.shown 256 space.old space.new }
 {
     raise_count(space);
@@ -59,13 +59,13 @@ pub fn apply_order<M: Space>(space: &mut M, order: u32, call: &OrderCall) -> Ord
 /// Answers a query. Nothing is stored.
 pub fn answer_order<M: Look>(space: &mut M, order: u32, query: &OrderQuery) -> OrderAnswer
     requires order { IsOrder order }
-    requires region { IsOrderWellFormed order (M.shown.image space.old) }
+    requires region { IsIndexWellFormed order (M.shown.image space.old) }
     // The answer is what the query is told of the map that the region stands for.
-    ensures told { (s : Pairs) (k : ℕ) → OrderContents order (M.shown.image space.old) s k
-        → result ≡ order_tell s query.now }
-    // No word changes, and at most `order_cost` loads are made, where they are counted.
-    ensures looks { (s : Pairs) (k : ℕ) → OrderContents order (M.shown.image space.old) s k
-        → Looks M.shown (order_cost order s query.now) space.old space.new }
+    ensures told { (s : Pairs) (k : ℕ) → IndexContents order (M.shown.image space.old) s k
+        → result ≡ index_tell s query.now }
+    // No word changes, and at most `index_cost` loads are made, where they are counted.
+    ensures looks { (s : Pairs) (k : ℕ) → IndexContents order (M.shown.image space.old) s k
+        → Looks M.shown (index_cost order s query.now) space.old space.new }
 {
     match *query {
         OrderQuery::Get(key) => order_get(space, order, key),

@@ -3,7 +3,7 @@ ghost use Rattle.std.specs.Prelude.{◌≡◌, ℕ, ◌+◌, ◌^◌, ◌<◌, �
 ghost use Rattle.std.specs.FinMap as map;
 ghost use Rattle.rom_model.specs.Space.{Costs, ChangesOnly, KeepsSpace};
 ghost use Rattle.rom_model.specs.Blocks.{IsOrder, region_len};
-ghost use Rattle.rom_order_region.specs.Region.{OrderContents};
+ghost use Rattle.rom_order_region.specs.Region.{IndexContents};
 
 use rom_block::Blocks;
 use rom_model::{KIND, Space, VERSION};
@@ -31,7 +31,7 @@ pub fn format_order<M: Space>(space: &mut M, order: u32)
     requires order { IsOrder order }
     requires sized { length (M.shown.image space.old) ≡ region_len order }
     requires free { M.shown.has_limit ≡ false }
-    ensures made { OrderContents order (M.shown.image space.new) map.empty 0 }
+    ensures made { IndexContents order (M.shown.image space.new) map.empty 0 }
     ensures space { KeepsSpace M.shown space.old space.new }
 {
     store_zeros(space, 0, 16);

@@ -7,10 +7,10 @@ ghost use Rattle.rom_model.specs.Inspected.{IsReason};
 ghost use Rattle.rom_model.specs.declared.unfit.Unfit.{Unfit};
 ghost use Rattle.rom_order_region.specs.Nodes.{node_at};
 ghost use Rattle.rom_order_region.specs.Tree.{Tree, height};
-ghost use Rattle.rom_order_region.specs.Inspection.{most_levels, LeadsToNode, is_over, is_under, entry_tests, height_tests, order_root_tests, RejectsOrder};
+ghost use Rattle.rom_order_region.specs.Inspection.{most_levels, LeadsToNode, is_over, is_under, entry_tests, height_tests, index_root_tests, RejectsIndex};
 ghost use Rattle.rom_order_region.specs.State.{Pairs};
-ghost use Rattle.rom_order_region.specs.Region.{OrderContents};
-ghost use Rattle.rom_order_region.specs.Marks.{AreNodeMarks, AreSomeNodeMarks, Leads, AnswersSub, AnswersNodes, IsOrderInspected};
+ghost use Rattle.rom_order_region.specs.Region.{IndexContents};
+ghost use Rattle.rom_order_region.specs.Marks.{AreNodeMarks, AreSomeNodeMarks, Leads, AnswersSub, AnswersNodes, IsIndexInspected};
 
 use crate::fresh::ORDERED;
 use crate::root::{SIZE, TOP};
@@ -188,7 +188,7 @@ fn levels() -> u32
 fn inspect_root(region: &[u64], order: u32) -> Result<(), Break>
     requires order { IsOrder order }
     requires sized { length region.now ≡ region_len order }
-    ensures { result ≡ checked (order_root_tests region.now) }
+    ensures { result ≡ checked (index_root_tests region.now) }
 {
     check_word(region, KIND, Rule::Root, ORDERED)?;
     check_word(region, VERSION, Rule::Root, 1)?;
@@ -221,7 +221,7 @@ fn no_marks(alloc: Global, order: u32) -> Result<Vec<bool>, AllocError>
 fn inspect_words(alloc: Global, region: &[u64], order: u32) -> Result<(), Unfit>
     requires order { IsOrder order }
     requires sized { length region.now ≡ region_len order }
-    ensures { IsOrderInspected order region.now result }
+    ensures { IsIndexInspected order region.now result }
 {
     let Ok(mut marks) = no_marks(alloc, order) else {
         return Err(Unfit::OutOfMemory);
@@ -236,12 +236,12 @@ fn inspect_words(alloc: Global, region: &[u64], order: u32) -> Result<(), Unfit>
 pub fn inspect_order(alloc: Global, region: &[u64], order: u32) -> Result<(), Unfit>
     requires order { IsOrder order }
     requires sized { length region.now ≡ region_len order }
-    ensures fit { OnOk result ((s : Pairs) × (k : ℕ) × OrderContents order region.now s k) }
-    ensures reason { IfErr result (IsReason (RejectsOrder order region.now)) }
+    ensures fit { OnOk result ((s : Pairs) × (k : ℕ) × IndexContents order region.now s k) }
+    ensures reason { IfErr result (IsReason (RejectsIndex order region.now)) }
     // A region that some test rejects stands for no map.
-    ensures refused { (e : Unfit) → RejectsOrder order region.now e → (s : Pairs) (k : ℕ)
-        → OrderContents order region.now s k → ⊥ }
-    ensures one { (e d : Unfit) → RejectsOrder order region.now e → RejectsOrder order region.now d → e ≡ d }
+    ensures refused { (e : Unfit) → RejectsIndex order region.now e → (s : Pairs) (k : ℕ)
+        → IndexContents order region.now s k → ⊥ }
+    ensures one { (e d : Unfit) → RejectsIndex order region.now e → RejectsIndex order region.now d → e ≡ d }
 {
     inspect_words(alloc, region, order)
 }

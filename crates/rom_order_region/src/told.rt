@@ -1,12 +1,12 @@
 //! The texts of what calls and queries are told.
-ghost use Rattle.rom_order_region.specs.Texts.{shown_order_answer, shown_order_reply};
+ghost use Rattle.rom_order_region.specs.Texts.{shown_index_answer, shown_index_reply};
 
 use crate::call::{OrderAnswer, OrderReply};
 use itoa::Buffer;
 use rom_text::{IoFailed, Print, Sink, print_pieces, print_text};
 
 impl Print for OrderReply {
-    ghost shown = { shown_order_reply };
+    ghost shown = { shown_index_reply };
 
     fn print<O: Sink>(&self, out: &mut O) -> Result<(), IoFailed> {
         match self {
@@ -18,7 +18,7 @@ impl Print for OrderReply {
 }
 
 impl Print for OrderAnswer {
-    ghost shown = { shown_order_answer };
+    ghost shown = { shown_index_answer };
 
     fn print<O: Sink>(&self, out: &mut O) -> Result<(), IoFailed> {
         let mut first = Buffer::new();

@@ -1,8 +1,8 @@
 //! The stores of updates and the loads of queries, at order 16 on words that count them.
 ghost use Rattle.std.specs.Prelude.{◌<◌, ℕ, IfOk};
-ghost use Rattle.rom_model.specs.VecSpace.{words_of};
+ghost use Rattle.rom_model.specs.VecSpace.{words_of_space};
 ghost use Rattle.rom_model.specs.History.{LAST_COUNT};
-ghost use Rattle.rom_counted.specs.Counted.{Begins};
+ghost use Rattle.rom_counted.specs.Counted.{BeginsLedger};
 ghost use Rattle.rom_blob_region.specs.State.{BlobState};
 ghost use Rattle.rom_blob_region.specs.Region.{BlobContents};
 
@@ -29,7 +29,7 @@ fn bytes(byte: u8, len: usize) -> Chunk {
 /// A heap whose free blocks hold 7 in each word, in which the key 1 has so many bytes, or is not there.
 fn held(alloc: Global, len: Option<usize>) -> Result<VecSpace, Fail>
     ensures region { IfOk result (λ space. (s : BlobState) × (k : ℕ)
-        × BlobContents 16 (words_of space) s k × (k < LAST_COUNT)) }
+        × BlobContents 16 (words_of_space space) s k × (k < LAST_COUNT)) }
 {
     let call = match len {
         Some(len) => BlobCall::Set(1, bytes(1, len)),
@@ -43,8 +43,8 @@ fn held(alloc: Global, len: Option<usize>) -> Result<VecSpace, Fail>
 
 /// What an update is told in such a heap, and how many stores it makes.
 fn told_and_stores<L: Ledger>(blank: Blank, space: VecSpace, call: BlobCall) -> (BlobReply, u64)
-    requires blank { Begins L.name L.parts blank.name blank.parts }
-    requires region { (s : BlobState) × (k : ℕ) × BlobContents 16 (words_of space) s k
+    requires blank { BeginsLedger L.name L.parts blank.name blank.parts }
+    requires region { (s : BlobState) × (k : ℕ) × BlobContents 16 (words_of_space space) s k
         × (k < LAST_COUNT) }
 {
     let mut space: Counted<L> = Counted::begin(space, STORES, blank);
@@ -103,8 +103,8 @@ fn stores_of_each_update(rt: HostRuntime) -> Result<(), Fail> {
 
 /// What a query is told in such a heap, and how many loads it makes.
 fn answer_and_loads<L: Ledger>(blank: Blank, space: VecSpace, query: BlobQuery) -> (BlobAnswer, u64)
-    requires blank { Begins L.name L.parts blank.name blank.parts }
-    requires region { (s : BlobState) × (k : ℕ) × BlobContents 16 (words_of space) s k
+    requires blank { BeginsLedger L.name L.parts blank.name blank.parts }
+    requires region { (s : BlobState) × (k : ℕ) × BlobContents 16 (words_of_space space) s k
         × (k < LAST_COUNT) }
 {
     let mut space: Counted<L> = Counted::begin(space, 0, blank);

@@ -3,7 +3,7 @@ ghost use Rattle.std.specs.Prelude.{ℕ, ◌<◌};
 ghost use Rattle.std.specs.Bool.{OnTrue};
 ghost use Rattle.rom_model.specs.Blocks.{IsOrder};
 ghost use Rattle.rom_model.specs.History.{LAST_COUNT};
-ghost use Rattle.rom_order_region.specs.Region.{OrderContents};
+ghost use Rattle.rom_order_region.specs.Region.{IndexContents};
 ghost use Rattle.rom_order_region.specs.State.{Pairs};
 
 use crate::map::Map;
@@ -249,7 +249,7 @@ impl Run {
 
 /// Whether these are the words of a well-formed region, to which an update more can be counted.
 fn is_ready(alloc: Global, order: u32, words: &[u64]) -> bool
-    ensures { OnTrue result (IsOrder order × (s : Pairs) × (k : ℕ) × OrderContents order words.now s k
+    ensures { OnTrue result (IsOrder order × (s : Pairs) × (k : ℕ) × IndexContents order words.now s k
         × (k < LAST_COUNT)) }
 {
     if order < 4 || order > 16 || words.len() as u64 != region_len(order) {

@@ -4,13 +4,13 @@ use Rattle.std.specs.Prelude.{slice_index}
 use Rattle.std.proofs.lemmas.Bool.{cases_lt}
 use Rattle.rom_model.specs.Space.{ChangesOnly}
 use Rattle.rom_model.specs.Blocks.{block_of}
-use Rattle.rom_model.specs.Chains.{IsIn, times, last_of, each_word, HoldZero}
+use Rattle.rom_model.specs.Chains.{IsWordOfBlock, times, last_of, each_word, HoldZero}
 use Rattle.rom_model.specs.Region.{IsQueue}
 use Rattle.rom_model.proofs.Times.{times_here, times-append, times_one}
 use Rattle.rom_model.proofs.Nodes.{pow_positive}
 use Rattle.rom_model.proofs.Frames.{each_same}
 use Rattle.rom_model.specs.Links.{link_after}
-use Rattle.rom_queue.specs.Ends.{IsLinked, MayTake, IsAppended}
+use Rattle.rom_queue.specs.Ends.{IsTailLinked, MayTake, IsAppended}
 use Rattle.rom_model.proofs.Links.{link_in}
 use Rattle.rom_queue.proofs.Links.{chain_push}
 
@@ -24,7 +24,7 @@ pub record Stored (n b value link : ℕ) (w w' : List ℕ) : Type 0 where
   pub linked : slice_index w' link ≡ block_of n b
   pub tail : slice_index w' 4 ≡ block_of n b
   pub len : slice_index w' 5 ≡ slice_index w 5 + 1
-  pub others : (k : ℕ) → (IsIn n b k → ⊥) → k ≢ link → k ≢ 4 → k ≢ 5 → slice_index w' k ≡ slice_index w k
+  pub others : (k : ℕ) → (IsWordOfBlock n b k → ⊥) → k ≢ link → k ≢ 4 → k ≢ 5 → slice_index w' k ≡ slice_index w k
 
 each_push : (n j : ℕ) (w bs : List ℕ) (b : ℕ) → each_word n w j (bs ++ b ∷ []) ≡ each_word n w j bs ++ slice_index w (block_of n b + j) ∷ []
 each_push n j w [] b = refl
@@ -58,7 +58,7 @@ module _ {n at value : ℕ} {w w' : List ℕ} (q : MayTake n at w) (stored : Sto
   ]
 
   -- a word that is not the last link, the tail, the length or one of the block's
-  stays : (k : ℕ) → (IsIn n q.block k → ⊥) → ((c : ℕ) → 0 < times c q.blocks → IsIn n c k → ⊥) → (k < 3) ⊎ (6 ≤ k) → slice_index w' k ≡ slice_index w k
+  stays : (k : ℕ) → (IsWordOfBlock n q.block k → ⊥) → ((c : ℕ) → 0 < times c q.blocks → IsWordOfBlock n c k → ⊥) → (k < 3) ⊎ (6 ≤ k) → slice_index w' k ≡ slice_index w k
   stays k outside apart place = stored.others k outside
       (λ e. ⊎_elim (λ at. ⊎_elim (λ lt. absurd (omega (arith, e, at, lt))) (λ ge. absurd (omega (arith, e, at, ge))) place) (λ x. absurd (apart x.0 x.1 (omega (arith, e, x.2), omega (arith, e, x.2)))) (link_in n 3 1 q.blocks))
       (λ e. ⊎_elim (λ lt. absurd (omega (arith, e, lt))) (λ ge. absurd (omega (arith, e, ge))) place)
@@ -102,7 +102,7 @@ pub record LinkFits (n b link : ℕ) : Type 0 where
   pub within : link < 16 + 6 * 2 ^ n
   pub not_tail : link ≢ 4
   pub not_len : link ≢ 5
-  pub outside : IsIn n b link → ⊥
+  pub outside : IsWordOfBlock n b link → ⊥
 
 pub link_fits : {n at : ℕ} {w : List ℕ} (q : MayTake n at w) → LinkFits n q.block (link_after n 3 1 q.blocks)
 link_fits {n} q = ⊎_elim
@@ -116,14 +116,14 @@ link_fits {n} q = ⊎_elim
     (link_in n 3 1 q.blocks)
 
 -- filling the block leaves the words beside it
-pub stays_beside : {n at : ℕ} {v : List ℕ} (q : MayTake n at v) {w : List ℕ} (f : List ℕ) → ChangesOnly at 4 w f → (k : ℕ) → (IsIn n q.block k → ⊥) → slice_index f k ≡ slice_index w k
+pub stays_beside : {n at : ℕ} {v : List ℕ} (q : MayTake n at v) {w : List ℕ} (f : List ℕ) → ChangesOnly at 4 w f → (k : ℕ) → (IsWordOfBlock n q.block k → ⊥) → slice_index f k ≡ slice_index w k
 stays_beside {n} {at} q f filled k outside = elim (cases_lt k at) [
   | inl lt ↦ filled.before k lt
   | inr ge ↦ elim (cases_lt k (at + 4)) [ inl lt ↦ absurd (outside (omega (arith, q.here, ge), omega (arith, q.here, lt))) | inr le ↦ filled.behind k le ]
 ]
 
 -- and linking it leaves the block
-pub filled_apart : {n at : ℕ} {v : List ℕ} (q : MayTake n at v) (last : ℕ) {w f w' : List ℕ} → last ≡ link_after n 3 1 q.blocks → ChangesOnly at 4 w f → IsLinked last at f w' → (k : ℕ) → (slice_index f k ≡ slice_index w k) ⊎ (slice_index w' k ≡ slice_index f k)
+pub filled_apart : {n at : ℕ} {v : List ℕ} (q : MayTake n at v) (last : ℕ) {w f w' : List ℕ} → last ≡ link_after n 3 1 q.blocks → ChangesOnly at 4 w f → IsTailLinked last at f w' → (k : ℕ) → (slice_index f k ≡ slice_index w k) ⊎ (slice_index w' k ≡ slice_index f k)
 filled_apart {n} {at} q last end_is filled l k = elim (cases_lt k at) [
   | inl lt ↦ inl (filled.before k lt)
   | inr ge ↦ elim (cases_lt k (at + 4)) [
@@ -135,7 +135,7 @@ filled_apart {n} {at} q last end_is filled l k = elim (cases_lt k at) [
 -- the block is filled, and then it is linked
 pub stored_two : {n at value last : ℕ} {w f w' : List ℕ} (q : MayTake n at w) → last ≡ link_after n 3 1 q.blocks
     → slice_index f at ≡ value → slice_index f (at + 1) ≡ 0 → slice_index f (at + 2) ≡ 0 → slice_index f (at + 3) ≡ 0 → ChangesOnly at 4 w f
-    → IsLinked last at f w' → Stored n q.block value (link_after n 3 1 q.blocks) w w'
+    → IsTailLinked last at f w' → Stored n q.block value (link_after n 3 1 q.blocks) w w'
 stored_two {n} {at} {value} {last} {w} {f} {w'} q end_is first second third fourth filled l = record {
   as_long = l.as_long ∙ filled.as_long;
   first = ap (λ k. slice_index w' k) plain ∙ kept 0 (omega arith) ∙ ap (λ k. slice_index f k) (sym plain) ∙ ap (λ k. slice_index f k) (sym q.here) ∙ first;

@@ -12,7 +12,7 @@ use Rattle.rom_model.proofs.Members.{member_taken, quarter_pow}
 use Rattle.rom_model.proofs.Room.{times_members, tree_stays, region_disjoint}
 use Rattle.rom_block.specs.Taken.{IsTakenAt}
 use Rattle.rom_queue.specs.Queue.{IsPopped}
-use Rattle.rom_queue.specs.Ends.{Begins, IsUnlinked}
+use Rattle.rom_queue.specs.Ends.{BeginsQueue, IsHeadUnlinked}
 use Rattle.rom_queue.proofs.Links.{head_none, head_first}
 use Rattle.rom_queue.proofs.Regions.{popped}
 use Rattle.rom_queue.proofs.Taking.{unit_begins}
@@ -23,7 +23,7 @@ no_values {n} {w} {p} {s} is none = sym is.shape.queue.values_are ∙ ap (λ bs.
 
 -- the first node
 pub record Head (n head : ℕ) (w : List ℕ) (p : Chains) (s : State) : Type 0 where
-  pub begins : Begins n head w
+  pub begins : BeginsQueue n head w
   pub first : p.queue ≡ begins.block ∷ begins.behind
   pub values : s.queue ≡ slice_index w head ∷ each_word n w 0 begins.behind
   pub least : 2 ^ (n - 4) ≤ begins.block
@@ -73,7 +73,7 @@ module _ {n : ℕ} {w : List ℕ} {p : Chains} {s : State} {k : ℕ} (le : 4 ≤
     may_give = (taken, 2 ^ n + block, region_disjoint le is, words, node, at, held)
 
     -- after it was given back
-    pub given_back : (w2 : List ℕ) (value : ℕ) → value ≡ slice_index w head → ((q : Begins n head w) → IsUnlinked q w1)
+    pub given_back : (w2 : List ℕ) (value : ℕ) → value ≡ slice_index w head → ((q : BeginsQueue n head w) → IsHeadUnlinked q w1)
         → ((taken : ℕ → Bool) (x : ℕ) → IsDisjoint n taken → AreWords n taken w1 → IsNode (n - 0) x → head ≡ block_at n 0 x → taken x ≡ true → IsDisjoint n (giving x taken) × AreWords n (giving x taken) w2)
         → ChangesOnly 17 (2 * 2 ^ n - 1) w1 w2 → IsPopped (p, is) value w2
     given_back w2 value loaded unlinked given tree =

@@ -7,7 +7,7 @@ use Rattle.rom_model.specs.Links.{AreNodes, KeepsTree}
 use Rattle.rom_model.specs.Region.{IsQueue, ChangesPart}
 
 -- That link is to the node that begins there, which is the tail; there is one value more, and no other word differs.
-pub record IsLinked (link at : ℕ) (old new : List ℕ) : Type 0 where
+pub record IsTailLinked (link at : ℕ) (old new : List ℕ) : Type 0 where
   pub as_long : length new ≡ length old
   pub linked : slice_index new link ≡ at
   pub tail : slice_index new 4 ≡ at
@@ -39,7 +39,7 @@ pub record IsAppended {n at : ℕ} {old : List ℕ} (q : MayTake n at old) (valu
   pub tree : KeepsTree n old new
 
 -- a queue in the words whose first block begins there
-pub record Begins (n at : ℕ) (words : List ℕ) : Type 0 where
+pub record BeginsQueue (n at : ℕ) (words : List ℕ) : Type 0 where
   pub block : ℕ
   pub here : at ≡ block_of n block
   pub inside : block < 2 ^ n
@@ -48,5 +48,5 @@ pub record Begins (n at : ℕ) (words : List ℕ) : Type 0 where
   pub queue : IsQueue n words (block ∷ behind) values
 
 -- the queue has lost its first block, and each block behind still has its word
-abbrev pub IsUnlinked : {n at : ℕ} {old : List ℕ} → Begins n at old → List ℕ → Type 0
-IsUnlinked {n} {at} {old} q new = IsQueue n new q.behind (each_word n old 0 q.behind)
+abbrev pub IsHeadUnlinked : {n at : ℕ} {old : List ℕ} → BeginsQueue n at old → List ℕ → Type 0
+IsHeadUnlinked {n} {at} {old} q new = IsQueue n new q.behind (each_word n old 0 q.behind)

@@ -4,7 +4,7 @@ ghost use Rattle.rom_model.specs.Space.{Costs, Looks, HasRoom, IsSparing, Change
 ghost use Rattle.rom_model.specs.Blocks.{region_len};
 ghost use Rattle.rom_model.specs.Region.{IsQueue};
 ghost use Rattle.rom_model.specs.Links.{link_after};
-ghost use Rattle.rom_queue.specs.Ends.{IsLinked, MayTake, IsAppended, HasHead, Begins, IsUnlinked};
+ghost use Rattle.rom_queue.specs.Ends.{IsTailLinked, MayTake, IsAppended, HasHead, BeginsQueue, IsHeadUnlinked};
 
 use crate::node::QUEUE_LINK;
 use rom_block::fill_node;
@@ -34,7 +34,7 @@ fn link_last<M: Space>(space: &mut M, link: u64, at: u64)
     requires apart_too { link ≢ QUEUE_LEN }
     requires len { slice_index (M.shown.image space.old) QUEUE_LEN < 2 ^ 63 }
     requires room { HasRoom M.shown 3 space.old }
-    ensures linked { IsLinked link at (M.shown.image space.old) (M.shown.image space.new) }
+    ensures linked { IsTailLinked link at (M.shown.image space.old) (M.shown.image space.new) }
     ensures costs { Costs M.shown 1 3 space.old space.new }
     ensures sparing { slice_index (M.shown.image space.old) link ≢ at
         → slice_index (M.shown.image space.old) QUEUE_TAIL ≢ at
@@ -82,10 +82,10 @@ fn set_head<M: Space>(space: &mut M, at: u64)
 pub fn unlink_first<M: Space>(space: &mut M, order: u32, at: u64)
     requires most { order ≤ 16 }
     requires sized { length (M.shown.image space.old) ≡ region_len order }
-    requires queue { Begins order at (M.shown.image space.old) }
+    requires queue { BeginsQueue order at (M.shown.image space.old) }
     requires room { HasRoom M.shown 3 space.old }
-    ensures unlinked { (q : Begins order at (M.shown.image space.old))
-        → IsUnlinked q (M.shown.image space.new) }
+    ensures unlinked { (q : BeginsQueue order at (M.shown.image space.old))
+        → IsHeadUnlinked q (M.shown.image space.new) }
     ensures others { ChangesOnly QUEUE_HEAD 3 (M.shown.image space.old) (M.shown.image space.new) }
     ensures costs { Costs M.shown 2 3 space.old space.new }
     ensures sparing { IsSparing M.shown space.old space.new }

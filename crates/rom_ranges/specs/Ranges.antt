@@ -3,13 +3,13 @@ use Rattle.std.specs.Prelude.{◌⊎◌, ℕ, ◌+◌, ◌-◌, ◌<◌, ◌≤�
 use Rattle.rom_ranges.specs.declared.range.Range.{Range}
 
 -- the offset is in the range
-abbrev pub IsIn : Range → ℕ → Type 0
-IsIn range k = (range.start ≤ k) × (k < range.end)
+abbrev pub IsInRange : Range → ℕ → Type 0
+IsInRange range k = (range.start ≤ k) × (k < range.end)
 
 -- the offset is in one of the ranges
 abbrev pub IsHeld : List Range → ℕ → Type 0
 IsHeld [] k = ⊥
-IsHeld (range ∷ ranges) k = IsIn range k ⊎ IsHeld ranges k
+IsHeld (range ∷ ranges) k = IsInRange range k ⊎ IsHeld ranges k
 
 -- each range ends at this length or before
 abbrev pub AreWithin : ℕ → List Range → Type 0

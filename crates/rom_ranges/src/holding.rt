@@ -2,7 +2,7 @@
 ghost use Rattle.std.specs.Prelude.{◌≡◌, ℕ, ◌+◌, ◌^◌, ◌<◌, ◌≤◌, length, slice_index_or};
 ghost use Rattle.std.specs.List.{insert};
 ghost use Rattle.std.specs.Vec.{vec_len, vec_capacity};
-ghost use Rattle.rom_ranges.specs.Holding.{Holds};
+ghost use Rattle.rom_ranges.specs.Holding.{AddsOffset};
 ghost use Rattle.rom_ranges.specs.Ranges.{AreApart};
 ghost use Rattle.rom_ranges.specs.declared.range.Range.{Range};
 
@@ -32,7 +32,7 @@ pub(crate) fn hold(ranges: &mut Vec<Range>, at: u64)
     requires apart { AreApart ranges.old.items }
     requires room { vec_len ranges.old < vec_capacity ranges.old }
     requires small { at < 2 ^ 63 }
-    ensures holds { Holds at ranges.old.items ranges.new.items }
+    ensures holds { AddsOffset at ranges.old.items ranges.new.items }
     ensures capacity { vec_capacity ranges.old ≤ vec_capacity ranges.new }
 {
     let i = first_near(ranges.as_slice(), at);
@@ -82,7 +82,7 @@ fn lengthen(ranges: &mut Vec<Range>, i: usize, at: u64)
     requires before { (k : ℕ) (d : Range) → k < i → (slice_index_or ranges.old.items k d).end < at }
     requires ends { (d : Range) → (slice_index_or ranges.old.items i d).end ≡ at }
     requires small { at < 2 ^ 63 }
-    ensures holds { Holds at ranges.old.items ranges.new.items }
+    ensures holds { AddsOffset at ranges.old.items ranges.new.items }
     ensures capacity { vec_capacity ranges.old ≤ vec_capacity ranges.new }
 {
     if i + 1 < ranges.len() && ranges[i + 1].start == at + 1 {

@@ -13,7 +13,7 @@ use Rattle.rom_model.specs.declared.line.Step.TheVariants.{Update}
 use Rattle.rom_rebuild.specs.declared.elements.element.Element.{Element}
 use Rattle.rom_rebuild.specs.declared.elements.element.Element.TheVariants.{Value, Member, Pair}
 use Rattle.rom_rebuild.specs.Elements.{ElementFits}
-use Rattle.rom_script.specs.Lines.{Reads, lines_of, pieces_of, single_line, without_cr}
+use Rattle.rom_script.specs.Lines.{ReadsTrio, lines_of, pieces_of, single_line, without_cr}
 use Rattle.rom_text.specs.Lines.{AreRead, onto_first}
 use Rattle.rom_text.specs.Text.{line_text}
 use Rattle.rom_text.proofs.Reading.{both, decimal_is_a_word, is_word}
@@ -72,17 +72,17 @@ lines_many es = ap length (script_lines es) ∙ length-map es (λ e. single_line
 abbrev pub steps_of : List Element → List (Step Call Query)
 steps_of es = map (λ e. Update (call_of (insertion_of e))) es
 
-reads : (e : Element) → ElementFits e → Reads (single_line (insertion_of e)) (Update (call_of (insertion_of e)))
+reads : (e : Element) → ElementFits e → ReadsTrio (single_line (insertion_of e)) (Update (call_of (insertion_of e)))
 reads (Value v) fit = (fit, refl)
 reads (Member k) fit = (fit, refl)
 reads (Pair k v) fit = (fit, refl)
 
-read_each : (es : List Element) → AllByRecursion ElementFits es → AreRead Reads (map (λ e. single_line (insertion_of e)) es) (steps_of es)
+read_each : (es : List Element) → AllByRecursion ElementFits es → AreRead ReadsTrio (map (λ e. single_line (insertion_of e)) es) (steps_of es)
 read_each [] fit = tt
 read_each (e ∷ es) fit = (reads e fit.0, read_each es fit.1)
 
-pub script_read : (es : List Element) → AllByRecursion ElementFits es → AreRead Reads (lines_of (elements_script es)) (steps_of es)
-script_read es fit = subst (λ ls. AreRead Reads ls (steps_of es)) (sym (script_lines es)) (read_each es fit)
+pub script_read : (es : List Element) → AllByRecursion ElementFits es → AreRead ReadsTrio (lines_of (elements_script es)) (steps_of es)
+script_read es fit = subst (λ ls. AreRead ReadsTrio ls (steps_of es)) (sym (script_lines es)) (read_each es fit)
 
 pub steps_append : (xs ys : List Element) → steps_of (xs ++ ys) ≡ steps_of xs ++ steps_of ys
 steps_append xs ys = map-append (λ e. Update (call_of (insertion_of e))) xs ys

@@ -10,7 +10,7 @@ use Rattle.rom_model.specs.declared.call.Reply.TheVariants.{Full}
 use Rattle.rom_model.specs.declared.line.Step.{Step}
 use Rattle.rom_model.specs.declared.line.Step.TheVariants.{Update, Ask, Unread}
 use Rattle.rom_text.specs.Lines.{AreRead, lines_of}
-use Rattle.rom_script.specs.Lines.{Reads}
+use Rattle.rom_script.specs.Lines.{ReadsTrio}
 
 -- Lines that are taken one after another, by one caller, in a heap of this order. An update takes a place; a query does nothing.
 module _ {S C Q R A : Type 0} (machine : Machine S C Q R A) (order : ℕ) where
@@ -37,7 +37,7 @@ pub record SameElements (s t : State) : Type 0 where
 -- each script, read by itself as scripts are read, has these steps
 abbrev pub AreEachRead : List (List ℕ) → List (List (Step Call Query)) → Type 0
 AreEachRead [] [] = Unit {0}
-AreEachRead (bytes ∷ scripts) (steps ∷ each_of) = AreRead Reads (lines_of bytes) steps × AreEachRead scripts each_of
+AreEachRead (bytes ∷ scripts) (steps ∷ each_of) = AreRead ReadsTrio (lines_of bytes) steps × AreEachRead scripts each_of
 AreEachRead scripts each_of = ⊥
 
 -- Scripts that are run one after another. The lines of each, read by itself as scripts are read, are updates: together as many as this state has elements. Taken from the empty state in a new heap of this order they give it again, and none is told that the heap is full.

@@ -2,7 +2,7 @@
 use Rattle.std.proofs.Common.{◌≡◌, ℕ, ◌+◌, ◌*◌, ◌≤◌, ◌==◌, Bool, true, false, if◌then◌else◌, Result, Ok, Err, arith, refl, subst, sym}
 use Rattle.rom_model.specs.Blocks.{region_len}
 use Rattle.rom_model.specs.Faults.{AtMost}
-use Rattle.rom_device.specs.Device.{ShownDevice, Counts, Makes}
+use Rattle.rom_device.specs.Device.{ShownDevice, CountsCalls, Makes}
 use Rattle.rom_recover.specs.Calls.{Compares, WithinRecovery, reads_at_most, reads_until}
 use Rattle.rom_recover.specs.declared.recovery.RecoverRefused.{RecoverRefused}
 use Rattle.rom_recover.specs.declared.recovery.RecoverRefused.TheVariants.{Twins, Device}
@@ -23,7 +23,7 @@ once_or_twice true len = omega arith
 once_or_twice false len = omega arith
 
 -- behind the sync and the read of the state
-module _ {D T E U F : Type 0} (shown : ShownDevice D) (n : ℕ) (a s b : D) (r : Result T E) (q : Result U F) (synced : Counts shown 0 0 1 a s r) (read : Makes shown 1 0 0 s b q) where
+module _ {D T E U F : Type 0} (shown : ShownDevice D) (n : ℕ) (a s b : D) (r : Result T E) (q : Result U F) (synced : CountsCalls shown 0 0 1 a s r) (read : Makes shown 1 0 0 s b q) where
   begun_reads : AtMost 1 (shown.reads a) (shown.reads b)
   begun_reads = record { later = omega (arith, synced.reads_made, read.most_reads.later); most = omega (arith, synced.reads_made, read.most_reads.most) }
 

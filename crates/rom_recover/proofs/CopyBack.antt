@@ -3,7 +3,7 @@ use Rattle.std.proofs.Common.{◌≡◌, ◌≢◌, ◌⊎◌, inl, inr, ℕ, �
 use Rattle.rom_model.specs.Blocks.{region_len}
 use Rattle.rom_model.specs.Space.{ChangesOnly}
 use Rattle.rom_model.proofs.Changes.{changes_set}
-use Rattle.rom_device.specs.Device.{Writes}
+use Rattle.rom_device.specs.Device.{WritesWord}
 use Rattle.rom_header.specs.Headers.{state_word}
 use Rattle.rom_header.specs.Layout.{main_of, back_of, back_at}
 use Rattle.rom_header.specs.Regions.{IsHeap, SameRegion, IsCounted}
@@ -130,7 +130,7 @@ module _ (n : ℕ) (x : List ℕ) (is : IsHeap n x) where
 
   -- and once the state may be written
   pub mended_on : (s : State) (from to : ℕ) → IsWay n s from to → get_or x 3 0 ≡ state_word s → (y : List ℕ) → CopiesSome x from to (region_len n) x y → Copied from to (region_len n) x y
-      → (i : List ℕ) → Writes 3 0 y i → Mended n x i
+      → (i : List ℕ) → WritesWord 3 0 y i → Mended n x i
   mended_on s from to way state y copies copied i (inl stays) = subst (λ (l : List ℕ). Mended n x l) (sym stays) (mended s from to way state y copies)
   mended_on s from to way state y copies copied i (inr put) =
       let done = finished s from to way state y copies copied in

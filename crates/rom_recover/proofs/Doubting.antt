@@ -5,7 +5,7 @@ use Rattle.std.proofs.lemmas.Grind.{same_number_lists}
 use Rattle.rom_model.specs.Blocks.{region_len}
 use Rattle.rom_model.specs.Space.{ChangesOnly}
 use Rattle.rom_model.proofs.Changes.{changes_joins}
-use Rattle.rom_device.specs.Device.{ShownDevice, AreRenewed, AreSettled, Becomes, Does, DoubtsNoMore, IsRenewed, Leaves, Runs, Stays, TellsDoubts, Writes}
+use Rattle.rom_device.specs.Device.{ShownDevice, AreRenewed, AreSettled, Becomes, Does, DoubtsNoMore, IsRenewed, Leaves, Runs, Stays, TellsDoubts, WritesWord}
 use Rattle.rom_device.specs.Doubt.{settled_sure}
 use Rattle.rom_device.proofs.Going.{leaves_becoming, leaves_none, leaves_on, leaves_still, leaves_then, was_left}
 use Rattle.rom_header.proofs.Since.{leaves_from}
@@ -95,7 +95,7 @@ module _ {D : Type 0} (shown : ShownDevice D) (doubts : IsTrue shown.tells_doubt
 
   -- the state is written again
   module _ (s : State) (from to : ℕ) (way : IsWay n s from to) (a b : D) (heap : IsHeap n (shown.words a)) (state : get_or (shown.words a) 3 0 ≡ state_word s) (sure : IsCertainBut shown (MayBeInDoubt n (state_word s)) a)
-      (runs : Runs shown (Writes 3 (state_word s)) a b) where
+      (runs : Runs shown (WritesWord 3 (state_word s)) a b) where
     put_other : (x : List ℕ) → shown.leaves a x → (k : ℕ) → (get_or (set x 3 (state_word s)) k 0 ≡ get_or (shown.words a) k 0) ⊎ IsOfOther n (state_word s) k
     put_other x was k = elim (cases_eq k 3) [
       | inl is ↦
@@ -111,13 +111,13 @@ module _ {D : Type 0} (shown : ShownDevice D) (doubts : IsTrue shown.tells_doubt
           ]
     ]
 
-    becomes : (x y : List ℕ) → shown.leaves a x → Writes 3 (state_word s) x y → Becomes (SameRegion (shown.words a)) x y
+    becomes : (x y : List ℕ) → shown.leaves a x → WritesWord 3 (state_word s) x y → Becomes (SameRegion (shown.words a)) x y
     becomes x y was (inl stays) = inl stays
     becomes x y was (inr put) = inr (subst (λ (l : List ℕ). SameRegion (shown.words a) l) (sym put) (same n (shown.words a) heap s from to way state (set x 3 (state_word s))
         (only_other n s from to way (shown.words a) (set x 3 (state_word s)) (length-set x 3 (state_word s) ∙ told.images_fit a x was) (put_other x was))))
 
     pub renewed_leaves : Leaves shown (SameRegion (shown.words a)) a b
-    renewed_leaves = leaves_becoming shown (Writes 3 (state_word s)) (SameRegion (shown.words a)) a b (told.counts_now a) runs becomes
+    renewed_leaves = leaves_becoming shown (WritesWord 3 (state_word s)) (SameRegion (shown.words a)) a b (told.counts_now a) runs becomes
 
   -- and then only the region that does not count may be in doubt
   pub renewed_sure : (state : ℕ) (a b : D) → shown.words b ≡ shown.words a → IsCertainBut shown (MayBeInDoubt n state) a → DoubtsNoMore shown a b → AreSettled shown b → IsRenewed shown 3 b → IsCertainBut shown (IsOfOther n state) b
@@ -147,13 +147,13 @@ module _ {D : Type 0} (shown : ShownDevice D) (doubts : IsTrue shown.tells_doubt
         let within = other_within n s from to place way (sure.places place (does.fewer place is)) in
         renewed (place - to) (omega (arith, within.0, within.1, size)) (subst (λ (k : ℕ). shown.doubted b k) (omega (arith, within.0)) is)
 
-    module _ (copied : Copied from to len (shown.words a) (shown.words b)) (v : ℕ) (zero : v ≡ 0) (c : D) (images : Leaves shown (Writes 3 v (shown.words b)) b c) where
-      written_same : (i : List ℕ) → Writes 3 v (shown.words b) i → SameRegion (shown.words a) i
+    module _ (copied : Copied from to len (shown.words a) (shown.words b)) (v : ℕ) (zero : v ≡ 0) (c : D) (images : Leaves shown (WritesWord 3 v (shown.words b)) b c) where
+      written_same : (i : List ℕ) → WritesWord 3 v (shown.words b) i → SameRegion (shown.words a) i
       written_same i by = (mended_on n (shown.words a) heap s from to way state (shown.words b) (copies.words told.words) (subst (λ (k : ℕ). Copied from to k (shown.words a) (shown.words b)) size copied) i
-          (subst (λ (k : ℕ). Writes 3 k (shown.words b) i) zero by)).same
+          (subst (λ (k : ℕ). WritesWord 3 k (shown.words b) i) zero by)).same
 
       pub written_leaves : Leaves shown (SameRegion (shown.words a)) a c
-      written_leaves = leaves_then shown (SameRegion (shown.words a)) (Writes 3 v (shown.words b)) a b c written_same copied_leaves images
+      written_leaves = leaves_then shown (SameRegion (shown.words a)) (WritesWord 3 v (shown.words b)) a b c written_same copied_leaves images
 
   -- once nothing is in doubt
   pub end_certain : (a c : D) → IsHeap n (shown.words a) → IsDone n (shown.words a) (shown.words c) → AreSettled shown c → ((place : ℕ) → IsRenewed shown place c) → (i : List ℕ) → shown.leaves c i → IsImageRecovered (shown.words a) (shown.words c) i

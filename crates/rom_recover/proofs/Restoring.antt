@@ -2,7 +2,7 @@
 use Rattle.std.proofs.Common.{◌≡◌, ◌≢◌, inl, inr, ⊎_elim, refl, ℕ, ◌≤◌, IsTrue, List, Result, Ok, Err, OnOk, get_or, set, sym, subst, ◌∙◌}
 use Rattle.std.proofs.lemmas.List.{set-get_or}
 use Rattle.rom_model.specs.Blocks.{region_len}
-use Rattle.rom_device.specs.Device.{ShownDevice, After, Does, IsSynced, Leaves, OnlyReads, Runs, Stays, Writes}
+use Rattle.rom_device.specs.Device.{ShownDevice, After, Does, IsSynced, Leaves, OnlyReads, Runs, Stays, WritesWord}
 use Rattle.rom_device.proofs.Going.{does_on, leaves_none, leaves_on, leaves_still, leaves_then}
 use Rattle.rom_header.proofs.Since.{leaves_from}
 use Rattle.rom_header.specs.Headers.{state_word}
@@ -34,15 +34,15 @@ module _ {D : Type 0} (shown : ShownDevice D) (n : ℕ) (s : State) (from to len
     whole : IsTrue shown.tells_words → Copied from to (region_len n) (shown.words a) (shown.words b)
     whole told = subst (λ (k : ℕ). Copied from to k (shown.words a) (shown.words b)) size (copied told)
 
-    written : IsTrue shown.tells_words → (i : List ℕ) → Writes 3 v (shown.words b) i → Mended n (shown.words a) i
-    written told i by = mended_on n (shown.words a) (heap told) s from to way (state told) (shown.words b) (copies.words told) (whole told) i (subst (λ (k : ℕ). Writes 3 k (shown.words b) i) zero by)
+    written : IsTrue shown.tells_words → (i : List ℕ) → WritesWord 3 v (shown.words b) i → Mended n (shown.words a) i
+    written told i by = mended_on n (shown.words a) (heap told) s from to way (state told) (shown.words b) (copies.words told) (whole told) i (subst (λ (k : ℕ). WritesWord 3 k (shown.words b) i) zero by)
 
-    pub end_left : shown.size c ≡ shown.size b → (IsTrue shown.tells_words → Writes 3 v (shown.words b) (shown.words c)) → Alters shown (Mends n) a c
+    pub end_left : shown.size c ≡ shown.size b → (IsTrue shown.tells_words → WritesWord 3 v (shown.words b) (shown.words c)) → Alters shown (Mends n) a c
     end_left stays left = record { size = stays ∙ copies.size; words = λ told. inr (written told (shown.words c) (left told)) }
 
-    pub end_images : (both : IsTrue shown.tells_images → IsTrue shown.tells_words) → IsSynced shown a → (IsTrue shown.tells_images → Leaves shown (Writes 3 v (shown.words b)) b c)
+    pub end_images : (both : IsTrue shown.tells_images → IsTrue shown.tells_words) → IsSynced shown a → (IsTrue shown.tells_images → Leaves shown (WritesWord 3 v (shown.words b)) b c)
         → IsTrue shown.tells_images → Leaves shown (Mended n (shown.words a)) a c
-    end_images both certain images told = leaves_then shown (Mended n (shown.words a)) (Writes 3 v (shown.words b)) a b c (written (both told)) (midst_images both certain told) (images told)
+    end_images both certain images told = leaves_then shown (Mended n (shown.words a)) (WritesWord 3 v (shown.words b)) a b c (written (both told)) (midst_images both certain told) (images told)
 
     pub end_done : {T E : Type 0} (r : Result T E) → (IsTrue shown.tells_words → OnOk r (shown.words c ≡ set (shown.words b) 3 v)) → IsTrue shown.tells_words → OnOk r (IsDone n (shown.words a) (shown.words c))
     end_done (Ok done) put told = subst (λ (l : List ℕ). IsDone n (shown.words a) l) (sym (put told))
@@ -62,11 +62,11 @@ way_of n Copying busy = record { from = MAIN; to = back_at n; is = (refl, refl) 
 
 -- a word that is written again, as it reads, where all words are certain
 module _ {D : Type 0} (shown : ShownDevice D) (at v : ℕ) (a b : D) where
-  pub again : (x y : List ℕ) → get_or x at 0 ≡ v → Writes at v x y → y ≡ x
+  pub again : (x y : List ℕ) → get_or x at 0 ≡ v → WritesWord at v x y → y ≡ x
   again x y reads (inl same) = same
   again x y reads (inr put) = put ∙ subst (λ (k : ℕ). set x at k ≡ x) reads (set-get_or x at 0)
 
-  pub runs_again : (IsTrue shown.tells_images → IsTrue shown.tells_words) → (IsTrue shown.tells_words → get_or (shown.words a) at 0 ≡ v) → IsSynced shown a → Does shown (Writes at v) a b → IsTrue shown.tells_images → Runs shown Stays a b
+  pub runs_again : (IsTrue shown.tells_images → IsTrue shown.tells_words) → (IsTrue shown.tells_words → get_or (shown.words a) at 0 ≡ v) → IsSynced shown a → Does shown (WritesWord at v) a b → IsTrue shown.tells_images → Runs shown Stays a b
   runs_again both reads certain does images = record {
     later = (does.images images).later;
     now = λ i left. after images i ((does.images images).now i left);
@@ -74,7 +74,7 @@ module _ {D : Type 0} (shown : ShownDevice D) (at v : ℕ) (a b : D) where
     keeps = (does.images images).keeps;
   }
     where
-      after : IsTrue shown.tells_images → (i : List ℕ) → After (Writes at v) (shown.leaves a) i → After Stays (shown.leaves a) i
+      after : IsTrue shown.tells_images → (i : List ℕ) → After (WritesWord at v) (shown.leaves a) i → After Stays (shown.leaves a) i
       after told i here = record { from = here.from; was = here.was; by = again here.from i (subst (λ (l : List ℕ). get_or l at 0 ≡ v) (sym (certain told here.from here.was)) (reads (both told))) here.by }
 
 -- calls that write nothing, and reads behind them

@@ -40,41 +40,41 @@ pub record SyncsOnce {D : Type 0} (shown : ShownDevice D) (old new : D) : Type 0
   pub syncs : shown.syncs new ≡ counted (shown.syncs old)
 
 -- how many words a recovery from this state reads: the state and both regions under IDLE, else the state and the region that counts
-abbrev pub reads_from : ℕ → State → ℕ
-reads_from order Idle = 1 + 2 * region_len order
-reads_from order Mutating = 1 + region_len order
-reads_from order Copying = 1 + region_len order
+abbrev pub reads_of_recovery : ℕ → State → ℕ
+reads_of_recovery order Idle = 1 + 2 * region_len order
+reads_of_recovery order Mutating = 1 + region_len order
+reads_of_recovery order Copying = 1 + region_len order
 
 -- and at most, whatever it answers, by the word of the state
 abbrev pub reads_at_most : ℕ → ℕ → ℕ
 reads_at_most order state = 1 + (if state == 0 then 2 else 1) * region_len order
 
 -- how many it writes: none under IDLE, else the state as it reads, the other region, and the state
-abbrev pub writes_from : ℕ → State → ℕ
-writes_from order Idle = 0
-writes_from order Mutating = region_len order + 2
-writes_from order Copying = region_len order + 2
+abbrev pub writes_of_recovery : ℕ → State → ℕ
+writes_of_recovery order Idle = 0
+writes_of_recovery order Mutating = region_len order + 2
+writes_of_recovery order Copying = region_len order + 2
 
 -- how often it syncs
-abbrev pub syncs_from : State → ℕ
-syncs_from Idle = 1
-syncs_from Mutating = 4
-syncs_from Copying = 4
+abbrev pub syncs_of_recovery : State → ℕ
+syncs_of_recovery Idle = 1
+syncs_of_recovery Mutating = 4
+syncs_of_recovery Copying = 4
 
 -- The reads that recovery made, by its answer: those of the state that it found; where the regions differ at most those up to that place, and where the device failed at most so many as any recovery makes.
 abbrev pub AreReads : ℕ → Result Recovered RecoverRefused → ℕ → ℕ → Type 0
-AreReads order (Ok recovered) before now = Adds (reads_from order recovered.found) before now
+AreReads order (Ok recovered) before now = Adds (reads_of_recovery order recovered.found) before now
 AreReads order (Err refused) before now = AtMost (1 + reads_until {T = Recovered} (2 * region_len order) (Err refused)) before now
 
 -- the writes, likewise, of which there are none where the regions differ
 abbrev pub AreWrites : ℕ → Result Recovered RecoverRefused → ℕ → ℕ → Type 0
-AreWrites order (Ok recovered) before now = Adds (writes_from order recovered.found) before now
+AreWrites order (Ok recovered) before now = Adds (writes_of_recovery order recovered.found) before now
 AreWrites order (Err (Twins offset main back)) before now = now ≡ before
 AreWrites order (Err Device) before now = AtMost (region_len order + 2) before now
 
 -- the syncs, likewise, of which there is one where the regions differ
 abbrev pub AreSyncs : Result Recovered RecoverRefused → ℕ → ℕ → Type 0
-AreSyncs (Ok recovered) before now = Adds (syncs_from recovered.found) before now
+AreSyncs (Ok recovered) before now = Adds (syncs_of_recovery recovered.found) before now
 AreSyncs (Err (Twins offset main back)) before now = Adds 1 before now
 AreSyncs (Err Device) before now = AtMost 4 before now
 

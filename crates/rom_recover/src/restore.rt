@@ -1,7 +1,7 @@
 //! The copy of the region that counts over the other one.
 ghost use Rattle.std.specs.Prelude.{◌≡◌, ◌≢◌, ◌+◌, ◌<◌, ◌≤◌, ℕ, List, OnOk, IsTrue, length, slice_index};
 ghost use Rattle.rom_model.specs.Blocks.{region_len};
-ghost use Rattle.rom_device.specs.Device.{AreSettled, DoubtsNoMore, IsRenewed, IsSynced, Leaves, Makes, Runs, Stays, Writes};
+ghost use Rattle.rom_device.specs.Device.{AreSettled, DoubtsNoMore, IsRenewed, IsSynced, Leaves, Makes, Runs, Stays, WritesWord};
 ghost use Rattle.rom_header.specs.Headers.{state_word};
 ghost use Rattle.rom_header.specs.Layout.{STATE, words_needed};
 ghost use Rattle.rom_header.specs.Regions.{IsHeap, SameRegion};
@@ -38,7 +38,7 @@ fn renew_state<D: Device>(device: &mut D, state: State) -> Result<(), Failed>
     ensures images { IsTrue D.shown.tells_images → Runs D.shown Stays device.old device.new }
     ensures certain { OnOk result (IsSynced D.shown device.new) }
     ensures doubts { IsTrue D.shown.tells_doubts →
-        Runs D.shown (Writes STATE (state_word state)) device.old device.new }
+        Runs D.shown (WritesWord STATE (state_word state)) device.old device.new }
     ensures settles { IsTrue D.shown.tells_doubts → OnOk result (AreSettled D.shown device.new) }
     ensures renews { OnOk result (IsRenewed D.shown STATE device.new) }
     ensures fewer { DoubtsNoMore D.shown device.old device.new }

@@ -12,7 +12,7 @@ use Rattle.rom_frame.specs.Messages.{IsMessageHeard}
 use Rattle.rom_frame.specs.declared.stream.message.MessageKind.TheVariants as kind
 use Rattle.rom_frame.specs.declared.frame.Frame.{Frame}
 use Rattle.rom_follow.specs.Followed.{Followed}
-use Rattle.rom_follow.specs.Taking.{IsFrame, IsNextFrame, IsNoFrame, TakesFrame, doing, entry_at, failing, found_at}
+use Rattle.rom_follow.specs.Taking.{IsFrame, IsNoFrame, TakesFrame, TakesNextFrame, doing, entry_at, failing, found_at}
 use Rattle.rom_follow.specs.declared.taken.MessageTaken.{MessageTaken}
 use Rattle.rom_follow.specs.declared.taken.MessageTaken.TheVariants as taken
 use Rattle.rom_replica.specs.Stops.{HasStopped, IsAtCount}
@@ -110,7 +110,7 @@ module _ {X : Type 0} (source : ShownSource X) (was now : X) (part : List ℕ) (
           by (inl one) = inl (ap this one)
           by (inr one) = inr (ap this one)
 
-      next_turn : (answer : MessageTaken) (stop : Option Stop) → IsNextFrame f old answer new → length old.tried ≤ old.count → new.count ≤ LAST_COUNT → AddsToTally answer (length part) before after stop → Turn source stop was now old new before after
+      next_turn : (answer : MessageTaken) (stop : Option Stop) → TakesNextFrame f old answer new → length old.tried ≤ old.count → new.count ≤ LAST_COUNT → AddsToTally answer (length part) before after stop → Turn source stop was now old new before after
       next_turn (taken.Applied place) stop gives many within adds =
           subst (λ (z : Option Stop). Turn source z was now old new before after) (sym adds.1)
           (goes f is true false false (eq-eqb f.place old.count at) not_below not_above gives.1 adds.0)

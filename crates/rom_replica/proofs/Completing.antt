@@ -27,7 +27,7 @@ use Rattle.rom_run.specs.declared.heap.Heap.TheVariants.{Standing}
 use Rattle.rom_run.proofs.Accepted.{at_hand, begins, by_name}
 use Rattle.rom_follow.specs.Closing.{ArePassesOf, TellsUpdate}
 use Rattle.rom_replica.specs.Following.{IsToldOfStream}
-use Rattle.rom_replica.specs.Promise.{EndsUnfailed, HasNotTaken, MayHaveFollowed, OfOne}
+use Rattle.rom_replica.specs.Promise.{EndsUnfailed, IsFollowedStatus, IsUnfollowedStatus, OfOne}
 use Rattle.rom_replica.specs.Stops.{HasFailed, HasStopped, stop_number}
 use Rattle.rom_replica.specs.Turns.{applied, tries_from}
 use Rattle.rom_replica.specs.declared.stop.Stop.{Stop}
@@ -154,7 +154,7 @@ module _ {D X K : Type 0} (shown : ShownDevice D) (source : ShownSource X) (sink
         by None told some = absurd (let no : ⊥ = cc in no)
         by (Some z) told some = let s = told.story.0 in at_hand Contents Rejects earlier shown was tells trio Standing s (told.each s told.story.1).opening
 
-    pub completes : MayHaveFollowed status ⊎ HasNotTaken status ⊎ (status ≡ 7) → (MayHaveFollowed status → IsSome session) → (HasNotTaken status → IsNone session) → (status ≡ 5 → WriteFailed sink old new) →
+    pub completes : IsFollowedStatus status ⊎ IsUnfollowedStatus status ⊎ (status ≡ 7) → (IsFollowedStatus status → IsSome session) → (IsUnfollowedStatus status → IsNone session) → (status ≡ 5 → WriteFailed sink old new) →
         IsAtHand Contents earlier Standing (shown.words was) → NoneFailed shown source sink was now inputs left old new → EndsUnfailed status
     completes statuses taken not_taken sink_failed can unfailed = by statuses
       where
@@ -168,7 +168,7 @@ module _ {D X K : Type 0} (shown : ShownDevice D) (source : ShownSource X) (sink
                 let f = four source sink old new status s inputs left (told.told s told.story.1) is in
                 unfailed.of_sources 0 f.0 f.1 (ap (λ (xs : List X). slice_get xs 0) f.2) (ap (λ (xs : List X). slice_get xs 0) f.3) (let once = f.4.once in omega (arith, once))
 
-        by : MayHaveFollowed status ⊎ HasNotTaken status ⊎ (status ≡ 7) → EndsUnfailed status
+        by : IsFollowedStatus status ⊎ IsUnfollowedStatus status ⊎ (status ≡ 7) → EndsUnfailed status
         by (inl (inl is)) = inl is
         by (inl (inr (inl is))) = inr (inl is)
         by (inl (inr (inr (inl is)))) = absurd (no_four is)
@@ -180,7 +180,7 @@ module _ {D X K : Type 0} (shown : ShownDevice D) (source : ShownSource X) (sink
         by (inr (inl (inr is))) = inr (inr (inl is))
         by (inr (inr is)) = absurd (unfailed.of_device (device_rose session story none is))
 
-    pub refuses : MayHaveFollowed status ⊎ HasNotTaken status ⊎ (status ≡ 7) → (MayHaveFollowed status → IsSome session) → IsRefusedByName Contents Rejects earlier Standing (shown.words was) → IsUnfailed shown was now → (status ≡ 3) ⊎ (status ≡ 6)
+    pub refuses : IsFollowedStatus status ⊎ IsUnfollowedStatus status ⊎ (status ≡ 7) → (IsFollowedStatus status → IsSome session) → IsRefusedByName Contents Rejects earlier Standing (shown.words was) → IsUnfailed shown was now → (status ≡ 3) ⊎ (status ≡ 6)
     refuses (inl is) taken refused unfailed = absurd (begins Contents Rejects earlier Standing (shown.words was) tt (stood (taken is)) refused)
     refuses (inr (inl is)) taken refused unfailed = is
     refuses (inr (inr is)) taken refused unfailed = absurd (unfailed (device_rose session story none is))

@@ -12,7 +12,7 @@ use Rattle.rom_model.specs.declared.line.LineResult.{LineResult}
 use Rattle.rom_model.specs.declared.line.LineResult.TheVariants as outcome
 use Rattle.rom_model.specs.declared.line.Step.{Step}
 use Rattle.rom_model.specs.declared.line.Step.TheVariants as line
-use Rattle.rom_lines.specs.Replies.{IsTold, undone_as}
+use Rattle.rom_lines.specs.Replies.{SaysResult, undone_as}
 use Rattle.rom_lines.specs.Steps.{IsLine}
 use Rattle.rom_lines.specs.declared.results.Told.{Told}
 use Rattle.rom_lines.specs.declared.results.Told.TheVariants as told
@@ -94,7 +94,7 @@ not_read (line.Update call) answer front = refl
 not_read (line.Ask query) answer front = refl
 not_read line.Unread answer front = refl
 
-pub not_done : (l : Step Call Query) (r : LineResult Reply Answer) (t : Told Answer) → IsTold words_reply r t → ((words : _) (place : _) → t ≡ told.Done words place → ⊥) → is_done l r ≡ false
+pub not_done : (l : Step Call Query) (r : LineResult Reply Answer) (t : Told Answer) → SaysResult words_reply r t → ((words : _) (place : _) → t ≡ told.Done words place → ⊥) → is_done l r ≡ false
 not_done l r told.Unread is other = ap (is_done l) is ∙ not_unread l
 not_done l r (told.Done words place) is other = absurd (other words place refl)
 not_done l r (told.Undone why) is other = ap (is_done l) is ∙ not_undone l why
@@ -107,7 +107,7 @@ not_update l r given.Unread is other = ap (λ x. is_done x r) is
 
 -- ---- callers whose first line, if one is left, is an update that was done
 
-pub never_undone : (at : ℕ) (ls : List (Step Call Query)) (rs : List (LineResult Reply Answer)) (r : LineResult Reply Answer) (t : Told Answer) → at < length ls → drop at rs ≡ r ∷ drop (at + 1) rs → IsTold words_reply r t →
+pub never_undone : (at : ℕ) (ls : List (Step Call Query)) (rs : List (LineResult Reply Answer)) (r : LineResult Reply Answer) (t : Told Answer) → at < length ls → drop at rs ≡ r ∷ drop (at + 1) rs → SaysResult words_reply r t →
     ((words : _) (place : _) → t ≡ told.Done words place → ⊥) → begins_done (drop at ls) (drop at rs) ≡ true → ⊥
 never_undone at [] rs r t in_lines at_r is other begins = absurd (omega (arith, in_lines))
 never_undone at (l ∷ ls) rs r t in_lines at_r is other begins =

@@ -6,11 +6,11 @@ use Rattle.rom_replica.specs.declared.words.ReplicaAsked.TheVariants as asked
 use Rattle.rom_replica.specs.Words.{ReplicaCommand, Ship, Follow, Format}
 
 -- the command that was read, if one was
-abbrev pub named_replica : Option ReplicaAsked → Option ReplicaCommand
-named_replica (Some (asked.Ship file scripts)) = Some (Ship file.now scripts.now)
-named_replica (Some (asked.Follow file stream)) = Some (Follow file.now stream.now)
-named_replica (Some (asked.Format file order)) = Some (Format file.now order)
-named_replica None = None
+abbrev pub replica_command_read : Option ReplicaAsked → Option ReplicaCommand
+replica_command_read (Some (asked.Ship file scripts)) = Some (Ship file.now scripts.now)
+replica_command_read (Some (asked.Follow file stream)) = Some (Follow file.now stream.now)
+replica_command_read (Some (asked.Format file order)) = Some (Format file.now order)
+replica_command_read None = None
 
 -- there are 1 to 16 scripts, and an order that is asked for is one that there is
 abbrev pub IsWithin : ReplicaAsked → Type 0

@@ -12,7 +12,7 @@ use Rattle.rom_text.specs.Runs.{AreAskedOnce}
 use Rattle.rom_text.specs.Streams.{ShownSink, ShownSource, StopsWriting, WriteFailed}
 use Rattle.rom_store.specs.Lasting.{HasLasted}
 use Rattle.rom_store.specs.Sessions.{EachStory, SessionSeen}
-use Rattle.rom_script.specs.Lines.{Reads}
+use Rattle.rom_script.specs.Lines.{ReadsTrio}
 use Rattle.rom_run.specs.Complete.{IsAtHand, IsRefusedByName, NoneFailed}
 use Rattle.rom_run.specs.Promise.{Promise}
 use Rattle.rom_run.specs.Use.{Makes, Plays, Read}
@@ -30,12 +30,12 @@ OfOne (was ∷ []) (now ∷ []) P = P was now
 OfOne before after P = ⊥
 
 -- the statuses with which a stream was followed; with 7 it may have been, and then the device failed under an update
-abbrev pub MayHaveFollowed : ℕ → Type 0
-MayHaveFollowed status = (status ≡ 0) ⊎ (status ≡ 1) ⊎ (status ≡ 4) ⊎ (status ≡ 5) ⊎ (status ≡ 8) ⊎ (status ≡ 9) ⊎ (status ≡ 10)
+abbrev pub IsFollowedStatus : ℕ → Type 0
+IsFollowedStatus status = (status ≡ 0) ⊎ (status ≡ 1) ⊎ (status ≡ 4) ⊎ (status ≡ 5) ⊎ (status ≡ 8) ⊎ (status ≡ 9) ⊎ (status ≡ 10)
 
 -- those with which it was not
-abbrev pub HasNotTaken : ℕ → Type 0
-HasNotTaken status = (status ≡ 3) ⊎ (status ≡ 6)
+abbrev pub IsUnfollowedStatus : ℕ → Type 0
+IsUnfollowedStatus status = (status ≡ 3) ⊎ (status ≡ 6)
 
 -- those that no fault is the cause of, on a heap that stands
 abbrev pub EndsUnfailed : ℕ → Type 0
@@ -47,9 +47,9 @@ module _ {D X K : Type 0} (shown : ShownDevice D) (source : ShownSource X) (sink
   -- device, of refusals and of sessions both records cite the same definitions.
   pub record FollowPromise (was now : D) (inputs left : Vec X) (old new : K) (status : ℕ) (session : Option SessionSeen) : Type 0 where
     -- the status, and where a session is left
-    pub statuses : MayHaveFollowed status ⊎ HasNotTaken status ⊎ (status ≡ 7)
-    pub taken : MayHaveFollowed status → IsSome session
-    pub not_taken : HasNotTaken status → IsNone session
+    pub statuses : IsFollowedStatus status ⊎ IsUnfollowedStatus status ⊎ (status ≡ 7)
+    pub taken : IsFollowedStatus status → IsSome session
+    pub not_taken : IsUnfollowedStatus status → IsNone session
     -- and which it is where the heap stands and nothing fails
     pub complete : IsTrue shown.tells_words → IsAtHand Contents earlier Standing (shown.words was) → NoneFailed shown source sink was now inputs.items left.items old new → EndsUnfailed status
     -- With 3 the heap is refused by name; and where it is, and no call of the device fails, it is 3, unless memory is short.
@@ -76,11 +76,11 @@ module _ {D X K : Type 0} (shown : ShownDevice D) (source : ShownSource X) (sink
   abbrev pub ReplicaPromise : Option ReplicaCommand → D → D → Vec X → Vec X → K → K → ℕ → Option SessionSeen → Type 0
   ReplicaPromise (Some (Follow file stream)) was now inputs left old new status session = FollowPromise was now inputs left old new status session
   ReplicaPromise (Some (Ship file scripts)) was now inputs left old new status session =
-      Promise trio Contents Rejects earlier shown source sink (AreScripts Reads source) (AreShipped sink) (Some (Plays Standing Read)) was now inputs left old new status session
+      Promise trio Contents Rejects earlier shown source sink (AreScripts ReadsTrio source) (AreShipped sink) (Some (Plays Standing Read)) was now inputs left old new status session
   ReplicaPromise (Some (Format file order)) was now inputs left old new status session =
-      Promise trio Contents Rejects earlier shown source sink (AreScripts Reads source) (AreShipped sink) (Some (Makes order)) was now inputs left old new status session
+      Promise trio Contents Rejects earlier shown source sink (AreScripts ReadsTrio source) (AreShipped sink) (Some (Makes order)) was now inputs left old new status session
   ReplicaPromise None was now inputs left old new status session =
-      Promise trio Contents Rejects earlier shown source sink (AreScripts Reads source) (AreShipped sink) None was now inputs left old new status session
+      Promise trio Contents Rejects earlier shown source sink (AreScripts ReadsTrio source) (AreShipped sink) None was now inputs left old new status session
 
 -- A history whose frames were shipped is one that can be followed: its frames are of 64-bit words.
 abbrev pub CanBeFollowed : Type 0

@@ -24,7 +24,7 @@ ghost use Rattle.rom_run.specs.declared.heap.Heap.TheVariants.{Standing};
 ghost use Rattle.rom_text.specs.Runs.{AreAskedOnce};
 ghost use Rattle.rom_text.specs.Streams.{IsAskedOnce, StopsWriting, WriteFailed};
 ghost use Rattle.rom_replica.specs.Following.{IsToldOfStream, HasClosed, IsFollowText, IsStreamFollowed};
-ghost use Rattle.rom_replica.specs.Promise.{HasNotTaken, MayHaveFollowed, OfOne};
+ghost use Rattle.rom_replica.specs.Promise.{IsFollowedStatus, IsUnfollowedStatus, OfOne};
 
 use crate::stop::Stop;
 use crate::stream::take_frames;
@@ -204,7 +204,7 @@ fn follow_only<D: Device + Send, S: Source, O: Sink, R: Wait, G: Gate>(
 /// Prints what came of a stream, and gives the status.
 fn tell_followed<O: Sink>(out: &mut O, tally: Tally, stop: Stop, count: u64) -> u8
     ensures printed { IsFollowText O.shown tally stop count out.old out.new result }
-    ensures statuses { MayHaveFollowed result ⊎ (result ≡ 7) }
+    ensures statuses { IsFollowedStatus result ⊎ (result ≡ 7) }
     ensures sink_failed { result ≡ 5 → WriteFailed O.shown out.old out.new }
     ensures writing { StopsWriting O.shown out.old out.new }
     ensures rest { O.shown.rest out.new ≡ O.shown.rest out.old }
@@ -226,7 +226,7 @@ fn end_followed<D: Device, S, O: Sink>(
     ensures inputs { result.scripts ≡ inputs }
     ensures printed { EachStory trio Contents followed.closed.session (λ story. IsFollowText O.shown
         followed.tally followed.stop (count story) out.old out.new result.status) }
-    ensures statuses { MayHaveFollowed result.status ⊎ (result.status ≡ 7) }
+    ensures statuses { IsFollowedStatus result.status ⊎ (result.status ≡ 7) }
     ensures sink_failed { result.status ≡ 5 → WriteFailed O.shown out.old out.new }
     ensures writing { StopsWriting O.shown out.old out.new }
     ensures rest { O.shown.rest out.new ≡ O.shown.rest out.old }
@@ -258,9 +258,9 @@ pub(crate) fn follow<D: Device + Send, S: Source, O: Sink, R: Wait, G: Gate>(
     gate: &G,
 ) -> Ended<D, S>
     requires one { length inputs.items ≡ 1 }
-    ensures statuses { MayHaveFollowed result.status ⊎ HasNotTaken result.status ⊎ (result.status ≡ 7) }
-    ensures taken { MayHaveFollowed result.status → IsSome result.session }
-    ensures not_taken { HasNotTaken result.status → IsNone result.session }
+    ensures statuses { IsFollowedStatus result.status ⊎ IsUnfollowedStatus result.status ⊎ (result.status ≡ 7) }
+    ensures taken { IsFollowedStatus result.status → IsSome result.session }
+    ensures not_taken { IsUnfollowedStatus result.status → IsNone result.session }
     ensures story { IfSome result.session (HasSession trio Contents D.shown Standing device
         result.device (λ story. OfOne inputs.items result.scripts.items (λ was now. IsToldOfStream
         S.shown O.shown was now out.old out.new result.status story))) }

@@ -1,6 +1,6 @@
 //! The words of the command line, and what they ask `main` for.
 ghost use Rattle.std.specs.Prelude.{◌≡◌, ◌∷◌, [], IfOk, IfSome};
-ghost use Rattle.rom_replica.specs.Named.{IsWithin, named_replica};
+ghost use Rattle.rom_replica.specs.Named.{IsWithin, replica_command_read};
 ghost use Rattle.rom_replica.specs.Words.{IsReplicaWanted, inputs_of, replica_command};
 ghost use Rattle.rom_replica.specs.Words as language;
 
@@ -24,7 +24,7 @@ pub enum ReplicaAsked<'a> {
 
 /// A file, and then the scripts to run on its heap.
 fn read_ship(words: &[Name]) -> Option<ReplicaAsked<'_>>
-    ensures named { named_replica result ≡ language.ship_of words.now }
+    ensures named { replica_command_read result ≡ language.ship_of words.now }
     ensures within { IfSome result IsWithin }
 {
     let (file, scripts) = words.split_first()?;
@@ -37,7 +37,7 @@ fn read_ship(words: &[Name]) -> Option<ReplicaAsked<'_>>
 
 /// A file, and the stream whose frames its heap takes.
 fn read_follow(words: &[Name]) -> Option<ReplicaAsked<'_>>
-    ensures named { named_replica result ≡ language.follow_of words.now }
+    ensures named { replica_command_read result ≡ language.follow_of words.now }
     ensures within { IfSome result IsWithin }
 {
     let [file, stream] = words else {
@@ -52,7 +52,7 @@ fn read_follow(words: &[Name]) -> Option<ReplicaAsked<'_>>
 
 /// A file, and the order of the heap that is made there.
 fn read_format(words: &[Name]) -> Option<ReplicaAsked<'_>>
-    ensures named { named_replica result ≡ language.replica_format words.now }
+    ensures named { replica_command_read result ≡ language.replica_format words.now }
     ensures within { IfSome result IsWithin }
 {
     let [file, order] = words else {
@@ -68,7 +68,7 @@ fn read_format(words: &[Name]) -> Option<ReplicaAsked<'_>>
 /// The command that the words are. It takes no memory.
 pub fn read_command(words: &Names) -> Option<ReplicaAsked<'_>>
     // The answer is the command that the words are, and `None` exactly where they are none.
-    ensures named { named_replica result ≡ replica_command words.now }
+    ensures named { replica_command_read result ≡ replica_command words.now }
     ensures within { IfSome result IsWithin }
 {
     let (name, words) = words.as_slice().split_first()?;

@@ -13,7 +13,7 @@ use Rattle.rom_model.specs.declared.entry.Entry.{Entry}
 use Rattle.rom_model.specs.declared.record.Fate.TheVariants.{Published}
 use Rattle.rom_model.specs.declared.record.PassRecord.{PassRecord}
 use Rattle.rom_rule.specs.Calls.{found_of}
-use Rattle.rom_rule.specs.Kinds.{CanSwitchToMain, CanSwitchToBack, IsBatch, MayRaise, making, raised, raising, record_list, switched}
+use Rattle.rom_rule.specs.Kinds.{CanSwitchToMain, CanSwitchToBack, IsBatch, MayRaise, making, with_faults_after, raising, record_list, switched}
 use Rattle.rom_rule.specs.Readers.{Held}
 use Rattle.rom_rule.specs.Views.{plan_of}
 use Rattle.rom_rule.specs.declared.views.Base.{Base}
@@ -67,7 +67,7 @@ module _ (b : Base) (p : Plan) (u : IsUntouched b p) where
   after_wait version clear = record { opening = u.opening; faults = u.faults; history = u.history; records = u.records; mine = u.mine; requests = u.requests; main = u.main; back = u.back }
 
   pub after_back : IsUntouched b (switched 1 (raising 0 p))
-  after_back = record { opening = u.opening; faults = u.faults; history = u.history; records = u.records; mine = ap (map (raised 0)) u.mine; requests = u.requests; main = u.main; back = u.back }
+  after_back = record { opening = u.opening; faults = u.faults; history = u.history; records = u.records; mine = ap (map (with_faults_after 0)) u.mine; requests = u.requests; main = u.main; back = u.back }
 
 -- the writer's view after a call that leaves it this plan
 pub rests_on : (v w : View) (q : Plan) (n : ℕ) → w ≡ record v { plan = Some q; steps = n } → IsUntouched v.base q → AtRest w

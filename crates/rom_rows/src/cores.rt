@@ -6,7 +6,7 @@ ghost use Rattle.rom_header.specs.Regions.{IsHeap};
 ghost use Rattle.rom_model.specs.Region.{Contents};
 ghost use Rattle.rom_model.specs.State.{State};
 ghost use Rattle.rom_combine.specs.AtRest.{IsCoreOf};
-ghost use Rattle.rom_lr.specs.Opening.{AreNew, IsNew};
+ghost use Rattle.rom_lr.specs.Opening.{AreNewSeats, IsNewSeat};
 ghost use Rattle.rom_lr.specs.Seats.{IsPosted, IsSeatOf, view};
 ghost use Rattle.rom_rows.specs.Callers.{HasCalls};
 ghost use Rattle.rom_model.specs.Blocks.{IsOrder, region_len};
@@ -46,7 +46,7 @@ fn table_on<D: Device + Drop>(
     ensures of { IfOk result (λ opened. IsCoreOf opened.1 opened.0) }
     ensures order { IfOk result (λ opened. IsOrder opened.1.layout.order) }
     ensures many { IfOk result (λ opened. length opened.2.items ≡ 3) }
-    ensures seats { IfOk result (λ opened. AreNew opened.1 opened.2.items) }
+    ensures seats { IfOk result (λ opened. AreNewSeats opened.1 opened.2.items) }
 {
     let twin = Twin::new(device, geometry);
     let faults = twin.fault_count();
@@ -63,9 +63,9 @@ pub(crate) fn seated_on<D: Device + Drop>(
 ) -> Result<(Core<D, Trio>, Shared<Trio>, (Seat, Seat, Seat)), Fail>
     ensures of { IfOk result (λ opened. IsCoreOf opened.1 opened.0) }
     ensures order { IfOk result (λ opened. IsOrder opened.1.layout.order) }
-    ensures first { IfOk result (λ opened. IsNew opened.1 1 opened.2.0) }
-    ensures second { IfOk result (λ opened. IsNew opened.1 2 opened.2.1) }
-    ensures third { IfOk result (λ opened. IsNew opened.1 3 opened.2.2) }
+    ensures first { IfOk result (λ opened. IsNewSeat opened.1 1 opened.2.0) }
+    ensures second { IfOk result (λ opened. IsNewSeat opened.1 2 opened.2.1) }
+    ensures third { IfOk result (λ opened. IsNewSeat opened.1 3 opened.2.2) }
 {
     let (device, geometry, image) = match open_device::<D, Trio>(alloc, device) {
         Ok(

@@ -3,10 +3,10 @@ ghost use Rattle.std.specs.Prelude.{◌≡◌, ℕ, All, IfOk, length};
 ghost use Rattle.rom_model.specs.Blocks.{region_len};
 ghost use Rattle.rom_model.specs.Region.{Contents};
 ghost use Rattle.rom_model.specs.State.{empty};
-ghost use Rattle.rom_model.specs.VecSpace.{words_of};
+ghost use Rattle.rom_model.specs.VecSpace.{words_of_space};
 ghost use Rattle.rom_lr.specs.Writing.{NobodyReads};
 ghost use Rattle.rom_lr.specs.declared.side.Side.TheVariants.{Main};
-ghost use Rattle.rom_lr.specs.Opening.{AreNew, IsNew};
+ghost use Rattle.rom_lr.specs.Opening.{AreNewSeats, IsNewSeat};
 ghost use Rattle.rom_lr.specs.Seats.{IsSeatOf, IsWriterOf, view, writer_view};
 ghost use Rattle.rom_rows.specs.Untouched.{AtRest, IsJobReady};
 ghost use Rattle.rom_rule.specs.declared.views.Position.TheVariants.{Out};
@@ -102,14 +102,14 @@ fn opened(
     alloc: Global,
     heap: &VecSpace,
 ) -> Result<(Shared<Trio>, WriterSeat, Vec<Seat>), AllocError>
-    requires made { Contents 4 (words_of heap.now) empty 0 }
+    requires made { Contents 4 (words_of_space heap.now) empty 0 }
     ensures of { IfOk result (λ opened. IsWriterOf opened.0 opened.1) }
     ensures layout { IfOk result (λ opened. (opened.0.layout.order ≡ 4)
         × (opened.0.layout.callers ≡ 3)) }
     ensures rests { IfOk result (λ opened. AtRest (writer_view opened.1)) }
     ensures unread { IfOk result (λ opened. NobodyReads opened.1 Main) }
     ensures many { IfOk result (λ opened. length opened.2.items ≡ 3) }
-    ensures seats { IfOk result (λ opened. AreNew opened.0 opened.2.items) }
+    ensures seats { IfOk result (λ opened. AreNewSeats opened.0 opened.2.items) }
 {
     let (shared, writer, seats) = Shared::<Trio>::new(alloc, 4, 3, heap.words(), 0)?;
     Ok((shared, writer, seats))
@@ -120,15 +120,15 @@ pub fn seated(
     alloc: Global,
     heap: &VecSpace,
 ) -> Result<(Shared<Trio>, WriterSeat, (Seat, Seat, Seat)), AllocError>
-    requires made { Contents 4 (words_of heap.now) empty 0 }
+    requires made { Contents 4 (words_of_space heap.now) empty 0 }
     ensures of { IfOk result (λ opened. IsWriterOf opened.0 opened.1) }
     ensures layout { IfOk result (λ opened. (opened.0.layout.order ≡ 4)
         × (opened.0.layout.callers ≡ 3)) }
     ensures rests { IfOk result (λ opened. AtRest (writer_view opened.1)) }
     ensures unread { IfOk result (λ opened. NobodyReads opened.1 Main) }
-    ensures first { IfOk result (λ opened. IsNew opened.0 1 opened.2.0) }
-    ensures second { IfOk result (λ opened. IsNew opened.0 2 opened.2.1) }
-    ensures third { IfOk result (λ opened. IsNew opened.0 3 opened.2.2) }
+    ensures first { IfOk result (λ opened. IsNewSeat opened.0 1 opened.2.0) }
+    ensures second { IfOk result (λ opened. IsNewSeat opened.0 2 opened.2.1) }
+    ensures third { IfOk result (λ opened. IsNewSeat opened.0 3 opened.2.2) }
 {
     let (shared, writer, mut seats) = opened(alloc, heap)?;
     let third = seats.pop().unwrap();

@@ -21,9 +21,9 @@ use Rattle.rom_model.specs.Passes.{faults_after}
 use Rattle.rom_model.specs.Story.{len_after}
 use Rattle.rom_model.proofs.Recorded.{after_append, history_more, told_more, order_more}
 use Rattle.rom_rule.specs.CallKinds.{longer}
-use Rattle.rom_rule.specs.Calls.{AreScanned, caller_in, found_of, told_to}
-use Rattle.rom_rule.specs.Kinds.{raised}
-use Rattle.rom_rule.specs.Records.{IsCall, IsFront, IsKept, Recorded, Remembers}
+use Rattle.rom_rule.specs.Calls.{AreScanned, caller_in, found_of, told_to_caller}
+use Rattle.rom_rule.specs.Kinds.{with_faults_after}
+use Rattle.rom_rule.specs.Records.{IsCall, IsKeptInBook, IsRecordedFront, Recorded, Remembers}
 use Rattle.rom_rule.specs.Views.{Book, Remembered, Told}
 use Rattle.rom_rule.specs.declared.views.Base.{Base}
 use Rattle.rom_rule.specs.declared.views.Request.{Request}
@@ -45,7 +45,7 @@ rising low last [] h = tt
 rising low last (f ∷ fs) h = (h.0, rising f.caller last fs h.1)
 
 -- the length after some first records, where the last one's count of faults was raised
-pub len_raised : (i len n : ℕ) (rs : List PassRecord) (r : PassRecord) → len_after len (take i (rs ++ raised n r ∷ [])) ≡ len_after len (take i (rs ++ r ∷ []))
+pub len_raised : (i len n : ℕ) (rs : List PassRecord) (r : PassRecord) → len_after len (take i (rs ++ with_faults_after n r ∷ [])) ≡ len_after len (take i (rs ++ r ∷ []))
 len_raised zero len n rs r = refl
 len_raised (suc zero) len n [] r = refl
 len_raised (suc (suc i)) len n [] r = refl
@@ -99,7 +99,7 @@ module _ {S : Type 0} (step : ℕ → S → ℕ → List ℕ → Option (S × Li
   len_is s k len faults (r ∷ rs) all = let g : List Entry = added step order s k r in let h : List Entry = history_of step order (after step order s k g) (k + length g) rs in let there = all.0 in
       len_is (after step order s k g) (k + length g) r.len r.faults_after rs all.6 ∙ (let e : r.len + length h ≡ len + length (g ++ h) = omega (arith, length-append g h) in e)
 
-  pub order_raised : (s : S) (k len faults n : ℕ) (rs : List PassRecord) (r : PassRecord) → r.faults_after ≤ n → AreInOrder step order s k len faults (rs ++ r ∷ []) → AreInOrder step order s k len faults (rs ++ raised n r ∷ [])
+  pub order_raised : (s : S) (k len faults n : ℕ) (rs : List PassRecord) (r : PassRecord) → r.faults_after ≤ n → AreInOrder step order s k len faults (rs ++ r ∷ []) → AreInOrder step order s k len faults (rs ++ with_faults_after n r ∷ [])
   order_raised s k len faults n [] r le all = let a = all.4 in (all.0, all.1, all.2, all.3, omega arith, fault_raised r.fate r.faults_before r.faults_after n le all.5, tt)
   order_raised s k len faults n (x ∷ rs) r le all = let g : List Entry = added step order s k x in (all.0, all.1, all.2, all.3, all.4, all.5, order_raised (after step order s k g) (k + length g) x.len x.faults_after n rs r le all.6)
 
@@ -199,30 +199,30 @@ filter_at : {A : Type 0} (p : A → Bool) (xs : List A) (i : ℕ) (a : A) → ge
 filter_at p [] i a e = absurd (some-ne-none a (sym e))
 filter_at p (x ∷ xs) i a e = by_test x a xs (filter p xs) (p x) i (λ m h. filter_at p xs m a h) e
 
-pub told_at : (told : List Told) (c i : ℕ) (x : Told) → get_elem? (told_to told c) i ≡ some x → (j : ℕ) × (get_elem? told j ≡ some x)
+pub told_at : (told : List Told) (c i : ℕ) (x : Told) → get_elem? (told_to_caller told c) i ≡ some x → (j : ℕ) × (get_elem? told j ≡ some x)
 told_at told c i x e = filter_at (λ y. y.0.caller == c) told i x e
 
 -- a front stays one, as records are added, and as the last one's count of faults is raised
-pub front_longer : (count : ℕ) (rs more : List PassRecord) (f : ℕ) → IsFront count rs f → IsFront count (rs ++ more) f
+pub front_longer : (count : ℕ) (rs more : List PassRecord) (f : ℕ) → IsRecordedFront count rs f → IsRecordedFront count (rs ++ more) f
 front_longer count rs more f h = let le = h.1 in (h.0, omega (arith, length-append rs more), h.2 ∙ ap (λ (l : List PassRecord). count + len_after 0 l) (sym (take-append-le h.0 rs more h.1)))
 
-pub front_raised : (count n : ℕ) (rs : List PassRecord) (r : PassRecord) (f : ℕ) → IsFront count (rs ++ r ∷ []) f → IsFront count (rs ++ raised n r ∷ []) f
-front_raised count n rs r f h = let le = h.1 in (h.0, omega (arith, length-append rs (r ∷ []), length-append rs (raised n r ∷ [])), h.2 ∙ ap (λ (m : ℕ). count + m) (sym (len_raised h.0 0 n rs r)))
+pub front_raised : (count n : ℕ) (rs : List PassRecord) (r : PassRecord) (f : ℕ) → IsRecordedFront count (rs ++ r ∷ []) f → IsRecordedFront count (rs ++ with_faults_after n r ∷ []) f
+front_raised count n rs r f h = let le = h.1 in (h.0, omega (arith, length-append rs (r ∷ []), length-append rs (with_faults_after n r ∷ [])), h.2 ∙ ap (λ (m : ℕ). count + m) (sym (len_raised h.0 0 n rs r)))
 
-module _ (count : ℕ) (book book' : Book) (log : (l : List Entry) → StartsWith book.history l → StartsWith book'.history l) (front : (f : ℕ) → IsFront count book.records f → IsFront count book'.records f) where
-  kept_on : (k : Kept) → IsKept count book k → IsKept count book' k
-  kept_on k h = (log k.seen h.0, all_map (IsFront count book.records) (IsFront count book'.records) k.fronts front h.1)
+module _ (count : ℕ) (book book' : Book) (log : (l : List Entry) → StartsWith book.history l → StartsWith book'.history l) (front : (f : ℕ) → IsRecordedFront count book.records f → IsRecordedFront count book'.records f) where
+  kept_on : (k : Kept) → IsKeptInBook count book k → IsKeptInBook count book' k
+  kept_on k h = (log k.seen h.0, all_map (IsRecordedFront count book.records) (IsRecordedFront count book'.records) k.fronts front h.1)
 
   pub remembers_on : (m : Remembered) → Remembers count book m → Remembers count book' m
   remembers_on m h = record {
     seen = log m.seen h.seen;
-    fronts = all_map (IsFront count book.records) (IsFront count book'.records) m.fronts front h.fronts;
-    joined = all_map (IsKept count book) (IsKept count book') m.joined kept_on h.joined;
+    fronts = all_map (IsRecordedFront count book.records) (IsRecordedFront count book'.records) m.fronts front h.fronts;
+    joined = all_map (IsKeptInBook count book) (IsKeptInBook count book') m.joined kept_on h.joined;
   }
 
 module _ {S : Type 0} (Contents : ℕ → List ℕ → S → ℕ → Type 0) (step : ℕ → S → ℕ → List ℕ → Option (S × List ℕ)) (b : Base) (start : S) (count : ℕ) where
   -- the count of the published list is a front
-  pub front_now : (book : Book) → Recorded step b start count book → IsFront count book.records (count + length book.history)
+  pub front_now : (book : Book) → Recorded step b start count book → IsRecordedFront count book.records (count + length book.history)
   front_now book r = (
     length book.records,
     omega arith,
@@ -247,14 +247,14 @@ module _ {S : Type 0} (Contents : ℕ → List ℕ → S → ℕ → Type 0) (st
 
   -- the last record's count of faults is raised
   pub book_raised : (log : List Entry) (rs : List PassRecord) (told : List Told) (x : PassRecord) (n : ℕ) → x.faults_after ≤ n → Recorded step b start count record { history = log; records = rs ++ x ∷ []; told = told }
-      → Recorded step b start count record { history = log; records = rs ++ raised n x ∷ []; told = told }
+      → Recorded step b start count record { history = log; records = rs ++ with_faults_after n x ∷ []; told = told }
   book_raised log rs told x n le r = record {
-    made = r.made ∙ (history_more step b.order start count rs x ∙ sym (history_more step b.order start count rs (raised n x)));
-    told = r.told ∙ (told_more step b.order start count rs x ∙ sym (told_more step b.order start count rs (raised n x)));
+    made = r.made ∙ (history_more step b.order start count rs x ∙ sym (history_more step b.order start count rs (with_faults_after n x)));
+    told = r.told ∙ (told_more step b.order start count rs x ∙ sym (told_more step b.order start count rs (with_faults_after n x)));
     in_order = order_raised step b.order start count 0 b.faults n rs x le r.in_order;
     calls = same rs r.calls;
   }
     where
-      same : (ys : List PassRecord) → AllByRecursion (λ y. AllByRecursion (λ f. IsCall step b f.args) y.found) (ys ++ x ∷ []) → AllByRecursion (λ y. AllByRecursion (λ f. IsCall step b f.args) y.found) (ys ++ raised n x ∷ [])
+      same : (ys : List PassRecord) → AllByRecursion (λ y. AllByRecursion (λ f. IsCall step b f.args) y.found) (ys ++ x ∷ []) → AllByRecursion (λ y. AllByRecursion (λ f. IsCall step b f.args) y.found) (ys ++ with_faults_after n x ∷ [])
       same [] h = h
       same (y ∷ ys) h = (h.0, same ys h.1)

@@ -14,8 +14,8 @@ use Rattle.rom_model.specs.Seen.{StartsWith}
 use Rattle.rom_model.specs.History.{after, batch}
 use Rattle.rom_model.specs.Passes.{all_told, published, fate_told, history_of}
 use Rattle.rom_model.proofs.Recorded.{history_more, told_more}
-use Rattle.rom_rule.specs.CallKinds.{CanPost, CanStoreArgument, HasNonePosted, HasPosted, IsTold, loaded_answer, loaded_turn, longer, posted, posting, stored_argument}
-use Rattle.rom_rule.specs.Calls.{Announced, IsLater, slot_word_at, told_to}
+use Rattle.rom_rule.specs.CallKinds.{CanPost, CanStoreArgument, HasNonePosted, HasPosted, IsToldByPass, loaded_answer, loaded_turn, longer, posted, posting, stored_argument}
+use Rattle.rom_rule.specs.Calls.{Announced, IsLater, slot_word_at, told_to_caller}
 use Rattle.rom_rule.specs.Places.{Shown, shown, slot_at, slots_at}
 use Rattle.rom_rule.specs.Readers.{ShowsArrivals, IsWritten, KeepsImage, ReadsNamedSide, stands}
 use Rattle.rom_rule.specs.Records.{IsCall, Remembers}
@@ -119,8 +119,8 @@ module _ {S : Type 0} (Contents : ℕ → List ℕ → S → ℕ → Type 0) (go
   )
 
   -- what the records told of a call
-  told_of : (s : St) (r : R s) (v : View) (x : Told) (i : ℕ) → get_elem? (told_to r.plan.told v.number) i ≡ some x → IsLater r.count v.since x → StartsWith r.plan.history v.seen
-      → (seen : List Entry) × StartsWith r.plan.history seen × IsTold Contents go b x v.since v.seen seen
+  told_of : (s : St) (r : R s) (v : View) (x : Told) (i : ℕ) → get_elem? (told_to_caller r.plan.told v.number) i ≡ some x → IsLater r.count v.since x → StartsWith r.plan.history v.seen
+      → (seen : List Entry) × StartsWith r.plan.history seen × IsToldByPass Contents go b x v.since v.seen seen
       × GoesTo Contents go b s r x seen
   told_of s r v x i here late begins = let p : Plan = r.plan in let j = told_at p.told v.number i x here in let f = source go b.order r.start r.count (records_of p) j.0 x (subst (λ (l : List Told). get_elem? l j.0 ≡ some x) r.recorded.told j.1) in
       let first : List PassRecord = f.earlier ++ f.pass ∷ [] in let hist : List Entry = history_of go b.order r.start r.count first in let h : List Entry = history_of go b.order r.start r.count f.earlier in let told : List Told = all_told go b.order r.start r.count f.earlier in
@@ -172,7 +172,7 @@ module _ {S : Type 0} (Contents : ℕ → List ℕ → S → ℕ → Type 0) (go
           tt,
           reload Contents go b s i id w (caller_step Contents go b s r id v w s.words at refl refl refl refl (still Contents go b s r id v w at (λ _. refl)) (on_from v.position v.seen t.0 t.2.begins (r.images id (reading_in v) (at_map reading_in s.views id v at))) r.written (r.named id v.position (at_map position_in s.views id v at))
               record { seen = t.1; fronts = m.fronts; joined = m.joined } (l.4 w refl) (λ _. pos) (λ h. h) (λ _ none. absurd (omega arith))),
-          (ap (λ (z : Base). slot_at z.callers v.number 0) (sym base), (λ odd. absurd (omega arith)), λ _. record { told = y; seen = t.0; found = l.2; is_told = subst (λ (z : Base). IsTold Contents go z y v.since v.seen t.0) (sym base) t.2; view = refl; own = knows_told Contents go b s r one v.base w base (knows_next Contents go b s r id v y t.0 at pos open_now l.1 (ap (λ (f : Found). f.caller) l.2) (ap (λ (f : Found). f.seq) l.2) t.1 t.3) }),
+          (ap (λ (z : Base). slot_at z.callers v.number 0) (sym base), (λ odd. absurd (omega arith)), λ _. record { told = y; seen = t.0; found = l.2; is_told = subst (λ (z : Base). IsToldByPass Contents go z y v.since v.seen t.0) (sym base) t.2; view = refl; own = knows_told Contents go b s r one v.base w base (knows_next Contents go b s r id v y t.0 at pos open_now l.1 (ap (λ (f : Found). f.caller) l.2) (ap (λ (f : Found). f.seq) l.2) t.1 t.3) }),
         ))
         (λ odd. let w : View = record v { steps = v.steps + 1 } in (
           w,

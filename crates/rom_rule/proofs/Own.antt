@@ -18,7 +18,7 @@ use Rattle.rom_model.specs.declared.entry.Entry.{Entry}
 use Rattle.rom_model.specs.declared.record.Found.{Found}
 use Rattle.rom_model.specs.declared.record.PassRecord.{PassRecord}
 use Rattle.rom_model.proofs.Placed.{done_by_caller, enumerate_append, history_placed}
-use Rattle.rom_rule.specs.Calls.{KnowsCalls, SlotHolds, found_in, numbered, owing, told_to}
+use Rattle.rom_rule.specs.Calls.{KnowsCalls, SlotHolds, found_in, numbered, owing, told_to_caller}
 use Rattle.rom_rule.specs.Places.{shown}
 use Rattle.rom_rule.specs.Records.{IsCall, KnowsEntries}
 use Rattle.rom_rule.specs.Rule.{IsRuled}
@@ -97,9 +97,9 @@ module _ (callers : ℕ) where
   entries_known k [] h = tt
   entries_known k (e ∷ es) h = (h.0, entries_known (k + 1) es h.1)
 
-  none_of_zero : (xs : List Told) → AllByRecursion (λ x. IsCaller x.0.caller) xs → told_to xs 0 ≡ []
+  none_of_zero : (xs : List Told) → AllByRecursion (λ x. IsCaller x.0.caller) xs → told_to_caller xs 0 ≡ []
   none_of_zero [] h = refl
-  none_of_zero (x ∷ xs) h = let low = h.0.0 in ap (λ (t : Bool). cond t (x ∷ told_to xs 0) (told_to xs 0)) (ne_eqb x.0.caller 0 (λ e. omega arith)) ∙ none_of_zero xs h.1
+  none_of_zero (x ∷ xs) h = let low = h.0.0 in ap (λ (t : Bool). cond t (x ∷ told_to_caller xs 0) (told_to_caller xs 0)) (ne_eqb x.0.caller 0 (λ e. omega arith)) ∙ none_of_zero xs h.1
 
 module _ {S : Type 0} (go : ℕ → S → ℕ → List ℕ → Option (S × List ℕ)) (order : ℕ) where
   -- what some first records told is a beginning
@@ -109,50 +109,50 @@ module _ {S : Type 0} (go : ℕ → S → ℕ → List ℕ → Option (S × List
       (h.0, ap (λ (l : List Told). first ++ l) h.1 ∙ sym (append_assoc first (all_told go order (after go order s k g) (k + length g) xs) h.0))
 
   -- a caller's entries in the history of some records are those of its calls that they told are done
-  pub own_of : (s : S) (k c : ℕ) (rs : List PassRecord) → own_at c k (history_of go order s k rs) ≡ done_in (told_to (all_told go order s k rs) c)
+  pub own_of : (s : S) (k c : ℕ) (rs : List PassRecord) → own_at c k (history_of go order s k rs) ≡ done_in (told_to_caller (all_told go order s k rs) c)
   own_of s k c rs = ap (filter (λ x. x.1.caller == c)) (history_placed go order s k rs) ∙ done_by_caller c (all_told go order s k rs)
 
 module _ {S : Type 0} (Contents : ℕ → List ℕ → S → ℕ → Type 0) (go : ℕ → S → ℕ → List ℕ → Option (S × List ℕ)) (b : Base) (s : State ℕ View) (r : IsRuled Contents go b s) where
   -- what the slot of a caller and its view hold of its calls
   slot_of : (id : ℕ) (v : View) → get_elem? s.views id ≡ some v → 0 < v.number
-      → SlotHolds (IsCall go b) (shown b s.words).slots v.number (r.announced.calls v.number) (r.announced.given v.number) (owing (plan_calls r.plan).made v.number r.plan.requests) (told_to r.plan.told v.number)
+      → SlotHolds (IsCall go b) (shown b s.words).slots v.number (r.announced.calls v.number) (r.announced.given v.number) (owing (plan_calls r.plan).made v.number r.plan.requests) (told_to_caller r.plan.told v.number)
   slot_of id v at pos = let n = each_at (λ _ z. z ≤ r.plan.dealt) number_in s.views id v at r.seats.given in let l = r.limits.1 in r.announced.each v.number pos (omega arith)
 
   knows_of : (id : ℕ) (v : View) → get_elem? s.views id ≡ some v → KnowsCalls b.callers (shown b s.words).slots r.count r.announced.calls r.announced.given r.announced.closed (plan_calls r.plan) (calls_in v)
   knows_of id v at = r.announced.views id (calls_in v) (at_map calls_in s.views id v at)
 
   -- the records told a caller of no more calls than it posted
-  told_few : (id : ℕ) (v : View) → get_elem? s.views id ≡ some v → 0 < v.number → length (told_to r.plan.told v.number) ≤ length v.calls
+  told_few : (id : ℕ) (v : View) → get_elem? s.views id ≡ some v → 0 < v.number → length (told_to_caller r.plan.told v.number) ≤ length v.calls
   told_few id v at pos = let k = knows_of id v at in let same = ap length (k.mine pos) in let c : ℕ = v.number in
-      let le = answers_le (IsCall go b) b.callers r.count (shown b s.words).slots (plan_calls r.plan) c (r.announced.calls c) (r.announced.given c) (owing (plan_calls r.plan).made c r.plan.requests) (told_to r.plan.told c) (slot_of id v at pos) in omega arith
+      let le = answers_le (IsCall go b) b.callers r.count (shown b s.words).slots (plan_calls r.plan) c (r.announced.calls c) (r.announced.given c) (owing (plan_calls r.plan).made c r.plan.requests) (told_to_caller r.plan.told c) (slot_of id v at pos) in omega arith
 
   -- with no call posted, a view was told what the records told its caller
-  pub told_all : (id : ℕ) (v : View) → get_elem? s.views id ≡ some v → length v.calls ≡ length v.outcomes → told_to r.plan.told v.number ≡ v.outcomes
+  pub told_all : (id : ℕ) (v : View) → get_elem? s.views id ≡ some v → length v.calls ≡ length v.outcomes → told_to_caller r.plan.told v.number ≡ v.outcomes
   told_all id v at none_open = dite (ℕ_discrete v.number 0)
-      (λ e. ap (told_to r.plan.told) e ∙ (none_of_zero b.callers r.plan.told r.announced.known ∙ sym ((r.seats.bare id v at) e).2))
-      (λ ne. let pos : 0 < v.number = omega arith in let few = told_few id v at pos in whole_of (told_to r.plan.told v.number) v.outcomes ((knows_of id v at).outcomes pos) (omega arith))
+      (λ e. ap (told_to_caller r.plan.told) e ∙ (none_of_zero b.callers r.plan.told r.announced.known ∙ sym ((r.seats.bare id v at) e).2))
+      (λ ne. let pos : 0 < v.number = omega arith in let few = told_few id v at pos in whole_of (told_to_caller r.plan.told v.number) v.outcomes ((knows_of id v at).outcomes pos) (omega arith))
 
   -- with one posted, what the records told of it is the last
-  pub told_next : (id : ℕ) (v : View) (y : Told) → get_elem? s.views id ≡ some v → 0 < v.number → length v.calls ≡ length v.outcomes + 1 → get_elem? (told_to r.plan.told v.number) (length v.outcomes) ≡ some y
-      → told_to r.plan.told v.number ≡ v.outcomes ++ y ∷ []
+  pub told_next : (id : ℕ) (v : View) (y : Told) → get_elem? s.views id ≡ some v → 0 < v.number → length v.calls ≡ length v.outcomes + 1 → get_elem? (told_to_caller r.plan.told v.number) (length v.outcomes) ≡ some y
+      → told_to_caller r.plan.told v.number ≡ v.outcomes ++ y ∷ []
   told_next id v y at pos open_now here = let few = told_few id v at pos in
-      whole_of (told_to r.plan.told v.number) (v.outcomes ++ y ∷ []) (starts_more (told_to r.plan.told v.number) v.outcomes y ((knows_of id v at).outcomes pos) here) (omega (arith, length-append v.outcomes (y ∷ [])))
+      whole_of (told_to_caller r.plan.told v.number) (v.outcomes ++ y ∷ []) (starts_more (told_to_caller r.plan.told v.number) v.outcomes y ((knows_of id v at).outcomes pos) here) (omega (arith, length-append v.outcomes (y ∷ [])))
 
   -- and the records up to the one that told it told all its caller's calls
   pub told_first : (id : ℕ) (v : View) (y : Told) (first rest : List PassRecord) (i : ℕ) → get_elem? s.views id ≡ some v → 0 < v.number → length v.calls ≡ length v.outcomes + 1 → y.0.caller ≡ v.number → y.0.seq ≡ length v.outcomes
-      → records_of r.plan ≡ first ++ rest → get_elem? (all_told go b.order r.start r.count first) i ≡ some y → told_to (all_told go b.order r.start r.count first) v.number ≡ told_to r.plan.told v.number
+      → records_of r.plan ≡ first ++ rest → get_elem? (all_told go b.order r.start r.count first) i ≡ some y → told_to_caller (all_told go b.order r.start r.count first) v.number ≡ told_to_caller r.plan.told v.number
   told_first id v y first rest i at pos open_now whose seq split here = let c : ℕ = v.number in let few = told_few id v at pos in let t = slot_of id v at pos in let same = ap length ((knows_of id v at).mine pos) in
-      let early : List Told = told_to (all_told go b.order r.start r.count first) c in
-      let starts : StartsWith (told_to r.plan.told c) early
-      = subst (λ (l : List Told). StartsWith (told_to l c) early) (sym (r.recorded.told ∙ ap (all_told go b.order r.start r.count) split)) (starts_filter (λ x. x.0.caller == c) _ _ (told_starts go b.order r.start r.count first rest)) in
+      let early : List Told = told_to_caller (all_told go b.order r.start r.count first) c in
+      let starts : StartsWith (told_to_caller r.plan.told c) early
+      = subst (λ (l : List Told). StartsWith (told_to_caller l c) early) (sym (r.recorded.told ∙ ap (all_told go b.order r.start r.count) split)) (starts_filter (λ x. x.0.caller == c) _ _ (told_starts go b.order r.start r.count first rest)) in
       let among = filter_has (λ x. x.0.caller == c) (all_told go b.order r.start r.count first) i y (eq-eqb y.0.caller c whose) here in let q : ℕ = among.0 in
-      let stands = starts_at (told_to r.plan.told c) early q y starts among.1 in let low = at_low (told_to r.plan.told c) q y stands in let there = at_low early q y among.1 in
-      let asked = starts_at (numbered c 0 (r.announced.calls c)) (map found_in (told_to r.plan.told c)) q y.0 t.asked (at_map found_in (told_to r.plan.told c) q y stands) in
+      let stands = starts_at (told_to_caller r.plan.told c) early q y starts among.1 in let low = at_low (told_to_caller r.plan.told c) q y stands in let there = at_low early q y among.1 in
+      let asked = starts_at (numbered c 0 (r.announced.calls c)) (map found_in (told_to_caller r.plan.told c)) q y.0 t.asked (at_map found_in (told_to_caller r.plan.told c) q y stands) in
       let turn : y.0.seq ≡ 0 + q = ap (λ (f : Found). f.seq) (some-injective y.0 _ (sym asked ∙ at_numbered c 0 q (r.announced.calls c) (omega arith))) in
-      sym (whole_of (told_to r.plan.told c) early starts (omega arith))
+      sym (whole_of (told_to_caller r.plan.told c) early starts (omega arith))
 
   -- What a view has seen goes at least as far as a history that has the entries of all its calls that were done.
-  pub knows_on : (w : View) (k : ℕ) (first : List Entry) → StartsWith r.plan.history w.seen → StartsWith w.seen first → own_at w.number k first ≡ done_in w.outcomes → told_to r.plan.told w.number ≡ w.outcomes → KnowsEntries b.callers k w
+  pub knows_on : (w : View) (k : ℕ) (first : List Entry) → StartsWith r.plan.history w.seen → StartsWith w.seen first → own_at w.number k first ≡ done_in w.outcomes → told_to_caller r.plan.told w.number ≡ w.outcomes → KnowsEntries b.callers k w
   knows_on w k first whole begins own told_is = let c : ℕ = w.number in let placed = ap (enumerate_from r.count) r.recorded.made ∙ (history_placed go b.order r.start r.count (records_of r.plan) ∙ ap done_in (sym r.recorded.told)) in
       let all : own_at c r.count r.plan.history ≡ done_in w.outcomes = ap (filter (λ x. x.1.caller == c)) placed ∙ (done_by_caller c r.plan.told ∙ ap done_in told_is) in record {
         known = all_begins (λ (e : Entry). (0 < e.caller) × (e.caller ≤ b.callers)) whole.0 w.seen (subst (AllByRecursion (λ (e : Entry). (0 < e.caller) × (e.caller ≤ b.callers))) whole.1
@@ -161,10 +161,10 @@ module _ {S : Type 0} (Contents : ℕ → List ℕ → S → ℕ → Type 0) (go
       }
 
   -- the same of a view that has seen the whole history
-  pub knows_whole : (w : View) → w.seen ≡ r.plan.history → told_to r.plan.told w.number ≡ w.outcomes → KnowsEntries b.callers r.count w
+  pub knows_whole : (w : View) → w.seen ≡ r.plan.history → told_to_caller r.plan.told w.number ≡ w.outcomes → KnowsEntries b.callers r.count w
   knows_whole w seen told_is = let begins : StartsWith w.seen r.plan.history = ([], seen ∙ sym (append-nil r.plan.history)) in
       knows_on w r.count r.plan.history ([], sym seen ∙ sym (append-nil w.seen)) begins
-      (ap (own_at w.number r.count) r.recorded.made ∙ (own_of go b.order r.start r.count w.number (records_of r.plan) ∙ ap done_in (ap (λ (l : List Told). told_to l w.number) (sym r.recorded.told) ∙ told_is))) told_is
+      (ap (own_at w.number r.count) r.recorded.made ∙ (own_of go b.order r.start r.count w.number (records_of r.plan) ∙ ap done_in (ap (λ (l : List Told). told_to_caller l w.number) (sym r.recorded.told) ∙ told_is))) told_is
 
   -- Some first records told this, and what was seen goes at least as far as their history.
   pub record GoesTo (x : Told) (seen : List Entry) : Type 0 where
@@ -176,7 +176,7 @@ module _ {S : Type 0} (Contents : ℕ → List ℕ → S → ℕ → Type 0) (go
     pub told : get_elem? (all_told go b.order r.start r.count first) at ≡ some x
 
   -- the same of a view that learns what its last call was told
-  pub knows_next : (id : ℕ) (v : View) (y : Told) (seen : List Entry) → get_elem? s.views id ≡ some v → 0 < v.number → length v.calls ≡ length v.outcomes + 1 → get_elem? (told_to r.plan.told v.number) (length v.outcomes) ≡ some y
+  pub knows_next : (id : ℕ) (v : View) (y : Told) (seen : List Entry) → get_elem? s.views id ≡ some v → 0 < v.number → length v.calls ≡ length v.outcomes + 1 → get_elem? (told_to_caller r.plan.told v.number) (length v.outcomes) ≡ some y
       → y.0.caller ≡ v.number → y.0.seq ≡ length v.outcomes → StartsWith r.plan.history seen → GoesTo y seen → KnowsEntries b.callers r.count (record v { outcomes = v.outcomes ++ y ∷ []; seen = seen; steps = v.steps + 1 })
   knows_next id v y seen at pos open_now here whose seq whole goes = let told_is = told_next id v y at pos open_now here in
       knows_on (record v { outcomes = v.outcomes ++ y ∷ []; seen = seen; steps = v.steps + 1 }) r.count (history_of go b.order r.start r.count goes.first) whole goes.begins

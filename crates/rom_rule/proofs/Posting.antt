@@ -7,7 +7,7 @@ use lib.ListN.{get_elem?}
 use Rattle.atomic_table.proofs.Lists.{at_map}
 use Rattle.rom_model.specs.Seen.{StartsWith}
 use Rattle.rom_model.specs.declared.record.Found.{Found}
-use Rattle.rom_rule.specs.Calls.{Announced, IsOpen, KnowsCalls, Lies, SlotHolds, answer_words, found_in, numbered, owing, packed, slot_word_at, told_to}
+use Rattle.rom_rule.specs.Calls.{Announced, IsOpen, KnowsCalls, Lies, SlotHolds, answer_words, found_in, numbered, owing, packed, slot_word_at, told_to_caller}
 use Rattle.rom_rule.specs.Readers.{Differ}
 use Rattle.rom_rule.specs.Views.{CallerCalls, PlanCalls, Told, calls_in, number_in}
 use Rattle.rom_rule.specs.declared.views.Request.{Request}
@@ -29,7 +29,7 @@ module _ (P : List ℕ → Type 0) (callers count : ℕ) (slots : List ℕ) (sp 
 
     -- a step of a caller's on the word j of its slot
     caller_calls_step : (id j x : ℕ) (v w : View) (calls : List (List ℕ)) → get_elem? views id ≡ some v → 0 < v.number → v.number ≤ callers → v.number ≤ sp.dealt → j < 64 → Differ (map number_in views)
-        → SlotHolds P (changed slots v.number j x) v.number calls (r.given v.number) (owing sp.made v.number sp.requests) (told_to sp.told v.number)
+        → SlotHolds P (changed slots v.number j x) v.number calls (r.given v.number) (owing sp.made v.number sp.requests) (told_to_caller sp.told v.number)
         → KnowsCalls callers (changed slots v.number j x) count (put r.calls v.number calls) r.given r.closed sp (calls_in w)
         → ((f : Request) → f.caller ≡ v.number → f.answered ≡ false → IsOpen slots (r.calls f.caller) (r.given f.caller) f → IsOpen (changed slots v.number j x) (put r.calls v.number calls f.caller) (r.given f.caller) f)
         → Announced P callers (changed slots v.number j x) count sp (map calls_in (set views id w))
@@ -39,10 +39,10 @@ module _ (P : List ℕ → Type 0) (callers count : ℕ) (slots : List ℕ) (sp 
       closed = r.closed;
       fresh = λ d past. let ne : d ≢ c = (λ e. omega arith) in let f = r.fresh d past in (put_else r.calls c calls d ne ∙ f.0, f.1, f.2);
       each = λ d pd ld. dite (ℕ_discrete d c)
-          (λ e. subst (λ (y : ℕ). SlotHolds P new y (calls' y) (r.given y) (owing sp.made y sp.requests) (told_to sp.told y)) (sym e)
-          (subst (λ (y : List (List ℕ)). SlotHolds P new c y (r.given c) (owing sp.made c sp.requests) (told_to sp.told c)) (sym (put_here r.calls c calls)) all_calls))
-          (λ ne. subst (λ (y : List (List ℕ)). SlotHolds P new d y (r.given d) (owing sp.made d sp.requests) (told_to sp.told d)) (sym (put_else r.calls c calls d ne))
-          (slot_holds_else slots c j x P d (r.calls d) (r.given d) (owing sp.made d sp.requests) (told_to sp.told d) pos pd lj ne (r.each d pd ld)));
+          (λ e. subst (λ (y : ℕ). SlotHolds P new y (calls' y) (r.given y) (owing sp.made y sp.requests) (told_to_caller sp.told y)) (sym e)
+          (subst (λ (y : List (List ℕ)). SlotHolds P new c y (r.given c) (owing sp.made c sp.requests) (told_to_caller sp.told c)) (sym (put_here r.calls c calls)) all_calls))
+          (λ ne. subst (λ (y : List (List ℕ)). SlotHolds P new d y (r.given d) (owing sp.made d sp.requests) (told_to_caller sp.told d)) (sym (put_else r.calls c calls d ne))
+          (slot_holds_else slots c j x P d (r.calls d) (r.given d) (owing sp.made d sp.requests) (told_to_caller sp.told d) pos pd lj ne (r.each d pd ld)));
       views = each_set_at (λ _. KnowsCalls callers slots count r.calls r.given r.closed sp) (λ _. KnowsCalls callers new count calls' r.given r.closed sp) calls_in views id w
           (λ y t ne e k. knows_calls_else slots c j x callers count r.calls calls' r.given r.closed sp t pos lj (λ same. ne (apart y id c (number_at views y t e ∙ ap some same) (at_map number_in views id v at) pos)) ((r.views id (calls_in v) (at_map calls_in views id v at)).live pos) (λ d other. put_else r.calls c calls d other) k)
           knows r.views;
@@ -61,7 +61,7 @@ module _ (P : List ℕ → Type 0) (callers count : ℕ) (slots : List ℕ) (sp 
 
     -- what a caller with no call posted knows
     idle : (id : ℕ) (v : View) → get_elem? views id ≡ some v → 0 < v.number → v.number ≤ callers → length v.calls ≡ length v.outcomes
-        → (v.calls ≡ r.calls v.number) × (r.given v.number ≡ length v.calls) × SlotHolds P slots v.number (r.calls v.number) (r.given v.number) (owing sp.made v.number sp.requests) (told_to sp.told v.number) × KnowsCalls callers slots count r.calls r.given r.closed sp (calls_in v)
+        → (v.calls ≡ r.calls v.number) × (r.given v.number ≡ length v.calls) × SlotHolds P slots v.number (r.calls v.number) (r.given v.number) (owing sp.made v.number sp.requests) (told_to_caller sp.told v.number) × KnowsCalls callers slots count r.calls r.given r.closed sp (calls_in v)
     idle id v at pos low none_open = let k = r.views id (calls_in v) (at_map calls_in views id v at) in let t = r.each v.number pos low in let mine = k.mine pos in let same = ap length mine in let t₀ = k.taken_le pos in let t₁ = t.given_le in
         (mine, omega arith, t, k)
 
@@ -104,7 +104,7 @@ module _ (P : List ℕ → Type 0) (callers count : ℕ) (slots : List ℕ) (sp 
         let new : List ℕ = changed slots c 0 x in let same = ap length mine in let calls' : List (List ℕ) = r.calls c ++ args ∷ [] in let more = length-append (r.calls c) (args ∷ []) in let more' = length-append v.calls (args ∷ []) in
         let there : Lies new c 1 v.laid = (let l = k.laid_few in lies_else slots c 0 x c 1 v.laid pos pos (omega arith) (omega arith) (λ _ m lt z. absurd (omega arith)) (k.laid_there pos)) in
         let last : get_or calls' (r.given c) [] ≡ args = ap (λ (n : ℕ). get_or calls' n []) (let e : r.given c ≡ length (r.calls c) = omega arith in e) ∙ last_word (r.calls c) args [] in
-        let none_yet = answers_le c (r.calls c) (r.given c) (owing sp.made c sp.requests) (told_to sp.told c) t in
+        let none_yet = answers_le c (r.calls c) (r.given c) (owing sp.made c sp.requests) (told_to_caller sp.told c) t in
         caller_calls_step id 0 x v w calls' at pos low dealt (omega arith) apart
         record {
           given_le = omega arith;
@@ -116,7 +116,7 @@ module _ (P : List ℕ → Type 0) (callers count : ℕ) (slots : List ℕ) (sp 
               (λ ne. subst (λ (l : List ℕ). (length l ≤ 40) × P l) (sym (early (r.calls c) args [] n (omega arith))) (t.short n (omega arith)));
           posted = λ _. subst (λ (l : List ℕ). Lies new c 1 l) (laid ∙ ap packed (sym last)) there;
           recorded = t.recorded;
-          asked = subst (λ (l : List Found). StartsWith l (map found_in (told_to sp.told c))) (sym (numbered_more c 0 (r.calls c) args)) (starts_longer (numbered c 0 (r.calls c)) (map found_in (told_to sp.told c)) _ t.asked);
+          asked = subst (λ (l : List Found). StartsWith l (map found_in (told_to_caller sp.told c))) (sym (numbered_more c 0 (r.calls c) args)) (starts_longer (numbered c 0 (r.calls c)) (map found_in (told_to_caller sp.told c)) _ t.asked);
           answered = λ n y e z here. absurd (omega arith);
         }
         (subst (KnowsCalls callers new count (put r.calls c calls') r.given r.closed sp) (sym is) record {
@@ -128,6 +128,6 @@ module _ (P : List ℕ → Type 0) (callers count : ℕ) (slots : List ℕ) (sp 
           laid_there = λ _. there;
           laid_few = k.laid_few;
           since_le = seen;
-          since = λ y _ here. let lt = at_low (told_to sp.told c) (length v.outcomes) y here in absurd (omega arith);
+          since = λ y _ here. let lt = at_low (told_to_caller sp.told c) (length v.outcomes) y here in absurd (omega arith);
         })
         (λ f e n o. let z = o.posted in let lc = ap (λ (m : ℕ). length (r.calls m)) e in let gc = ap r.given e in absurd (omega arith))

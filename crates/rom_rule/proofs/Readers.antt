@@ -12,9 +12,9 @@ use Rattle.atomic_table.proofs.Lists.{at_set}
 use Rattle.rom_model.specs.declared.entry.Entry.{Entry}
 use Rattle.rom_rule.specs.Calls.{Announced}
 use Rattle.rom_rule.specs.Kinds.{HasArrived, HoldsVersion, IsOut, IsReading, StandsAt, arrived, departed, entering, loaded_image, loaded_side, loaded_version, moved}
-use Rattle.rom_rule.specs.Places.{Shown, back_at, indicator_at, indicator_count, indicator_of, main_at, offset_of_indicator, shown, side_at, slots_at, version_at, word_at}
-use Rattle.rom_rule.specs.Readers.{ShowsArrivals, Differ, HoldsNothing, IsNumbered, IsWritten, KeepsImage, ReadsNamedSide, Stands, StandsAtOwn, any_stands, stands}
-use Rattle.rom_rule.specs.Records.{IsCall, IsFront, Remembers}
+use Rattle.rom_rule.specs.Places.{Shown, back_word_at, indicator_at, indicator_count, indicator_of, main_word_at, offset_of_indicator, shown, side_at, side_word_at, slots_at, version_at}
+use Rattle.rom_rule.specs.Readers.{ShowsArrivals, Differ, HoldsNothing, IsNumbered, IsWritten, KeepsImage, ReadsNamedSide, IsHeldSinceOpening, StandsAtOwn, any_stands, stands}
+use Rattle.rom_rule.specs.Records.{IsCall, IsRecordedFront, Remembers}
 use Rattle.rom_rule.specs.Rule.{IsOnlyPlan, IsRuled}
 use Rattle.rom_rule.specs.Views.{CallerCalls, Each, base_in, book_in, calls_in, image_of, indicator_in, is_reading, number_in, plan_calls, plan_in, position_in, reading_in, records_of, remembered_in, side_of, side_read, version_of}
 use Rattle.rom_rule.specs.declared.views.Base.{Base}
@@ -152,14 +152,14 @@ module _ {S : Type 0} (Contents : ℕ → List ℕ → S → ℕ → Type 0) (go
     unfolding shown
     loads_side slots id me v can s r _ at _ = let arrived_at = can.0 in let mark = can.2 in let u = me.0 in let k = r.written in let found : ℕ = get_or s.words 0 0 in let p = r.plan in let is : found ≡ p.side = k.side in let low = k.side_low in let image : List ℕ = side_of p.side p.main p.back in
         let f : ℕ = r.count + length p.history in let w : View = entering u v found f image p.history in let same : u.base ≡ b = each_at (λ _ c. c ≡ b) base_in s.views id u at r.bases in let v_low : v < indicator_count b.callers = subst (λ (z : Base). v < indicator_count z.callers) same can.1 in let m = remembered_of s r id u at in
-        let whole : Stands Contents go b image p.history f = record { start = r.start; count = r.count; opening = r.opening; front_is = refl; held = k.published } in (
+        let whole : IsHeldSinceOpening Contents go b image p.history f = record { start = r.start; count = r.count; opening = r.opening; front_is = refl; held = k.published } in (
           w,
           keeps,
           tt,
           reload s 0 id w (caller_step s r id u w s.words at refl refl refl refl (still s r id u w at (λ i. ap (λ (q : Position). stands i q) arrived_at)) (ap (λ (z : ℕ). side_of z p.main p.back) (sym is), omega arith, p.history, ([], sym (mathlib.Core.List.append-nil p.history)), whole) r.written (v_low, λ _. is)
               record {
                 seen = ([], sym (mathlib.Core.List.append-nil p.history));
-                fronts = all_append (IsFront r.count (records_of p)) u.fronts (f ∷ []) m.fronts (front_now Contents go b r.start r.count (book_in p) r.recorded, tt);
+                fronts = all_append (IsRecordedFront r.count (records_of p)) u.fronts (f ∷ []) m.fronts (front_now Contents go b r.start r.count (book_in p) r.recorded, tt);
                 joined = m.joined;
               }
               (announced_on s r id u w (shown b s.words).slots at refl refl) (λ _. mark) (λ h j z. h j (ap (stands j) arrived_at ∙ z)) (λ _ none. absurd (omega arith))),
@@ -170,18 +170,18 @@ module _ {S : Type 0} (Contents : ℕ → List ℕ → S → ℕ → Type 0) (go
             p.history,
             omega arith,
             m.seen,
-            subst (λ (z : Base). Stands Contents go z image p.history f) (sym same) whole,
+            subst (λ (z : Base). IsHeldSinceOpening Contents go z image p.history f) (sym same) whole,
             ap (λ (q : Position). let z : M = (entering u (indicator_in q) found f image p.history, me.1) in z) (sym arrived_at),
             λ none_open. knows_told Contents go b s r one u.base w same (knows_whole Contents go b s r w refl (told_all Contents go b s r id u at none_open)),
           ),
         )
 
   -- the word of a side
-  pub side_word : (s : St) (r : R s) (side at i : ℕ) → side < 2 → at < region_len b.order → i ≡ word_at b.order b.callers side at → get_or s.words i 0 ≡ get_or (side_of side r.plan.main r.plan.back) at 0
+  pub side_word : (s : St) (r : R s) (side at i : ℕ) → side < 2 → at < region_len b.order → i ≡ side_word_at b.order b.callers side at → get_or s.words i 0 ≡ get_or (side_of side r.plan.main r.plan.back) at 0
   unfolding shown
   side_word s r side at i low inside is = let n : ℕ = region_len b.order in let k : ℕ = slots_at b.callers + 64 * b.callers in ap (λ (j : ℕ). get_or s.words j 0) is ∙ by_side (eqb side 0)
     where
-      by_side : (c : Bool) → get_or s.words (cond c (main_at b.order b.callers at) (back_at b.order b.callers at)) 0 ≡ get_or (cond c r.plan.main r.plan.back) at 0
+      by_side : (c : Bool) → get_or s.words (cond c (main_word_at b.order b.callers at) (back_word_at b.order b.callers at)) 0 ≡ get_or (cond c r.plan.main r.plan.back) at 0
       by_side true = sym (part_get (slots_at b.callers + 64 * b.callers) (region_len b.order) s.words at inside) ∙ ap (λ (l : List ℕ). get_or l at 0) r.written.main
       by_side false = sym (part_get (slots_at b.callers + 64 * b.callers + region_len b.order) (region_len b.order) s.words at inside) ∙ ap (λ (l : List ℕ). get_or l at 0) r.written.back
 
@@ -202,7 +202,7 @@ module _ {S : Type 0} (Contents : ℕ → List ℕ → S → ℕ → Type 0) (go
         reload s i id w (caller_step s r id u w s.words there refl refl refl refl (still s r id u w there (λ j. refl)) kept r.written (each_at (λ _. ReadsNamedSide b.callers r.plan) position_in s.views id u there r.named) (remembered_of s r id u there) (announced_on s r id u w (shown b s.words).slots there refl refl) (λ _. mark) (λ h. h) (λ h. h)),
         (
           refl,
-          λ at inside is. side_word s r (side_read u.position) at i known.1 (subst (λ (z : Base). at < region_len z.order) same inside) (is ∙ ap (λ (z : Base). word_at z.order z.callers (side_read u.position) at) same)
+          λ at inside is. side_word s r (side_read u.position) at i known.1 (subst (λ (z : Base). at < region_len z.order) same inside) (is ∙ ap (λ (z : Base). side_word_at z.order z.callers (side_read u.position) at) same)
               ∙ ap (λ (l : List ℕ). get_or l at 0) (sym known.0),
         ),
       )

@@ -11,7 +11,7 @@ use Rattle.rom_model.specs.declared.entry.Entry.{Entry}
 use Rattle.rom_model.specs.declared.record.Fate.{Fate}
 use Rattle.rom_model.specs.declared.record.Found.{Found}
 use Rattle.rom_model.specs.Passes.{fate_told}
-use Rattle.rom_rule.specs.Calls.{Announced, AreScanned, IsClosed, SlotHolds, caller_in, found_in, found_of, numbered, owing, packed, slot_word_at, told_to}
+use Rattle.rom_rule.specs.Calls.{Announced, AreScanned, IsClosedCaller, SlotHolds, caller_in, found_in, found_of, numbered, owing, packed, slot_word_at, told_to_caller}
 use Rattle.rom_rule.specs.Views.{CallerCalls, Each, PlanCalls, Told}
 use Rattle.rom_rule.specs.declared.views.Request.{Request}
 use Rattle.rom_rule.proofs.Told.{starts_longer, starts_more, at_front, all_at, all_append, all_map, at_numbered, fate_found, IsLate, fate_late, told_found, map_append, length_map, map_map, OneOf, one_of, caller_of, one_told, owed_all, all_filter}
@@ -56,10 +56,10 @@ module _ (P : List ℕ → Type 0) (callers count : ℕ) (slots : List ℕ) (sp 
     pub makes : (fate : Fate) (k extra : ℕ) (batch : List Entry) → sp.made ≡ false → Each (λ _ f. f.words ≡ packed (drop 1 f.words)) sp.requests → k ≡ count + sp.len
         → Announced P callers slots count (record sp { made = true; told = sp.told ++ fate_told fate k (map found_of sp.requests) batch; len = sp.len + extra }) all_calls
     makes fate k extra batch unmade whole is = let new : List Told = fate_told fate k (map found_of sp.requests) batch in let found = fate_found fate k (map found_of sp.requests) batch in
-        let late : (c : ℕ) → AllByRecursion (IsLate k) (told_to new c) = λ c. all_filter (IsLate k) (λ y. y.0.caller == c) new (fate_late fate k (map found_of sp.requests) batch) in
-        let two_parts : (c : ℕ) → told_to (sp.told ++ new) c ≡ told_to sp.told c ++ told_to new c = λ c. filter-append (λ (y : Told). y.0.caller == c) sp.told new in
-        let new_found : (c : ℕ) → map found_in (told_to new c) ≡ filter (λ f. f.caller == c) (map found_of sp.requests) = λ c. told_found new c ∙ ap (λ (l : List Found). filter (λ f. f.caller == c) l) found in
-        let before : (c : ℕ) → 0 < c → c ≤ callers → length (told_to sp.told c) ≡ r.given c = λ c pos low. (r.each c pos low).recorded ∙ (ap (λ (b : Bool). r.given c + owing b c sp.requests) unmade ∙ (let z : r.given c + 0 ≡ r.given c = omega arith in z)) in record {
+        let late : (c : ℕ) → AllByRecursion (IsLate k) (told_to_caller new c) = λ c. all_filter (IsLate k) (λ y. y.0.caller == c) new (fate_late fate k (map found_of sp.requests) batch) in
+        let two_parts : (c : ℕ) → told_to_caller (sp.told ++ new) c ≡ told_to_caller sp.told c ++ told_to_caller new c = λ c. filter-append (λ (y : Told). y.0.caller == c) sp.told new in
+        let new_found : (c : ℕ) → map found_in (told_to_caller new c) ≡ filter (λ f. f.caller == c) (map found_of sp.requests) = λ c. told_found new c ∙ ap (λ (l : List Found). filter (λ f. f.caller == c) l) found in
+        let before : (c : ℕ) → 0 < c → c ≤ callers → length (told_to_caller sp.told c) ≡ r.given c = λ c pos low. (r.each c pos low).recorded ∙ (ap (λ (b : Bool). r.given c + owing b c sp.requests) unmade ∙ (let z : r.given c + 0 ≡ r.given c = omega arith in z)) in record {
           calls = r.calls;
           given = r.given;
           closed = r.closed;
@@ -71,33 +71,33 @@ module _ (P : List ℕ → Type 0) (callers count : ℕ) (slots : List ℕ) (sp 
             turn = t.turn;
             short = t.short;
             posted = t.posted;
-            recorded = omega (arith, ap length parts, length-append (told_to sp.told c) (told_to new c), ap length here, length_map found_in (told_to new c), owed_all c sp.requests (r.requests.unmade unmade));
-            asked = subst (StartsWith (numbered c 0 (r.calls c))) (sym (ap (map found_in) parts ∙ (map_append found_in (told_to sp.told c) (told_to new c) ∙ ap (λ (l : List Found). map found_in (told_to sp.told c) ++ l) here)))
-                (⊎_elim (λ (e : filter (λ f. f.caller == c) (map found_of sp.requests) ≡ []). subst (λ (l : List Found). StartsWith (numbered c 0 (r.calls c)) (map found_in (told_to sp.told c) ++ l)) (sym e) (subst (StartsWith (numbered c 0 (r.calls c))) (sym (append-nil (map found_in (told_to sp.told c)))) t.asked))
-                (λ (e : OneOf c sp.requests). subst (λ (l : List Found). StartsWith (numbered c 0 (r.calls c)) (map found_in (told_to sp.told c) ++ l)) (sym e.4) (starts_more (numbered c 0 (r.calls c)) (map found_in (told_to sp.told c)) (found_of e.1) t.asked (next c e t old)))
+            recorded = omega (arith, ap length parts, length-append (told_to_caller sp.told c) (told_to_caller new c), ap length here, length_map found_in (told_to_caller new c), owed_all c sp.requests (r.requests.unmade unmade));
+            asked = subst (StartsWith (numbered c 0 (r.calls c))) (sym (ap (map found_in) parts ∙ (map_append found_in (told_to_caller sp.told c) (told_to_caller new c) ∙ ap (λ (l : List Found). map found_in (told_to_caller sp.told c) ++ l) here)))
+                (⊎_elim (λ (e : filter (λ f. f.caller == c) (map found_of sp.requests) ≡ []). subst (λ (l : List Found). StartsWith (numbered c 0 (r.calls c)) (map found_in (told_to_caller sp.told c) ++ l)) (sym e) (subst (StartsWith (numbered c 0 (r.calls c))) (sym (append-nil (map found_in (told_to_caller sp.told c)))) t.asked))
+                (λ (e : OneOf c sp.requests). subst (λ (l : List Found). StartsWith (numbered c 0 (r.calls c)) (map found_in (told_to_caller sp.told c) ++ l)) (sym e.4) (starts_more (numbered c 0 (r.calls c)) (map found_in (told_to_caller sp.told c)) (found_of e.1) t.asked (next c e t old)))
                 (one_of c 0 sp.scanned sp.requests r.requests.scanned));
-            answered = λ i y all last at. t.answered i y all last (at_front (told_to sp.told c) (told_to new c) i y (omega arith) (subst (λ (l : List Told). get_elem? l i ≡ some y) parts at));
+            answered = λ i y all last at. t.answered i y all last (at_front (told_to_caller sp.told c) (told_to_caller new c) i y (omega arith) (subst (λ (l : List Told). get_elem? l i ≡ some y) parts at));
           };
           views = λ y t e. let n = r.views y t e in record {
             live = n.live;
-            joined = all_map (IsClosed callers r.calls r.closed sp.told) (IsClosed callers r.calls r.closed (sp.told ++ new)) t.joined (λ z h pos. let g = h pos in (g.0, g.1, g.2, subst (λ (l : List Told). StartsWith l z.told) (sym (two_parts z.number)) (starts_longer (told_to sp.told z.number) z.told (told_to new z.number) g.3))) n.joined;
+            joined = all_map (IsClosedCaller callers r.calls r.closed sp.told) (IsClosedCaller callers r.calls r.closed (sp.told ++ new)) t.joined (λ z h pos. let g = h pos in (g.0, g.1, g.2, subst (λ (l : List Told). StartsWith l z.told) (sym (two_parts z.number)) (starts_longer (told_to_caller sp.told z.number) z.told (told_to_caller new z.number) g.3))) n.joined;
             mine = n.mine;
-            outcomes = λ pos. subst (λ (l : List Told). StartsWith l t.outcomes) (sym (two_parts t.number)) (starts_longer (told_to sp.told t.number) t.outcomes (told_to new t.number) (n.outcomes pos));
+            outcomes = λ pos. subst (λ (l : List Told). StartsWith l t.outcomes) (sym (two_parts t.number)) (starts_longer (told_to_caller sp.told t.number) t.outcomes (told_to_caller new t.number) (n.outcomes pos));
             taken_le = n.taken_le;
             laid_there = n.laid_there;
             laid_few = n.laid_few;
             since_le = let l = n.since_le in omega arith;
-            since = λ z pos here. ⊎_elim (λ (old : get_elem? (told_to sp.told t.number) (length t.outcomes) ≡ some z). n.since z pos old)
-                (λ (g : (j : ℕ) × (get_elem? (told_to new t.number) j ≡ some z)). λ reply place same. let lo = all_at (IsLate k) (told_to new t.number) g.0 z (late t.number) g.1 reply place same in let l = n.since_le in omega arith)
-                (at_split (told_to sp.told t.number) (told_to new t.number) (length t.outcomes) z (subst (λ (l : List Told). get_elem? l (length t.outcomes) ≡ some z) (two_parts t.number) here));
+            since = λ z pos here. ⊎_elim (λ (old : get_elem? (told_to_caller sp.told t.number) (length t.outcomes) ≡ some z). n.since z pos old)
+                (λ (g : (j : ℕ) × (get_elem? (told_to_caller new t.number) j ≡ some z)). λ reply place same. let lo = all_at (IsLate k) (told_to_caller new t.number) g.0 z (late t.number) g.1 reply place same in let l = n.since_le in omega arith)
+                (at_split (told_to_caller sp.told t.number) (told_to_caller new t.number) (length t.outcomes) z (subst (λ (l : List Told). get_elem? l (length t.outcomes) ≡ some z) (two_parts t.number) here));
           };
           requests = record { all_open = r.requests.all_open; scanned = r.requests.scanned; unmade = λ m. absurd (let z : true ≡ false = m in cc) };
           known = all_append (λ (x : Told). (0 < x.0.caller) × (x.0.caller ≤ callers)) sp.told new r.known (known_found new (map found_of sp.requests) found (known_finds sp.requests (λ j f e. let o = r.requests.all_open j f e in (o.0, o.1))));
         }
       where
-        next : (c : ℕ) (e : OneOf c sp.requests) → SlotHolds P slots c (r.calls c) (r.given c) (owing sp.made c sp.requests) (told_to sp.told c) → length (told_to sp.told c) ≡ r.given c → get_elem? (numbered c 0 (r.calls c)) (length (map found_in (told_to sp.told c))) ≡ some (found_of e.1)
+        next : (c : ℕ) (e : OneOf c sp.requests) → SlotHolds P slots c (r.calls c) (r.given c) (owing sp.made c sp.requests) (told_to_caller sp.told c) → length (told_to_caller sp.told c) ≡ r.given c → get_elem? (numbered c 0 (r.calls c)) (length (map found_in (told_to_caller sp.told c))) ≡ some (found_of e.1)
         next c e t old = let f : Request = e.1 in let o = (r.requests.all_open e.0 f e.2).2 (r.requests.unmade unmade e.0 f e.2) in let posted = ap (λ (m : ℕ). length (r.calls m)) e.3 in let given = ap r.given e.3 in let many = o.posted in let seq = o.seq in
-            let i : ℕ = length (map found_in (told_to sp.told c)) in let i_is : i ≡ r.given c = length_map found_in (told_to sp.told c) ∙ old in
+            let i : ℕ = length (map found_in (told_to_caller sp.told c)) in let i_is : i ≡ r.given c = length_map found_in (told_to_caller sp.told c) ∙ old in
             let args : drop 1 f.words ≡ get_or (r.calls c) i [] = whole_call (get_or (r.calls f.caller) (r.given f.caller) []) f.words o.loaded (whole e.0 f e.2) ∙ (λ z. get_or (r.calls (e.3 z)) ((given ∙ sym i_is) z) []) in
             at_numbered c 0 i (r.calls c) (omega arith) ∙ (λ z. some record { caller = sym e.3 z; seq = (let same : 0 + i ≡ f.seq = omega arith in same) z; args = sym args z })
 
@@ -114,10 +114,10 @@ module _ (P : List ℕ → Type 0) (callers count : ℕ) (slots : List ℕ) (sp 
 
     -- each found call is told what its pass's record tells it
     pub tells_each : (fate : Fate) (k : ℕ) (batch : List Entry) → sp.made ≡ false → (q : ℕ) (f : Request) (x : Told) → get_elem? sp.requests q ≡ some f → get_elem? (fate_told fate k (map found_of sp.requests) batch) q ≡ some x
-        → get_elem? (told_to (sp.told ++ fate_told fate k (map found_of sp.requests) batch) f.caller) f.seq ≡ some x
+        → get_elem? (told_to_caller (sp.told ++ fate_told fate k (map found_of sp.requests) batch) f.caller) f.seq ≡ some x
     tells_each fate k batch unmade q f x at told = let new : List Told = fate_told fate k (map found_of sp.requests) batch in let c : ℕ = f.caller in let o = open_at P callers count slots sp all_calls r q f at (r.requests.unmade unmade q f at) in let seq = o.2.seq in
         let same : x.0 ≡ found_of f = some-injective x.0 (found_of f) (sym (at_map found_in new q x told) ∙ (ap (λ (l : List Found). get_elem? l q) (fate_found fate k (map found_of sp.requests) batch) ∙ at_map found_of sp.requests q f at)) in
         let callers_same : map caller_of new ≡ map caller_in sp.requests = sym (map_map (λ (y : Found). y.caller) found_in new) ∙ (ap (map (λ (y : Found). y.caller)) (fate_found fate k (map found_of sp.requests) batch) ∙ map_map (λ (y : Found). y.caller) found_of sp.requests) in
-        let one : told_to new c ≡ x ∷ [] = ap (told_to new) (sym (ap (λ (y : Found). y.caller) same)) ∙ one_told 0 sp.scanned q new x (subst (AreScanned 0 sp.scanned) (sym callers_same) r.requests.scanned) told in
-        let before : length (told_to sp.told c) ≡ f.seq = (r.each c o.0 o.1).recorded ∙ (ap (λ (b : Bool). r.given c + owing b c sp.requests) unmade ∙ (let z : r.given c + 0 ≡ f.seq = omega arith in z)) in
-        subst (λ (l : List Told). get_elem? l f.seq ≡ some x) (sym (filter-append (λ (y : Told). y.0.caller == c) sp.told new ∙ ap (λ (l : List Told). told_to sp.told c ++ l) one)) (at_last (told_to sp.told c) x f.seq before)
+        let one : told_to_caller new c ≡ x ∷ [] = ap (told_to_caller new) (sym (ap (λ (y : Found). y.caller) same)) ∙ one_told 0 sp.scanned q new x (subst (AreScanned 0 sp.scanned) (sym callers_same) r.requests.scanned) told in
+        let before : length (told_to_caller sp.told c) ≡ f.seq = (r.each c o.0 o.1).recorded ∙ (ap (λ (b : Bool). r.given c + owing b c sp.requests) unmade ∙ (let z : r.given c + 0 ≡ f.seq = omega arith in z)) in
+        subst (λ (l : List Told). get_elem? l f.seq ≡ some x) (sym (filter-append (λ (y : Told). y.0.caller == c) sp.told new ∙ ap (λ (l : List Told). told_to_caller sp.told c ++ l) one)) (at_last (told_to_caller sp.told c) x f.seq before)

@@ -9,7 +9,7 @@ use Rattle.rom_model.specs.declared.record.Fate.TheVariants.{Published, Failed, 
 use Rattle.rom_model.specs.declared.call.Updated.{Updated}
 use Rattle.rom_model.specs.History.{after, batch, LAST_COUNT}
 use Rattle.rom_model.specs.Passes.{published}
-use Rattle.rom_rule.specs.CallKinds.{CanBegin, CanFinish, CanLoadArgument, CanMakeRecord, CanScan, CanStoreReply, IsAnswer, IsPending, alter, altered, answered, answering, beginning, begun, begun_answer, found_after, laying, loaded_argument, loading, made_record, placing, scanned, stored_place, stored_reply}
+use Rattle.rom_rule.specs.CallKinds.{CanBegin, CanFinish, CanLoadArgument, CanMakeRecord, CanScan, CanStoreReply, IsAnswerToRequest, IsPending, alter, altered, answered, answering, beginning, begun, begun_answer, found_after, laying, loaded_argument, loading, made_record, placing, scanned, stored_place, stored_reply}
 use Rattle.rom_rule.specs.Calls.{Announced, found_of}
 use Rattle.rom_rule.specs.Kinds.{TellsEach, making, planned}
 use Rattle.rom_rule.specs.Places.{Shown, shown, slot_at}
@@ -181,7 +181,7 @@ module _ {S : Type 0} (Contents : ℕ → List ℕ → S → ℕ → Type 0) (go
         keeps,
         tt,
         stores_word s r id v c 0 (2 * f.seq + 2) answering at is.1 o.0 o.1 (omega arith)
-            (answers (IsCall go b) b.callers r.count (shown b s.words).slots (plan_calls p) (map calls_in s.views) r.announced here.0 f (found_of f, u) place here.1 here.3 (subst (λ (z : Plan). IsAnswer z f u) is.0 told) placed whole (long Contents go b s r)),
+            (answers (IsCall go b) b.callers r.count (shown b s.words).slots (plan_calls p) (map calls_in s.views) r.announced here.0 f (found_of f, u) place here.1 here.3 (subst (λ (z : Plan). IsAnswerToRequest z f u) is.0 told) placed whole (long Contents go b s r)),
         λ c' pos same. let pos' = o.0 in let many = callers_are Contents go b s r id v at in let e : c ≡ c' = omega arith in ap (λ (z : ℕ × Plan). let y : M = (planned v (altered z.0 answering z.1), me.1) in y) (λ j. (e j, sym is.0 j)),
       )
 

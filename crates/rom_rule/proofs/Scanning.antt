@@ -7,7 +7,7 @@ use lib.ListN.{get_elem?}
 use Rattle.atomic_table.proofs.Lists.{at_map, at_snoc}
 use Rattle.rom_model.specs.Seen.{StartsWith}
 use Rattle.rom_rule.specs.CallKinds.{alter, loading}
-use Rattle.rom_rule.specs.Calls.{Announced, AreFound, AreScanned, IsOpen, Open, SlotHolds, caller_in, owing, packed, slot_word_at, told_to}
+use Rattle.rom_rule.specs.Calls.{Announced, AreFound, AreScanned, IsOpen, Open, SlotHolds, caller_in, owing, packed, slot_word_at, told_to_caller}
 use Rattle.rom_rule.specs.Views.{CallerCalls, Each, PlanCalls}
 use Rattle.rom_rule.specs.declared.views.Request.{Request}
 use Rattle.rom_rule.proofs.Told.{starts_at, starts_take, starts_more, map_append, scanned_more, scanned_up, scanned_one, owed_none}
@@ -23,7 +23,7 @@ module _ (P : List ℕ → Type 0) (callers count : ℕ) (slots : List ℕ) (sp 
       given = r.given;
       closed = r.closed;
       fresh = r.fresh;
-      each = λ c pos low. subst (λ (n : ℕ). SlotHolds P slots c (r.calls c) (r.given c) n (told_to sp.told c)) (sym (same c)) (r.each c pos low);
+      each = λ c pos low. subst (λ (n : ℕ). SlotHolds P slots c (r.calls c) (r.given c) n (told_to_caller sp.told c)) (sym (same c)) (r.each c pos low);
       views = λ y t e. let k = r.views y t e in record { live = k.live; joined = k.joined; mine = k.mine; outcomes = k.outcomes; taken_le = k.taken_le; laid_there = k.laid_there; laid_few = k.laid_few; since_le = k.since_le; since = k.since };
       requests = found;
       known = r.known;

@@ -8,11 +8,11 @@ use Rattle.atomic_table.specs.Table.{State, Me, step, keeps, Allows, Splits, Joi
 use Rattle.atomic_table.proofs.Lists.{at_set, at_map, at_snoc, set_else}
 use Rattle.std.specs.List.{AllByRecursion}
 use Rattle.rom_model.specs.Seen.{StartsWith}
-use Rattle.rom_rule.specs.Calls.{Announced, told_to}
+use Rattle.rom_rule.specs.Calls.{Announced, told_to_caller}
 use Rattle.rom_rule.specs.Kinds.{CanDeal, CanJoin, caught_up, dealing, informed, newcomer, note_of, noting, planned, reviewed, spent_as}
 use Rattle.rom_rule.specs.Places.{shown}
 use Rattle.rom_rule.specs.Readers.{ShowsArrivals, Differ, HoldsNothing, IsNumbered, IsWritten, KeepsImage, ReadsNamedSide, StandsAtOwn, any_stands, stands}
-use Rattle.rom_rule.specs.Records.{IsCall, IsKept, KnowsEntries, Recorded, Remembers}
+use Rattle.rom_rule.specs.Records.{IsCall, IsKeptInBook, KnowsEntries, Recorded, Remembers}
 use Rattle.rom_rule.specs.Rule.{IsOnlyPlan, IsRuled}
 use Rattle.rom_rule.specs.Views.{Book, CallerCalls, Each, IsWriter, base_in, book_in, calls_in, kept_of, number_in, plan_calls, plan_in, plan_of, position_in, reading_in, remembered_in}
 use Rattle.rom_rule.specs.declared.views.Base.{Base}
@@ -179,7 +179,7 @@ module _ {S : Type 0} (Contents : ℕ → List ℕ → S → ℕ → Type 0) (go
             (each_set (λ _. Remembers r.count (book_in r.plan)) (λ _. Remembers r.count (book_in r.plan)) remembered_in s.views id v' (λ _ _ _ h. h) record {
               seen = m.seen;
               fronts = m.fronts;
-              joined = all_append (IsKept r.count (book_in r.plan)) v.joined (kept_of w ∷ w.joined) m.joined ((n.seen, n.fronts), n.joined);
+              joined = all_append (IsKeptInBook r.count (book_in r.plan)) v.joined (kept_of w ∷ w.joined) m.joined ((n.seen, n.fronts), n.joined);
             } r.remembered);
         recorded = r.recorded;
         announced = merges (IsCall go b) b.callers r.count (shown b s.words).slots (plan_calls r.plan) s.views r.announced id other v w v' w' at had apart r.seats.differ (omega arith) dealt idle.1 refl refl;
@@ -205,7 +205,7 @@ module _ {S : Type 0} (Contents : ℕ → List ℕ → S → ℕ → Type 0) (go
     (
       r.plan.history,
       m.seen,
-      all_map (IsKept r.count (book_in r.plan)) (λ k. StartsWith r.plan.history k.seen) v.joined (λ k h. h.0) m.joined,
+      all_map (IsKeptInBook r.count (book_in r.plan)) (λ k. StartsWith r.plan.history k.seen) v.joined (λ k h. h.0) m.joined,
       refl,
       λ n none_open knew. subst (λ (z : Base). KnowsEntries z.callers n w) (sym (base_is Contents go b s r id v at))
           (knows_on Contents go b s r w n v.seen ([], sym (mathlib.Core.List.append-nil r.plan.history)) m.seen knew.own (told_all Contents go b s r id v at none_open)),
@@ -223,10 +223,10 @@ module _ {S : Type 0} (Contents : ℕ → List ℕ → S → ℕ → Type 0) (go
           reload Contents go b s 0 id w (steps_out s r id v w at out out refl refl refl m refl (λ h. h)),
           (
             (λ i. (same i, me.1)),
-            subst (λ (z : Plan). AllByRecursion (λ k. 0 < k.number → told_to z.told k.number ≡ k.told) v.joined) (sym is.0) (all_told_whole (IsCall go b) b.callers r.count (shown b s.words).slots (plan_calls r.plan) s.views r.announced id v at),
+            subst (λ (z : Plan). AllByRecursion (λ k. 0 < k.number → told_to_caller z.told k.number ≡ k.told) v.joined) (sym is.0) (all_told_whole (IsCall go b) b.callers r.count (shown b s.words).slots (plan_calls r.plan) s.views r.announced id v at),
             subst (λ (z : Base × Plan). AllByRecursion (λ x. (0 < x.0.caller) × (x.0.caller ≤ z.0.callers)) z.1.told) (λ i. (sym base i, sym is.0 i)) r.announced.known,
-            subst (λ (z : Base × Plan). (t : S) (n : ℕ) → Contents z.0.order z.0.image t n → Recorded go z.0 t n (book_in z.1) × AllByRecursion (IsKept n (book_in z.1)) v.joined) (λ i. (sym base i, sym is.0 i))
+            subst (λ (z : Base × Plan). (t : S) (n : ℕ) → Contents z.0.order z.0.image t n → Recorded go z.0 t n (book_in z.1) × AllByRecursion (IsKeptInBook n (book_in z.1)) v.joined) (λ i. (sym base i, sym is.0 i))
                 (λ t n held. let e = one b.order b.image r.start t r.count n r.opening held in
-                subst (λ (z : S × ℕ). Recorded go b z.0 z.1 (book_in r.plan) × AllByRecursion (IsKept z.1 (book_in r.plan)) v.joined) (λ i. (e.0 i, e.1 i)) (r.recorded, m.joined)),
+                subst (λ (z : S × ℕ). Recorded go b z.0 z.1 (book_in r.plan) × AllByRecursion (IsKeptInBook z.1 (book_in r.plan)) v.joined) (λ i. (e.0 i, e.1 i)) (r.recorded, m.joined)),
           ),
         )

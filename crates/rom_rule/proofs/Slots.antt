@@ -4,7 +4,7 @@ use Rattle.std.proofs.Common.{◌≡◌, ◌≢◌, ℕ, ◌+◌, ◌-◌, ◌*�
 use mathlib.Core.Logic.{dite}
 use native.Mathlib.Decide.{ℕ_discrete}
 use Rattle.std.specs.List.{AllByRecursion}
-use Rattle.rom_rule.specs.Calls.{IsClosed, IsOpen, KnowsCalls, Lies, SlotHolds, answer_words, packed, slot_word_at}
+use Rattle.rom_rule.specs.Calls.{IsClosedCaller, IsOpen, KnowsCalls, Lies, SlotHolds, answer_words, packed, slot_word_at}
 use Rattle.rom_rule.specs.Views.{CallerCalls, PlanCalls, Told}
 use Rattle.rom_rule.specs.declared.views.Request.{Request}
 
@@ -49,7 +49,7 @@ lies_more slots c from x ws lies here i lt = let l = length-append ws (x ∷ [])
 
 -- what was kept of joined views, where the calls of a caller change that is not one of them
 pub kept_else : (callers c : ℕ) (calls calls' : ℕ → List (List ℕ)) (closed : ℕ → Bool) (told : List Told) (ks : List Kept) → closed c ≡ false → ((d : ℕ) → d ≢ c → calls' d ≡ calls d)
-    → AllByRecursion (IsClosed callers calls closed told) ks → AllByRecursion (IsClosed callers calls' closed told) ks
+    → AllByRecursion (IsClosedCaller callers calls closed told) ks → AllByRecursion (IsClosedCaller callers calls' closed told) ks
 kept_else callers c calls calls' closed told [] live same h = tt
 kept_else callers c calls calls' closed told (k ∷ ks) live same h = (
   (λ pos. let g = h.0 pos in (g.0, g.1, ap length (same k.number (λ e. let clash : true ≡ false = sym g.1 ∙ (ap closed e ∙ live) in cc)) ∙ g.2, g.3)),

@@ -12,10 +12,10 @@ use Rattle.rom_model.specs.History.{after, batch}
 use Rattle.rom_model.specs.Passes.{published, fate_told, HasFault, AreRising}
 use Rattle.rom_model.specs.Passes.{faults_after}
 use Rattle.rom_rule.specs.Calls.{Announced, IsWhole, found_of}
-use Rattle.rom_rule.specs.Kinds.{CanSwitchToBack, CanSwitchToMain, IsBatch, MayRaise, TellsEach, making, planned, raised, raising, record_list, switched, switched_to_back, switched_to_main}
+use Rattle.rom_rule.specs.Kinds.{CanSwitchToBack, CanSwitchToMain, IsBatch, MayRaise, TellsEach, making, planned, raising, record_list, switched, switched_to_back, switched_to_main, with_faults_after}
 use Rattle.rom_rule.specs.Places.{Shown, shown, side_at}
 use Rattle.rom_rule.specs.Readers.{Held, IsWritten}
-use Rattle.rom_rule.specs.Records.{IsCall, IsFront, Recorded, Remembers}
+use Rattle.rom_rule.specs.Records.{IsCall, IsRecordedFront, Recorded, Remembers}
 use Rattle.rom_rule.specs.Rule.{IsRuled}
 use Rattle.rom_rule.specs.Views.{Book, Each, IsWriter, PlanCalls, Remembered, Told, book_in, calls_in, is_made, plan_calls, plan_of, records_of}
 use Rattle.rom_rule.specs.declared.views.Base.{Base}
@@ -58,7 +58,7 @@ module _ {S : Type 0} (Contents : ℕ → List ℕ → S → ℕ → Type 0) (go
   makes_record s r fate faults now k more none_yet whole from on fault k_is more_is = let p : Plan = r.plan in let q : Plan = making fate faults now k more p in let sp : PlanCalls = plan_calls p in let unmade : sp.made ≡ false = ap is_made none_yet in let books = append-nil p.records in
       let before : records_of p ≡ p.records = ap (λ (l : List PassRecord). p.records ++ l) none_yet ∙ append-nil p.records in record {
         remembers = remembers_on r.count (book_in p) (book_in q) (λ l h. starts_longer p.history l (published fate more) h)
-            (λ f h. front_longer r.count p.records q.mine f (subst (λ (l : List PassRecord). IsFront r.count l f) before h));
+            (λ f h. front_longer r.count p.records q.mine f (subst (λ (l : List PassRecord). IsRecordedFront r.count l f) before h));
         recorded = new_book (map found_of p.requests) more_is (rising 0 p.scanned p.requests r.announced.requests.scanned)
             (calls_found (IsCall go b) b.callers r.count (shown b s.words).slots sp (map calls_in s.views) r.announced unmade whole)
             (subst (λ (l : List PassRecord). Recorded go b r.start r.count record { history = p.history; records = l; told = p.told }) before r.recorded);
@@ -126,9 +126,9 @@ module _ {S : Type 0} (Contents : ℕ → List ℕ → S → ℕ → Type 0) (go
   raises_book : (s : St) (r : R s) (before now : ℕ) → MayRaise before now r.plan.mine → ((m : Remembered) → Remembers r.count (book_in r.plan) m → Remembers r.count (book_in (raising now r.plan)) m) × Recorded go b r.start r.count (book_in (raising now r.plan)) × (plan_calls (raising now r.plan) ≡ plan_calls r.plan)
   raises_book s r before now may = by_mine r.plan.mine may r.recorded
     where
-      by_mine : (mine : List PassRecord) → MayRaise before now mine → let old : Book = record { history = r.plan.history; records = r.plan.records ++ mine; told = r.plan.told } in let new : Book = record { history = r.plan.history; records = r.plan.records ++ map (raised now) mine; told = r.plan.told } in
+      by_mine : (mine : List PassRecord) → MayRaise before now mine → let old : Book = record { history = r.plan.history; records = r.plan.records ++ mine; told = r.plan.told } in let new : Book = record { history = r.plan.history; records = r.plan.records ++ map (with_faults_after now) mine; told = r.plan.told } in
           Recorded go b r.start r.count old → ((m : Remembered) → Remembers r.count old m → Remembers r.count new m) × Recorded go b r.start r.count new
-          × ((let z : PlanCalls = record { requests = r.plan.requests; scanned = r.plan.scanned; made = is_made (map (raised now) mine); told = r.plan.told; dealt = r.plan.dealt; len = length r.plan.history } in z) ≡ record { requests = r.plan.requests; scanned = r.plan.scanned; made = is_made mine; told = r.plan.told; dealt = r.plan.dealt; len = length r.plan.history })
+          × ((let z : PlanCalls = record { requests = r.plan.requests; scanned = r.plan.scanned; made = is_made (map (with_faults_after now) mine); told = r.plan.told; dealt = r.plan.dealt; len = length r.plan.history } in z) ≡ record { requests = r.plan.requests; scanned = r.plan.scanned; made = is_made mine; told = r.plan.told; dealt = r.plan.dealt; len = length r.plan.history })
       by_mine [] h book = ((λ m g. g), book, refl)
       by_mine (x ∷ []) h book = (remembers_on r.count _ _ (λ l g. g) (λ f g. front_raised r.count now r.plan.records x f g), book_raised Contents go b r.start r.count r.plan.history r.plan.records r.plan.told x now h.1 book, refl)
       by_mine (x ∷ y ∷ rest) h book = absurd h

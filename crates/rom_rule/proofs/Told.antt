@@ -16,7 +16,7 @@ use Rattle.rom_model.specs.declared.record.Found.{Found}
 use Rattle.rom_model.specs.declared.call.Updated.{Updated}
 use Rattle.rom_model.specs.declared.call.Updated.TheVariants as told
 use Rattle.rom_model.specs.Passes.{batch_told, fate_told}
-use Rattle.rom_rule.specs.Calls.{AreScanned, caller_in, found_in, found_of, is_owed, numbered, owed, told_to}
+use Rattle.rom_rule.specs.Calls.{AreScanned, caller_in, found_in, found_of, is_owed, numbered, owed, told_to_caller}
 use Rattle.rom_rule.specs.Views.{Each, Told}
 use Rattle.rom_rule.specs.declared.views.Request.{Request}
 
@@ -143,9 +143,9 @@ map_if : (x : Told) (xs : List Told) (fs : List Found) (t : Bool) → map found_
 map_if x xs fs true e = ap (λ (l : List Found). x.0 ∷ l) e
 map_if x xs fs false e = e
 
-pub told_found : (xs : List Told) (c : ℕ) → map found_in (told_to xs c) ≡ filter (λ f. f.caller == c) (map found_in xs)
+pub told_found : (xs : List Told) (c : ℕ) → map found_in (told_to_caller xs c) ≡ filter (λ f. f.caller == c) (map found_in xs)
 told_found [] c = refl
-told_found (x ∷ xs) c = map_if x (told_to xs c) (filter (λ f. f.caller == c) (map found_in xs)) (eqb x.0.caller c) (told_found xs c)
+told_found (x ∷ xs) c = map_if x (told_to_caller xs c) (filter (λ f. f.caller == c) (map found_in xs)) (eqb x.0.caller c) (told_found xs c)
 
 pub map_append : {A B : Type 0} (f : A → B) (xs ys : List A) → map f (xs ++ ys) ≡ map f xs ++ map f ys
 map_append f [] ys = refl
@@ -221,17 +221,17 @@ one_of c low last (f ∷ fs) h = dite (ℕ_discrete f.caller c)
 abbrev pub caller_of : Told → ℕ
 caller_of x = x.0.caller
 
-none_told : (c low last : ℕ) (xs : List Told) → c ≤ low → AreScanned low last (map caller_of xs) → told_to xs c ≡ []
+none_told : (c low last : ℕ) (xs : List Told) → c ≤ low → AreScanned low last (map caller_of xs) → told_to_caller xs c ≡ []
 none_told c low last [] le h = refl
-none_told c low last (x ∷ xs) le h = let g = h.0 in ap (λ (t : Bool). cond t (x ∷ told_to xs c) (told_to xs c)) (ne_eqb x.0.caller c (λ e. omega arith)) ∙ none_told c x.0.caller last xs (omega arith) h.1
+none_told c low last (x ∷ xs) le h = let g = h.0 in ap (λ (t : Bool). cond t (x ∷ told_to_caller xs c) (told_to_caller xs c)) (ne_eqb x.0.caller c (λ e. omega arith)) ∙ none_told c x.0.caller last xs (omega arith) h.1
 
 -- what a pass told one caller
-pub one_told : (low last q : ℕ) (xs : List Told) (x : Told) → AreScanned low last (map caller_of xs) → get_elem? xs q ≡ some x → told_to xs x.0.caller ≡ x ∷ []
+pub one_told : (low last q : ℕ) (xs : List Told) (x : Told) → AreScanned low last (map caller_of xs) → get_elem? xs q ≡ some x → told_to_caller xs x.0.caller ≡ x ∷ []
 one_told low last q [] x h e = absurd (some-ne-none x (sym e))
 one_told low last zero (y ∷ xs) x h e = let same : y ≡ x = some-injective y x e in
-    subst (λ (z : Told). told_to (y ∷ xs) z.0.caller ≡ z ∷ []) same (ap (λ (t : Bool). cond t (y ∷ told_to xs y.0.caller) (told_to xs y.0.caller)) (eq-eqb y.0.caller y.0.caller refl) ∙ ap (λ (l : List Told). y ∷ l) (none_told y.0.caller y.0.caller last xs (omega arith) h.1))
+    subst (λ (z : Told). told_to_caller (y ∷ xs) z.0.caller ≡ z ∷ []) same (ap (λ (t : Bool). cond t (y ∷ told_to_caller xs y.0.caller) (told_to_caller xs y.0.caller)) (eq-eqb y.0.caller y.0.caller refl) ∙ ap (λ (l : List Told). y ∷ l) (none_told y.0.caller y.0.caller last xs (omega arith) h.1))
 one_told low last (suc q) (y ∷ xs) x h e = let g = scanned_at y.0.caller last (map caller_of xs) q x.0.caller h.1 (at_map caller_of xs q x e) in let g₀ = g.0 in
-    ap (λ (t : Bool). cond t (y ∷ told_to xs x.0.caller) (told_to xs x.0.caller)) (ne_eqb y.0.caller x.0.caller (λ e'. omega arith)) ∙ one_told y.0.caller last q xs x h.1 e
+    ap (λ (t : Bool). cond t (y ∷ told_to_caller xs x.0.caller) (told_to_caller xs x.0.caller)) (ne_eqb y.0.caller x.0.caller (λ e'. omega arith)) ∙ one_told y.0.caller last q xs x h.1 e
 
 -- how many are owed
 owed_if : (c : ℕ) (f : Request) (fs : List Request) (t : Bool) → is_owed c f ≡ t → owed c (f ∷ fs) ≡ cond t 1 0 + owed c fs

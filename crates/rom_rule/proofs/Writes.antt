@@ -11,7 +11,7 @@ use Rattle.atomic_table.proofs.Lists.{at_set}
 use Rattle.rom_model.specs.declared.entry.Entry.{Entry}
 use Rattle.rom_rule.specs.Calls.{Announced}
 use Rattle.rom_rule.specs.Kinds.{CanCheck, CanStore, CanStoreVersion, checked_indicator, loaded_region, observed, planned, stored_back, stored_main, stored_version}
-use Rattle.rom_rule.specs.Places.{Shown, back_at, indicator_at, indicator_count, main_at, shown, version_at, version_of_indicator, word_at}
+use Rattle.rom_rule.specs.Places.{Shown, back_word_at, indicator_at, indicator_count, main_word_at, shown, side_word_at, version_at, version_of_indicator}
 use Rattle.rom_rule.specs.Readers.{ShowsArrivals, Differ, Held, HoldsNothing, IsNumbered, IsWritten, KeepsImage, ReadsNamedSide, Settled, StandsAtOwn, hit}
 use Rattle.rom_rule.specs.Records.{IsCall, Recorded, Remembers}
 use Rattle.rom_rule.specs.Rule.{IsOnlyPlan, IsRuled}
@@ -209,7 +209,7 @@ module _ {S : Type 0} (Contents : ℕ → List ℕ → S → ℕ → Type 0) (go
     reload Contents go b s i id (planned v p) (quiet_step s r id v p s.words at is.1 refl refl refl refl refl refl (λ x seen _ k. k) r.written (λ j x _ h. h)),
     (
       same_view me (λ z. z) p (plan_of v) (sym is.0),
-      λ side k low inside place. side_word Contents go b s r side k i low (subst (λ (z : Base). k < region_len z.order) same inside) (place ∙ ap (λ (z : Base). word_at z.order z.callers side k) same)
+      λ side k low inside place. side_word Contents go b s r side k i low (subst (λ (z : Base). k < region_len z.order) same inside) (place ∙ ap (λ (z : Base). side_word_at z.order z.callers side k) same)
           ∙ ap (λ (z : Plan). get_or (side_of side z.main z.back) k 0) (sym is.0),
     ),
   )
@@ -224,8 +224,8 @@ module _ {S : Type 0} (Contents : ℕ → List ℕ → S → ℕ → Type 0) (go
 
   -- it stores a word of main
   pub stores_main : (slots id : ℕ) (me : M) (k x : ℕ) → CanStore me.0 1 → k < region_len b.order
-      → Allows R slots id me (main_at b.order b.callers k) (λ _. x) (λ _. stored_main (step slots (main_at b.order b.callers k) x 0 none) me x)
-  stores_main slots id me k x can inside s r _ at _ = let writes = can.0 in let clear = can.1 in let named = can.2 in let v = me.0 in let is = plan_is s r id v at writes in let p : Plan = r.plan in let q : Plan = record p { main = set p.main k x } in let i : ℕ = main_at b.order b.callers k in
+      → Allows R slots id me (main_word_at b.order b.callers k) (λ _. x) (λ _. stored_main (step slots (main_word_at b.order b.callers k) x 0 none) me x)
+  stores_main slots id me k x can inside s r _ at _ = let writes = can.0 in let clear = can.1 in let named = can.2 in let v = me.0 in let is = plan_is s r id v at writes in let p : Plan = r.plan in let q : Plan = record p { main = set p.main k x } in let i : ℕ = main_word_at b.order b.callers k in
       let same = base_is s r id v at in let now_shown = shown_main b s.words k x inside in let clear' : Settled b p = subst (λ (z : Base × Plan). Settled z.0 z.1) (λ i. (same i, is.0 i)) clear in let named' : p.side ≡ 1 = ap (λ (z : Plan). z.side) (sym is.0) ∙ named in (
         planned v q,
         keeps,
@@ -242,7 +242,7 @@ module _ {S : Type 0} (Contents : ℕ → List ℕ → S → ℕ → Type 0) (go
               published = subst (λ (l : List ℕ). Held Contents go b r.start r.count l p.history) (ap (λ (z : ℕ). side_of z p.main p.back) named' ∙ ap (λ (z : ℕ). side_of z (set p.main k x) p.back) (sym named')) r.written.published;
             })
             (λ j y _ h. behind_main p y h),
-        λ k' inside' place. let e : k ≡ k' = (let place' : i ≡ main_at b.order b.callers k' = place ∙ ap (λ (z : Base). main_at z.order z.callers k') same in omega arith) in
+        λ k' inside' place. let e : k ≡ k' = (let place' : i ≡ main_word_at b.order b.callers k' = place ∙ ap (λ (z : Base). main_word_at z.order z.callers k') same in omega arith) in
             ap (λ (z : ℕ × Plan). let y : M = (planned v (record z.1 { main = set z.1.main z.0 x }), me.1) in y) (λ c. (e c, sym is.0 c)),
       )
     where
@@ -261,8 +261,8 @@ module _ {S : Type 0} (Contents : ℕ → List ℕ → S → ℕ → Type 0) (go
 
   -- it stores a word of back
   pub stores_back : (slots id : ℕ) (me : M) (k x : ℕ) → CanStore me.0 0 → k < region_len b.order
-      → Allows R slots id me (back_at b.order b.callers k) (λ _. x) (λ _. stored_back (step slots (back_at b.order b.callers k) x 0 none) me x)
-  stores_back slots id me k x can inside s r _ at _ = let writes = can.0 in let clear = can.1 in let named = can.2 in let v = me.0 in let is = plan_is s r id v at writes in let p : Plan = r.plan in let q : Plan = record p { back = set p.back k x } in let i : ℕ = back_at b.order b.callers k in
+      → Allows R slots id me (back_word_at b.order b.callers k) (λ _. x) (λ _. stored_back (step slots (back_word_at b.order b.callers k) x 0 none) me x)
+  stores_back slots id me k x can inside s r _ at _ = let writes = can.0 in let clear = can.1 in let named = can.2 in let v = me.0 in let is = plan_is s r id v at writes in let p : Plan = r.plan in let q : Plan = record p { back = set p.back k x } in let i : ℕ = back_word_at b.order b.callers k in
       let same = base_is s r id v at in let now_shown = shown_back b s.words k x inside in let clear' : Settled b p = subst (λ (z : Base × Plan). Settled z.0 z.1) (λ i. (same i, is.0 i)) clear in let named' : p.side ≡ 0 = ap (λ (z : Plan). z.side) (sym is.0) ∙ named in (
         planned v q,
         keeps,
@@ -279,7 +279,7 @@ module _ {S : Type 0} (Contents : ℕ → List ℕ → S → ℕ → Type 0) (go
               published = subst (λ (l : List ℕ). Held Contents go b r.start r.count l p.history) (ap (λ (z : ℕ). side_of z p.main p.back) named' ∙ ap (λ (z : ℕ). side_of z p.main (set p.back k x)) (sym named')) r.written.published;
             })
             (λ j y _ h. behind_back p y h),
-        λ k' inside' place. let e : k ≡ k' = (let place' : i ≡ back_at b.order b.callers k' = place ∙ ap (λ (z : Base). back_at z.order z.callers k') same in omega arith) in
+        λ k' inside' place. let e : k ≡ k' = (let place' : i ≡ back_word_at b.order b.callers k' = place ∙ ap (λ (z : Base). back_word_at z.order z.callers k') same in omega arith) in
             ap (λ (z : ℕ × Plan). let y : M = (planned v (record z.1 { back = set z.1.back z.0 x }), me.1) in y) (λ c. (e c, sym is.0 c)),
       )
     where

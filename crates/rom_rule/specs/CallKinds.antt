@@ -14,7 +14,7 @@ use Rattle.rom_model.specs.declared.record.Fate.{Fate}
 use Rattle.rom_model.specs.declared.record.Fate.TheVariants.{Published}
 use Rattle.rom_model.specs.declared.record.Found.{Found}
 use Rattle.rom_model.specs.declared.record.PassRecord.{PassRecord}
-use Rattle.rom_rule.specs.Calls.{IsLater, IsWhole, answer_words, found_of, packed, told_to}
+use Rattle.rom_rule.specs.Calls.{IsLater, IsWhole, answer_words, found_of, packed, told_to_caller}
 use Rattle.rom_rule.specs.Kinds.{IsBatch, Seated, TellsEach, making, planned}
 use Rattle.rom_rule.specs.Places.{CALL, PLACE, REPLY, TURN, slot_at}
 use Rattle.rom_rule.specs.Records.{IsCall, KnowsEntries}
@@ -97,8 +97,8 @@ abbrev pub IsPending : Plan → ℕ → Request → Type 0
 IsPending p c f = (i : ℕ) × (get_elem? p.requests i ≡ some f) × (f.caller ≡ c) × (f.answered ≡ false)
 
 -- what the records told of a request
-abbrev pub IsAnswer : Plan → Request → Updated (List ℕ) → Type 0
-IsAnswer p f u = get_elem? (told_to p.told f.caller) f.seq ≡ some (found_of f, u)
+abbrev pub IsAnswerToRequest : Plan → Request → Updated (List ℕ) → Type 0
+IsAnswerToRequest p f u = get_elem? (told_to_caller p.told f.caller) f.seq ≡ some (found_of f, u)
 
 -- The writer loads word j of a request's call, or their number.
 -- When: it is pending, and the words before were loaded.
@@ -165,7 +165,7 @@ stored_place st m found m' = (c : ℕ) → 0 < c → st.word ≡ slot_at m.0.bas
 -- The writer stores a request's turn, even.
 -- When: it is pending, and the words that stand in the slot are what the records told of it.
 abbrev pub CanFinish : Plan → Request → Updated (List ℕ) → ℕ → Type 0
-CanFinish p f u place = IsPending p f.caller f × IsAnswer p f u × (f.place ≡ place ∷ []) × (place ∷ f.laid ≡ answer_words u)
+CanFinish p f u place = IsPending p f.caller f × IsAnswerToRequest p f u × (f.place ≡ place ∷ []) × (place ∷ f.laid ≡ answer_words u)
 
 -- a request that is answered
 abbrev pub answering : Request → Request
@@ -185,7 +185,7 @@ HasEntry count history f reply place = (i : ℕ) × (place ≡ count + i) × (pl
 
 module _ {S : Type 0} (Contents : ℕ → List ℕ → S → ℕ → Type 0) (step : ℕ → S → ℕ → List ℕ → Option (S × List ℕ)) where
   -- What one pass told of a call: the pass is the last of some first passes, it found calls alone, its count of faults rose where it failed or is in doubt, and what is seen goes up to it. What is done stands in the history at its place, which the caller had not seen when it posted the call.
-  pub record IsTold (b : Base) (x : Told) (since : ℕ) (seen seen' : List Entry) : Type 0 where
+  pub record IsToldByPass (b : Base) (x : Told) (since : ℕ) (seen seen' : List Entry) : Type 0 where
     pub start : S
     pub count : ℕ
     pub opening : Contents b.order b.image start count
@@ -206,7 +206,7 @@ module _ {S : Type 0} (Contents : ℕ → List ℕ → S → ℕ → Type 0) (st
     pub told : Told
     pub seen : List Entry
     pub found : told.0 ≡ record { caller = m.0.number; seq = length m.0.outcomes; args = slice_index_or m.0.calls (length m.0.outcomes) [] }
-    pub is_told : IsTold m.0.base told m.0.since m.0.seen seen
+    pub is_told : IsToldByPass m.0.base told m.0.since m.0.seen seen
     pub view : m' ≡ (record m.0 { outcomes = m.0.outcomes ++ told ∷ []; seen = seen; steps = m.0.steps + 1 }, m.1)
     pub own : (s : S) (n : ℕ) → Contents m.0.base.order m.0.base.image s n → KnowsEntries m.0.base.callers n m'.0
 

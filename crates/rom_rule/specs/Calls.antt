@@ -34,8 +34,8 @@ answer_words Failed = FAILED ∷ packed []
 answer_words Doubt = DOUBT ∷ packed []
 
 -- what was told of the calls of one caller
-abbrev pub told_to : List Told → ℕ → List Told
-told_to told c = filter (λ x. x.0.caller == c) told
+abbrev pub told_to_caller : List Told → ℕ → List Told
+told_to_caller told c = filter (λ x. x.0.caller == c) told
 
 -- the found call, without what it is told
 abbrev pub found_in : Told → Found
@@ -112,20 +112,20 @@ abbrev pub IsLater : ℕ → ℕ → Told → Type 0
 IsLater count since x = (reply : List ℕ) (place : ℕ) → x.1 ≡ Done reply place → count + since ≤ place
 
 -- A joined caller posts no more, and kept what the records told it of all its calls.
-abbrev pub IsClosed : ℕ → (ℕ → List (List ℕ)) → (ℕ → Bool) → List Told → Kept → Type 0
-IsClosed callers calls closed told k = 0 < k.number → (k.number ≤ callers) × (closed k.number ≡ true) × (length (calls k.number) ≡ length k.told) × StartsWith (told_to told k.number) k.told
+abbrev pub IsClosedCaller : ℕ → (ℕ → List (List ℕ)) → (ℕ → Bool) → List Told → Kept → Type 0
+IsClosedCaller callers calls closed told k = 0 < k.number → (k.number ≤ callers) × (closed k.number ≡ true) × (length (calls k.number) ≡ length k.told) × StartsWith (told_to_caller told k.number) k.told
 
 -- What a caller's view knows of its calls: they are those that it posted, what it was told is what the records told it, the argument words that it has stored since stand in its slot, and the call that is posted is done at a place that it had not seen when it posted it.
 pub record KnowsCalls (callers : ℕ) (slots : List ℕ) (count : ℕ) (calls : ℕ → List (List ℕ)) (given : ℕ → ℕ) (closed : ℕ → Bool) (p : PlanCalls) (t : CallerCalls) : Type 0 where
   pub live : 0 < t.number → closed t.number ≡ false
-  pub joined : AllByRecursion (IsClosed callers calls closed p.told) t.joined
+  pub joined : AllByRecursion (IsClosedCaller callers calls closed p.told) t.joined
   pub mine : 0 < t.number → t.calls ≡ calls t.number
-  pub outcomes : 0 < t.number → StartsWith (told_to p.told t.number) t.outcomes
+  pub outcomes : 0 < t.number → StartsWith (told_to_caller p.told t.number) t.outcomes
   pub taken_le : 0 < t.number → length t.outcomes ≤ given t.number
   pub laid_there : 0 < t.number → Lies slots t.number CALL t.laid
   pub laid_few : length t.laid ≤ 41
   pub since_le : t.since ≤ p.len
-  pub since : (x : Told) → 0 < t.number → get_elem? (told_to p.told t.number) (length t.outcomes) ≡ some x → IsLater count t.since x
+  pub since : (x : Told) → 0 < t.number → get_elem? (told_to_caller p.told t.number) (length t.outcomes) ≡ some x → IsLater count t.since x
 
 -- Of all callers: what each has posted, how many of its calls were answered, and whether it was joined into another view. A number that no view has had yet has posted nothing. The records found no other caller's calls.
 pub record Announced (Callable : List ℕ → Type 0) (callers : ℕ) (slots : List ℕ) (count : ℕ) (p : PlanCalls) (all_calls : List CallerCalls) : Type 0 where
@@ -133,7 +133,7 @@ pub record Announced (Callable : List ℕ → Type 0) (callers : ℕ) (slots : L
   pub given : ℕ → ℕ
   pub closed : ℕ → Bool
   pub fresh : (c : ℕ) → p.dealt < c → (calls c ≡ []) × (given c ≡ 0) × (closed c ≡ false)
-  pub each : (c : ℕ) → 0 < c → c ≤ callers → SlotHolds Callable slots c (calls c) (given c) (owing p.made c p.requests) (told_to p.told c)
+  pub each : (c : ℕ) → 0 < c → c ≤ callers → SlotHolds Callable slots c (calls c) (given c) (owing p.made c p.requests) (told_to_caller p.told c)
   pub views : Each (λ _. KnowsCalls callers slots count calls given closed p) all_calls
   pub requests : AreFound callers slots calls given p
   pub known : AllByRecursion (λ x. (0 < x.0.caller) × (x.0.caller ≤ callers)) p.told

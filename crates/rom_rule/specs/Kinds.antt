@@ -13,10 +13,10 @@ use Rattle.rom_model.specs.declared.record.Fate.{Fate}
 use Rattle.rom_model.specs.declared.record.Fate.TheVariants.{Published}
 use Rattle.rom_model.specs.declared.record.Found.{Found}
 use Rattle.rom_model.specs.declared.record.PassRecord.{PassRecord}
-use Rattle.rom_rule.specs.Calls.{IsWhole, found_of, told_to}
-use Rattle.rom_rule.specs.Places.{back_at, indicator_at, indicator_count, indicator_of, main_at, side_at, version_at, version_of_indicator, word_at}
-use Rattle.rom_rule.specs.Readers.{Held, Settled, Stands, stands}
-use Rattle.rom_rule.specs.Records.{IsKept, KnowsEntries, Recorded}
+use Rattle.rom_rule.specs.Calls.{IsWhole, found_of, told_to_caller}
+use Rattle.rom_rule.specs.Places.{back_word_at, indicator_at, indicator_count, indicator_of, main_word_at, side_at, side_word_at, version_at, version_of_indicator}
+use Rattle.rom_rule.specs.Readers.{Held, IsHeldSinceOpening, Settled, stands}
+use Rattle.rom_rule.specs.Records.{IsKeptInBook, KnowsEntries, Recorded}
 use Rattle.rom_rule.specs.Views.{Each, IsWriter, Told, book_in, fresh_view, image_of, indicator_in, is_reading, kept_of, plan_of, side_of, side_read, version_of}
 use Rattle.rom_rule.specs.declared.views.Base.{Base}
 use Rattle.rom_rule.specs.declared.views.Plan.{Plan}
@@ -65,7 +65,7 @@ module _ {S : Type 0} (Contents : ℕ → List ℕ → S → ℕ → Type 0) (st
   -- What a load of `side` tells: the caller reads that side, whose words stand for the state after the
   -- history that it has seen now.
   abbrev pub loaded_side : Step ℕ → Seated → ℕ → Seated → Type 0
-  loaded_side st m found m' = (st.word ≡ side_at) × (front : ℕ) × (image : List ℕ) × (seen : List Entry) × (found < 2) × StartsWith seen m.0.seen × Stands Contents step m.0.base image seen front
+  loaded_side st m found m' = (st.word ≡ side_at) × (front : ℕ) × (image : List ℕ) × (seen : List Entry) × (found < 2) × StartsWith seen m.0.seen × IsHeldSinceOpening Contents step m.0.base image seen front
       × (m' ≡ (entering m.0 (indicator_in m.0.position) found front image seen, m.1))
       × (length m.0.calls ≡ length m.0.outcomes → (s : S) (n : ℕ) → Contents m.0.base.order m.0.base.image s n → KnowsEntries m.0.base.callers n m'.0)
 
@@ -77,7 +77,7 @@ IsReading v = (is_reading v.position ≡ true) × (0 < v.number)
 -- What a load of a word of the side tells: it is the image's at that place, and the caller still reads.
 abbrev pub loaded_image : Step ℕ → Seated → ℕ → Seated → Type 0
 loaded_image st m found m' = (m' ≡ (moved m.0 m.0.position, m.1))
-    × ((at : ℕ) → at < region_len m.0.base.order → st.word ≡ word_at m.0.base.order m.0.base.callers (side_read m.0.position) at → found ≡ slice_index (image_of m.0.position) at)
+    × ((at : ℕ) → at < region_len m.0.base.order → st.word ≡ side_word_at m.0.base.order m.0.base.callers (side_read m.0.position) at → found ≡ slice_index (image_of m.0.position) at)
 
 -- A caller stores 0 in its indicator.
 -- When: it stands there.
@@ -112,15 +112,15 @@ making fate before after k more p = record p {
 -- what the record told each request is what its caller was told of it
 abbrev pub TellsEach : Fate → ℕ → List Entry → Plan → Type 0
 TellsEach fate k more p = (i : ℕ) (f : Request) (x : Told) → get_elem? p.requests i ≡ some f → get_elem? (fate_told fate k (map found_of p.requests) more) i ≡ some x
-    → get_elem? (told_to (p.told ++ fate_told fate k (map found_of p.requests) more) f.caller) f.seq ≡ some x
+    → get_elem? (told_to_caller (p.told ++ fate_told fate k (map found_of p.requests) more) f.caller) f.seq ≡ some x
 
 -- the plan after the count of faults was raised in this pass's record
-abbrev pub raised : ℕ → PassRecord → PassRecord
-raised faults r = record r { faults_after = faults }
+abbrev pub with_faults_after : ℕ → PassRecord → PassRecord
+with_faults_after faults r = record r { faults_after = faults }
 
 -- the plan whose pass has this count of faults after it, where the pass has a record
 abbrev pub raising : ℕ → Plan → Plan
-raising faults p = record p { mine = map (raised faults) p.mine }
+raising faults p = record p { mine = map (with_faults_after faults) p.mine }
 
 -- where this pass has a record, its count before stays, and its count after isn't lowered
 abbrev pub MayRaise : ℕ → ℕ → List PassRecord → Type 0
@@ -192,7 +192,7 @@ stored_version st m found m' = m' ≡ (planned m.0 (record (plan_of m.0) { versi
 -- When: always, by the writer.
 abbrev pub loaded_region : Step ℕ → Seated → ℕ → Seated → Type 0
 loaded_region st m found m' = (m' ≡ (planned m.0 (plan_of m.0), m.1))
-    × ((side at : ℕ) → side < 2 → at < region_len m.0.base.order → st.word ≡ word_at m.0.base.order m.0.base.callers side at → found ≡ slice_index (side_of side (plan_of m.0).main (plan_of m.0).back) at)
+    × ((side at : ℕ) → side < 2 → at < region_len m.0.base.order → st.word ≡ side_word_at m.0.base.order m.0.base.callers side at → found ≡ slice_index (side_of side (plan_of m.0).main (plan_of m.0).back) at)
 
 -- The writer stores a word of main, or of back.
 -- When: `side` names the other side, and all indicators were loaded as 0 since.
@@ -201,11 +201,11 @@ CanStore v other = IsWriter v (plan_of v) × Settled v.base (plan_of v) × ((pla
 
 -- What a store of a word of main tells: the plan's main has the word there.
 abbrev pub stored_main : Step ℕ → Seated → ℕ → Seated → Type 0
-stored_main st m found m' = (at : ℕ) → at < region_len m.0.base.order → st.word ≡ main_at m.0.base.order m.0.base.callers at → m' ≡ (planned m.0 (record (plan_of m.0) { main = slice_set (plan_of m.0).main at st.first }), m.1)
+stored_main st m found m' = (at : ℕ) → at < region_len m.0.base.order → st.word ≡ main_word_at m.0.base.order m.0.base.callers at → m' ≡ (planned m.0 (record (plan_of m.0) { main = slice_set (plan_of m.0).main at st.first }), m.1)
 
 -- What a store of a word of back tells: the plan's back has the word there.
 abbrev pub stored_back : Step ℕ → Seated → ℕ → Seated → Type 0
-stored_back st m found m' = (at : ℕ) → at < region_len m.0.base.order → st.word ≡ back_at m.0.base.order m.0.base.callers at → m' ≡ (planned m.0 (record (plan_of m.0) { back = slice_set (plan_of m.0).back at st.first }), m.1)
+stored_back st m found m' = (at : ℕ) → at < region_len m.0.base.order → st.word ≡ back_word_at m.0.base.order m.0.base.callers at → m' ≡ (planned m.0 (record (plan_of m.0) { back = slice_set (plan_of m.0).back at st.first }), m.1)
 
 -- The writer's seat is cut in two, at the opening: the new seat gets the next caller's number.
 -- When: there is a number left.
@@ -231,12 +231,12 @@ note_of v = record (fresh_view v.base) { seen = v.seen }
 
 -- A seat keeps what another knew, which is spent.
 -- When: both are out, and the spent one has no call posted and isn't the writer's.
-abbrev pub IsIdle : View → Type 0
-IsIdle v = (v.position ≡ Out) × (length v.calls ≡ length v.outcomes)
+abbrev pub IsIdleView : View → Type 0
+IsIdleView v = (v.position ≡ Out) × (length v.calls ≡ length v.outcomes)
 
 -- what w knew may be kept by v: both are out, and w has no call posted and isn't the writer's
 abbrev pub CanJoin : View → View → Type 0
-CanJoin v w = (v.position ≡ Out) × IsIdle w × (w.plan ≡ None)
+CanJoin v w = (v.position ≡ Out) × IsIdleView w × (w.plan ≡ None)
 
 -- view v once it keeps what view w knew, and what w had kept
 abbrev pub informed : View → View → View
@@ -257,6 +257,6 @@ module _ {S : Type 0} (Contents : ℕ → List ℕ → S → ℕ → Type 0) (st
   -- When: it is out.
   abbrev pub reviewed : Step ℕ → Seated → ℕ → Seated → Type 0
   reviewed st m found m' = (m' ≡ (planned m.0 (plan_of m.0), m.1))
-      × AllByRecursion (λ k. 0 < k.number → told_to (plan_of m.0).told k.number ≡ k.told) m.0.joined
+      × AllByRecursion (λ k. 0 < k.number → told_to_caller (plan_of m.0).told k.number ≡ k.told) m.0.joined
       × AllByRecursion (λ x. (0 < x.0.caller) × (x.0.caller ≤ m.0.base.callers)) (plan_of m.0).told
-      × ((s : S) (n : ℕ) → Contents m.0.base.order m.0.base.image s n → Recorded step m.0.base s n (book_in (plan_of m.0)) × AllByRecursion (IsKept n (book_in (plan_of m.0))) m.0.joined)
+      × ((s : S) (n : ℕ) → Contents m.0.base.order m.0.base.image s n → Recorded step m.0.base s n (book_in (plan_of m.0)) × AllByRecursion (IsKeptInBook n (book_in (plan_of m.0))) m.0.joined)

@@ -66,16 +66,16 @@ slot_at callers c j = slots_at callers + (64 * (c - 1) + j)
 -- Of a heap's order and a number of callers:
 module _ (order callers : ℕ) where
   -- word i of shared main
-  abbrev pub main_at : ℕ → ℕ
-  main_at i = slots_at callers + 64 * callers + i
+  abbrev pub main_word_at : ℕ → ℕ
+  main_word_at i = slots_at callers + 64 * callers + i
 
   -- word i of shared back
-  abbrev pub back_at : ℕ → ℕ
-  back_at i = slots_at callers + 64 * callers + region_len order + i
+  abbrev pub back_word_at : ℕ → ℕ
+  back_word_at i = slots_at callers + 64 * callers + region_len order + i
 
   -- word i of a side: 0 is main, 1 is back
-  abbrev pub word_at : ℕ → ℕ → ℕ
-  word_at side i = if side == 0 then main_at i else back_at i
+  abbrev pub side_word_at : ℕ → ℕ → ℕ
+  side_word_at side i = if side == 0 then main_word_at i else back_word_at i
 
   -- how many words the table has
   abbrev pub table_len : ℕ

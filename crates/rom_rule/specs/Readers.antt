@@ -65,7 +65,7 @@ module _ {S : Type 0} (Contents : ℕ → List ℕ → S → ℕ → Type 0) (st
   Held b start count image history = Contents b.order image (after step b.order start count history) (count + length history)
 
   -- The same from the state and the count that the opening image stands for. The front is the count.
-  pub record Stands (b : Base) (image : List ℕ) (history : List Entry) (front : ℕ) : Type 0 where
+  pub record IsHeldSinceOpening (b : Base) (image : List ℕ) (history : List Entry) (front : ℕ) : Type 0 where
     pub start : S
     pub count : ℕ
     pub opening : Contents b.order b.image start count
@@ -74,7 +74,7 @@ module _ {S : Type 0} (Contents : ℕ → List ℕ → S → ℕ → Type 0) (st
 
   -- A view that reads a side at a front has as image that side's words, and they stand for the state and the count at that front, after a history that the view has seen.
   abbrev pub KeepsImage : Base → List ℕ → List ℕ → Position → List Entry → Type 0
-  KeepsImage b main back (Reads k side front image) seen = (image ≡ side_of side main back) × (side < 2) × (history : List Entry) × StartsWith seen history × Stands b image history front
+  KeepsImage b main back (Reads k side front image) seen = (image ≡ side_of side main back) × (side < 2) × (history : List Entry) × StartsWith seen history × IsHeldSinceOpening b image history front
   KeepsImage b main back _ seen = Unit {0}
 
   -- The shared words are those in the writer's plan, `side` and `version` are each 0 or 1, and the side that `side` names stands for the published history.

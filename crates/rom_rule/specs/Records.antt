@@ -11,18 +11,18 @@ use Rattle.rom_rule.specs.declared.views.View.{View}
 use Rattle.rom_rule.specs.Views.{Book, Remembered}
 
 -- a front is the count at the opening or after a pass
-abbrev pub IsFront : ℕ → List PassRecord → ℕ → Type 0
-IsFront count records front = (i : ℕ) × (i ≤ length records) × (front ≡ count + len_after 0 (take i records))
+abbrev pub IsRecordedFront : ℕ → List PassRecord → ℕ → Type 0
+IsRecordedFront count records front = (i : ℕ) × (i ≤ length records) × (front ≡ count + len_after 0 (take i records))
 
 -- what a joined view had seen begins the published history, and the fronts that it had are fronts
-abbrev pub IsKept : ℕ → Book → Kept → Type 0
-IsKept count book k = StartsWith book.history k.seen × AllByRecursion (IsFront count book.records) k.fronts
+abbrev pub IsKeptInBook : ℕ → Book → Kept → Type 0
+IsKeptInBook count book k = StartsWith book.history k.seen × AllByRecursion (IsRecordedFront count book.records) k.fronts
 
 -- Each history that a view has seen, also one that a join has kept, begins the published history. Each front that a view had, also one that a join has kept, is the count at a boundary of the records.
 pub record Remembers (count : ℕ) (book : Book) (m : Remembered) : Type 0 where
   pub seen : StartsWith book.history m.seen
-  pub fronts : AllByRecursion (IsFront count book.records) m.fronts
-  pub joined : AllByRecursion (IsKept count book) m.joined
+  pub fronts : AllByRecursion (IsRecordedFront count book.records) m.fronts
+  pub joined : AllByRecursion (IsKeptInBook count book) m.joined
 
 -- What a view has seen of callers' updates, where the count at the opening was this one: each entry is of a caller numbered from 1 to their number, and its own entries, with their places, are those of its calls that were done, in their order.
 pub record KnowsEntries (callers count : ℕ) (v : View) : Type 0 where

@@ -1,7 +1,7 @@
 //! Where each word stands in the shared table.
 ghost use Rattle.std.specs.Prelude.{◌≡◌, ◌^◌, ◌<◌, ◌≤◌};
 ghost use Rattle.rom_model.specs.Blocks.{IsOrder, region_len};
-ghost use Rattle.rom_rule.specs.Places.{AreCallers, side_at, version_at, indicator_at, indicator_of, slot_at, main_at, back_at, table_len};
+ghost use Rattle.rom_rule.specs.Places.{AreCallers, side_at, version_at, indicator_at, indicator_of, slot_at, main_word_at, back_word_at, table_len};
 
 use rom_model::region_len;
 
@@ -116,7 +116,7 @@ impl Layout {
     /// Word `at` of shared main, an offset from the region's start.
     pub fn main(&self, at: u64) -> u64
         requires inside { at < region_len self.now.order }
-        ensures is { result ≡ main_at self.now.order self.now.callers at }
+        ensures is { result ≡ main_word_at self.now.order self.now.callers at }
         ensures near { result < 2 ^ 32 }
     {
         self.slots() + SLOT * self.callers as u64 + at
@@ -125,7 +125,7 @@ impl Layout {
     /// Word `at` of shared back, an offset from the region's start.
     pub fn back(&self, at: u64) -> u64
         requires inside { at < region_len self.now.order }
-        ensures is { result ≡ back_at self.now.order self.now.callers at }
+        ensures is { result ≡ back_word_at self.now.order self.now.callers at }
         ensures near { result < 2 ^ 32 }
     {
         self.slots() + SLOT * self.callers as u64 + region_len(self.order) + at

@@ -6,7 +6,7 @@ use Rattle.rom_model.specs.Story.{Story}
 use Rattle.rom_model.specs.declared.line.LineResult.{LineResult}
 use Rattle.rom_model.specs.declared.line.Step.{Step}
 use Rattle.rom_device.specs.Device.{ShownDevice}
-use Rattle.rom_text.specs.Runs.{IsLineTold}
+use Rattle.rom_text.specs.Runs.{IsLineWrittenOrCutShort}
 use Rattle.rom_text.specs.Streams.{ShownSink, ShownSource}
 use Rattle.rom_store.specs.Sessions.{SessionSeen}
 use Rattle.rom_run.specs.Played.{HasReplies, HavePlayed}
@@ -30,6 +30,6 @@ replies_of machine Contents shown Prints AreRun heap was now sources scripts old
 }
 
 -- scripts that could not be read for want of memory, by the status
-pub unread_memory : {X K : Type 0} (source : ShownSource X) (sink : ShownSink K) (before after : List X) (old new : K) (status : Status) → AreNotRun source sink status before after old new → exit_number status ≡ 6 → IsLineTold sink old new (codes "no memory")
+pub unread_memory : {X K : Type 0} (source : ShownSource X) (sink : ShownSink K) (before after : List X) (old new : K) (status : Status) → AreNotRun source sink status before after old new → exit_number status ≡ 6 → IsLineWrittenOrCutShort sink old new (codes "no memory")
 unread_memory source sink before after old new NoMemory why six = why
 unread_memory source sink before after old new other why six = absurd (omega (arith, six))

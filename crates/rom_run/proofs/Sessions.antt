@@ -11,7 +11,7 @@ use Rattle.rom_model.specs.Story.{Story}
 use Rattle.rom_model.specs.declared.line.LineResult.{LineResult}
 use Rattle.rom_model.specs.declared.line.Step.{Step}
 use Rattle.rom_device.specs.Device.{Does, Leaves, ShownDevice, Stays}
-use Rattle.rom_header.specs.Fresh.{IsFormatAnswer, IsRefused}
+use Rattle.rom_header.specs.Fresh.{IsFormatAnswer, IsFormatRefused}
 use Rattle.rom_header.specs.Held.{Holds}
 use Rattle.rom_header.specs.Layout.{words_needed}
 use Rattle.rom_open.specs.Within.{HasMadeHeap, HasOpened}
@@ -24,13 +24,13 @@ use Rattle.rom_run.specs.Working.{HasSession, IsDeviceKept}
 use Rattle.rom_run.specs.declared.heap.Heap.TheVariants.{New, Standing}
 
 -- where a heap can be made, none stands, and there are words enough
-pub unrefused : (order : ℕ) (words : List ℕ) → IsFormatAnswer order words (Ok tt) → IsRefused order words → ⊥
+pub unrefused : (order : ℕ) (words : List ℕ) → IsFormatAnswer order words (Ok tt) → IsFormatRefused order words → ⊥
 unrefused order words can (inl stands) = can.0 stands
 unrefused order words can (inr short) = let long = can.1 in omega (arith, long, short)
 
 -- the device of a heap that was to be made
 pub kept_made : {D : Type 0} (shown : ShownDevice D) (order : ℕ) (was now : D) → shown.size now ≡ shown.size was → (IsTrue shown.tells_words → ChangesOnly 0 (words_needed order) (shown.words was) (shown.words now))
-    → (IsTrue shown.tells_words → IsRefused order (shown.words was) → Does shown Stays was now) → IsDeviceKept shown (New order) was now
+    → (IsTrue shown.tells_words → IsFormatRefused order (shown.words was) → Does shown Stays was now) → IsDeviceKept shown (New order) was now
 kept_made shown order was now size outside spared = record { size = size; outside = outside; spared = spared }
 
 module _ {D S C Q R A : Type 0} (shown : ShownDevice D) (machine : Machine S C Q R A) (Contents : ℕ → List ℕ → S → ℕ → Type 0) (scripts : List (Items (Step C Q))) (results : List (Reserved (LineResult R A))) (was : D) (closed : ClosedSeen D) (faults : closed.session.faults ≡ shown.faults was) where

@@ -9,7 +9,7 @@ use Rattle.rom_header.specs.Calls.{format_fault, format_reads, format_syncs, for
 use Rattle.rom_header.specs.Fresh.{HasTooFewFor, IsFormatAnswer}
 use Rattle.rom_header.specs.declared.fresh.FormatRefused.{FormatRefused}
 use Rattle.rom_header.specs.declared.fresh.FormatRefused.TheVariants as format
-use Rattle.rom_text.specs.Runs.{IsLineTold}
+use Rattle.rom_text.specs.Runs.{IsLineWrittenOrCutShort}
 use Rattle.rom_text.specs.Streams.{ShownSink}
 use Rattle.rom_open.specs.Calls.{AreOpeningSyncs, AreOpeningWrites, HasOpeningFaults, OpeningCalls}
 use Rattle.rom_open.specs.Making.{HasFaultsUnmade, IfMade, NamesTooFewFor}
@@ -61,13 +61,13 @@ named_calls shown words was now why named calls = record {
 module _ {D O : Type 0} (shown : ShownDevice D) (sink : ShownSink O) (was now : D) (old new : O) where
   -- a device that failed while its heap was opened
   pub opening_failed : (why : Why) (n : ℕ) → n ≡ exit_number (refusal_status why) → n ≡ 7 →
-      HasOpeningFaults {T = Unit {0}} (Err why) (shown.faults was) (shown.faults now) (shown.failing now) → IsLineTold sink old new (refusal_line why) → HasDeviceFailed shown sink was now old new
+      HasOpeningFaults {T = Unit {0}} (Err why) (shown.faults was) (shown.faults now) (shown.failing now) → IsLineWrittenOrCutShort sink old new (refusal_line why) → HasDeviceFailed shown sink was now old new
   opening_failed Device n is seven failed told = record { failed = failed; told = told }
   opening_failed other n is seven failed told = absurd (omega arith)
 
   -- or while a heap was made
   pub making_failed : (why : NotFormatted) (n order : ℕ) (reads writes syncs : Result (Unit {0}) FormatRefused → ℕ) → n ≡ exit_number (unmade_status why) → n ≡ 7 →
-      IfMade (Err why) (λ made. Makes shown (reads made) (writes made) (syncs made) was now (format_fault made)) → IsLineTold sink old new (unmade_line why) → HasDeviceFailed shown sink was now old new
+      IfMade (Err why) (λ made. Makes shown (reads made) (writes made) (syncs made) was now (format_fault made)) → IsLineWrittenOrCutShort sink old new (unmade_line why) → HasDeviceFailed shown sink was now old new
   making_failed (unmade.Refused format.Device) n order reads writes syncs is seven made told = record { failed = made.cause.failed; told = told }
   making_failed other n order reads writes syncs is seven made told = absurd (omega arith)
 
@@ -75,7 +75,7 @@ module _ {D O : Type 0} (shown : ShownDevice D) (sink : ShownSink O) (was now : 
   -- a heap that was not made for a script, as it is told
   pub refused_unmade : (why : NotFormatted) (n : ℕ) → n ≡ exit_number (unmade_status why) → n ≡ 3 →
       (IsTrue shown.tells_words → (w : FormatRefused) → why ≡ unmade.Refused w → IsFormatAnswer order (shown.words was) (Err w)) → ((w : FormatRefused) → why ≡ unmade.Refused w → HasTooFewFor order (shown.size was) w) →
-      MakesNone shown order why was now → IsLineTold sink old new (unmade_line why) → IsUnmade shown sink order was now old new
+      MakesNone shown order why was now → IsLineWrittenOrCutShort sink old new (unmade_line why) → IsUnmade shown sink order was now old new
   refused_unmade (unmade.Refused format.AlreadyAHeap) n is three answer sizes calls told = record { why = format.AlreadyAHeap; by_name = λ is. cc; refused = λ tells. answer tells format.AlreadyAHeap refl; sizes = tt; calls = calls; told = told }
   refused_unmade (unmade.Refused (format.TooSmall need have)) n is three answer sizes calls told = record {
     why = format.TooSmall need have;
@@ -91,14 +91,14 @@ module _ {D O : Type 0} (shown : ShownDevice D) (sink : ShownSink O) (was now : 
   -- or alone
   pub refused_alone : (why : NotFormatted) (n : ℕ) → n ≡ exit_number (unmade_status why) → n ≡ 3 →
       (IsTrue shown.tells_words → IfMade (Err why) (IsFormatAnswer order (shown.words was))) → IfMade (Err why) (NamesTooFewFor order (shown.size was)) →
-      IfMade (Err why) (λ made. Makes shown (format_reads made) (format_writes order made) (format_syncs made) was now (format_fault made)) → IsLineTold sink old new (unmade_line why) → IsUnmade shown sink order was now old new
+      IfMade (Err why) (λ made. Makes shown (format_reads made) (format_writes order made) (format_syncs made) was now (format_fault made)) → IsLineWrittenOrCutShort sink old new (unmade_line why) → IsUnmade shown sink order was now old new
   refused_alone (unmade.Refused format.AlreadyAHeap) n is three answer sizes makes told = record { why = format.AlreadyAHeap; by_name = λ is. cc; refused = answer; sizes = sizes; calls = makes; told = told }
   refused_alone (unmade.Refused (format.TooSmall need have)) n is three answer sizes makes told = record { why = format.TooSmall need have; by_name = λ is. cc; refused = answer; sizes = sizes; calls = makes; told = told }
   refused_alone (unmade.Refused format.Device) n is three answer sizes makes told = absurd (omega arith)
   refused_alone unmade.OutOfMemory n is three answer sizes makes told = absurd (omega arith)
 
   -- or because the device failed
-  pub failed_unmade : (why : NotFormatted) (n : ℕ) → n ≡ exit_number (unmade_status why) → n ≡ 7 → HasFaultsUnmade why (shown.faults was) (shown.faults now) (shown.failing now) → IsLineTold sink old new (unmade_line why) → HasDeviceFailed shown sink was now old new
+  pub failed_unmade : (why : NotFormatted) (n : ℕ) → n ≡ exit_number (unmade_status why) → n ≡ 7 → HasFaultsUnmade why (shown.faults was) (shown.faults now) (shown.failing now) → IsLineWrittenOrCutShort sink old new (unmade_line why) → HasDeviceFailed shown sink was now old new
   failed_unmade (unmade.Refused format.Device) n is seven failed told = record { failed = failed; told = told }
   failed_unmade (unmade.Refused format.AlreadyAHeap) n is seven failed told = absurd (omega arith)
   failed_unmade (unmade.Refused (format.TooSmall need have)) n is seven failed told = absurd (omega arith)
@@ -115,7 +115,7 @@ module _ {S C Q R A D K : Type 0} (machine : Machine S C Q R A) (Contents : ℕ 
   -- there is none, since none was made
   pub none_made : (order : ℕ) (why : NotFormatted) →
       (IsTrue shown.tells_words → (w : FormatRefused) → why ≡ unmade.Refused w → IsFormatAnswer order (shown.words was) (Err w)) → ((w : FormatRefused) → why ≡ unmade.Refused w → HasTooFewFor order (shown.size was) w) →
-      MakesNone shown order why was now → HasFaultsUnmade why (shown.faults was) (shown.faults now) (shown.failing now) → (IsTrue shown.tells_images → IsLeft machine Contents shown earlier (New order) was now) → (why ≡ unmade.OutOfMemory → now ≡ was) → WithinMaking shown order was now → IsLineTold sink old new (unmade_line why) →
+      MakesNone shown order why was now → HasFaultsUnmade why (shown.faults was) (shown.faults now) (shown.failing now) → (IsTrue shown.tells_images → IsLeft machine Contents shown earlier (New order) was now) → (why ≡ unmade.OutOfMemory → now ≡ was) → WithinMaking shown order was now → IsLineWrittenOrCutShort sink old new (unmade_line why) →
       HasNone machine Contents shown sink Rejects earlier (New order) was now old new (exit_number (unmade_status why))
   none_made order why answer sizes calls faults images memory within told = record {
     images = images;
@@ -139,7 +139,7 @@ module _ {S C Q R A D K : Type 0} (machine : Machine S C Q R A) (Contents : ℕ 
       remembered (unmade.Refused format.AlreadyAHeap) six = absurd (omega (arith, six))
       remembered (unmade.Refused (format.TooSmall need have)) six = absurd (omega (arith, six))
 
-      unremembered : (why : NotFormatted) → IsLineTold sink old new (unmade_line why) → exit_number (unmade_status why) ≡ 6 → IsLineTold sink old new (codes "no memory")
+      unremembered : (why : NotFormatted) → IsLineWrittenOrCutShort sink old new (unmade_line why) → exit_number (unmade_status why) ≡ 6 → IsLineWrittenOrCutShort sink old new (codes "no memory")
       unremembered unmade.OutOfMemory told six = told
       unremembered (unmade.Refused format.Device) told six = absurd (omega (arith, six))
       unremembered (unmade.Refused format.AlreadyAHeap) told six = absurd (omega (arith, six))
@@ -147,7 +147,7 @@ module _ {S C Q R A D K : Type 0} (machine : Machine S C Q R A) (Contents : ℕ 
 
   -- or none was opened
   pub none_opened : (why : Why) → (IsTrue shown.tells_words → IsRefusal Contents Rejects (shown.words was) why) → NamesTooFew (shown.size was) why →
-      HasOpeningFaults {T = Unit {0}} (Err why) (shown.faults was) (shown.faults now) (shown.failing now) → (IsTrue shown.tells_images → IsLeft machine Contents shown earlier Standing was now) → (IsTrue shown.tells_words → OpeningCalls {T = Unit {0}} shown (shown.words was) was now (Err why)) → WithinOpening shown was now → IsLineTold sink old new (refusal_line why) →
+      HasOpeningFaults {T = Unit {0}} (Err why) (shown.faults was) (shown.faults now) (shown.failing now) → (IsTrue shown.tells_images → IsLeft machine Contents shown earlier Standing was now) → (IsTrue shown.tells_words → OpeningCalls {T = Unit {0}} shown (shown.words was) was now (Err why)) → WithinOpening shown was now → IsLineWrittenOrCutShort sink old new (refusal_line why) →
       HasNone machine Contents shown sink Rejects earlier Standing was now old new (exit_number (refusal_status why))
   none_opened Device answer sizes faults images calls within told = record {
     images = images;
@@ -170,7 +170,7 @@ module _ {S C Q R A D K : Type 0} (machine : Machine S C Q R A) (Contents : ℕ 
   none_opened why answer sizes faults images calls within told = by_name why refl refl answer sizes calls faults told images
     where
       by_name : (why : Why) → refusal_status why ≡ HeapRefused → exit_number (refusal_status why) ≡ 3 → (IsTrue shown.tells_words → IsRefusal Contents Rejects (shown.words was) why) → NamesTooFew (shown.size was) why →
-          (IsTrue shown.tells_words → OpeningCalls {T = Unit {0}} shown (shown.words was) was now (Err why)) → HasOpeningFaults {T = Unit {0}} (Err why) (shown.faults was) (shown.faults now) (shown.failing now) → IsLineTold sink old new (refusal_line why) → (IsTrue shown.tells_images → IsLeft machine Contents shown earlier Standing was now) →
+          (IsTrue shown.tells_words → OpeningCalls {T = Unit {0}} shown (shown.words was) was now (Err why)) → HasOpeningFaults {T = Unit {0}} (Err why) (shown.faults was) (shown.faults now) (shown.failing now) → IsLineWrittenOrCutShort sink old new (refusal_line why) → (IsTrue shown.tells_images → IsLeft machine Contents shown earlier Standing was now) →
           HasNone machine Contents shown sink Rejects earlier Standing was now old new (exit_number (refusal_status why))
       by_name why named three answer sizes calls faults told images = record {
         images = images;
@@ -196,7 +196,7 @@ module _ {S C Q R A D K : Type 0} (machine : Machine S C Q R A) (Contents : ℕ 
   pub none_upgraded : (why : Why) → (IsTrue shown.tells_words → IsUpgradeRefusal earlier (shown.words was) why) → NamesTooFew (shown.size was) why →
       HasUpgradeFaults {T = Unit {0}} (Err why) (shown.faults was) (shown.faults now) (shown.failing now) → (IsTrue shown.tells_images → IsLeft machine Contents shown earlier Upgraded was now) →
       (IsTrue shown.tells_words → UpgradeCalls {T = Unit {0}} shown (shown.words was) was now (Err why)) → WithinUpgrade shown was now → (why ≢ Device → WithinOpening shown was now) →
-      (IsTrue shown.tells_images → why ≢ Device → IsLeft machine Contents shown earlier Standing was now) → IsLineTold sink old new (refusal_line why) →
+      (IsTrue shown.tells_images → why ≢ Device → IsLeft machine Contents shown earlier Standing was now) → IsLineWrittenOrCutShort sink old new (refusal_line why) →
       HasNone machine Contents shown sink Rejects earlier Upgraded was now old new (exit_number (refusal_status why))
   none_upgraded why answer sizes faults images calls within opened left told = record {
     images = images;
@@ -230,7 +230,7 @@ module _ {S C Q R A D K : Type 0} (machine : Machine S C Q R A) (Contents : ℕ 
       same OutOfMemory six faults = faults
       same other six faults = absurd (omega (arith, six))
 
-      remembered : (why : Why) → exit_number (refusal_status why) ≡ 6 → IsLineTold sink old new (refusal_line why) → IsLineTold sink old new (codes "no memory")
+      remembered : (why : Why) → exit_number (refusal_status why) ≡ 6 → IsLineWrittenOrCutShort sink old new (refusal_line why) → IsLineWrittenOrCutShort sink old new (codes "no memory")
       remembered OutOfMemory six told = told
       remembered other six told = absurd (omega (arith, six))
 

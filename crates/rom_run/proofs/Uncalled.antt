@@ -8,7 +8,7 @@ use Rattle.rom_device.specs.Device.{ShownDevice}
 use Rattle.rom_device.proofs.Going.{leaves_none, runs_none}
 use Rattle.rom_header.specs.Layout.{words_needed}
 use Rattle.rom_recover.specs.Calls.{CallsWithin}
-use Rattle.rom_text.specs.Runs.{IsLineTold}
+use Rattle.rom_text.specs.Runs.{IsLineWrittenOrCutShort}
 use Rattle.rom_text.specs.Streams.{ShownSink}
 use Rattle.rom_run.specs.Statuses.{exit_number}
 use Rattle.rom_run.specs.Keeping.{IsCalledWithin}
@@ -65,7 +65,7 @@ module _ {D : Type 0} (shown : ShownDevice D) (was : D) where
 
   -- and there is no session, with a status of neither a refused heap nor a device that failed
   pub none_uncalled : {S C Q R A K : Type 0} (machine : Machine S C Q R A) (Contents : ℕ → List ℕ → S → ℕ → Type 0) (sink : ShownSink K) (Rejects : ℕ → List ℕ → Unfit → Type 0) (earlier : Earlier S) (old new : K) (status : ℕ) →
-      status ≢ 3 → status ≢ 7 → (status ≡ 6 → IsLineTold sink old new (codes "no memory")) → (heap : Heap) → HasNone machine Contents shown sink Rejects earlier heap was was old new status
+      status ≢ 3 → status ≢ 7 → (status ≡ 6 → IsLineWrittenOrCutShort sink old new (codes "no memory")) → (heap : Heap) → HasNone machine Contents shown sink Rejects earlier heap was was old new status
   none_uncalled machine Contents sink Rejects earlier old new status unrefused unfailed told (New order) = record {
     images = λ tells. leaves_none shown _ was;
     calls = within_uncalled (New order);

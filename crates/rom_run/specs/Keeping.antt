@@ -8,7 +8,7 @@ use Rattle.rom_model.specs.Space.{ChangesOnly}
 use Rattle.rom_model.specs.Story.{Story}
 use Rattle.rom_model.specs.declared.unfit.Unfit.{Unfit}
 use Rattle.rom_device.specs.Device.{ShownDevice, Does, Leaves, Stays}
-use Rattle.rom_header.specs.Fresh.{IsFormatAnswer, HasTooFewFor, IsRefused}
+use Rattle.rom_header.specs.Fresh.{IsFormatAnswer, HasTooFewFor, IsFormatRefused}
 use Rattle.rom_header.specs.Headers.{HasTooFew}
 use Rattle.rom_header.specs.Held.{Holds}
 use Rattle.rom_header.specs.Layout.{words_needed}
@@ -18,7 +18,7 @@ use Rattle.rom_header.specs.declared.header.HeaderRefused.TheVariants as header
 use Rattle.rom_recover.specs.Recovered.{Mended}
 use Rattle.rom_combine.specs.Costs.{WithinHeap}
 use Rattle.rom_combine.specs.Session.{ImageNow, SessionImage}
-use Rattle.rom_text.specs.Runs.{IsLineTold}
+use Rattle.rom_text.specs.Runs.{IsLineWrittenOrCutShort}
 use Rattle.rom_text.specs.Streams.{ShownSink}
 use Rattle.rom_open.specs.Calls.{OpeningCalls}
 use Rattle.rom_open.specs.Making.{NoneOrHolds}
@@ -87,7 +87,7 @@ module _ {S C Q R A : Type 0} (machine : Machine S C Q R A) (Contents : ℕ → 
 module _ {D : Type 0} (shown : ShownDevice D) where
   -- Nothing changes where a heap that is to be made stands already, or there are too few words for it.
   abbrev pub IsSpared : Heap → D → D → Type 0
-  IsSpared (New order) was now = IsTrue shown.tells_words → IsRefused order (shown.words was) → Does shown Stays was now
+  IsSpared (New order) was now = IsTrue shown.tells_words → IsFormatRefused order (shown.words was) → Does shown Stays was now
   IsSpared Standing was now = Unit {0}
   IsSpared Upgraded was now = Unit {0}
 
@@ -105,7 +105,7 @@ module _ {D K : Type 0} (shown : ShownDevice D) (sink : ShownSink K) where
     pub refused : IsTrue shown.tells_words → IsFormatAnswer order (shown.words was) (Err why)
     pub sizes : HasTooFewFor order (shown.size was) why
     pub calls : MakesNone shown order (Refused why) was now
-    pub told : IsLineTold sink old new (unmade_line (Refused why))
+    pub told : IsLineWrittenOrCutShort sink old new (unmade_line (Refused why))
 
   -- A heap of this order is made where none stood and there are words enough, and no call failed: the device holds the empty state and the count 0, and so does whatever a stop leaves of it.
   pub record IsMade {S : Type 0} (Contents : ℕ → List ℕ → S → ℕ → Type 0) (empty : S) (order : ℕ) (was now : D) (old new : K) : Type 0 where
@@ -114,7 +114,7 @@ module _ {D K : Type 0} (shown : ShownDevice D) (sink : ShownSink K) where
     pub held : IsTrue shown.tells_words → Holds Contents order (shown.words now) empty 0
     pub images : IsTrue shown.tells_images → (i : List ℕ) → shown.leaves now i → Holds Contents order i empty 0
     pub faults : shown.faults now ≡ shown.faults was
-    pub told : IsLineTold sink old new (codes "formatted order " ++ decimal order)
+    pub told : IsLineWrittenOrCutShort sink old new (codes "formatted order " ++ decimal order)
 
   -- A heap of the version before, of this order, is made one of this: the device held some state and some count in that version, and holds the same in this one, in both regions, and so does whatever a stop leaves of it now.
   pub record IsUpgraded {S : Type 0} (Contents : ℕ → List ℕ → S → ℕ → Type 0) (earlier : Earlier S) (was now : D) (old new : K) : Type 0 where
@@ -124,12 +124,12 @@ module _ {D K : Type 0} (shown : ShownDevice D) (sink : ShownSink K) where
     pub holds : IsTrue shown.tells_images → (state : S) (count : ℕ) → Holds earlier.Contents order (shown.words was) state count → Holds Contents order (shown.words now) state count
     pub images : IsTrue shown.tells_images → (state : S) (count : ℕ) → Holds earlier.Contents order (shown.words was) state count → (i : List ℕ) → shown.leaves now i → Holds Contents order i state count
     pub whole : IsTrue shown.tells_images → IsWholeHeap order (shown.words now)
-    pub told : IsLineTold sink old new (codes "upgraded order " ++ decimal order)
+    pub told : IsLineWrittenOrCutShort sink old new (codes "upgraded order " ++ decimal order)
 
   -- Of the device's calls the last one failed, and no other, and the line says so.
   pub record HasDeviceFailed (was now : D) (old new : K) : Type 0 where
     pub failed : FailedLast (shown.faults was) (shown.faults now) (shown.failing now)
-    pub told : IsLineTold sink old new (codes "device failed")
+    pub told : IsLineWrittenOrCutShort sink old new (codes "device failed")
 
   -- The heap isn't opened, to be worked on or to be upgraded, likewise: it is as an opening that is refused so leaves it, with no call more. No call failed; or where the regions differ, the last one may have.
   pub record IsUnopened (Refuses : List ℕ → Why → Type 0) (was now : D) (old new : K) : Type 0 where
@@ -141,7 +141,7 @@ module _ {D K : Type 0} (shown : ShownDevice D) (sink : ShownSink K) where
     pub within : WithinOpening shown was now
     pub images : IsTrue shown.tells_images → Leaves shown (Mended (named_order (shown.words was)) (shown.words was)) was now
     pub unfailed : ((offset main back : ℕ) → why ≢ Twins offset main back) → shown.faults now ≡ shown.faults was
-    pub told : IsLineTold sink old new (refusal_line why)
+    pub told : IsLineWrittenOrCutShort sink old new (refusal_line why)
 
   module _ {S : Type 0} (Contents : ℕ → List ℕ → S → ℕ → Type 0) (Rejects : ℕ → List ℕ → Unfit → Type 0) (earlier : Earlier S) where
     -- why a heap is refused by name: one that is upgraded by what the version before says of the region that counts

@@ -6,11 +6,11 @@ use Rattle.rom_run.specs.declared.plain.Plain.TheVariants as plain
 use Rattle.rom_run.specs.Plain.{PlainCommand, Try, Run, Format}
 
 -- the command that was read, if one was
-abbrev pub named_plain : Option Plain → Option PlainCommand
-named_plain (Some (plain.Try scripts)) = Some (Try scripts.now)
-named_plain (Some (plain.Run file scripts)) = Some (Run file.now scripts.now)
-named_plain (Some (plain.Format file order)) = Some (Format file.now order)
-named_plain None = None
+abbrev pub plain_command_read : Option Plain → Option PlainCommand
+plain_command_read (Some (plain.Try scripts)) = Some (Try scripts.now)
+plain_command_read (Some (plain.Run file scripts)) = Some (Run file.now scripts.now)
+plain_command_read (Some (plain.Format file order)) = Some (Format file.now order)
+plain_command_read None = None
 
 -- an order that is asked for is one that there is
 abbrev pub PlainAsksForOrder : Plain → Type 0

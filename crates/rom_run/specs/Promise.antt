@@ -8,7 +8,7 @@ use Rattle.rom_model.specs.declared.line.Step.{Step}
 use Rattle.rom_model.specs.declared.line.LineResult.{LineResult}
 use Rattle.rom_model.specs.declared.unfit.Unfit.{Unfit}
 use Rattle.rom_device.specs.Device.{ShownDevice}
-use Rattle.rom_text.specs.Runs.{AreAskedOnce, AreAtEnd, AreNotTooLong, IsLineTold, SourceFailed, SourceTooLong}
+use Rattle.rom_text.specs.Runs.{AreAskedOnce, AreAtEnd, AreNotTooLong, IsLineWrittenOrCutShort, SourceFailed, SourceTooLong}
 use Rattle.rom_text.specs.Streams.{ShownSink, ShownSource, StopsWriting, WriteFailed}
 use Rattle.rom_store.specs.Lasting.{HasLasted}
 use Rattle.rom_store.specs.Sessions.{EachStory, SessionSeen}
@@ -63,7 +63,7 @@ module _ {S C Q R A D X K : Type 0} (machine : Machine S C Q R A) (Contents : �
     -- with 8 the first script that is refused is too long, and the line names it
     pub too_long : status ≡ 8 → SourceTooLong source sink sources.items left.items old new
     -- with words that are no command a line says so
-    pub not_a_command_told : status ≡ 2 → IsLineTold sink old new (codes "not a command")
+    pub not_a_command_told : status ≡ 2 → IsLineWrittenOrCutShort sink old new (codes "not a command")
     -- with 5 the sink's last write failed, and no other
     pub sink_failed : status ≡ 5 → WriteFailed sink old new
     -- no write of the sink is made after one that failed

@@ -3,7 +3,7 @@ use Rattle.std.specs.Prelude.{◌≡◌, ℕ, ◌+◌, List, ◌++◌, codes, de
 use Rattle.rom_text.specs.declared.read.ReadRefused.{ReadRefused}
 use Rattle.rom_text.specs.declared.read.ReadRefused.TheVariants as refused
 use Rattle.rom_text.specs.Limits.{FailedEarly, IsTooLong}
-use Rattle.rom_text.specs.Runs.{IsFirstToFail, IsLineTold, SourceFailed, SourceTooLong}
+use Rattle.rom_text.specs.Runs.{IsFirstToFail, IsLineWrittenOrCutShort, SourceFailed, SourceTooLong}
 use Rattle.rom_text.specs.Streams.{ShownSink, ShownSource}
 use Rattle.rom_run.specs.declared.script.Unread.{Unread}
 use Rattle.rom_run.specs.declared.script.Unread.TheVariants.{Script, OutOfMemory}
@@ -50,5 +50,5 @@ module _ {S O : Type 0} (source : ShownSource S) (sink : ShownSink O) where
   abbrev pub AreNotRun : Status → List S → List S → O → O → Type 0
   AreNotRun ScriptFailed before after old new = SourceFailed source sink before after old new
   AreNotRun ScriptTooLong before after old new = SourceTooLong source sink before after old new
-  AreNotRun NoMemory before after old new = IsLineTold sink old new (codes "no memory")
+  AreNotRun NoMemory before after old new = IsLineWrittenOrCutShort sink old new (codes "no memory")
   AreNotRun other before after old new = ⊥

@@ -8,7 +8,7 @@ use Rattle.rom_device.specs.Device.{Leaves, ShownDevice, told_words}
 use Rattle.rom_header.specs.Held.{Holds}
 use Rattle.rom_header.specs.Layout.{words_needed}
 use Rattle.rom_recover.specs.Recovered.{Mended}
-use Rattle.rom_text.specs.Runs.{IsLineTold}
+use Rattle.rom_text.specs.Runs.{IsLineWrittenOrCutShort}
 use Rattle.rom_text.specs.Streams.{ShownSink}
 use Rattle.rom_open.specs.Refusals.{named_order}
 use Rattle.rom_open.specs.Within.{WithinOpening}
@@ -48,7 +48,7 @@ module _ {S C Q R A : Type 0} (machine : Machine S C Q R A) (Contents : ℕ → 
       pub device_failed : status ≡ 7 → HasDeviceFailed shown sink was now old new
       pub unfailed : status ≡ 6 → shown.faults now ≡ shown.faults was
       pub uncalled : status ≡ 6 → IsUncalled shown heap was now
-      pub no_memory : status ≡ 6 → IsLineTold sink old new (codes "no memory")
+      pub no_memory : status ≡ 6 → IsLineWrittenOrCutShort sink old new (codes "no memory")
 
 -- A heap that is only shown is as it was: no pass was made on it, so that the session's first device is its last one; its words hold what the story begins with; whatever a stop leaves, the same region counts as before; and the device was called no more often than to open it.
 pub record IsAsBefore {S D : Type 0} (Contents : ℕ → List ℕ → S → ℕ → Type 0) (shown : ShownDevice D) (was now : D) (story : Story S) : Type 0 where

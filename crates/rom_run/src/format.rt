@@ -1,7 +1,7 @@
 //! A new heap on a device.
 ghost use Rattle.std.specs.Prelude.{◌≡◌, ◌≢◌, ◌⊎◌, IsTrue, codes};
 ghost use Rattle.rom_model.specs.Blocks.{IsOrder};
-ghost use Rattle.rom_text.specs.Runs.{IsLineTold};
+ghost use Rattle.rom_text.specs.Runs.{IsLineWrittenOrCutShort};
 ghost use Rattle.rom_text.specs.Streams.{StopsWriting};
 ghost use Rattle.rom_open.specs.Within.{WithinMaking};
 ghost use Rattle.rom_run.specs.Keeping.{HasDeviceFailed, IsLeft, IsMade, IsUnmade};
@@ -52,7 +52,7 @@ pub fn make_heap<O: Object, D: Device, K: Sink>(
     // With any status but 7 the device's count of faults stays.
     ensures unfailed { exit_number result ≢ 7 →
         D.shown.faults device.new ≡ D.shown.faults device.old }
-    ensures no_memory { exit_number result ≡ 6 → IsLineTold K.shown out.old out.new (codes "no memory") }
+    ensures no_memory { exit_number result ≡ 6 → IsLineWrittenOrCutShort K.shown out.old out.new (codes "no memory") }
     ensures writing { StopsWriting K.shown out.old out.new }
     ensures rest { K.shown.rest out.new ≡ K.shown.rest out.old }
 {

@@ -6,7 +6,7 @@ ghost use Rattle.rom_text.specs.Lines.{AreScripts};
 ghost use Rattle.rom_text.specs.Text.{texts_of};
 ghost use Rattle.rom_run.specs.Asked.{HasSources, IsAskedOf};
 ghost use Rattle.rom_run.specs.Asked as asked;
-ghost use Rattle.rom_run.specs.Named.{PlainAsksForFew, PlainAsksForOrder, named_plain};
+ghost use Rattle.rom_run.specs.Named.{PlainAsksForFew, PlainAsksForOrder, plain_command_read};
 ghost use Rattle.rom_run.specs.Plain.{IsPlainWanted, plain_command, plain_scripts, plain_use};
 ghost use Rattle.rom_run.specs.Plain as plain;
 ghost use Rattle.rom_run.specs.Played.{IsText};
@@ -63,7 +63,7 @@ pub fn are_scripts(words: &[Name]) -> bool
 
 /// Scripts.
 fn read_try(words: &[Name]) -> Option<Plain<'_>>
-    ensures named { named_plain result ≡ plain.plain_try words.now }
+    ensures named { plain_command_read result ≡ plain.plain_try words.now }
     ensures order { IfSome result PlainAsksForOrder }
     ensures few { IfSome result PlainAsksForFew }
 {
@@ -76,7 +76,7 @@ fn read_try(words: &[Name]) -> Option<Plain<'_>>
 
 /// A file, and then the scripts to run on its heap.
 fn read_run(words: &[Name]) -> Option<Plain<'_>>
-    ensures named { named_plain result ≡ plain.plain_run words.now }
+    ensures named { plain_command_read result ≡ plain.plain_run words.now }
     ensures order { IfSome result PlainAsksForOrder }
     ensures few { IfSome result PlainAsksForFew }
 {
@@ -90,7 +90,7 @@ fn read_run(words: &[Name]) -> Option<Plain<'_>>
 
 /// A file, and the order of the heap that is made there.
 fn read_format(words: &[Name]) -> Option<Plain<'_>>
-    ensures named { named_plain result ≡ plain.plain_format words.now }
+    ensures named { plain_command_read result ≡ plain.plain_format words.now }
     ensures order { IfSome result PlainAsksForOrder }
     ensures few { IfSome result PlainAsksForFew }
 {
@@ -106,7 +106,7 @@ fn read_format(words: &[Name]) -> Option<Plain<'_>>
 
 /// The command that the words are. It takes no memory.
 pub fn read_plain(words: &Names) -> Option<Plain<'_>>
-    ensures named { named_plain result ≡ plain_command words.now }
+    ensures named { plain_command_read result ≡ plain_command words.now }
     ensures order { IfSome result PlainAsksForOrder }
     ensures few { IfSome result PlainAsksForFew }
 {

@@ -2,7 +2,7 @@
 ghost use Rattle.std.specs.Prelude.{◌≡◌, ◌⊎◌, ◌<◌, ◌≤◌, All, length, map, codes, IfErr, IfOk, IfSome, IsNone, IsSome, OnOk, None, Some};
 ghost use Rattle.rom_model.specs.History.{LAST_COUNT};
 ghost use Rattle.rom_model.specs.Lawful.{IsLawful};
-ghost use Rattle.rom_text.specs.Runs.{IsLineTold};
+ghost use Rattle.rom_text.specs.Runs.{IsLineWrittenOrCutShort};
 ghost use Rattle.rom_text.specs.Streams.{StopsWriting, WriteFailed};
 ghost use Rattle.rom_run.specs.Played.{HavePlayed, IsOutput};
 ghost use Rattle.rom_run.specs.Refusing.{refusal_line, unmade_line};
@@ -41,7 +41,7 @@ pub fn end_without_memory<O: Object, D: Device, K: Sink>(device: D, out: &mut K)
     ensures none { (heap : Heap) → HasNone O.machine O.Contents D.shown K.shown O.Rejects
         O.earlier heap device device out.old out.new 6 }
     ensures kept { (heap : Heap) → IsDeviceKept D.shown heap device device }
-    ensures told { IsLineTold K.shown out.old out.new (codes "no memory") }
+    ensures told { IsLineWrittenOrCutShort K.shown out.old out.new (codes "no memory") }
     ensures writing { StopsWriting K.shown out.old out.new }
     ensures rest { K.shown.rest out.new ≡ K.shown.rest out.old }
 {
@@ -60,7 +60,7 @@ fn end_unmade<D: Device, K: Sink>(unmade: Unmade<D>, out: &mut K) -> Worked<D>
       status = refusing.unmade_status unmade.why;
       session = None;
     } }
-    ensures told { IsLineTold K.shown out.old out.new (unmade_line unmade.why) }
+    ensures told { IsLineWrittenOrCutShort K.shown out.old out.new (unmade_line unmade.why) }
     ensures writing { StopsWriting K.shown out.old out.new }
     ensures rest { K.shown.rest out.new ≡ K.shown.rest out.old }
 {
@@ -80,7 +80,7 @@ pub(crate) fn end_unopened<D: Device, K: Sink>(refused: Refused<D>, out: &mut K)
       status = refusing.refusal_status refused.why;
       session = None;
     } }
-    ensures told { IsLineTold K.shown out.old out.new (refusal_line refused.why) }
+    ensures told { IsLineWrittenOrCutShort K.shown out.old out.new (refusal_line refused.why) }
     ensures writing { StopsWriting K.shown out.old out.new }
     ensures rest { K.shown.rest out.new ≡ K.shown.rest out.old }
 {

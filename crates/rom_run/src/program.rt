@@ -6,7 +6,7 @@ ghost use Rattle.rom_run.specs.Played.{HasReplies, IsOutput};
 ghost use Rattle.rom_run.specs.Promise.{Promise};
 ghost use Rattle.rom_run.specs.Use.{HasNotRun, HasRead, HasRun, IsStatus, heap_of};
 ghost use Rattle.rom_run.specs.Working.{HasMade, HasNone, HasSession, IsDeviceKept, IsStill};
-ghost use Rattle.rom_text.specs.Runs.{AreAskedOnce, AreAtEnd, AreNotTooLong, IsLineTold, SourceFailed, SourceTooLong};
+ghost use Rattle.rom_text.specs.Runs.{AreAskedOnce, AreAtEnd, AreNotTooLong, IsLineWrittenOrCutShort, SourceFailed, SourceTooLong};
 ghost use Rattle.rom_text.specs.Streams.{StopsWriting, WriteFailed};
 ghost use Rattle.rom_store.specs.Sessions.{EachStory};
 
@@ -89,7 +89,7 @@ where
     ensures too_long { result.status ≡ 8 →
         SourceTooLong S.shown K.shown scripts.items result.scripts.items out.old out.new }
     ensures not_a_command_told { result.status ≡ 2 →
-        IsLineTold K.shown out.old out.new (codes "not a command") }
+        IsLineWrittenOrCutShort K.shown out.old out.new (codes "not a command") }
     ensures sink_failed { result.status ≡ 5 → WriteFailed K.shown out.old out.new }
     ensures writing { StopsWriting K.shown out.old out.new }
     ensures rest { K.shown.rest out.new ≡ K.shown.rest out.old }

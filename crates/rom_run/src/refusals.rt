@@ -1,6 +1,6 @@
 //! What is told where a heap is not opened, not made or not upgraded.
 ghost use Rattle.std.specs.Prelude.{◌≡◌, ◌++◌, codes, decimal};
-ghost use Rattle.rom_text.specs.Runs.{IsLineTold};
+ghost use Rattle.rom_text.specs.Runs.{IsLineWrittenOrCutShort};
 ghost use Rattle.rom_run.specs.Refusing.{refusal_line, refusal_status, too_small_line, unmade_line, unmade_status};
 ghost use Rattle.rom_run.specs.Refusing as refusing;
 ghost use Rattle.rom_open.specs.declared.new_heap.NotFormatted.TheVariants.{Refused};
@@ -33,14 +33,14 @@ fn rule_name(rule: Rule) -> &'static str
 
 /// A name, and the number behind it.
 fn tell_number<O: Sink>(out: &mut O, name: &str, number: u64)
-    ensures told { IsLineTold O.shown out.old out.new (name.now ++ decimal number) }
+    ensures told { IsLineWrittenOrCutShort O.shown out.old out.new (name.now ++ decimal number) }
     ensures rest { O.shown.rest out.new ≡ O.shown.rest out.old }
 {
     tell(out, &[name, Buffer::new().format(number)]);
 }
 
 fn tell_too_small<O: Sink>(out: &mut O, need: u64, have: u64)
-    ensures told { IsLineTold O.shown out.old out.new (too_small_line need have) }
+    ensures told { IsLineWrittenOrCutShort O.shown out.old out.new (too_small_line need have) }
     ensures rest { O.shown.rest out.new ≡ O.shown.rest out.old }
 {
     let mut of_need = Buffer::new();
@@ -51,7 +51,7 @@ fn tell_too_small<O: Sink>(out: &mut O, need: u64, have: u64)
 }
 
 fn tell_twins<O: Sink>(out: &mut O, offset: u64, main: u64, back: u64)
-    ensures told { IsLineTold O.shown out.old out.new (refusal_line (Twins offset main back)) }
+    ensures told { IsLineWrittenOrCutShort O.shown out.old out.new (refusal_line (Twins offset main back)) }
     ensures rest { O.shown.rest out.new ≡ O.shown.rest out.old }
 {
     let mut of_offset = Buffer::new();
@@ -74,7 +74,7 @@ fn tell_twins<O: Sink>(out: &mut O, offset: u64, main: u64, back: u64)
 }
 
 fn tell_malformed<O: Sink>(out: &mut O, offset: u64, rule: Rule)
-    ensures told { IsLineTold O.shown out.old out.new (refusal_line (Malformed offset rule)) }
+    ensures told { IsLineWrittenOrCutShort O.shown out.old out.new (refusal_line (Malformed offset rule)) }
     ensures rest { O.shown.rest out.new ≡ O.shown.rest out.old }
 {
     let mut of_offset = Buffer::new();
@@ -87,7 +87,7 @@ fn tell_malformed<O: Sink>(out: &mut O, offset: u64, rule: Rule)
 
 /// Says why a heap is not opened, or not upgraded.
 pub fn tell_refusal<O: Sink>(out: &mut O, why: Why)
-    ensures told { IsLineTold O.shown out.old out.new (refusal_line why) }
+    ensures told { IsLineWrittenOrCutShort O.shown out.old out.new (refusal_line why) }
     ensures rest { O.shown.rest out.new ≡ O.shown.rest out.old }
 {
     match why {
@@ -125,7 +125,7 @@ pub fn refusal_status(why: Why) -> Status
 }
 
 fn tell_format_refusal<O: Sink>(out: &mut O, refused: FormatRefused)
-    ensures told { IsLineTold O.shown out.old out.new (unmade_line (Refused refused)) }
+    ensures told { IsLineWrittenOrCutShort O.shown out.old out.new (unmade_line (Refused refused)) }
     ensures rest { O.shown.rest out.new ≡ O.shown.rest out.old }
 {
     match refused {
@@ -137,7 +137,7 @@ fn tell_format_refusal<O: Sink>(out: &mut O, refused: FormatRefused)
 
 /// Says why no heap is made.
 pub fn tell_unmade<O: Sink>(out: &mut O, why: NotFormatted)
-    ensures told { IsLineTold O.shown out.old out.new (unmade_line why) }
+    ensures told { IsLineWrittenOrCutShort O.shown out.old out.new (unmade_line why) }
     ensures rest { O.shown.rest out.new ≡ O.shown.rest out.old }
 {
     match why {

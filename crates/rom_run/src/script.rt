@@ -3,7 +3,7 @@ ghost use Rattle.std.specs.Prelude.{◌≡◌, ◌≢◌, ◌⊎◌, ◌≤◌, 
 ghost use Rattle.rom_text.specs.declared.read.TheConstants.{MAX_LINES};
 ghost use Rattle.rom_text.specs.Limits.{EndsReading, FitsScript};
 ghost use Rattle.rom_model.specs.History.{LAST_COUNT};
-ghost use Rattle.rom_text.specs.Runs.{AreAskedOnce, AreAtEnd, AreNotTooLong, IsLineTold};
+ghost use Rattle.rom_text.specs.Runs.{AreAskedOnce, AreAtEnd, AreNotTooLong, IsLineWrittenOrCutShort};
 ghost use Rattle.rom_text.specs.Lines.{AreScripts, AreStepsOf};
 ghost use Rattle.rom_text.specs.Streams.{StopsWriting};
 ghost use Rattle.rom_run.specs.Reading.{AreNotRun, AreUnread, unread_line, unread_status};
@@ -58,7 +58,7 @@ fn read_all<O: Object, L: Lines<O>, S: Source>(
 /// Prints why no script is run, and gives the status.
 fn tell_unread<O: Sink>(out: &mut O, unread: Unread) -> Status
     ensures status { result ≡ unread_status unread }
-    ensures told { IsLineTold O.shown out.old out.new (unread_line unread) }
+    ensures told { IsLineWrittenOrCutShort O.shown out.old out.new (unread_line unread) }
     ensures rest { O.shown.rest out.new ≡ O.shown.rest out.old }
 {
     match unread {

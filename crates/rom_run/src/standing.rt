@@ -1,7 +1,7 @@
 //! The heap that a device has, opened to be shown.
 ghost use Rattle.std.specs.Prelude.{◌≡◌, ◌⊎◌, ℕ, [], IfErr, IfOk, IsNone, OnOk};
 ghost use Rattle.rom_model.specs.Blocks.{IsOrder};
-ghost use Rattle.rom_model.specs.VecSpace.{words_of};
+ghost use Rattle.rom_model.specs.VecSpace.{words_of_space};
 ghost use Rattle.rom_run.specs.Played.{AreAnswered};
 ghost use Rattle.rom_run.specs.Statuses.{exit_number};
 ghost use Rattle.rom_run.specs.Working.{HasNone, HasSession, IsAsBefore, IsDeviceKept};
@@ -39,11 +39,11 @@ pub fn open_heap<O: Object, D: Device, K: Sink>(
     ensures order { IfOk result (λ heap. IsOrder heap.order) }
     // After `Ok` the words in memory are a well-formed region.
     ensures region { IfOk result (λ heap.
-        (s : O.State) × (k : ℕ) × O.Contents heap.order (words_of heap.space) s k) }
+        (s : O.State) × (k : ℕ) × O.Contents heap.order (words_of_space heap.space) s k) }
     // After `Ok` each story of the session begins with what the region's words stand for.
     ensures story { IfOk result (λ heap. EachStory O.machine O.Contents heap.session (λ story.
         (story.order ≡ heap.order)
-        × O.Contents heap.order (words_of heap.space) story.opening story.opening_count)) }
+        × O.Contents heap.order (words_of_space heap.space) story.opening story.opening_count)) }
     // After `Ok` there is a session on the heap that stands. It has no callers.
     ensures session { IfOk result (λ heap. HasSession O.machine O.Contents D.shown Standing device
         heap.device (λ story. AreAnswered O.machine story [] []) heap.session) }

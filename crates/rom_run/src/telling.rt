@@ -1,7 +1,7 @@
 //! One line that is printed, whatever becomes of it.
 ghost use Rattle.std.specs.Prelude.{◌≡◌};
 ghost use Rattle.std.specs.List.{flat_map};
-ghost use Rattle.rom_text.specs.Runs.{IsLineTold};
+ghost use Rattle.rom_text.specs.Runs.{IsLineWrittenOrCutShort};
 ghost use Rattle.rom_text.specs.Streams.{Prints};
 ghost use Rattle.rom_text.specs.Text.{line_text};
 
@@ -17,7 +17,7 @@ fn print_line<O: Sink>(out: &mut O, pieces: &[&str]) -> Result<(), IoFailed>
 
 /// Prints the line of these pieces. A sink that fails may have taken some of it.
 pub fn tell<O: Sink>(out: &mut O, pieces: &[&str])
-    ensures told { IsLineTold O.shown out.old out.new (flat_map (λ piece. piece.now) pieces.now) }
+    ensures told { IsLineWrittenOrCutShort O.shown out.old out.new (flat_map (λ piece. piece.now) pieces.now) }
     ensures rest { O.shown.rest out.new ≡ O.shown.rest out.old }
 {
     let _ = print_line(out, pieces);

@@ -21,7 +21,7 @@ use Rattle.rom_text.specs.Phrases.{NumbersFit, line_words, phrase_words}
 use Rattle.rom_text.proofs.Phrases.{numbers_are, phrase_read}
 use Rattle.rom_text.proofs.Reading.{is_word}
 use Rattle.rom_script.specs.Asking.{Asks, AsksUpdate, single_phrase, query_phrase}
-use Rattle.rom_script.specs.Lines.{CallKindFits, QueryFits, Reads, SingleCallFits, kind_line, members_line, query_line, single_line}
+use Rattle.rom_script.specs.Lines.{CallKindFits, QueryFits, ReadsTrio, SingleCallFits, kind_line, members_line, query_line, single_line}
 
 -- the line of an update of one structure is its name and its numbers with spaces between
 single_joined : (c : Single) → single_line c ≡ join_with_byte 32 (phrase_words (single_phrase c).0 (single_phrase c).1)
@@ -171,7 +171,7 @@ no_call line other none (kind.Single c) fits is = none c fits is
 no_call line other none (kind.Several calls) fits is = other (members_line calls) is
 
 -- a line of these words, which is no group's, asks for what the words ask for
-pub asked_reads : (line name numbers : List ℕ) (step : Step Call Query) → NoGroup line → line_words line ≡ phrase_words name numbers → NumbersFit numbers → Asks name numbers step → Reads line step
+pub asked_reads : (line name numbers : List ℕ) (step : Step Call Query) → NoGroup line → line_words line ≡ phrase_words name numbers → NumbersFit numbers → Asks name numbers step → ReadsTrio line step
 asked_reads line name numbers (Update call) other words fit asks = by_kind (kind_of call) asks
   where
     by_kind : (k : Kind Single (List Single)) → AsksUpdate name numbers k → CallKindFits k × (line ≡ kind_line k)
@@ -187,7 +187,7 @@ asked_reads line name numbers Unread other words fit asks = (
 )
 
 -- a line that is no group's and no word with numbers behind it is unread
-pub no_phrase_reads : (line : List ℕ) → NoGroup line → ((name numbers : List ℕ) → length numbers ≤ 3 → NumbersFit numbers → line_words line ≢ phrase_words name numbers) → Reads line Unread
+pub no_phrase_reads : (line : List ℕ) → NoGroup line → ((name numbers : List ℕ) → length numbers ≤ 3 → NumbersFit numbers → line_words line ≢ phrase_words name numbers) → ReadsTrio line Unread
 no_phrase_reads line other none = (
   (λ call. no_call line other (no_phrase_updates line none) (kind_of call)),
   (λ q fits is. none (query_phrase q).0 (query_phrase q).1 (query_is_short q) (query_fits q fits) (ap line_words is ∙ query_words q)),

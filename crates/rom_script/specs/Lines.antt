@@ -85,7 +85,7 @@ StepFits (Ask query) = QueryFits query
 StepFits Unread = Unit {0}
 
 -- The line is written as the step is, or as no step is.
-abbrev pub Reads : List ℕ → Step Call Query → Type 0
-Reads line (Update c) = CallFits c × (line ≡ call_line c)
-Reads line (Ask q) = QueryFits q × (line ≡ query_line q)
-Reads line Unread = ((c : Call) → CallFits c → line ≡ call_line c → ⊥) × ((q : Query) → QueryFits q → line ≡ query_line q → ⊥)
+abbrev pub ReadsTrio : List ℕ → Step Call Query → Type 0
+ReadsTrio line (Update c) = CallFits c × (line ≡ call_line c)
+ReadsTrio line (Ask q) = QueryFits q × (line ≡ query_line q)
+ReadsTrio line Unread = ((c : Call) → CallFits c → line ≡ call_line c → ⊥) × ((q : Query) → QueryFits q → line ≡ query_line q → ⊥)

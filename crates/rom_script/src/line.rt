@@ -6,7 +6,7 @@ ghost use Rattle.rom_model.specs.declared.call.Query.{Query};
 ghost use Rattle.rom_model.specs.declared.line.Step.{Step};
 ghost use Rattle.rom_text.specs.Lines.{AsksFor};
 ghost use Rattle.rom_script.specs.Asking.{Asks, query_phrase};
-ghost use Rattle.rom_script.specs.Lines.{Reads};
+ghost use Rattle.rom_script.specs.Lines.{ReadsTrio};
 
 use crate::group_line::read_members;
 use crate::update_line::asked_update;
@@ -55,7 +55,7 @@ fn put_asked(name: &[u8], numbers: &[u64], words: &mut Args) -> Parsed<Query>
 #[inline(never)]
 fn put_group(members: &[u8], words: &mut Args) -> Parsed<Query>
     ensures { (step : Step Call Query) × AsksFor codes_of.words_call words.new result step
-        × Reads (codes "tx " ++ members.now) step }
+        × ReadsTrio (codes "tx " ++ members.now) step }
 {
     match read_members(members) {
         Some(group) => {
@@ -71,7 +71,7 @@ fn put_group(members: &[u8], words: &mut Args) -> Parsed<Query>
 #[inline(never)]
 fn read_words(line: &[u8], words: &mut Args) -> Parsed<Query>
     ensures reads { (step : Step Call Query) × AsksFor codes_of.words_call words.new result step
-        × Reads line.now step }
+        × ReadsTrio line.now step }
 {
     if let Some(members) = line.strip_prefix(b"tx ") {
         return put_group(members, words);
@@ -85,7 +85,7 @@ fn read_words(line: &[u8], words: &mut Args) -> Parsed<Query>
 /// Reads a line, which comes without its LF, for whoever wants its step. A script is read by the words of
 /// its calls.
 pub fn read_line(line: &[u8]) -> Line
-    ensures reads { Reads line.now result }
+    ensures reads { ReadsTrio line.now result }
 {
     let mut words = Args::new();
     match read_words(line, &mut words) {
@@ -99,7 +99,7 @@ pub fn read_line(line: &[u8]) -> Line
 pub struct TrioLines;
 
 impl Lines<Trio> for TrioLines {
-    ghost Reads = { Reads };
+    ghost Reads = { ReadsTrio };
 
     fn read_line(line: &[u8]) -> Line {
         read_line(line)

@@ -4,7 +4,7 @@ ghost use Rattle.std.specs.Prelude.{◌≡◌, ◌≤◌, length, IfOk, IfSome, 
 ghost use Rattle.rom_text.specs.declared.read.TheConstants.{MAX_LINES};
 ghost use Rattle.rom_text.specs.Limits.{EndsReading, FitsScript};
 ghost use Rattle.rom_text.specs.Lines.{AreStepsOf};
-ghost use Rattle.rom_script.specs.Lines.{Reads};
+ghost use Rattle.rom_script.specs.Lines.{ReadsTrio};
 ghost use Rattle.rom_script.specs.Scripts.{script_steps};
 
 use crate::line::{Line, TrioLines};
@@ -66,7 +66,7 @@ fn whole_lines(alloc: Global, script: &Small<Trio>) -> Result<Vec<Line>, AllocEr
 pub fn read_script<S: Source>(alloc: Global, source: &mut S) -> Result<Script, ReadRefused>
     // After `Ok` the lines are those of the bytes that the source had left, where it tells them.
     ensures lines { IfOk result (λ script.
-        AreStepsOf Reads (S.shown.left source.old) (script_steps script)) }
+        AreStepsOf ReadsTrio (S.shown.left source.old) (script_steps script)) }
     ensures few { IfOk result (λ script. length (script_steps script) ≤ MAX_LINES) }
     // After `Ok` these bytes are within a script's limits.
     ensures fits { OnOk result (IfSome (S.shown.left source.old) FitsScript) }

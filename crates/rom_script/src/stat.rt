@@ -9,7 +9,7 @@ ghost use Rattle.rom_model.specs.Blocks.{IsOrder};
 ghost use Rattle.rom_model.specs.Region.{Contents};
 ghost use Rattle.rom_model.specs.State.{State, cap, live};
 ghost use Rattle.rom_model.specs.State as state;
-ghost use Rattle.rom_model.specs.VecSpace.{words_of};
+ghost use Rattle.rom_model.specs.VecSpace.{words_of_space};
 ghost use Rattle.rom_model.specs.declared.call.Query.TheVariants.{Len, Total};
 ghost use Rattle.rom_script.specs.Trio.{answer_text};
 ghost use Rattle.rom_script.specs.Stat.{stat_lines, stat_text};
@@ -35,8 +35,8 @@ impl Sizes {
     /// Those of a region.
     fn of(space: &mut VecSpace, order: u32) -> Sizes
         requires order { IsOrder order }
-        requires region { (s : State) × (k : ℕ) × Contents order (words_of space.old) s k }
-        ensures sizes { (s : State) (k : ℕ) → Contents order (words_of space.old) s k →
+        requires region { (s : State) × (k : ℕ) × Contents order (words_of_space space.old) s k }
+        ensures sizes { (s : State) (k : ℕ) → Contents order (words_of_space space.old) s k →
             result ≡ record {
               order = order;
               count = k;
@@ -88,9 +88,9 @@ fn print_before<O: Sink>(out: &mut O, pieces: &[&str], answer: &Answer) -> Resul
 /// of them, from their front.
 pub fn print_stat<O: Sink>(space: &mut VecSpace, order: u32, out: &mut O) -> Result<(), IoFailed>
     requires order { IsOrder order }
-    requires region { (s : State) × (k : ℕ) × Contents order (words_of space.old) s k }
+    requires region { (s : State) × (k : ℕ) × Contents order (words_of_space space.old) s k }
     // The lines are those of the state and the count that the region stands for.
-    ensures prints { (s : State) (k : ℕ) → Contents order (words_of space.old) s k →
+    ensures prints { (s : State) (k : ℕ) → Contents order (words_of_space space.old) s k →
         Prints O.shown out.old out.new result (stat_text order s k) }
 {
     Sizes::of(space, order).print(out)

@@ -3,7 +3,7 @@ ghost use Rattle.std.specs.Prelude.{◌≡◌, ◌-◌, ◌*◌, ◌^◌, ◌<�
 ghost use Rattle.std.specs.List.{flat_map};
 ghost use Rattle.rom_script.specs.Drill.{drill_lines};
 ghost use Rattle.rom_script.specs.Drill as summed;
-ghost use Rattle.rom_lines.specs.Replies.{IsTold};
+ghost use Rattle.rom_lines.specs.Replies.{SaysResult};
 ghost use Rattle.rom_lines.specs.Steps.{IsLine};
 ghost use Rattle.rom_model.specs.Codes.{words_call, words_reply};
 ghost use Rattle.rom_model.specs.declared.call.Call.{Call};
@@ -25,7 +25,7 @@ use rom_text::{IoFailed, Print, Report, Sink, print_gathered, print_pieces, prin
 fn enqueued_by(line: Line<'_, Query>, told: Told<'_, Answer>) -> u64
     // Whatever the line asks for and was told, by these words.
     ensures { (asks : Step Call Query) (became : LineResult Reply Answer) →
-        IsLine words_call asks line.entry → IsTold words_reply became told.entry →
+        IsLine words_call asks line.entry → SaysResult words_reply became told.entry →
         result ≡ summed.enqueued_by asks became }
 {
     let Line::Update(call) = line else {
@@ -45,7 +45,7 @@ fn enqueued_by(line: Line<'_, Query>, told: Told<'_, Answer>) -> u64
 
 /// What a line has taken out of it.
 fn dequeued_by(told: Told<'_, Answer>) -> u64
-    ensures { (became : LineResult Reply Answer) → IsTold words_reply became told.entry →
+    ensures { (became : LineResult Reply Answer) → SaysResult words_reply became told.entry →
         result ≡ summed.dequeued_by became }
 {
     let Told::Done(reply, _) = told else {

@@ -14,11 +14,11 @@ use Rattle.rom_model.proofs.Nodes.{pow_positive}
 use Rattle.rom_model.proofs.Members.{member_taken, quarter_pow}
 use Rattle.rom_model.proofs.Room.{times_members, tree_stays, region_disjoint}
 use Rattle.rom_block.specs.Taken.{IsTakenAt}
-use Rattle.rom_set.specs.Set.{with_blocks, with_members, IsRemoved}
+use Rattle.rom_set.specs.Set.{with_set_blocks, with_members, IsRemoved}
 use Rattle.rom_model.specs.Links.{first_of}
 use Rattle.rom_model.specs.Rising.{starts_with}
-use Rattle.rom_set.specs.Walk.{IsPlace}
-use Rattle.rom_set.specs.Link.{MayUnlink, IsUnlinked}
+use Rattle.rom_set.specs.Walk.{IsPlaceInSet}
+use Rattle.rom_set.specs.Link.{MayUnlink, IsBlockUnlinked}
 use Rattle.rom_set.specs.declared.walk.Place.{Place}
 use Rattle.rom_set.proofs.Places.{region_set}
 use Rattle.rom_set.proofs.Regions.{removed}
@@ -42,7 +42,7 @@ held_first n key node w (b ∷ bs) is starts = record { block = b; behind = bs; 
       | inr other ↦ absurd (let not_same : (x == y) ≡ false = grind (arith, nat_tests) in let both : false ≡ true = sym not_same ∙ test in cc)
     ]
 
-module _ {n key : ℕ} {w : List ℕ} {p : Chains} {s : State} {k : ℕ} {place : Place} (le : 4 ≤ n) (is : IsRegion n w p s k) (stands : IsPlace n w p.set key place) (found : place.found ≡ true) where
+module _ {n key : ℕ} {w : List ℕ} {p : Chains} {s : State} {k : ℕ} {place : Place} (le : 4 ≤ n) (is : IsRegion n w p s k) (stands : IsPlaceInSet n w p.set key place) (found : place.found ≡ true) where
   pub node : Held n key place.node w stands.walked.back
   node = held_first n key place.node w stands.walked.back stands.walked.node_is (sym stands.found ∙ found)
 
@@ -64,7 +64,7 @@ module _ {n key : ℕ} {w : List ℕ} {p : Chains} {s : State} {k : ℕ} {place 
   some = omega (arith, times_members n p node.block, ap (times node.block) blocks, times-append node.block stands.walked.front (node.block ∷ node.behind), times_here node.block node.behind)
 
   -- once it was unlinked
-  module _ {w1 : List ℕ} (done : IsUnlinked may_unlink w1) where
+  module _ {w1 : List ℕ} (done : IsBlockUnlinked may_unlink w1) where
     abbrev taken : ℕ → Bool
     taken = taken_by n (element_blocks n p)
 
@@ -98,6 +98,6 @@ module _ {n key : ℕ} {w : List ℕ} {p : Chains} {s : State} {k : ℕ} {place 
       back = node.behind;
       blocks = blocks;
       kept = λ j lt. tree.behind (block_of n node.block + j) (omega (arith, pow_positive n)) ∙ done.kept j lt;
-      becomes = subst (λ x. PartBecomes n 6 8 p.set w w2 (with_blocks p (stands.walked.front ++ node.behind)) (with_members s (set.remove s.members x)) k) node.holds
+      becomes = subst (λ x. PartBecomes n 6 8 p.set w w2 (with_set_blocks p (stands.walked.front ++ node.behind)) (with_members s (set.remove s.members x)) k) node.holds
           (removed le is w1 w2 node.block stands.walked.front node.behind _ blocks done.others done.set tree (given taken (2 ^ n + node.block) (region_disjoint le is) words is_node at held).1);
     }

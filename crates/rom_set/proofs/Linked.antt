@@ -6,13 +6,13 @@ use Rattle.std.proofs.lemmas.Bool.{cases_eq, cases_lt}
 use Rattle.std.proofs.lemmas.Grind.{get_or-set_at}
 use Rattle.rom_model.specs.Space.{ChangesOnly}
 use Rattle.rom_model.specs.Blocks.{block_of}
-use Rattle.rom_model.specs.Chains.{IsIn, times, Chain, each_word, HoldZero}
+use Rattle.rom_model.specs.Chains.{IsWordOfBlock, times, Chain, each_word, HoldZero}
 use Rattle.rom_model.specs.Rising.{IsRising}
 use Rattle.rom_model.specs.Region.{IsSet}
 use Rattle.rom_model.proofs.Times.{times_here, times_away, times-append}
 use Rattle.rom_model.proofs.Frames.{each_same}
 use Rattle.rom_model.specs.Links.{link_after, first_of}
-use Rattle.rom_set.specs.Link.{MayLink, IsLinked}
+use Rattle.rom_set.specs.Link.{MayLink, IsBlockLinked}
 use Rattle.rom_set.specs.declared.walk.Place.{Place}
 use Rattle.rom_model.proofs.Links.{chain_back, chain_first, chain_moved, chain_relinked, each_append}
 use Rattle.rom_model.proofs.Rising.{above_next, rising_between}
@@ -29,7 +29,7 @@ pub record Stored (n b key next link : ℕ) (w w' : List ℕ) : Type 0 where
   pub fourth : slice_index w' (block_of n b + 3) ≡ 0
   pub linked : slice_index w' link ≡ block_of n b
   pub len : slice_index w' 7 ≡ slice_index w 7 + 1
-  pub others : (k : ℕ) → (IsIn n b k → ⊥) → k ≢ link → k ≢ 7 → slice_index w' k ≡ slice_index w k
+  pub others : (k : ℕ) → (IsWordOfBlock n b k → ⊥) → k ≢ link → k ≢ 7 → slice_index w' k ≡ slice_index w k
 
 module _ {n key at : ℕ} {place : Place} {w w' : List ℕ} (m : MayLink n key at place w) (stored : Stored n m.block key place.node (link_after n 6 1 m.is.walked.front) w w') where
   abbrev front : List ℕ
@@ -94,13 +94,13 @@ module _ {n key at : ℕ} {place : Place} {w w' : List ℕ} (m : MayLink n key a
         fourth = pad 3 (omega arith) (omega arith) stored.fourth m.holds.set.fourth;
       }
 
-  stays : (k : ℕ) → ((c : ℕ) → 0 < times c (front ++ m.block ∷ back) → IsIn n c k → ⊥) → k ≢ 6 → k ≢ 7 → slice_index w' k ≡ slice_index w k
+  stays : (k : ℕ) → ((c : ℕ) → 0 < times c (front ++ m.block ∷ back) → IsWordOfBlock n c k → ⊥) → k ≢ 6 → k ≢ 7 → slice_index w' k ≡ slice_index w k
   stays k outside ne6 ne7 = stored.others k
       (outside m.block (omega (arith, times-append m.block front (m.block ∷ back), times_here m.block back)))
       (beside n front k (λ c some. outside c (omega (arith, times-append c front (m.block ∷ back), some))) ne6)
       ne7
 
-  pub linked : IsLinked m w'
+  pub linked : IsBlockLinked m w'
   linked = record {
     holds = stored.first;
     set = linked_set;
@@ -115,7 +115,7 @@ module _ {n key at : ℕ} {place : Place} {w : List ℕ} (m : MayLink n key at p
   pub place_within : link_after n 6 1 m.is.walked.front < 16 + 6 * 2 ^ n
   place_within = link_within n m.is.walked.front (λ c some. m.holds.are.within c (omega (arith, some, in_front c)))
 
-  pub place_beside : IsIn n m.block (link_after n 6 1 m.is.walked.front) → ⊥
+  pub place_beside : IsWordOfBlock n m.block (link_after n 6 1 m.is.walked.front) → ⊥
   place_beside inside =
       let j = link_after n 6 1 m.is.walked.front - block_of n m.block in
       not_link_of n m.is.walked.front m.block j (omega (arith, inside.1, inside.0)) (omega (arith, in_front m.block, m.absent)) (omega (arith, inside.0))
@@ -139,7 +139,7 @@ module _ {n key at : ℕ} {place : Place} {w : List ℕ} (m : MayLink n key at p
       first_other n m.block m.is.walked.back none (sym next ∙ same ∙ m.here)
 
 -- the block is filled, then linked, and the size is one more
-pub stored_of : (n b key next at l link len : ℕ) (w f w' : List ℕ) → at ≡ block_of n b → l ≡ link → (IsIn n b link → ⊥) → link ≢ 7 → link < length w → 7 < length w
+pub stored_of : (n b key next at l link len : ℕ) (w f w' : List ℕ) → at ≡ block_of n b → l ≡ link → (IsWordOfBlock n b link → ⊥) → link ≢ 7 → link < length w → 7 < length w
     → slice_index f at ≡ key → slice_index f (at + 1) ≡ next → slice_index f (at + 2) ≡ 0 → slice_index f (at + 3) ≡ 0 → ChangesOnly at 4 w f
     → len ≡ slice_index (slice_set f l at) 7 → w' ≡ slice_set (slice_set f l at) 7 (len + 1) → Stored n b key next link w w'
 stored_of n b key next at l link len w f w' here l_is apart not_len within long first second third fourth filled load is = record {

@@ -2,7 +2,7 @@
 use Rattle.std.proofs.Common.{◌≡◌, ◌≢◌, ⊎_elim, ℕ, ◌+◌, ◌*◌, ◌^◌, ◌<◌, List, [], ◌∷◌, length, ◌∙◌, ap, arith}
 use Rattle.std.specs.Prelude.{slice_index}
 use Rattle.rom_model.specs.Blocks.{block_of}
-use Rattle.rom_model.specs.Chains.{IsIn, times}
+use Rattle.rom_model.specs.Chains.{IsWordOfBlock, times}
 use Rattle.rom_model.specs.Region.{ChangesPart}
 use Rattle.rom_model.proofs.Nodes.{pow_positive}
 use Rattle.rom_model.proofs.Times.{times_here}
@@ -37,11 +37,11 @@ module _ (n : ℕ) (front : List ℕ) where
   link_not_len e = ⊎_elim (λ at. absurd (omega (arith, e, at))) (λ x. absurd (omega (arith, e, x.2))) (link_in n 6 1 front)
 
   -- a word beside the set's is not it
-  pub beside : (k : ℕ) → ((c : ℕ) → 0 < times c front → IsIn n c k → ⊥) → k ≢ 6 → k ≢ link_after n 6 1 front
+  pub beside : (k : ℕ) → ((c : ℕ) → 0 < times c front → IsWordOfBlock n c k → ⊥) → k ≢ 6 → k ≢ link_after n 6 1 front
   beside k outside ne e = ⊎_elim (λ at. ne (e ∙ at)) (λ x. outside x.0 x.1 (omega (arith, e, x.2), omega (arith, e, x.2))) (link_in n 6 1 front)
 
 -- where no words differ but the head, the size and those of these blocks
-module _ (n : ℕ) (touched w w' : List ℕ) (as_long : length w' ≡ length w) (same : (k : ℕ) → ((c : ℕ) → 0 < times c touched → IsIn n c k → ⊥) → k ≢ 6 → k ≢ 7 → slice_index w' k ≡ slice_index w k) where
+module _ (n : ℕ) (touched w w' : List ℕ) (as_long : length w' ≡ length w) (same : (k : ℕ) → ((c : ℕ) → 0 < times c touched → IsWordOfBlock n c k → ⊥) → k ≢ 6 → k ≢ 7 → slice_index w' k ≡ slice_index w k) where
   pub set_part : ChangesPart n 6 8 touched w w'
   set_part = record {
     as_long = as_long;

@@ -10,7 +10,7 @@ use Rattle.rom_model.proofs.Counting.{at_most}
 use Rattle.rom_model.proofs.Room.{times_members}
 use Rattle.rom_model.specs.Links.{AreNodes}
 use Rattle.rom_set.specs.Nodes.{HoldsSet}
-use Rattle.rom_set.specs.Walk.{IsPlace}
+use Rattle.rom_set.specs.Walk.{IsPlaceInSet}
 use Rattle.rom_set.specs.declared.walk.Place.{Place}
 use Rattle.rom_model.proofs.Links.{each_append}
 use Rattle.rom_set.proofs.Rising.{contains_split}
@@ -26,7 +26,7 @@ module _ {n : ℕ} {w : List ℕ} {p : Chains} {s : State} {k : ℕ} (is : IsReg
   abbrev pub region_set : HoldsSet n w
   region_set = record { blocks = p.set; members = s.members; set = is.shape.set; are = set_nodes }
 
-module _ {n : ℕ} {w bs : List ℕ} {members : set.FinSet nat_cmp} {key : ℕ} {place : Place} (is : IsSet n w bs members) (at : IsPlace n w bs key place) where
+module _ {n : ℕ} {w bs : List ℕ} {members : set.FinSet nat_cmp} {key : ℕ} {place : Place} (is : IsSet n w bs members) (at : IsPlaceInSet n w bs key place) where
   pub place_words : each_word n w 0 bs ≡ each_word n w 0 at.walked.front ++ each_word n w 0 at.walked.back
   place_words = ap (λ cs. each_word n w 0 cs) at.walked.blocks_are ∙ each_append n 0 w at.walked.front at.walked.back
 
@@ -41,5 +41,5 @@ module _ {n : ℕ} {w bs : List ℕ} {members : set.FinSet nat_cmp} {key : ℕ} 
   found_contains = at.found ∙ sym (contains_split key (each_word n w 0 at.walked.front) (each_word n w 0 at.walked.back) at.walked.below at.above place_rising) ∙ ap (λ m. set.contains m key) place_members
 
 -- a region and a place in words that are the same
-pub same_words : {n key k : ℕ} {v w : List ℕ} {p : Chains} {s : State} {place : Place} → v ≡ w → IsRegion n w p s k → IsPlace n w p.set key place → IsRegion n v p s k × IsPlace n v p.set key place
-same_words {n} {key} {k} {v} {w} {p} {s} {place} same is at = subst (λ x. IsRegion n x p s k × IsPlace n x p.set key place) (sym same) (is, at)
+pub same_words : {n key k : ℕ} {v w : List ℕ} {p : Chains} {s : State} {place : Place} → v ≡ w → IsRegion n w p s k → IsPlaceInSet n w p.set key place → IsRegion n v p s k × IsPlaceInSet n v p.set key place
+same_words {n} {key} {k} {v} {w} {p} {s} {place} same is at = subst (λ x. IsRegion n x p s k × IsPlaceInSet n x p.set key place) (sym same) (is, at)

@@ -10,10 +10,10 @@ use Rattle.rom_model.proofs.Members.{NewBlock}
 use Rattle.rom_model.proofs.Frames.{tree_part, set_frame, each_same}
 use Rattle.rom_model.proofs.Room.{times_members, new_block}
 use Rattle.rom_block.specs.Taken.{Takes}
-use Rattle.rom_set.specs.Set.{IsAdded}
+use Rattle.rom_set.specs.Set.{IsAddedToSet}
 use Rattle.rom_model.specs.Rising.{AreBelow, StartsAbove, starts_with}
-use Rattle.rom_set.specs.Walk.{IsPlace}
-use Rattle.rom_set.specs.Link.{MayLink, IsLinked}
+use Rattle.rom_set.specs.Walk.{IsPlaceInSet}
+use Rattle.rom_set.specs.Link.{MayLink, IsBlockLinked}
 use Rattle.rom_set.specs.declared.walk.Place.{Place}
 use Rattle.rom_set.proofs.Places.{set_nodes}
 use Rattle.rom_set.proofs.Regions.{added}
@@ -22,7 +22,7 @@ pub unit_begins : (n x b : ℕ) → x ≡ 2 ^ n + b → block_at n 0 x ≡ block
 unit_begins n x b e = omega (arith, e)
 
 -- a place is one still where the words of the blocks stay
-abbrev place_stays : (n key : ℕ) (w w' bs : List ℕ) (place : Place) → ((c : ℕ) → slice_index w' (block_of n c + 0) ≡ slice_index w (block_of n c + 0)) → IsPlace n w bs key place → IsPlace n w' bs key place
+abbrev place_stays : (n key : ℕ) (w w' bs : List ℕ) (place : Place) → ((c : ℕ) → slice_index w' (block_of n c + 0) ≡ slice_index w (block_of n c + 0)) → IsPlaceInSet n w bs key place → IsPlaceInSet n w' bs key place
 place_stays n key w w' bs place same at =
     let back = each_same n 0 w w' at.walked.back (λ c some. same c) in
     record {
@@ -38,7 +38,7 @@ place_stays n key w w' bs place same at =
       found = at.found ∙ ap (starts_with key) (sym back);
     }
 
-module _ {n key : ℕ} {w : List ℕ} {p : Chains} {s : State} {k : ℕ} {place : Place} (le : 4 ≤ n) (is : IsRegion n w p s k) (stands : IsPlace n w p.set key place) (missing : place.found ≡ false)
+module _ {n key : ℕ} {w : List ℕ} {p : Chains} {s : State} {k : ℕ} {place : Place} (le : 4 ≤ n) (is : IsRegion n w p s k) (stands : IsPlaceInSet n w p.set key place) (missing : place.found ≡ false)
     {w1 : List ℕ} {at : ℕ} (only : ChangesOnly 17 (2 * 2 ^ n - 1) w w1) (takes : Takes n 0 (taken_by n (element_blocks n p)) w1 at) where
   pub new : NewBlock n takes.node (element_blocks n p)
   new = new_block le is takes.node takes.lowest
@@ -59,7 +59,7 @@ module _ {n key : ℕ} {w : List ℕ} {p : Chains} {s : State} {k : ℕ} {place 
     absent = omega (arith, new.absent, times_members n p new.block);
   }
 
-  pub became : (w2 : List ℕ) → IsLinked may_link w2 → IsAdded n w p s k key w2
+  pub became : (w2 : List ℕ) → IsBlockLinked may_link w2 → IsAddedToSet n w p s k key w2
   became w2 done = record {
     block = new.block;
     lowest = subst (λ x. IsLowest n (taken_by n (element_blocks n p)) 0 x) new.node_is takes.lowest;

@@ -4,13 +4,13 @@ use Rattle.std.specs.Prelude.{slice_index, slice_set}
 use Rattle.std.specs.FinSet as set
 use Rattle.std.proofs.lemmas.Grind.{get_or-set_at}
 use Rattle.rom_model.specs.Blocks.{block_of}
-use Rattle.rom_model.specs.Chains.{IsIn, times, Chain, each_word, HoldZero}
+use Rattle.rom_model.specs.Chains.{IsWordOfBlock, times, Chain, each_word, HoldZero}
 use Rattle.rom_model.specs.Rising.{IsRising}
 use Rattle.rom_model.specs.Region.{IsSet}
 use Rattle.rom_model.proofs.Times.{times_here, times_more, times-append}
 use Rattle.rom_model.proofs.Frames.{each_same}
 use Rattle.rom_model.specs.Links.{link_after, first_of}
-use Rattle.rom_set.specs.Link.{MayUnlink, IsUnlinked}
+use Rattle.rom_set.specs.Link.{MayUnlink, IsBlockUnlinked}
 use Rattle.rom_set.specs.declared.walk.Place.{Place}
 use Rattle.rom_model.proofs.Links.{chain_back, chain_first, chain_moved, chain_relinked, each_append}
 use Rattle.rom_model.proofs.Rising.{rising_back, below_before, above_behind, rising_without}
@@ -102,10 +102,10 @@ module _ {n : ℕ} {place : Place} {w : List ℕ} (m : MayUnlink n place w) wher
           fourth = pad 3 (omega arith) (omega arith) m.holds.set.fourth;
         }
 
-    stays : (k : ℕ) → ((c : ℕ) → 0 < times c m.holds.blocks → IsIn n c k → ⊥) → k ≢ 6 → k ≢ 7 → slice_index w' k ≡ slice_index w k
+    stays : (k : ℕ) → ((c : ℕ) → 0 < times c m.holds.blocks → IsWordOfBlock n c k → ⊥) → k ≢ 6 → k ≢ 7 → slice_index w' k ≡ slice_index w k
     stays k outside ne6 ne7 = cut.others k (beside n m.front k (λ c some. outside c (omega (arith, counts c, some))) ne6) ne7
 
-    pub unlinked : IsUnlinked m w'
+    pub unlinked : IsBlockUnlinked m w'
     unlinked = record {
       set = unlinked_set;
       kept = λ j lt. block_stays m.block j (not_link_of n m.front m.block j lt none_before);

@@ -12,7 +12,7 @@ use Rattle.rom_model.specs.Region.{IsSet}
 use Rattle.rom_model.specs.Walks.{keys_below}
 use Rattle.rom_model.proofs.Times.{times_here, times-append}
 use Rattle.rom_model.specs.Links.{first_of, AreNodes}
-use Rattle.rom_set.specs.Walk.{Walked, IsPlace}
+use Rattle.rom_set.specs.Walk.{HasWalkedSet, IsPlaceInSet}
 use Rattle.rom_model.proofs.Links.{link_push, chain_back, chain_first, each_append}
 use Rattle.rom_model.proofs.Rising.{below_push, rising_back}
 use Rattle.rom_set.proofs.Passed.{passed}
@@ -49,7 +49,7 @@ falls_at n key b next w (c ∷ cs) chain rising lt is =
     omega (arith, lt, rising.0, ap (λ k. slice_index w k) plain, ap (λ k. slice_index w k) flat, ap (λ t. if t then 0 else key - slice_index w next) test)
 
 -- at the chain's head
-pub at_head : {n : ℕ} {w bs : List ℕ} {members : set.FinSet nat_cmp} (key node : ℕ) → IsSet n w bs members → node ≡ slice_index w 6 → Walked n w bs key 6 node
+pub at_head : {n : ℕ} {w bs : List ℕ} {members : set.FinSet nat_cmp} (key node : ℕ) → IsSet n w bs members → node ≡ slice_index w 6 → HasWalkedSet n w bs key 6 node
 at_head {n} {w} {bs} key node is load = record {
   front = [];
   back = bs;
@@ -59,7 +59,7 @@ at_head {n} {w} {bs} key node is load = record {
   node_is = load ∙ chain_first n 6 1 w bs is.chain;
 }
 
-module _ {n : ℕ} {w bs : List ℕ} {members : set.FinSet nat_cmp} {key link node : ℕ} (is : IsSet n w bs members) (x : Walked n w bs key link node) where
+module _ {n : ℕ} {w bs : List ℕ} {members : set.FinSet nat_cmp} {key link node : ℕ} (is : IsSet n w bs members) (x : HasWalkedSet n w bs key link node) where
   words : each_word n w 0 bs ≡ each_word n w 0 x.front ++ each_word n w 0 x.back
   words = ap (λ cs. each_word n w 0 cs) x.blocks_are ∙ each_append n 0 w x.front x.back
 
@@ -77,7 +77,7 @@ module _ {n : ℕ} {w bs : List ℕ} {members : set.FinSet nat_cmp} {key link no
   front_fits are = omega (arith, are.few, ap length x.blocks_are, length-append x.front x.back)
 
   -- at the chain's end
-  pub at_end : (found : Bool) → found ≡ false → node ≡ 0 → IsPlace n w bs key (record { link = link; node = node; found = found })
+  pub at_end : (found : Bool) → found ≡ false → node ≡ 0 → IsPlaceInSet n w bs key (record { link = link; node = node; found = found })
   at_end found missing none =
       let over = no_node n node x.back x.node_is none in
       record {
@@ -103,7 +103,7 @@ module _ {n : ℕ} {w bs : List ℕ} {members : set.FinSet nat_cmp} {key link no
     node_within are = omega (arith, first.here, are.within first.block (omega (arith, ap (times first.block) blocks, times-append first.block x.front (first.block ∷ first.behind), times_here first.block first.behind)))
 
     -- at a node whose key is not below the key
-    pub at_node : (found : Bool) → found ≡ (slice_index w node == key) → key ≤ slice_index w node → IsPlace n w bs key (record { link = link; node = node; found = found })
+    pub at_node : (found : Bool) → found ≡ (slice_index w node == key) → key ≤ slice_index w node → IsPlaceInSet n w bs key (record { link = link; node = node; found = found })
     at_node found tells high = record {
       walked = x;
       above = subst (λ cs. StartsAbove key (each_word n w 0 cs)) (sym first.are) (subst (λ k. key ≤ slice_index w k) (sym flat) high);
@@ -111,7 +111,7 @@ module _ {n : ℕ} {w bs : List ℕ} {members : set.FinSet nat_cmp} {key link no
     }
 
     -- one step more
-    pub step : (next : ℕ) → slice_index w node < key → next ≡ slice_index w (node + 1) → (y : Walked n w bs key (node + 1) next) × (length y.front ≡ length x.front + 1)
+    pub step : (next : ℕ) → slice_index w node < key → next ≡ slice_index w (node + 1) → (y : HasWalkedSet n w bs key (node + 1) next) × (length y.front ≡ length x.front + 1)
     step next lt load = (
       record {
         front = x.front ++ first.block ∷ [];

@@ -6,13 +6,13 @@ use Rattle.rom_model.specs.Chains.{times}
 use Rattle.rom_model.specs.Region.{IsSet, ChangesPart}
 use Rattle.rom_model.specs.Links.{link_after, KeepsTree}
 use Rattle.rom_set.specs.Nodes.{HoldsSet}
-use Rattle.rom_set.specs.Walk.{IsPlace}
+use Rattle.rom_set.specs.Walk.{IsPlaceInSet}
 use Rattle.rom_set.specs.declared.walk.Place.{Place}
 
 -- a set in the words, the place of a key that it has not, and where a block begins that is not in it
 pub record MayLink (n key at : ℕ) (place : Place) (words : List ℕ) : Type 0 where
   pub holds : HoldsSet n words
-  pub is : IsPlace n words holds.blocks key place
+  pub is : IsPlaceInSet n words holds.blocks key place
   pub missing : place.found ≡ false
   pub block : ℕ
   pub here : at ≡ block_of n block
@@ -20,7 +20,7 @@ pub record MayLink (n key at : ℕ) (place : Place) (words : List ℕ) : Type 0 
   pub absent : times block holds.blocks ≡ 0
 
 -- The block stands at that place with the key, and no word differs but the set's and the block's.
-pub record IsLinked {n key at : ℕ} {place : Place} {old : List ℕ} (m : MayLink n key at place old) (new : List ℕ) : Type 0 where
+pub record IsBlockLinked {n key at : ℕ} {place : Place} {old : List ℕ} (m : MayLink n key at place old) (new : List ℕ) : Type 0 where
   pub holds : slice_index new (block_of n m.block + 0) ≡ key
   pub set : IsSet n new (m.is.walked.front ++ m.block ∷ m.is.walked.back) (set.insert m.holds.members key)
   pub others : ChangesPart n 6 8 (m.is.walked.front ++ m.block ∷ m.is.walked.back) old new
@@ -38,7 +38,7 @@ pub record MayUnlink (n : ℕ) (place : Place) (words : List ℕ) : Type 0 where
 
 -- The block is out of the chain and its key out of the set, and no word differs but the set's. Those of
 -- the block stay.
-pub record IsUnlinked {n : ℕ} {place : Place} {old : List ℕ} (m : MayUnlink n place old) (new : List ℕ) : Type 0 where
+pub record IsBlockUnlinked {n : ℕ} {place : Place} {old : List ℕ} (m : MayUnlink n place old) (new : List ℕ) : Type 0 where
   pub set : IsSet n new (m.front ++ m.back) (set.remove m.holds.members (slice_index old (block_of n m.block + 0)))
   pub kept : (j : ℕ) → j < 4 → slice_index new (block_of n m.block + j) ≡ slice_index old (block_of n m.block + j)
   pub others : ChangesPart n 6 8 m.holds.blocks old new

@@ -14,8 +14,8 @@ abbrev pub with_members : State → set.FinSet nat_cmp → State
 with_members s members = record s { members = members }
 
 -- the chains with these blocks as the set's
-abbrev pub with_blocks : Chains → List ℕ → Chains
-with_blocks p blocks = record p { set = blocks }
+abbrev pub with_set_blocks : Chains → List ℕ → Chains
+with_set_blocks p blocks = record p { set = blocks }
 
 -- What an insertion tells, and the words that it leaves. There is one answer that fits.
 abbrev pub IsInserted : ℕ → State → ℕ → ℕ → Inserted → List ℕ → Type 0
@@ -38,14 +38,14 @@ KeepsUnlessNew shown n below Full old new = Looks shown (n + 3 + 2 * below) old 
 
 -- The number stands in the first block that was free, which was put into the set's chain, and each other
 -- element keeps its block. No word differs but the set's root words, the tree's, and those of the set's blocks.
-pub record IsAdded (n : ℕ) (old : List ℕ) (p : Chains) (s : State) (count key : ℕ) (new : List ℕ) : Type 0 where
+pub record IsAddedToSet (n : ℕ) (old : List ℕ) (p : Chains) (s : State) (count key : ℕ) (new : List ℕ) : Type 0 where
   pub block : ℕ
   pub lowest : IsLowest n (taken_by n (element_blocks n p)) 0 (2 ^ n + block)
   pub holds : slice_index new (block_of n block + 0) ≡ key
   pub front : List ℕ
   pub back : List ℕ
   pub blocks : p.set ≡ front ++ back
-  pub becomes : PartBecomes n 6 8 (front ++ block ∷ back) old new (with_blocks p (front ++ block ∷ back)) (with_members s (set.insert s.members key)) count
+  pub becomes : PartBecomes n 6 8 (front ++ block ∷ back) old new (with_set_blocks p (front ++ block ∷ back)) (with_members s (set.insert s.members key)) count
 
 -- The number's block is no longer in the set's chain, and its words stay. Each other element keeps its
 -- block. No word differs but the set's root words, the tree's, and those of the set's blocks before.
@@ -56,4 +56,4 @@ pub record IsRemoved (n : ℕ) (old : List ℕ) (p : Chains) (s : State) (count 
   pub back : List ℕ
   pub blocks : p.set ≡ front ++ block ∷ back
   pub kept : (j : ℕ) → j < 4 → slice_index new (block_of n block + j) ≡ slice_index old (block_of n block + j)
-  pub becomes : PartBecomes n 6 8 p.set old new (with_blocks p (front ++ back)) (with_members s (set.remove s.members key)) count
+  pub becomes : PartBecomes n 6 8 p.set old new (with_set_blocks p (front ++ back)) (with_members s (set.remove s.members key)) count

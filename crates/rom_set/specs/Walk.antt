@@ -7,7 +7,7 @@ use Rattle.rom_set.specs.declared.walk.Place.{Place}
 
 -- A walk along the chain of these blocks came to that link word, which leads to that node or is 0: the
 -- keys that it passed are below the key.
-pub record Walked (n : ℕ) (words blocks : List ℕ) (key link node : ℕ) : Type 0 where
+pub record HasWalkedSet (n : ℕ) (words blocks : List ℕ) (key link node : ℕ) : Type 0 where
   pub front : List ℕ
   pub back : List ℕ
   pub blocks_are : blocks ≡ front ++ back
@@ -16,7 +16,7 @@ pub record Walked (n : ℕ) (words blocks : List ℕ) (key link node : ℕ) : Ty
   pub node_is : node ≡ first_of n back
 
 -- the walk stopped there at the first node whose key is not below the key, or at the chain's end
-pub record IsPlace (n : ℕ) (words blocks : List ℕ) (key : ℕ) (place : Place) : Type 0 where
-  pub walked : Walked n words blocks key place.link place.node
+pub record IsPlaceInSet (n : ℕ) (words blocks : List ℕ) (key : ℕ) (place : Place) : Type 0 where
+  pub walked : HasWalkedSet n words blocks key place.link place.node
   pub above : StartsAbove key (each_word n words 0 walked.back)
   pub found : place.found ≡ starts_with key (each_word n words 0 walked.back)

@@ -2,7 +2,7 @@
 ghost use Rattle.std.specs.Prelude.{◌≡◌, ◌≤◌, length};
 ghost use Rattle.rom_model.specs.Space.{Costs, HasRoom, IsSparing};
 ghost use Rattle.rom_model.specs.Blocks.{region_len};
-ghost use Rattle.rom_set.specs.Link.{MayLink, IsLinked, MayUnlink, IsUnlinked};
+ghost use Rattle.rom_set.specs.Link.{MayLink, IsBlockLinked, MayUnlink, IsBlockUnlinked};
 
 use crate::node::SET_LINK;
 use crate::walk::Place;
@@ -16,7 +16,7 @@ pub fn link_node<M: Space>(space: &mut M, order: u32, place: Place, at: u64, key
     requires may { MayLink order key at place (M.shown.image space.old) }
     requires room { HasRoom M.shown 6 space.old }
     ensures linked { (m : MayLink order key at place (M.shown.image space.old))
-        → IsLinked m (M.shown.image space.new) }
+        → IsBlockLinked m (M.shown.image space.new) }
     ensures costs { Costs M.shown 5 6 space.old space.new }
     ensures sparing { IsSparing M.shown space.old space.new }
 {
@@ -33,7 +33,7 @@ pub fn unlink_node<M: Space>(space: &mut M, order: u32, place: Place)
     requires may { MayUnlink order place (M.shown.image space.old) }
     requires room { HasRoom M.shown 2 space.old }
     ensures unlinked { (m : MayUnlink order place (M.shown.image space.old))
-        → IsUnlinked m (M.shown.image space.new) }
+        → IsBlockUnlinked m (M.shown.image space.new) }
     ensures costs { Costs M.shown 2 2 space.old space.new }
     ensures sparing { IsSparing M.shown space.old space.new }
 {

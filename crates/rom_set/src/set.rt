@@ -7,7 +7,7 @@ ghost use Rattle.rom_model.specs.State.{State};
 ghost use Rattle.rom_model.specs.Walks.{keys_below};
 ghost use Rattle.rom_model.specs.Blocks.{IsOrder};
 ghost use Rattle.rom_model.specs.Region.{Chains, IsRegion, IsWellFormed, Contents};
-ghost use Rattle.rom_set.specs.Set.{with_members, IsInserted, IsAdded, IsRemoved, OnNew, KeepsUnlessNew};
+ghost use Rattle.rom_set.specs.Set.{with_members, IsInserted, IsAddedToSet, IsRemoved, OnNew, KeepsUnlessNew};
 
 use crate::link::{link_node, unlink_node};
 use crate::walk::find;
@@ -38,7 +38,7 @@ pub fn set_insert<M: Space>(space: &mut M, order: u32, key: u64) -> Inserted
     // those of the set and of the allocator.
     ensures others { (p : Chains) (s : State) (k : ℕ) →
         IsRegion order (M.shown.image space.old) p s k
-        → OnNew result (IsAdded order (M.shown.image space.old) p s k key
+        → OnNew result (IsAddedToSet order (M.shown.image space.old) p s k key
         (M.shown.image space.new)) }
     ensures region { IsWellFormed order (M.shown.image space.new) }
     // Unless the answer is `New`, the words stay. At most order + 3 loads, and 2 more for each smaller number

@@ -7,7 +7,7 @@ ghost use Rattle.rom_model.specs.Walks.{keys_below};
 ghost use Rattle.rom_model.specs.Blocks.{region_len};
 ghost use Rattle.rom_model.specs.Region.{IsSet};
 ghost use Rattle.rom_set.specs.Nodes.{HoldsSet};
-ghost use Rattle.rom_set.specs.Walk.{IsPlace};
+ghost use Rattle.rom_set.specs.Walk.{IsPlaceInSet};
 
 use crate::node::SET_LINK;
 use rom_model::{Look, SET_HEAD};
@@ -30,7 +30,7 @@ pub fn find<M: Look>(space: &mut M, order: u32, key: u64) -> Place
     requires set { HoldsSet order (M.shown.image space.old) }
     ensures is { (blocks : List ℕ) (members : set.FinSet nat_cmp)
         → IsSet order (M.shown.image space.old) blocks members
-        → IsPlace order (M.shown.image space.old) blocks key result }
+        → IsPlaceInSet order (M.shown.image space.old) blocks key result }
     ensures looks { (blocks : List ℕ) (members : set.FinSet nat_cmp)
         → IsSet order (M.shown.image space.old) blocks members
         → Looks M.shown (2 + 2 * keys_below members key) space.old space.new }

@@ -13,7 +13,7 @@ use Rattle.rom_run.specs.Played.{IsText}
 use Rattle.rom_run.specs.Use.{Use, Plays, Makes, Shows, Upgrades, Read, Drawn}
 use Rattle.rom_run.specs.declared.heap.Heap.TheVariants.{New, Standing}
 use Rattle.rom_script.specs.Drill.{drill_scripts}
-use Rattle.rom_script.specs.Lines.{Reads}
+use Rattle.rom_script.specs.Lines.{ReadsTrio}
 use Rattle.rom_text.specs.Streams.{ShownSink, ShownSource}
 use Rattle.rom_script.specs.Trio.{trio_texts}
 use Rattle.rom_shell.specs.Drilled.{IsDrillText, drill_told}
@@ -32,8 +32,8 @@ use_of None = None
 
 -- the scripts that it runs, which are those of its sources, or those of a drill
 abbrev pub AreRun : {S : Type 0} → ShownSource S → Option Command → List S → List (List (Step Call Query)) → Type 0
-AreRun source (Some (Try names)) sources scripts = AreScripts Reads source sources scripts
-AreRun source (Some (Run file names)) sources scripts = AreScripts Reads source sources scripts
+AreRun source (Some (Try names)) sources scripts = AreScripts ReadsTrio source sources scripts
+AreRun source (Some (Run file names)) sources scripts = AreScripts ReadsTrio source sources scripts
 AreRun source (Some (Format file order)) sources scripts = ⊥
 AreRun source (Some (Stat file)) sources scripts = (sources ≡ []) × (scripts ≡ [])
 AreRun source (Some (Upgrade file)) sources scripts = ⊥

@@ -8,7 +8,7 @@ ghost use Rattle.rom_run.specs.Promise.{Promise};
 ghost use Rattle.rom_run.specs.Use.{HasNotRun, HasRead, HasRun, IsStatus, heap_of};
 ghost use Rattle.rom_run.specs.Working.{HasMade, HasNone, HasSession, IsDeviceKept, IsStill};
 ghost use Rattle.rom_text.specs.Determines.{TextDetermines};
-ghost use Rattle.rom_text.specs.Runs.{AreAskedOnce, AreAtEnd, AreNotTooLong, IsLineTold, SourceFailed, SourceTooLong};
+ghost use Rattle.rom_text.specs.Runs.{AreAskedOnce, AreAtEnd, AreNotTooLong, IsLineWrittenOrCutShort, SourceFailed, SourceTooLong};
 ghost use Rattle.rom_text.specs.Streams.{StopsWriting, WriteFailed};
 ghost use Rattle.rom_script.specs.Trio.{trio_texts};
 ghost use Rattle.rom_shell.specs.Run.{AreRun, IsPrinted, use_of};
@@ -68,7 +68,7 @@ fn run_command<R: Threads + Wait + Sync, D: Device + Send, S: Source, O: Sink, G
     ensures too_long { result.status ≡ 8 →
         SourceTooLong S.shown O.shown scripts.items result.scripts.items out.old out.new }
     ensures not_a_command_told { result.status ≡ 2 →
-        IsLineTold O.shown out.old out.new (codes "not a command") }
+        IsLineWrittenOrCutShort O.shown out.old out.new (codes "not a command") }
     ensures sink_failed { result.status ≡ 5 → WriteFailed O.shown out.old out.new }
     ensures writing { StopsWriting O.shown out.old out.new }
     ensures rest { O.shown.rest out.new ≡ O.shown.rest out.old }

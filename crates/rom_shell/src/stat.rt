@@ -6,7 +6,7 @@ ghost use Rattle.rom_model.specs.Blocks.{IsOrder};
 ghost use Rattle.rom_model.specs.Region.{Contents};
 ghost use Rattle.rom_model.specs.State.{State};
 ghost use Rattle.rom_model.specs.Trio.{trio};
-ghost use Rattle.rom_model.specs.VecSpace.{words_of};
+ghost use Rattle.rom_model.specs.VecSpace.{words_of_space};
 ghost use Rattle.rom_run.specs.Statuses.{exit_number};
 ghost use Rattle.rom_run.specs.Working.{HasNone, HasSession, IsAsBefore, IsDeviceKept};
 ghost use Rattle.rom_run.specs.declared.heap.Heap.TheVariants.{Standing};
@@ -24,8 +24,8 @@ use std::alloc::Global;
 /// Prints the sizes of the heap in a region.
 fn print_sizes<O: Sink>(space: VecSpace, order: u32, out: &mut O)
     requires order { IsOrder order }
-    requires region { (s : State) × (k : ℕ) × Contents order (words_of space) s k }
-    ensures printed { (s : State) (k : ℕ) → Contents order (words_of space) s k →
+    requires region { (s : State) × (k : ℕ) × Contents order (words_of_space space) s k }
+    ensures printed { (s : State) (k : ℕ) → Contents order (words_of_space space) s k →
         IsWrittenOrCutShort O.shown out.old out.new (stat_text order s k) }
     ensures writing { StopsWriting O.shown out.old out.new }
     ensures rest { O.shown.rest out.new ≡ O.shown.rest out.old }

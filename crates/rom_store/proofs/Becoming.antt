@@ -8,7 +8,7 @@ use Rattle.rom_model.specs.History.{IsLegal, LAST_COUNT, left}
 use Rattle.rom_model.specs.Lawful.{as_words}
 use Rattle.rom_model.specs.Machine.{Machine, on_words}
 use Rattle.rom_model.specs.Undone.{SPENT, FAILED, DOUBT}
-use Rattle.rom_lines.specs.Replies.{IsReplied, done_as, undone_as, updated_as}
+use Rattle.rom_lines.specs.Replies.{HasReplyWords, done_as, undone_as, updated_as}
 use Rattle.rom_lines.specs.declared.results.Became.{Became}
 use Rattle.rom_lines.specs.declared.results.Became.TheVariants as became
 use Rattle.rom_lines.specs.declared.results.Undone.{Undone}
@@ -30,7 +30,7 @@ IsReadBack m other = Unit {0}
 
 module _ {S C Q R A : Type 0} (m : Machine S C Q R A) where
   -- what a word and the words beside it say is what the call was told
-  pub became_is : (u : Updated R) (b : Became) (word : ℕ) (words : List ℕ) → IsWithinPlaces u → IsReadBack m u → answer_words (as_words m u) ≡ word ∷ packed words → Says b word → (updated_as m.words_reply b words ≡ u) × IsReplied m.words_reply b words
+  pub became_is : (u : Updated R) (b : Became) (word : ℕ) (words : List ℕ) → IsWithinPlaces u → IsReadBack m u → answer_words (as_words m u) ≡ word ∷ packed words → Says b word → (updated_as m.words_reply b words ≡ u) × HasReplyWords m.words_reply b words
   became_is (told.Done reply place) (became.Done at) word words low back is says =
       let there : at ≡ place = cc in
       let beside : words ≡ m.reply_words reply = cc in
@@ -68,8 +68,8 @@ module _ {S C Q R A : Type 0} (m : Machine S C Q R A) where
   few_beside (became.Undone why) word words most is few = omega (arith, ap length (none_beside why word words is))
 
   -- the reply of an update that is done, and its words
-  pub done_reply : (only : (words : List ℕ) (reply : R) → m.words_reply words ≡ Some reply → m.reply_words reply ≡ words) (b : Became) (words : List ℕ) (place : ℕ) → IsReplied m.words_reply b words → b ≡ became.Done place → (reply : R) × (updated_as m.words_reply b words ≡ told.Done reply place) × (m.reply_words reply ≡ words)
-  done_reply only b words place some is = by_read (m.words_reply words) refl (subst (λ z. IsReplied m.words_reply z words) is some)
+  pub done_reply : (only : (words : List ℕ) (reply : R) → m.words_reply words ≡ Some reply → m.reply_words reply ≡ words) (b : Became) (words : List ℕ) (place : ℕ) → HasReplyWords m.words_reply b words → b ≡ became.Done place → (reply : R) × (updated_as m.words_reply b words ≡ told.Done reply place) × (m.reply_words reply ≡ words)
+  done_reply only b words place some is = by_read (m.words_reply words) refl (subst (λ z. HasReplyWords m.words_reply z words) is some)
     where
       by_read : (o : Option R) → m.words_reply words ≡ o → IsSome (m.words_reply words) → (reply : R) × (updated_as m.words_reply b words ≡ told.Done reply place) × (m.reply_words reply ≡ words)
       by_read (Some reply) read there = (reply, ap (λ z. updated_as m.words_reply z words) is ∙ ap (done_as place) read, only words reply read)

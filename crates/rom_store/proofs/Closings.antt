@@ -16,9 +16,9 @@ use Rattle.rom_twin.specs.declared.phase.Phase.TheVariants.{Doubt}
 use Rattle.rom_combine.specs.AtRest.{IsAtRest, Locked}
 use Rattle.rom_combine.specs.Histories.{Doubted, ImageAt}
 use Rattle.rom_combine.specs.Session.{ImageNow, SessionImage}
-use Rattle.rom_lr.specs.Writing.{Writes}
+use Rattle.rom_lr.specs.Writing.{SetsPlan}
 use Rattle.rom_lr.specs.declared.seats.WriterSeat.{WriterSeat}
-use Rattle.rom_rule.specs.Calls.{told_to}
+use Rattle.rom_rule.specs.Calls.{told_to_caller}
 use Rattle.rom_rule.specs.Kinds.{planned}
 use Rattle.rom_rule.specs.Readers.{Held}
 use Rattle.rom_rule.specs.Records as rule
@@ -53,18 +53,18 @@ module _ {S C Q R A D : Type 0} (m : Machine S C Q R A) (Contents : ℕ → List
     pub holds : (s : S) (k : ℕ) → Contents base.order base.image s k → Held Contents (on_words m) base s k p.main p.history
     pub images : IsTrue shown.tells_images → (s : S) (k : ℕ) → Contents base.order base.image s k → (i : List ℕ) → shown.leaves t.device i → ImageAt Contents (on_words m) base s k t.phase p i
     pub doubted : t.phase ≡ Doubt → (s : S) (k : ℕ) → Contents base.order base.image s k → (d : List Entry) × Doubted Contents (on_words m) base s k p d
-    pub told : AllByRecursion (λ v. 0 < v.number → told_to p.told v.number ≡ v.told) (joined_of ps)
+    pub told : AllByRecursion (λ v. 0 < v.number → told_to_caller p.told v.number ≡ v.told) (joined_of ps)
     pub known : AllByRecursion (λ x. (0 < x.0.caller) × (x.0.caller ≤ base.callers)) p.told
-    pub recorded : (s : S) (k : ℕ) → Contents base.order base.image s k → Recorded (on_words m) base s k (book_in p) × AllByRecursion (rule.IsKept k (book_in p)) (joined_of ps)
+    pub recorded : (s : S) (k : ℕ) → Contents base.order base.image s k → Recorded (on_words m) base s k (book_in p) × AllByRecursion (rule.IsKeptInBook k (book_in p)) (joined_of ps)
 
   -- So at the closing: what was behind the lock, the writer's view there, the same with the callers taken in, and after the look at the records.
   pub ended : ((order : ℕ) (words : List ℕ) (s t : S) (j k : ℕ) → Contents order words s j → Contents order words t k → (s ≡ t) × (j ≡ k)) →
       (table : TableId) (base : Base) (start : Start) (test : ℕ → List ℕ → Type 0) (c : Locked D) (t : Seen D) (v v' w : View) (ps : List Caller) →
       IsBehindLock shown Contents (on_words m) table base start test c → t ≡ c.twin → v ≡ c.view → IsAtRest shown Contents (on_words m) t v →
       v' ≡ record v { joined = v.joined ++ joined_of ps; steps = v'.steps } → w ≡ planned v' (plan_of v') →
-      AllByRecursion (λ x. 0 < x.number → told_to (plan_of w).told x.number ≡ x.told) w.joined →
+      AllByRecursion (λ x. 0 < x.number → told_to_caller (plan_of w).told x.number ≡ x.told) w.joined →
       AllByRecursion (λ x. (0 < x.0.caller) × (x.0.caller ≤ w.base.callers)) (plan_of w).told →
-      ((s : S) (k : ℕ) → Contents w.base.order w.base.image s k → Recorded (on_words m) w.base s k (book_in (plan_of w)) × AllByRecursion (rule.IsKept k (book_in (plan_of w))) w.joined) →
+      ((s : S) (k : ℕ) → Contents w.base.order w.base.image s k → Recorded (on_words m) w.base s k (book_in (plan_of w)) × AllByRecursion (rule.IsKeptInBook k (book_in (plan_of w))) w.joined) →
       Ended base (plan_of w) t ps
   ended one table base start test c t v v' w ps held twin_is view_is rest joined still told known recorded =
       let plan_is : plan_of w ≡ plan_of v = ap plan_of still ∙ ap plan_of joined in
@@ -83,10 +83,10 @@ module _ {S C Q R A D : Type 0} (m : Machine S C Q R A) (Contents : ℕ → List
             subst (λ (z : (Base × Plan) × (S × ℕ)). ImageAt Contents (on_words m) z.0.0 z.1.0 z.1.1 t.phase z.0.1 i) (λ j. ((base_is j, sym plan_is j), (same.0 j, same.1 j))) (rest.images tells i left);
         doubted = λ is s k op. let x = held.in_doubt (sym (ap (λ (z : Seen D). z.phase) twin_is) ∙ is) s k op in
             (x.0, subst (λ (z : Plan). Doubted Contents (on_words m) base s k z x.0) (sym plan_held) x.1);
-        told = subst (AllByRecursion (λ x. 0 < x.number → told_to (plan_of w).told x.number ≡ x.told)) joined_is told;
+        told = subst (AllByRecursion (λ x. 0 < x.number → told_to_caller (plan_of w).told x.number ≡ x.told)) joined_is told;
         known = subst (λ (z : Base). AllByRecursion (λ x. (0 < x.0.caller) × (x.0.caller ≤ z.callers)) (plan_of w).told) base_now known;
         recorded = λ s k op. let x = recorded s k (subst (λ (z : Base). Contents z.order z.image s k) (sym base_now) op) in
-            (subst (λ (z : Base). Recorded (on_words m) z s k (book_in (plan_of w))) base_now x.0, subst (AllByRecursion (rule.IsKept k (book_in (plan_of w)))) joined_is x.1);
+            (subst (λ (z : Base). Recorded (on_words m) z s k (book_in (plan_of w))) base_now x.0, subst (AllByRecursion (rule.IsKeptInBook k (book_in (plan_of w)))) joined_is x.1);
       }
 
   module _ (base : Base) (p : Plan) (t : Seen D) (ps : List Caller) (e : Ended base p t ps) (session : SessionSeen) (is : session ≡ session_of base p t.phase) where
@@ -106,8 +106,8 @@ module _ {S C Q R A D : Type 0} (m : Machine S C Q R A) (Contents : ℕ → List
       where
         kept : (s : S) (k : ℕ) (doubt : Option (List Entry)) → Contents base.order base.image s k → (i : ℕ) (q : Caller) → slice_get ps i ≡ Some q → IsNumberedCaller Contents table base i q → IsKept m (story_of base p s k doubt) (kept_in q)
         kept s k doubt op i q at numbered = let x = e.recorded s k op in let number = numbered.number in
-            is_kept m Contents base p s k doubt (kept_in q) x.0 (joined_at (rule.IsKept k (book_in p)) ps i q at x.1)
-            (joined_at (λ v. 0 < v.number → told_to p.told v.number ≡ v.told) ps i q at e.told (omega (arith, number)))
+            is_kept m Contents base p s k doubt (kept_in q) x.0 (joined_at (rule.IsKeptInBook k (book_in p)) ps i q at x.1)
+            (joined_at (λ v. 0 < v.number → told_to_caller p.told v.number ≡ v.told) ps i q at e.told (omega (arith, number)))
 
     pub ended_now : IsTrue shown.tells_images → EachStory m Contents session (λ story. (i : List ℕ) → shown.leaves t.device i → ImageNow Contents (on_words m) story i)
     ended_now tells = on_session (λ story. (i : List ℕ) → shown.leaves t.device i → ImageNow Contents (on_words m) story i) (each_story m Contents base p t.phase (λ story. (i : List ℕ) → shown.leaves t.device i → ImageNow Contents (on_words m) story i)
@@ -135,7 +135,7 @@ module _ {S C Q R A D : Type 0} (m : Machine S C Q R A) (Contents : ℕ → List
 -- The writer's seat as the lock left it, with the callers taken in, after the look at the records, and after a load: it is of the store's table still, and the plan is the published one.
 pub writer_at_end : {D : Type 0} (table named : TableId) (key : Key) (b : Base) (c : Locked D) (s s' u w : WriterSeat) (ps : List Caller) →
     (s.token.table_id ≡ c.table_id) × (s.token.id ≡ c.id) × (s.token.me.0 ≡ c.view) → s'.token.table_id ≡ s.token.table_id → s'.token.me.0 ≡ record s.token.me.0 { joined = s.token.me.0.joined ++ joined_of ps; steps = s'.token.me.0.steps } →
-    u.token.table_id ≡ s'.token.table_id → u.token.me.0 ≡ planned s'.token.me.0 (plan_of s'.token.me.0) → Writes u w (plan_of u.token.me.0) → c.table_id ≡ named → c.view.base ≡ b → table ≡ named → base_of key ≡ b → (w.token.table_id ≡ table) × (w.token.me.0.base ≡ base_of key)
+    u.token.table_id ≡ s'.token.table_id → u.token.me.0 ≡ planned s'.token.me.0 (plan_of s'.token.me.0) → SetsPlan u w (plan_of u.token.me.0) → c.table_id ≡ named → c.view.base ≡ b → table ≡ named → base_of key ≡ b → (w.token.table_id ≡ table) × (w.token.me.0.base ≡ base_of key)
 writer_at_end table named key b c s s' u w ps same stays joined looks still last of is table_is key_is = (
   last.0 ∙ (looks ∙ (stays ∙ (same.0 ∙ (of ∙ sym table_is)))),
   ap (λ (y : View). y.base) last.2 ∙ (ap (λ (y : View). y.base) still ∙ (ap (λ (y : View). y.base) joined ∙ (ap (λ (y : View). y.base) same.2 ∙ (is ∙ sym key_is)))),

@@ -11,7 +11,7 @@ use Rattle.rom_rule.specs.Views.{fresh_view}
 use Rattle.rom_rule.specs.declared.views.Base.{Base}
 use Rattle.rom_store.specs.Callers.{Caller, IsNewCaller, IsNumberedCaller}
 use Rattle.rom_store.specs.Closing.{kept_in}
-use Rattle.rom_store.specs.Working.{HasSeenNothing, HasReservedRoom, IsNext, IsPast, HasDone, script_of}
+use Rattle.rom_store.specs.Working.{HasSeenNothing, HasReservedRoom, IsNext, IsPast, HasDoneLines, script_of}
 
 first_of : (base : Base) (i : ℕ) (pass : Caller) → pass.view ≡ record (fresh_view base) { number = i + 1 } → HasSeenNothing (kept_in pass)
 first_of base i pass bare = record { seen = ap (λ v. v.seen) bare; fronts = ap (λ v. v.fronts) bare; told = ap (λ v. v.outcomes) bare }
@@ -38,10 +38,10 @@ module _ {S : Type 0} (Contents : ℕ → List ℕ → S → ℕ → Type 0) (ta
     pub past_number : IsPast m Contents base table scripts j pass results → j + i + 1 ≡ length scripts → IsNumberedCaller Contents table base i pass
     past_number past place = let here = past.place in record { of = past.of; number = omega arith }
 
-    pub past_done : IsPast m Contents base table scripts j pass results → j + i + 1 ≡ length scripts → HasDone m Contents base pass (script_of scripts (i + 1)) results
+    pub past_done : IsPast m Contents base table scripts j pass results → j + i + 1 ≡ length scripts → HasDoneLines m Contents base pass (script_of scripts (i + 1)) results
     past_done past place =
         let here = past.place in let number : pass.view.number ≡ i + 1 = omega arith in
-        subst (λ n. HasDone m Contents base pass (script_of scripts n) results) number past.done
+        subst (λ n. HasDoneLines m Contents base pass (script_of scripts n) results) number past.done
 
 -- the script of a caller, where it stands
 pub script_is : {V X : Type 0} (f : V → List X) (scripts : List V) (number i : ℕ) (d : V) → i ≡ number - 1 → i < length scripts → script_of (map f scripts) number ≡ f (get_or scripts i d)

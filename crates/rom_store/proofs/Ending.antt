@@ -22,7 +22,7 @@ use Rattle.rom_combine.specs.Session.{ImageNow, SessionImage}
 use Rattle.rom_lr.specs.Seats.{IsWriterOf, writer_view}
 use Rattle.rom_lr.specs.declared.shared.Shared.{Shared}
 use Rattle.rom_lr.specs.declared.seats.WriterSeat.{WriterSeat}
-use Rattle.rom_rule.specs.Calls.{told_to}
+use Rattle.rom_rule.specs.Calls.{told_to_caller}
 use Rattle.rom_rule.specs.Kinds.{informed}
 use Rattle.rom_rule.specs.Records as rule
 use Rattle.rom_rule.specs.Records.{IsCall, Recorded}
@@ -137,7 +137,7 @@ module _ {S C Q R A : Type 0} (m : Machine S C Q R A) (Contents : ℕ → List �
         found_each (IsOfCaller base.callers) (records_of p) (subst (AllByRecursion (IsOfCaller base.callers)) (told_found (on_words m) base.order s k (records_of p)) (all_mapped (IsOfCaller base.callers) all told));
   }
 
-  is_front : (f : ℕ) → rule.IsFront k (records_of p) f → IsFront m (story_of base p s k doubt) f
+  is_front : (f : ℕ) → rule.IsRecordedFront k (records_of p) f → IsFront m (story_of base p s k doubt) f
   is_front f x =
       let rs = records_of p in
       let split : rs ≡ take x.0 rs ++ drop x.0 rs = sym (take-append-drop x.0 rs) in
@@ -145,11 +145,11 @@ module _ {S C Q R A : Type 0} (m : Machine S C Q R A) (Contents : ℕ → List �
       (omega (arith, x.2), (take x.0 rs, drop x.0 rs, split, len))
 
   -- The session has of a caller what it keeps.
-  pub is_kept : (v : Kept) → Recorded (on_words m) base s k (book_in p) → rule.IsKept k (book_in p) v → told_to p.told v.number ≡ v.told → IsKept m (story_of base p s k doubt) v
+  pub is_kept : (v : Kept) → Recorded (on_words m) base s k (book_in p) → rule.IsKeptInBook k (book_in p) v → told_to_caller p.told v.number ≡ v.told → IsKept m (story_of base p s k doubt) v
   is_kept v r is told = record {
     seen = is.0;
     fronts = all_by _ _ v.fronts is_front is.1;
-    told = ap (λ (z : List Told). told_to z v.number) (sym r.told) ∙ told;
+    told = ap (λ (z : List Told). told_to_caller z v.number) (sym r.told) ∙ told;
   }
 
   -- Each image that a stop may leave now is one of the story now.

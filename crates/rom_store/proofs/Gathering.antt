@@ -14,7 +14,7 @@ use Rattle.rom_rule.specs.declared.views.Base.{Base}
 use Rattle.rom_store.specs.Indexed.{Indexed, Both}
 use Rattle.rom_store.specs.Callers.{Caller, IsCallerOf, IsNumberedCaller}
 use Rattle.rom_store.specs.Closing.{kept_in}
-use Rattle.rom_store.specs.Working.{IsNext, IsPast, HasDone, script_of}
+use Rattle.rom_store.specs.Working.{IsNext, IsPast, HasDoneLines, script_of}
 
 module _ {S C Q R A : Type 0} (m : Machine S C Q R A) (Contents : ℕ → List ℕ → S → ℕ → Type 0) (table : TableId) (base : Base) (scripts : List (List (Step C Q))) where
   -- the jobs after their work, from the jobs before it
@@ -22,7 +22,7 @@ module _ {S C Q R A : Type 0} (m : Machine S C Q R A) (Contents : ℕ → List �
       Indexed (λ j job. IsNext Contents m.call_words table base scripts j (pass job) (results job)) olds →
       ((i : ℕ) (b : J) → slice_get news i ≡ Some b → IsCallerOf Contents table base (pass b)) →
       ((i : ℕ) (a b : J) → slice_get olds i ≡ Some a → slice_get news i ≡ Some b → (pass b).view.number ≡ (pass a).view.number) →
-      ((i : ℕ) (a b : J) → slice_get olds i ≡ Some a → slice_get news i ≡ Some b → HasDone m Contents base (pass b) (script_of scripts (pass a).view.number) (results b).items) →
+      ((i : ℕ) (a b : J) → slice_get olds i ≡ Some a → slice_get news i ≡ Some b → HasDoneLines m Contents base (pass b) (script_of scripts (pass a).view.number) (results b).items) →
       Indexed (λ j job. IsPast m Contents base table scripts j (pass job) (results job).items) news
   all_past {J} pass results olds news many next of number done = record {
     at = λ i b now.
@@ -31,7 +31,7 @@ module _ {S C Q R A : Type 0} (m : Machine S C Q R A) (Contents : ℕ → List �
         let was : slice_get olds i ≡ Some a = slice_get-get_or olds i b lt in
         let same : (pass b).view.number ≡ (pass a).view.number = number i a b was now in
         let place : (pass a).view.number + i ≡ length scripts = (next.at i a was).place in
-        record { of = of i b now; place = omega arith; done = subst (λ n. HasDone m Contents base (pass b) (script_of scripts n) (results b).items) (sym same) (done i a b was now) };
+        record { of = of i b now; place = omega arith; done = subst (λ n. HasDoneLines m Contents base (pass b) (script_of scripts n) (results b).items) (sym same) (done i a b was now) };
   }
 
   script_at : (i : ℕ) (ls : List (Step C Q)) → slice_get scripts i ≡ Some ls → script_of scripts (i + 1) ≡ ls
@@ -52,7 +52,7 @@ module _ {S C Q R A : Type 0} (m : Machine S C Q R A) (Contents : ℕ → List �
     go n (p ∷ ps) (l ∷ ls) [] many told each = absurd (omega arith)
 
     pub all_left : (ps : List Caller) (ts : List T) → length ps ≡ length scripts → length ts ≡ length scripts → Contents base.order base.image story.opening story.opening_count → story.order ≡ base.order →
-        Indexed (IsNumberedCaller Contents table base) ps → Both (λ i pass t. HasDone m Contents base pass (script_of scripts (i + 1)) (told_by t)) ps ts → Indexed (λ i v. IsKept m story v) (map kept_in ps) → HaveLeft m story 1 (map kept_in ps) scripts (map told_by ts)
+        Indexed (IsNumberedCaller Contents table base) ps → Both (λ i pass t. HasDoneLines m Contents base pass (script_of scripts (i + 1)) (told_by t)) ps ts → Indexed (λ i v. IsKept m story v) (map kept_in ps) → HaveLeft m story 1 (map kept_in ps) scripts (map told_by ts)
     all_left ps ts many told at order numbered done kept = go 1 ps scripts ts many told (λ i p l t here there then. record {
       number = (numbered.at i p here).number ∙ (let one : i + 1 ≡ 1 + i = omega arith in one);
       heard = subst (λ (z : ℕ × List (Step C Q)). HasHeard m z.0 story.opening story.opening_count (kept_in p) z.1 (told_by t)) (λ j. (sym order j, script_at i l there j)) ((done.at i p t here then).heard story.opening story.opening_count at);

@@ -8,7 +8,7 @@ use Rattle.rom_model.specs.declared.call.Updated.{Updated}
 use Rattle.rom_model.specs.declared.call.Updated.TheVariants as told
 use Rattle.rom_model.specs.declared.entry.Entry.{Entry}
 use Rattle.rom_model.specs.declared.record.Found.{Found}
-use Rattle.rom_rule.specs.CallKinds.{IsTold}
+use Rattle.rom_rule.specs.CallKinds.{IsToldByPass}
 use Rattle.rom_rule.specs.declared.views.Base.{Base}
 
 -- what stands in a list has its place within it
@@ -19,7 +19,7 @@ stands_within (y ∷ ys) (suc i) x at = let lt = stands_within ys i x at in omeg
 
 module _ {S : Type 0} (Contents : ℕ → List ℕ → S → ℕ → Type 0) (one : (order : ℕ) (words : List ℕ) (s t : S) (j k : ℕ) → Contents order words s j → Contents order words t k → (s ≡ t) × (j ≡ k))
     (step : ℕ → S → ℕ → List ℕ → Option (S × List ℕ)) (base : Base) where
-  pub is_placed : (f : Found) (u : Updated (List ℕ)) (before now : List Entry) (s : S) (k : ℕ) → Contents base.order base.image s k → IsTold Contents step base (f, u) (length before) before now → IsPlaced k before now u
+  pub is_placed : (f : Found) (u : Updated (List ℕ)) (before now : List Entry) (s : S) (k : ℕ) → Contents base.order base.image s k → IsToldByPass Contents step base (f, u) (length before) before now → IsPlaced k before now u
   is_placed f (told.Done reply place) before now s k at is =
       let same : is.count ≡ k = (one base.order base.image is.start s is.count k is.opening at).1 in
       let since : is.count + length before ≤ place = is.since_is reply place refl in

@@ -16,7 +16,7 @@ use Rattle.rom_model.specs.Machine.{Machine, on_words}
 use Rattle.rom_model.specs.Passes.{batch_told, fate_told, history_of, published}
 use Rattle.rom_model.specs.Seen.{next_call}
 use Rattle.rom_model.proofs.Recorded.{history_legal, history_more}
-use Rattle.rom_rule.specs.CallKinds.{IsLast, IsTold, longer}
+use Rattle.rom_rule.specs.CallKinds.{IsLast, IsToldByPass, longer}
 use Rattle.rom_rule.specs.Calls.{answer_words}
 use Rattle.rom_rule.specs.Views.{Told, kept_of}
 use Rattle.rom_rule.specs.declared.views.Base.{Base}
@@ -86,7 +86,7 @@ done_published Doubt k fs es i x reply place at done = absurd (let e = all_alike
 
 module _ {S : Type 0} (Contents : ℕ → List ℕ → S → ℕ → Type 0) (step : ℕ → S → ℕ → List ℕ → Option (S × List ℕ)) where
   -- what is told has its place below the last count
-  within_told : (b : Base) (x : Told) (since : ℕ) (before seen : List Entry) → IsTold Contents step b x since before seen → IsWithinPlaces x.1
+  within_told : (b : Base) (x : Told) (since : ℕ) (before seen : List Entry) → IsToldByPass Contents step b x since before seen → IsWithinPlaces x.1
   within_told b x since before seen is = by_told x.1 refl
     where
       by_told : (w : Updated (List ℕ)) → x.1 ≡ w → IsWithinPlaces w
@@ -96,7 +96,7 @@ module _ {S : Type 0} (Contents : ℕ → List ℕ → S → ℕ → Type 0) (st
       by_told told.Doubt same = tt
 
   -- A call that was told that it is done.
-  module _ (b : Base) (x : Told) (before seen : List Entry) (is : IsTold Contents step b x (length before) before seen) (reply : List ℕ) (place : ℕ) (done : x.1 ≡ told.Done reply place) where
+  module _ (b : Base) (x : Told) (before seen : List Entry) (is : IsToldByPass Contents step b x (length before) before seen) (reply : List ℕ) (place : ℕ) (done : x.1 ≡ told.Done reply place) where
     abbrev entry : Entry
     entry = record { caller = x.0.caller; seq = x.0.seq; args = x.0.args; reply = reply }
 
@@ -175,7 +175,7 @@ module _ {S C Q R A : Type 0} (m : Machine S C Q R A) (back : (order : ℕ) (s :
   fate_words Doubt k fs es all i x e = (told.Doubt, tt, all_alike told.Doubt fs i x e)
 
   -- what a pass told a call are the words of what an update is told
-  told_words : (Contents : ℕ → List ℕ → S → ℕ → Type 0) (b : Base) (x : Told) (since : ℕ) (before seen : List Entry) → IsTold Contents (on_words m) b x since before seen → AreWords x.1
+  told_words : (Contents : ℕ → List ℕ → S → ℕ → Type 0) (b : Base) (x : Told) (since : ℕ) (before seen : List Entry) → IsToldByPass Contents (on_words m) b x since before seen → AreWords x.1
   told_words Contents b x since before seen is =
       let h : List Entry = history_of (on_words m) b.order is.start is.count is.earlier in
       let s : S = after (on_words m) b.order is.start is.count h in
@@ -255,11 +255,11 @@ module _ {S C Q R A : Type 0} (m : Machine S C Q R A) (Contents : ℕ → List �
     told_next = ap (λ (z : View). z.outcomes) h.takes ∙ (ap (λ (z : View). z.outcomes) h.told_of.view ∙ (λ i. (h.posts i).outcomes ++ told_is i ∷ []))
 
     -- one pass told it
-    pub told_once : IsTold Contents (on_words m) b told_call (length old.seen) old.seen new.seen
+    pub told_once : IsToldByPass Contents (on_words m) b told_call (length old.seen) old.seen new.seen
     told_once =
         let base : v.base ≡ b = ap (λ (z : View). z.base) h.posts ∙ h.base_is in
         let seen : w.seen ≡ new.seen = sym (ap (λ (z : View). z.seen) h.takes) in
-        subst (λ (z : Base × Told × View × List Entry). IsTold Contents (on_words m) z.0 z.1 z.2.since z.2.seen z.3) (λ i. (base i, told_is i, h.posts i, seen i)) h.told_of.is_told
+        subst (λ (z : Base × Told × View × List Entry). IsToldByPass Contents (on_words m) z.0 z.1 z.2.since z.2.seen z.3) (λ i. (base i, told_is i, h.posts i, seen i)) h.told_of.is_told
 
     -- and where it is done, what its caller has seen ends with the batch of that pass
     pub told_done : ((s t : S) (j k : ℕ) → Contents b.order b.image s j → Contents b.order b.image t k → (s ≡ t) × (j ≡ k)) → (s : S) (k : ℕ) → Contents b.order b.image s k → (reply : R) (place : ℕ) → u ≡ told.Done reply place

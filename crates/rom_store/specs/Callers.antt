@@ -3,7 +3,7 @@ use Rattle.std.specs.Prelude.{◌≡◌, ℕ, ◌+◌, List, Option, IsTrue}
 use Rattle.atomic_table.specs.Seated.{TableId}
 use Rattle.rom_lr.specs.Seats.{view}
 use Rattle.rom_lr.specs.declared.seats.Seat.{Seat}
-use Rattle.rom_rule.specs.Readers.{Stands}
+use Rattle.rom_rule.specs.Readers.{IsHeldSinceOpening}
 use Rattle.rom_rule.specs.Records.{KnowsEntries}
 use Rattle.rom_rule.specs.Views.{fresh_view, front_of, image_of, is_reading}
 use Rattle.rom_rule.specs.declared.views.Base.{Base}
@@ -47,4 +47,4 @@ module _ {S : Type 0} (Contents : ℕ → List ℕ → S → ℕ → Type 0) whe
     pub record IsReaderOf (table : TableId) (base : Base) (p : Caller) : Type 0 where
       pub of : IsCallerOf table base p
       pub reads : IsTrue (is_reading p.view.position)
-      pub stands : Stands Contents step base (image_of p.view.position) p.view.seen (front_of p.view.position)
+      pub stands : IsHeldSinceOpening Contents step base (image_of p.view.position) p.view.seen (front_of p.view.position)

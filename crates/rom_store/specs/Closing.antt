@@ -1,7 +1,7 @@
 -- What contracts see of a store that is closed.
 use Rattle.std.specs.Prelude.{◌≡◌, ◌⊎◌, ℕ, ◌+◌, ◌≤◌, List, [], ◌∷◌, ◌++◌, length, Option}
 use Rattle.atomic_table.specs.Seated.{TableId}
-use Rattle.rom_model.specs.VecSpace.{words_of}
+use Rattle.rom_model.specs.VecSpace.{words_of_space}
 use Rattle.rom_model.specs.declared.kept.Kept.{Kept}
 use Rattle.rom_device.specs.Device.{ShownDevice}
 use Rattle.rom_lr.specs.Seats.{plan, writer_view}
@@ -32,10 +32,10 @@ joined_of (p ∷ ps) = kept_in p ∷ p.view.joined ++ joined_of ps
 pub record IsClosedStore {S : Type 0} (Contents : ℕ → List ℕ → S → ℕ → Type 0) (step : ℕ → S → ℕ → List ℕ → Option (S × List ℕ)) (table : TableId) (key : Key) (seat : WriterSeat) (begun : Begun) (count : ℕ) : Type 0 where
   pub of : (seat.token.table_id ≡ table) × ((writer_view seat).base ≡ base_of key)
   pub order_is : begun.order ≡ (base_of key).order
-  pub image_is : words_of begun.image.value ≡ (base_of key).image
-  pub formed : (s : S) × (k : ℕ) × Contents begun.order (words_of begun.image.value) s k
-  pub held : (s : S) (k : ℕ) → Contents begun.order (words_of begun.image.value) s k → Held Contents step (base_of key) s k (plan seat).main (plan seat).history
-  pub count_is : (s : S) (k : ℕ) → Contents begun.order (words_of begun.image.value) s k → count ≡ k + length (plan seat).history
+  pub image_is : words_of_space begun.image.value ≡ (base_of key).image
+  pub formed : (s : S) × (k : ℕ) × Contents begun.order (words_of_space begun.image.value) s k
+  pub held : (s : S) (k : ℕ) → Contents begun.order (words_of_space begun.image.value) s k → Held Contents step (base_of key) s k (plan seat).main (plan seat).history
+  pub count_is : (s : S) (k : ℕ) → Contents begun.order (words_of_space begun.image.value) s k → count ≡ k + length (plan seat).history
 
 -- Each image that might have been left since a moment by now could be left by the start, or has P; and none is forgotten.
 pub record HasLeftSince {D : Type 0} (shown : ShownDevice D) (start : Start) (test : ℕ → List ℕ → Type 0) (P : List ℕ → Type 0) (now : D) : Type 0 where

@@ -1,7 +1,7 @@
 -- What contracts see of a heap that is opened for callers, and what is left of one that is not.
 use Rattle.std.specs.Prelude.{◌≡◌, ℕ, List, [], Err, IsTrue}
 use Rattle.atomic_table.specs.Seated.{TableId}
-use Rattle.rom_model.specs.VecSpace.{words_of}
+use Rattle.rom_model.specs.VecSpace.{words_of_space}
 use Rattle.rom_model.specs.declared.unfit.Unfit.{Unfit}
 use Rattle.rom_device.specs.Device.{IsSynced, Leaves, ShownDevice}
 use Rattle.rom_header.specs.Regions.{IsCurrentRegion}
@@ -35,7 +35,7 @@ pub record IsOpening {D S : Type 0} (shown : ShownDevice D) (Contents : ℕ → 
   pub plan : plan_of c.view ≡ record (opening_plan c.view.base) { dealt = (plan_of c.view).dealt }
   pub alone : c.view.joined ≡ []
   pub order_is : begun.order ≡ (base_of key).order
-  pub image_is : words_of begun.image.value ≡ (base_of key).image
+  pub image_is : words_of_space begun.image.value ≡ (base_of key).image
   pub faults_is : begun.faults ≡ (base_of key).faults
   pub faults_now : shown.faults c.twin.device ≡ begun.faults
 

@@ -7,7 +7,7 @@ use Rattle.rom_model.specs.declared.record.Found.{Found}
 use Rattle.rom_lines.specs.declared.results.Became.{Became}
 use Rattle.rom_lines.specs.declared.results.Became.TheVariants as became
 use Rattle.rom_lines.specs.declared.results.Undone.TheVariants as undone
-use Rattle.rom_rule.specs.CallKinds.{IsTold}
+use Rattle.rom_rule.specs.CallKinds.{IsToldByPass}
 use Rattle.rom_rule.specs.Records.{KnowsEntries}
 use Rattle.rom_rule.specs.Views.{Told}
 use Rattle.rom_rule.specs.declared.views.View.{View}
@@ -23,7 +23,7 @@ Says (became.Undone undone.Doubt) word = word ≡ DOUBT
 pub record HasBeenTold {S : Type 0} (Contents : ℕ → List ℕ → S → ℕ → Type 0) (step : ℕ → S → ℕ → List ℕ → Option (S × List ℕ)) (v w : View) : Type 0 where
   pub told : Told
   pub found : told.0 ≡ record { caller = v.number; seq = length v.outcomes; args = slice_index_or v.calls (length v.outcomes) [] }
-  pub is_told : IsTold Contents step v.base told v.since v.seen w.seen
+  pub is_told : IsToldByPass Contents step v.base told v.since v.seen w.seen
   pub knows : (s : S) (k : ℕ) → Contents v.base.order v.base.image s k → KnowsEntries v.base.callers k w
   pub view : w ≡ record v { outcomes = v.outcomes ++ told ∷ []; seen = w.seen; steps = w.steps }
 

@@ -44,7 +44,7 @@ pub record IsNext {S C Q T : Type 0} (Contents : ℕ → List ℕ → S → ℕ 
 -- Of an object, and of a heap's order and image at opening:
 module _ {S C Q R A : Type 0} (m : Machine S C Q R A) (Contents : ℕ → List ℕ → S → ℕ → Type 0) (base : Base) where
   -- what the caller of this pass was told of these lines is what it keeps
-  pub record HasDone (pass : Caller) (lines : List (Step C Q)) (results : List (LineResult R A)) : Type 0 where
+  pub record HasDoneLines (pass : Caller) (lines : List (Step C Q)) (results : List (LineResult R A)) : Type 0 where
     pub heard : (s : S) (k : ℕ) → Contents base.order base.image s k → HasHeard m base.order s k (kept_in pass) lines results
 
   -- One line more was taken, which asks for this: its result stands behind those of the lines before, and took no more room than was reserved for it.
@@ -52,10 +52,10 @@ module _ {S C Q R A : Type 0} (m : Machine S C Q R A) (Contents : ℕ → List �
     pub used : ℕ
     pub few : used ≤ need m.call_words asks
     pub room : TookRoom before results used
-    pub done : (lines : List (Step C Q)) → HasDone was lines before.items → HasDone pass (lines ++ asks ∷ []) results.items
+    pub done : (lines : List (Step C Q)) → HasDoneLines was lines before.items → HasDoneLines pass (lines ++ asks ∷ []) results.items
 
   -- the job at this place, once its caller is done
   pub record IsPast (table : TableId) (scripts : List (List (Step C Q))) (j : ℕ) (pass : Caller) (results : List (LineResult R A)) : Type 0 where
     pub of : IsCallerOf Contents table base pass
     pub place : pass.view.number + j ≡ length scripts
-    pub done : HasDone pass (script_of scripts pass.view.number) results
+    pub done : HasDoneLines pass (script_of scripts pass.view.number) results

@@ -24,7 +24,7 @@ pub struct Closed<D: Device, O: Object> {
 }
 
 impl<D: Device, O: Object> Model for Closed<D, O> {
-    ghost use Rattle.rom_model.specs.VecSpace.{words_of};
+    ghost use Rattle.rom_model.specs.VecSpace.{words_of_space};
     ghost use Rattle.rom_model.specs.Machine.{on_words};
     ghost use Rattle.rom_lr.specs.Seats.{plan};
     ghost use Rattle.rom_rule.specs.Views.{records_of};
@@ -36,7 +36,7 @@ impl<D: Device, O: Object> Model for Closed<D, O> {
       device = c.twin.device;
       session = record {
         order = c.begun.order;
-        image = words_of c.begun.image.value;
+        image = words_of_space c.begun.image.value;
         faults = c.begun.faults;
         history = (plan c.seat).history;
         records = records_of (plan c.seat);

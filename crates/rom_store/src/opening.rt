@@ -1,7 +1,7 @@
 //! A heap that is opened for callers, whose lock isn't made yet.
 ghost use Rattle.std.specs.Prelude.{◌≡◌, ℕ, ◌*◌, ◌≤◌, List, IfErr, IfOk, IsTrue, Ok, length};
 ghost use Rattle.rom_model.specs.Blocks.{IsOrder};
-ghost use Rattle.rom_model.specs.VecSpace.{words_of};
+ghost use Rattle.rom_model.specs.VecSpace.{words_of_space};
 ghost use Rattle.rom_device.specs.Device.{IsSynced, Leaves};
 ghost use Rattle.rom_header.specs.Held.{Holds};
 ghost use Rattle.rom_header.specs.Layout.{back_of, main_of, words_needed};
@@ -74,15 +74,15 @@ impl<D: Device, O: Object> Opening<D, O> {
         requires fits { words_needed geometry ≤ D.shown.size device }
         requires heap { IsTrue D.shown.tells_words → IsHeap geometry (D.shown.words device) }
         requires main { IsTrue D.shown.tells_words →
-            main_of geometry (D.shown.words device) ≡ words_of seated.begun.image.value }
+            main_of geometry (D.shown.words device) ≡ words_of_space seated.begun.image.value }
         requires back { IsTrue D.shown.tells_words →
-            back_of geometry (D.shown.words device) ≡ words_of seated.begun.image.value }
+            back_of geometry (D.shown.words device) ≡ words_of_space seated.begun.image.value }
         requires certain { IsSynced D.shown device }
         requires of { IsWriterOf seated.shared seated.writer }
         requires writer { let b = opened_with seated.shared in
             writer_view seated.writer ≡ dealt_view b b.callers }
         requires begun { let b = opened_with seated.shared in
-            (seated.begun.order ≡ b.order) × (words_of seated.begun.image.value ≡ b.image)
+            (seated.begun.order ≡ b.order) × (words_of_space seated.begun.image.value ≡ b.image)
             × (seated.begun.faults ≡ b.faults) × (b.order ≡ geometry) }
         requires ready { let callers = (opened_with seated.shared).callers in
             IsReady (O.STORES * O.WEIGHT) callers seated.log }

@@ -1,7 +1,7 @@
 //! A caller's right to call.
 ghost use Rattle.std.specs.Prelude.{◌≡◌, ◌<◌};
 ghost use Rattle.rom_lr.specs.Seats.{view};
-ghost use Rattle.rom_rule.specs.Kinds.{IsIdle};
+ghost use Rattle.rom_rule.specs.Kinds.{IsIdleView};
 ghost use Rattle.rom_store.specs.Callers.{caller_at};
 
 use rom_lr::Seat;
@@ -18,20 +18,20 @@ pub struct Pass {
 // Contracts see a pass as a caller, and name no field of its seat. The type's invariant says that the caller
 // is out, with no call posted: so no contract carries that into a thread and back.
 impl Model for Pass {
-    ghost use Rattle.rom_rule.specs.Kinds.{IsIdle};
+    ghost use Rattle.rom_rule.specs.Kinds.{IsIdleView};
     ghost use Rattle.rom_store.specs.Callers.{Caller, caller_at};
 
     ghost Value = { Caller };
 
     ghost view = { λ p. caller_at p.seat };
 
-    ghost invariant = { λ p. IsIdle (caller_at p.seat).view };
+    ghost invariant = { λ p. IsIdleView (caller_at p.seat).view };
 }
 
 impl Pass {
     /// The right of a seat's caller.
     pub(crate) fn of(seat: Seat) -> Self
-        requires { IsIdle (view seat) }
+        requires { IsIdleView (view seat) }
         ensures { result ≡ caller_at seat }
     {
         Pass { seat }

@@ -3,9 +3,9 @@ ghost use Rattle.std.specs.Prelude.{◌≡◌, Err, Ok, ◌*◌, ◌<◌, ◌≤
 ghost use Rattle.rom_model.specs.Blocks.{IsOrder};
 ghost use Rattle.rom_model.specs.History.{LAST_COUNT};
 ghost use Rattle.rom_model.specs.Space.{ChangesOnly};
-ghost use Rattle.rom_model.specs.VecSpace.{words_of};
+ghost use Rattle.rom_model.specs.VecSpace.{words_of_space};
 ghost use Rattle.rom_device.specs.Device.{Does, Leaves, Stays};
-ghost use Rattle.rom_header.specs.Fresh.{HasTooFewFor, IsFormatAnswer, IsRefused};
+ghost use Rattle.rom_header.specs.Fresh.{HasTooFewFor, IsFormatAnswer, IsFormatRefused};
 ghost use Rattle.rom_header.specs.Layout.{words_needed};
 ghost use Rattle.rom_header.specs.declared.fresh.FormatRefused.{FormatRefused};
 ghost use Rattle.rom_open.specs.Making.{HasFaultsUnmade, NoneOrHolds};
@@ -61,12 +61,12 @@ fn make_ready<O: Object>(
     ensures rooms { IfOk result (λ made. HasRooms O.machine.call_words scripts.now
         made.rooms.results made.rooms.jobs) }
     ensures region { IfOk result (λ made.
-        O.Contents order (words_of made.region) O.machine.empty 0) }
+        O.Contents order (words_of_space made.region) O.machine.empty 0) }
     ensures of { IfOk result (λ made. IsWriterOf made.seated.shared made.seated.writer) }
     ensures base { IfOk result (λ made. opened_with made.seated.shared ≡ record {
       order = order;
       callers = length scripts.now;
-      image = words_of made.region;
+      image = words_of_space made.region;
       faults = faults;
     }) }
     ensures writer { IfOk result (λ made. writer_view made.seated.writer
@@ -78,7 +78,7 @@ fn make_ready<O: Object>(
         made.seated.shared.table.shared.table_id (opened_with made.seated.shared))
         made.seated.passes.items) }
     ensures begun { IfOk result (λ made. (made.seated.begun.order ≡ order)
-        × (words_of made.seated.begun.image.value ≡ words_of made.region)
+        × (words_of_space made.seated.begun.image.value ≡ words_of_space made.region)
         × (made.seated.begun.faults ≡ faults)) }
 {
     let rooms = Rooms::for_scripts(alloc, scripts)?;
@@ -164,7 +164,7 @@ where
         Leaves D.shown (NoneOrHolds O.Contents order O.machine.empty) device failed.device) }
     // Where a heap stood, or there are too few words, every word stays, and a stop leaves no other image than
     // before.
-    ensures spared { IsTrue D.shown.tells_words → IsRefused order (D.shown.words device) →
+    ensures spared { IsTrue D.shown.tells_words → IsFormatRefused order (D.shown.words device) →
         IfErr result (λ failed. Does D.shown Stays device failed.device) }
     // Where the reason is the device, its last call failed, and no other. Else none did.
     ensures unmade_faults { IfErr result (λ failed. HasFaultsUnmade failed.why

@@ -8,7 +8,7 @@ ghost use Rattle.rom_model.specs.History.{after};
 ghost use Rattle.rom_model.specs.Machine.{on_words};
 ghost use Rattle.rom_model.specs.Seen.{StartsWith};
 ghost use Rattle.rom_lr.specs.Seats.{IsSameSeat, IsSeatOf, view};
-ghost use Rattle.rom_rule.specs.Readers.{Stands};
+ghost use Rattle.rom_rule.specs.Readers.{IsHeldSinceOpening};
 ghost use Rattle.rom_rule.specs.Views.{front_of, image_of, is_reading};
 ghost use Rattle.rom_rule.specs.declared.views.Position.TheVariants.{Out};
 ghost use Rattle.rom_store.specs.Callers.{IsCallerOf, IsReaderOf, IsSameCaller};
@@ -239,7 +239,7 @@ impl<D: Device, O: Object, N: Label> Store<D, O, N> {
     ) -> (O::Answer, u64)
         requires of { IsSeatOf self.now.shared seat.old }
         requires reads { IsTrue (is_reading (view seat.old).position) }
-        requires stands { let v = view seat.old in Stands O.Contents (on_words O.machine)
+        requires stands { let v = view seat.old in IsHeldSinceOpening O.Contents (on_words O.machine)
             v.base (image_of v.position) v.seen (front_of v.position) }
         ensures same { IsSameSeat seat.old seat.new }
         ensures still { view seat.new ≡ record (view seat.old) {

@@ -3,7 +3,7 @@ ghost use Rattle.std.specs.Prelude.{◌≡◌, ◌+◌, ◌≤◌, [], length, m
 ghost use Rattle.rom_store.specs.Callers.{IsNewCaller, IsNumberedCaller};
 ghost use Rattle.rom_store.specs.Indexed.{Both, Indexed};
 ghost use Rattle.rom_store.specs.Playing.{HasRooms};
-ghost use Rattle.rom_store.specs.Working.{HasDone, HasReservedRoom, IsNext, IsPast, script_of};
+ghost use Rattle.rom_store.specs.Working.{HasDoneLines, HasReservedRoom, IsNext, IsPast, script_of};
 
 use crate::label::Label;
 use crate::pass::Pass;
@@ -92,7 +92,7 @@ pub(crate) fn gather<O: Object, N: Label>(
     ensures passes_many { length passes.new.items ≡ length scripts.now }
     ensures results_many { length results.new.items ≡ length scripts.now }
     ensures passes { Indexed (IsNumberedCaller O.Contents N.table N.base) passes.new.items }
-    ensures done { Both (λ i pass told. HasDone O.machine O.Contents N.base pass
+    ensures done { Both (λ i pass told. HasDoneLines O.machine O.Contents N.base pass
         (script_of (map (λ v. v.items) scripts.now) (i + 1)) told.items)
         passes.new.items results.new.items }
 {

@@ -1,11 +1,11 @@
 //! A table whose callers have their seats.
 ghost use Rattle.std.specs.Prelude.{◌≡◌, ℕ, ◌*◌, ◌≤◌, All, IfOk, length, map};
 ghost use Rattle.rom_model.specs.Blocks.{IsOrder, region_len};
-ghost use Rattle.rom_model.specs.VecSpace.{words_of};
-ghost use Rattle.rom_lr.specs.Opening.{AreNew, dealt_view};
+ghost use Rattle.rom_model.specs.VecSpace.{words_of_space};
+ghost use Rattle.rom_lr.specs.Opening.{AreNewSeats, dealt_view};
 ghost use Rattle.rom_lr.specs.Seats.{IsWriterOf, opened_with, view, writer_view};
 ghost use Rattle.rom_combine.specs.AtRest.{IsReady};
-ghost use Rattle.rom_rule.specs.Kinds.{IsIdle};
+ghost use Rattle.rom_rule.specs.Kinds.{IsIdleView};
 ghost use Rattle.rom_rule.specs.Places.{AreCallers};
 ghost use Rattle.rom_store.specs.Callers.{IsNewCaller, caller_at};
 ghost use Rattle.rom_store.specs.Indexed.{Indexed};
@@ -32,7 +32,7 @@ pub(crate) struct Seated<O: Object> {
 
 // A pass for each seat, in their order.
 fn passes_of(alloc: Global, seats: Vec<Seat>) -> Result<Vec<Pass>, AllocError>
-    requires idle { All (λ s. IsIdle (view s)) seats.items }
+    requires idle { All (λ s. IsIdleView (view s)) seats.items }
     ensures passes { IfOk result (λ passes. passes.items ≡ map caller_at seats.items) }
 {
     let mut passes = Vec::with_capacity(alloc, seats.len())?;
@@ -64,12 +64,12 @@ impl<O: Object> Seated<O> {
     ) -> Result<Self, AllocError>
         requires order { IsOrder order }
         requires callers { AreCallers callers }
-        requires formed { (s : O.State) × (k : ℕ) × O.Contents order (words_of image.now) s k }
+        requires formed { (s : O.State) × (k : ℕ) × O.Contents order (words_of_space image.now) s k }
         ensures of { IfOk result (λ t. IsWriterOf t.shared t.writer) }
         ensures base { IfOk result (λ t. opened_with t.shared ≡ record {
           order = order;
           callers = callers;
-          image = words_of image.now;
+          image = words_of_space image.now;
           faults = faults;
         }) }
         ensures writer { IfOk result (λ t. writer_view t.writer
@@ -79,7 +79,7 @@ impl<O: Object> Seated<O> {
         ensures passes { IfOk result (λ t. Indexed (IsNewCaller O.Contents
             t.shared.table.shared.table_id (opened_with t.shared)) t.passes.items) }
         ensures begun { IfOk result (λ t. (t.begun.order ≡ order)
-            × (words_of t.begun.image.value ≡ words_of image.now) × (t.begun.faults ≡ faults)) }
+            × (words_of_space t.begun.image.value ≡ words_of_space image.now) × (t.begun.faults ≡ faults)) }
     {
         let (shared, writer, seats) = Shared::new(alloc, order, callers, image.words(), faults)?;
         let log = log_for::<O>(alloc, callers)?;

@@ -1,6 +1,6 @@
 //! What a session was.
 ghost use Rattle.std.specs.Prelude.{◌≡◌};
-ghost use Rattle.rom_model.specs.VecSpace.{words_of};
+ghost use Rattle.rom_model.specs.VecSpace.{words_of_space};
 ghost use Rattle.rom_store.specs.Sessions.{history_in, records_in, unchanged};
 
 use crate::begun::Begun;
@@ -22,14 +22,14 @@ pub struct Session {
 }
 
 impl Model for Session {
-    ghost use Rattle.rom_model.specs.VecSpace.{words_of};
+    ghost use Rattle.rom_model.specs.VecSpace.{words_of_space};
     ghost use Rattle.rom_store.specs.Sessions.{SessionSeen, history_in, records_in};
 
     ghost Value = { SessionSeen };
 
     ghost view = { λ s. record {
       order = s.begun.order;
-      image = words_of s.begun.image.value;
+      image = words_of_space s.begun.image.value;
       faults = s.begun.faults;
       history = history_in s.writer.views;
       records = records_in s.writer.views;
@@ -41,7 +41,7 @@ impl Session {
     /// The session of a heap that was opened and looked at: nothing was done. `image` has the words of
     /// the heap, and `faults` is the device's count of faults.
     pub fn unchanged(order: u32, image: &VecSpace, faults: u64) -> Session
-        ensures { result ≡ unchanged order (words_of image.now) faults }
+        ensures { result ≡ unchanged order (words_of_space image.now) faults }
     {
         Session {
             begun: Begun {
@@ -57,7 +57,7 @@ impl Session {
     /// The session that the writer has seen.
     pub(crate) fn of(begun: Begun, writer: Badge<View>, phase: Phase) -> Session
         ensures order { result.order ≡ begun.order }
-        ensures image { result.image ≡ words_of begun.image.value }
+        ensures image { result.image ≡ words_of_space begun.image.value }
         ensures faults { result.faults ≡ begun.faults }
         ensures history { result.history ≡ history_in writer.views }
         ensures records { result.records ≡ records_in writer.views }

@@ -1,6 +1,6 @@
 //! The store: a heap that callers share.
 ghost use Rattle.std.specs.Prelude.{◌≡◌};
-ghost use Rattle.rom_model.specs.VecSpace.{words_of};
+ghost use Rattle.rom_model.specs.VecSpace.{words_of_space};
 ghost use Rattle.rom_lr.specs.Seats.{opened_with};
 
 use crate::begun::Begun;
@@ -25,6 +25,6 @@ pub struct Store<D: Device, O: Object, N: Label> {
     ghost named: { shared.table.shared.table_id ≡ N.table },
     ghost based: { opened_with shared ≡ N.base },
     ghost ordered: { begun.order ≡ N.base.order },
-    ghost imaged: { words_of begun.image.value ≡ N.base.image },
+    ghost imaged: { words_of_space begun.image.value ≡ N.base.image },
     ghost counted: { begun.faults ≡ N.base.faults },
 }

@@ -7,11 +7,11 @@ ghost use Rattle.rom_model.specs.Machine.{on_words};
 ghost use Rattle.rom_model.specs.Seen.{StartsWith, next_call};
 ghost use Rattle.rom_model.specs.declared.call.Updated.{Updated};
 ghost use Rattle.rom_model.specs.declared.words.TheConstants.{CALL_WORDS};
-ghost use Rattle.rom_lines.specs.Replies.{IsReplied, updated_as};
+ghost use Rattle.rom_lines.specs.Replies.{HasReplyWords, updated_as};
 ghost use Rattle.rom_lines.specs.declared.results.Became.{Became};
 ghost use Rattle.rom_lines.specs.declared.results.Undone.{Undone};
 ghost use Rattle.rom_lr.specs.Seats.{IsPosted, IsSameSeat, IsSeatOf, view};
-ghost use Rattle.rom_rule.specs.CallKinds.{IsTold};
+ghost use Rattle.rom_rule.specs.CallKinds.{IsToldByPass};
 ghost use Rattle.rom_rule.specs.Views.{kept_of};
 ghost use Rattle.rom_store.specs.Callers.{IsCallerOf, IsSameCaller};
 ghost use Rattle.rom_store.specs.Updating.{HasBeenTold, IsDoneIn, Says};
@@ -46,7 +46,7 @@ fn became_of(word: u64) -> Became
 
 /// What a caller is told, with its reply, which is read from its words.
 fn updated_by<O: Object>(became: Became, words: &Back) -> Updated<O::Reply>
-    requires { IsReplied O.machine.words_reply became words.now }
+    requires { HasReplyWords O.machine.words_reply became words.now }
     ensures { result ≡ updated_as O.machine.words_reply became words.now }
 {
     match became {
@@ -95,7 +95,7 @@ impl<D: Device, O: Object, N: Label> Store<D, O, N> {
 
         // What one pass told of it, in whose record the device's counts of faults stand.
         ensures taken { length pass.old.view.outcomes < LAST_COUNT →
-            IsTold O.Contents (on_words O.machine) N.base (
+            IsToldByPass O.Contents (on_words O.machine) N.base (
               next_call (kept_of pass.old.view) (O.machine.call_words call.now),
               as_words O.machine result,
             )
@@ -152,7 +152,7 @@ impl<D: Device, O: Object, N: Label> Store<D, O, N> {
 
         // What one pass told of it, in whose record the device's counts of faults stand.
         ensures taken { length pass.old.view.outcomes < LAST_COUNT →
-            IsTold O.Contents (on_words O.machine) N.base (
+            IsToldByPass O.Contents (on_words O.machine) N.base (
               next_call (kept_of pass.old.view) words.now,
               as_words O.machine (updated_as O.machine.words_reply result told.new),
             )
@@ -167,7 +167,7 @@ impl<D: Device, O: Object, N: Label> Store<D, O, N> {
             told.new place pass.old.view.seen pass.new.view.seen }
 
         // The words that are left are those of a reply, where it is done.
-        ensures replied { IsReplied O.machine.words_reply result told.new }
+        ensures replied { HasReplyWords O.machine.words_reply result told.new }
         // No words are left where it is not done.
         ensures none { (why : Undone) → result ≡ Became.Undone why → told.new ≡ [] }
         // So many words at most are left, so that room for them can be reserved before.

@@ -7,7 +7,7 @@ ghost use Rattle.rom_lines.specs.Steps.{IsLine, need};
 ghost use Rattle.rom_store.specs.Callers.{IsCallerOf};
 ghost use Rattle.rom_store.specs.Closing.{kept_in};
 ghost use Rattle.rom_store.specs.Indexed.{Indexed};
-ghost use Rattle.rom_store.specs.Working.{HasDone, HasNotBegun, HasSeenNothing, HasTaken, IsNext, IsPast, script_of};
+ghost use Rattle.rom_store.specs.Working.{HasDoneLines, HasNotBegun, HasSeenNothing, HasTaken, IsNext, IsPast, script_of};
 
 use crate::label::Label;
 use crate::pass::Pass;
@@ -91,7 +91,7 @@ fn take_lines<D: Device, O: Object, N: Label, R: Wait, G: Gate, L: Ledger>(
     requires fits { HasRoomFor O.machine.call_words script.now.items results.old }
     ensures of { IsCallerOf O.Contents N.table N.base pass.new }
     ensures number { pass.new.view.number ≡ pass.old.view.number }
-    ensures done { HasDone O.machine O.Contents N.base pass.new
+    ensures done { HasDoneLines O.machine O.Contents N.base pass.new
         script.now.items results.new.items }
 {
     let mut told = Back::new();
@@ -120,7 +120,7 @@ fn take_counted<D: Device, O: Object, N: Label, R: Wait, G: Gate, L: Ledger>(
     requires fits { HasRoomFor O.machine.call_words script.now.items results.old }
     ensures of { IsCallerOf O.Contents N.table N.base pass.new }
     ensures number { pass.new.view.number ≡ pass.old.view.number }
-    ensures done { HasDone O.machine O.Contents N.base pass.new
+    ensures done { HasDoneLines O.machine O.Contents N.base pass.new
         script.now.items results.new.items }
 {
     let mut steps = Steps::<L>::of(blank);
@@ -139,7 +139,7 @@ fn work<D: Device, O: Object, N: Label, R: Wait, G: Gate>(
         (map (λ v. v.items) room.now.scripts.now) job.old.pass job.old.results }
     ensures of { IsCallerOf O.Contents N.table N.base job.new.pass }
     ensures number { job.new.pass.view.number ≡ job.old.pass.view.number }
-    ensures done { HasDone O.machine O.Contents N.base job.new.pass
+    ensures done { HasDoneLines O.machine O.Contents N.base job.new.pass
         (script_of (map (λ v. v.items) room.now.scripts.now) job.old.pass.view.number)
         job.new.results.items }
 {
@@ -177,7 +177,7 @@ where
     ensures number { (i : ℕ) (a : _) (c : _) → slice_get jobs.old i ≡ Some a →
         slice_get jobs.new i ≡ Some c → c.pass.view.number ≡ a.pass.view.number }
     ensures done { (i : ℕ) (a : _) (c : _) → slice_get jobs.old i ≡ Some a →
-        slice_get jobs.new i ≡ Some c → HasDone O.machine O.Contents N.base c.pass
+        slice_get jobs.new i ≡ Some c → HasDoneLines O.machine O.Contents N.base c.pass
         (script_of (map (λ v. v.items) room.now.scripts.now) a.pass.view.number) c.results.items }
 {
     let most = MAX_CALLERS as usize;

@@ -17,7 +17,7 @@ module _ {R : Type 0} where
   shown_sink = record { taken = λ a. None; faults = λ a. a.faults; failing = λ a. a.failing; Rest = Unit {0}; rest = λ a. tt }
 
   -- no call was counted yet
-  pub record IsFresh (a : Adapted R) : Type 0 where
+  pub record HasMadeNoCalls (a : Adapted R) : Type 0 where
     pub faults : shown_source.faults a ≡ 0
     pub idle : shown_source.idle a ≡ 0
     pub ended : shown_source.ended a ≡ false

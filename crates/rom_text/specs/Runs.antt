@@ -40,8 +40,8 @@ module _ {O : Type 0} (sink : ShownSink O) where
   IsCutShort old new text = AppendsFront (sink.taken old) (sink.taken new) text × WriteFailed sink old new
 
   -- the line is printed, or cut short
-  abbrev pub IsLineTold : O → O → List ℕ → Type 0
-  IsLineTold old new line = IsWhollyWritten old new (line_text line) ⊎ IsCutShort old new (line_text line)
+  abbrev pub IsLineWrittenOrCutShort : O → O → List ℕ → Type 0
+  IsLineWrittenOrCutShort old new line = IsWhollyWritten old new (line_text line) ⊎ IsCutShort old new (line_text line)
 
 module _ {S O : Type 0} (source : ShownSource S) (sink : ShownSink O) where
   -- The first script that is refused has a source that failed, and the line names it.
@@ -51,7 +51,7 @@ module _ {S O : Type 0} (source : ShownSource S) (sink : ShownSink O) where
     pub now : S
     pub first : IsFirstToFail source script was now before after
     pub failed : FailedEarly source was now
-    pub told : IsLineTold sink old new (codes "script " ++ decimal (script + 1) ++ codes " failed")
+    pub told : IsLineWrittenOrCutShort sink old new (codes "script " ++ decimal (script + 1) ++ codes " failed")
 
   -- The first script that is refused is too long, and the line names it.
   pub record SourceTooLong (before after : List S) (old new : O) : Type 0 where
@@ -60,4 +60,4 @@ module _ {S O : Type 0} (source : ShownSource S) (sink : ShownSink O) where
     pub now : S
     pub first : IsFirstToFail source script was now before after
     pub too_long : IsTooLong source was now
-    pub told : IsLineTold sink old new (codes "script " ++ decimal (script + 1) ++ codes " too long")
+    pub told : IsLineWrittenOrCutShort sink old new (codes "script " ++ decimal (script + 1) ++ codes " too long")

@@ -17,12 +17,12 @@ pub struct Adapted<R> {
 
 impl<R> Adapted<R> {
     ghost use Rattle.std.specs.Prelude.{◌≡◌, true, false};
-    ghost use Rattle.rom_text.specs.Adapts.{IsFresh, is_missing};
+    ghost use Rattle.rom_text.specs.Adapts.{HasMadeNoCalls, is_missing};
 
     /// The source or sink that this reader or writer is.
     pub fn new(inner: R) -> Self
         ensures present { is_missing result ≡ false }
-        ensures fresh { IsFresh result }
+        ensures fresh { HasMadeNoCalls result }
     {
         Adapted::over(Some(inner))
     }
@@ -30,14 +30,14 @@ impl<R> Adapted<R> {
     /// What stands for a file that could not be opened: each call fails and raises the count.
     pub fn missing() -> Self
         ensures missing { is_missing result ≡ true }
-        ensures fresh { IsFresh result }
+        ensures fresh { HasMadeNoCalls result }
     {
         Adapted::over(None)
     }
 
     fn over(inner: Option<R>) -> Self
         ensures inner { result.inner ≡ inner }
-        ensures fresh { IsFresh result }
+        ensures fresh { HasMadeNoCalls result }
     {
         Adapted {
             inner,

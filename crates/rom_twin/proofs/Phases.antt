@@ -2,14 +2,14 @@
 use Rattle.std.proofs.Common.{◌≡◌, ◌⊎◌, inl, inr, ℕ, ◌+◌, ◌≤◌, List, [], length, set, slice_index, sym, ◌∙◌, subst, arith}
 use Rattle.rom_model.specs.Blocks.{region_len}
 use Rattle.rom_model.specs.Space.{ChangesOnly}
-use Rattle.rom_device.specs.Device.{ShownDevice, Writes}
+use Rattle.rom_device.specs.Device.{ShownDevice, WritesWord}
 use Rattle.rom_ranges.specs.declared.range.Range.{Range}
 use Rattle.rom_header.specs.Headers.{state_word}
 use Rattle.rom_header.specs.Layout.{part, main_of, back_at, MAIN, STATE}
 use Rattle.rom_header.specs.declared.header.State.{State}
 use Rattle.rom_header.specs.declared.header.State.TheVariants.{Idle, Mutating, Copying}
 use Rattle.rom_header.proofs.Parts.{state_set, heap_within, part_before, part_behind, part_is, get_or-part}
-use Rattle.rom_twin.specs.Images.{ImageOf, Twins, Stands, HasBack, HasMain, KeepsBack, Committing}
+use Rattle.rom_twin.specs.Images.{ImageOf, Twins, IsHeapInState, HasBack, HasMain, KeepsBack, Committing}
 use Rattle.rom_ranges.specs.Changes.{SameBut}
 use Rattle.rom_twin.specs.Ranges.{IsBut}
 use Rattle.rom_twin.specs.Seen.{Seen, InPhase, committed, committed_in}
@@ -23,26 +23,26 @@ known_state Copying = omega arith
 
 module _ (n : ℕ) where
   -- the state
-  pub stands_set : (state s : State) (main back x : List ℕ) → Stands n state main back x → Stands n s main back (set x STATE (state_word s))
+  pub stands_set : (state s : State) (main back x : List ℕ) → IsHeapInState n state main back x → IsHeapInState n s main back (set x STATE (state_word s))
   stands_set state s main back x is = let y = state_set n (state_word s) x (known_state s) is.heap in record { heap = y.heap; state_is = y.state_is; main_is = y.main_is ∙ is.main_is; back_is = y.back_is ∙ is.back_is }
 
-  pub twins_set : (s : State) (c x : List ℕ) → Twins n c x → Stands n s c c (set x STATE (state_word s))
+  pub twins_set : (s : State) (c x : List ℕ) → Twins n c x → IsHeapInState n s c c (set x STATE (state_word s))
   twins_set s c x is = let y = state_set n (state_word s) x (known_state s) is.heap in record { heap = y.heap; state_is = y.state_is; main_is = y.main_is ∙ is.main_is; back_is = y.back_is ∙ is.back_is }
 
   pub back_set : (c x : List ℕ) → KeepsBack n c x → HasBack n c (set x STATE (state_word Mutating))
   back_set c x is = let y = state_set n (state_word Mutating) x (known_state Mutating) is.0 in record { heap = y.heap; state_is = y.state_is; back_is = y.back_is ∙ is.1 }
 
-  pub stands_back : (main c x : List ℕ) → Stands n Mutating main c x → HasBack n c x
+  pub stands_back : (main c x : List ℕ) → IsHeapInState n Mutating main c x → HasBack n c x
   stands_back main c x is = record { heap = is.heap; state_is = is.state_is; back_is = is.back_is }
 
-  pub stands_twins : (state : State) (c x : List ℕ) → Stands n state c c x → Twins n c x
+  pub stands_twins : (state : State) (c x : List ℕ) → IsHeapInState n state c c x → Twins n c x
   stands_twins state c x is = record { heap = is.heap; main_is = is.main_is; back_is = is.back_is }
 
-  pub stands_main : (m c x : List ℕ) → Stands n Copying m c x → HasMain n m x
+  pub stands_main : (m c x : List ℕ) → IsHeapInState n Copying m c x → HasMain n m x
   stands_main m c x is = record { heap = is.heap; state_is = is.state_is; main_is = is.main_is }
 
   -- within `begin`, and within the last write of a batch or a repair
-  pub twins_writes : (s : State) (c x y : List ℕ) → Twins n c x → Writes STATE (state_word s) x y → Twins n c y
+  pub twins_writes : (s : State) (c x y : List ℕ) → Twins n c x → WritesWord STATE (state_word s) x y → Twins n c y
   twins_writes s c x y is (inl same) = subst (λ (l : List ℕ). Twins n c l) (sym same) is
   twins_writes s c x y is (inr put) = subst (λ (l : List ℕ). Twins n c l) (sym put) (stands_twins s c (set x STATE (state_word s)) (twins_set s c x is))
 
@@ -54,7 +54,7 @@ module _ (n : ℕ) where
     back_is = part_behind (back_at n) (region_len n) base len x y within (omega (arith, is.heap.long)) (omega (arith, at, many)) ∙ is.back_is;
   }
 
-  pub persisted : (base : ℕ) (c m x y : List ℕ) → base ≡ MAIN → length m ≡ region_len n → HasBack n c x → ChangesOnly base (length m) x y → IsBut [] base m y → Stands n Mutating m c y
+  pub persisted : (base : ℕ) (c m x y : List ℕ) → base ≡ MAIN → length m ≡ region_len n → HasBack n c x → ChangesOnly base (length m) x y → IsBut [] base m y → IsHeapInState n Mutating m c y
   persisted base c m x y at long is within whole = let then = persisting base (length m) c x y at long is within in record {
     heap = then.heap;
     state_is = then.state_is;
@@ -63,9 +63,9 @@ module _ (n : ℕ) where
   }
 
   -- within `commit`
-  pub committing : (m c x y : List ℕ) → Stands n Mutating m c x → Writes STATE (state_word Copying) x y → Committing n c m y
-  committing m c x y is (inl same) = inl (subst (λ (l : List ℕ). Stands n Mutating m c l) (sym same) is)
-  committing m c x y is (inr put) = inr (subst (λ (l : List ℕ). Stands n Copying m c l) (sym put) (stands_set Mutating Copying m c x is))
+  pub committing : (m c x y : List ℕ) → IsHeapInState n Mutating m c x → WritesWord STATE (state_word Copying) x y → Committing n c m y
+  committing m c x y is (inl same) = inl (subst (λ (l : List ℕ). IsHeapInState n Mutating m c l) (sym same) is)
+  committing m c x y is (inr put) = inr (subst (λ (l : List ℕ). IsHeapInState n Copying m c l) (sym put) (stands_set Mutating Copying m c x is))
 
   pub in_doubt : (m c x : List ℕ) → Committing n c m x → ImageOf Doubt n c m x
   in_doubt m c x (inl is) = inl (stands_back m c x is)
@@ -83,7 +83,7 @@ module _ (n : ℕ) where
     main_is = part_before MAIN (region_len n) base len x y within (omega (arith, is.heap.long)) (omega (arith, at)) ∙ is.main_is;
   }
 
-  pub copied : (base : ℕ) (m b x y : List ℕ) → base ≡ back_at n → length b ≡ region_len n → HasMain n m x → ChangesOnly base (length b) x y → IsBut [] base b y → Stands n Copying m b y
+  pub copied : (base : ℕ) (m b x y : List ℕ) → base ≡ back_at n → length b ≡ region_len n → HasMain n m x → ChangesOnly base (length b) x y → IsBut [] base b y → IsHeapInState n Copying m b y
   copied base m b x y at long is within whole = let then = copying base (length b) m x y at long is within in record {
     heap = then.heap;
     state_is = then.state_is;
@@ -92,7 +92,7 @@ module _ (n : ℕ) where
   }
 
   -- within the first write of a repair
-  pub undoing : (c x y : List ℕ) → KeepsBack n c x → Writes STATE (state_word Mutating) x y → (y ≡ x) ⊎ HasBack n c y
+  pub undoing : (c x y : List ℕ) → KeepsBack n c x → WritesWord STATE (state_word Mutating) x y → (y ≡ x) ⊎ HasBack n c y
   undoing c x y is (inl same) = inl same
   undoing c x y is (inr put) = inr (subst (λ (l : List ℕ). HasBack n c l) (sym put) (back_set c x is))
 

@@ -2,7 +2,7 @@
 use Rattle.std.proofs.Common.{◌≡◌, ◌≢◌, inl, inr, ⊎_elim, IsTrue, ℕ, ◌+◌, ◌≤◌, List, [], length, set, refl, sym, ◌∙◌, subst, arith, length-set, get_or-set_other}
 use Rattle.rom_model.specs.Blocks.{region_len}
 use Rattle.rom_model.specs.Space.{ChangesOnly}
-use Rattle.rom_device.specs.Device.{ShownDevice, Becomes, Does, Runs, Writes}
+use Rattle.rom_device.specs.Device.{ShownDevice, Becomes, Does, Runs, WritesWord}
 use Rattle.rom_device.proofs.Going.{becomes_by, does_by, does_on}
 use Rattle.rom_header.specs.Headers.{state_word}
 use Rattle.rom_header.specs.Layout.{MAIN, STATE, back_of}
@@ -81,7 +81,7 @@ state_or_set at len v late x = record {
   behind = λ k h. let other : k ≢ STATE = omega (arith, h, late) in get_or-set_other x STATE k v 0 other;
 }
 
-pub state_or_writes : (at len v : ℕ) → 4 ≤ at → (x y : List ℕ) → Writes STATE v x y → StateOrWithin at len x y
+pub state_or_writes : (at len v : ℕ) → 4 ≤ at → (x y : List ℕ) → WritesWord STATE v x y → StateOrWithin at len x y
 state_or_writes at len v late x y (inl same) = subst (λ (l : List ℕ). StateOrWithin at len x l) (sym same) record { as_long = refl; before = λ k h other. refl; behind = λ k h. refl }
 state_or_writes at len v late x y (inr put) = subst (λ (l : List ℕ). StateOrWithin at len x l) (sym put) (state_or_set at len v late x)
 
@@ -96,8 +96,8 @@ rewritten_late Doubt n = omega arith
 rewritten_late Redo n = omega arith
 
 module _ {D : Type 0} (shown : ShownDevice D) (at len : ℕ) where
-  pub does_state : (v : ℕ) → 4 ≤ at → (a b : D) → Does shown (Writes STATE v) a b → Does shown (StateOrWithin at len) a b
-  does_state v late = does_by shown (Writes STATE v) (StateOrWithin at len) (state_or_writes at len v late)
+  pub does_state : (v : ℕ) → 4 ≤ at → (a b : D) → Does shown (WritesWord STATE v) a b → Does shown (StateOrWithin at len) a b
+  does_state v late = does_by shown (WritesWord STATE v) (StateOrWithin at len) (state_or_writes at len v late)
 
   pub does_region : (rs : List Range) (from : ℕ) (m : List ℕ) → from ≡ at → length m ≡ len → (a b : D) → Does shown (WritesRanges rs from m) a b → Does shown (StateOrWithin at len) a b
   does_region rs from m there long = does_by shown (WritesRanges rs from m) (StateOrWithin at len) (λ x y writes. state_or_within at len from (length m) (sym there) (sym long) x y writes.only)
@@ -134,12 +134,12 @@ module _ {D : Type 0} (shown : ShownDevice D) (reads : (d : D) → IsTrue shown.
   repair_midst = becomes_by shown (Rewriting t.phase t.order old) (Repairing t.phase t.order old) (λ i is. inl is) t.device b rewriting
 
   module _ (now : ((i : List ℕ) → shown.leaves t.device i → Repairable t.phase t.order m i) → (i : List ℕ) → shown.leaves b i → Twins t.order m i)
-      (d : D) (does : Does shown (Writes STATE (state_word Idle)) b d) where
+      (d : D) (does : Does shown (WritesWord STATE (state_word Idle)) b d) where
     twins : (i : List ℕ) → shown.leaves b i → Twins t.order old i
     twins i left = subst (λ (l : List ℕ). Twins t.order l i) (sym image_is) (now all i left)
 
     repair_now : (i : List ℕ) → shown.leaves d i → Twins t.order old i
-    repair_now = now_by shown (Writes STATE (state_word Idle)) (Twins t.order old) b d (Twins t.order old) (does.images told) twins (twins_writes t.order Idle old)
+    repair_now = now_by shown (WritesWord STATE (state_word Idle)) (Twins t.order old) b d (Twins t.order old) (does.images told) twins (twins_writes t.order Idle old)
 
     pub repair_done : InPhase shown (record { device = d; order = t.order; phase = Clean })
     repair_done = in_phase shown (record { device = d; order = t.order; phase = Clean }) old [] (reads d told) repair_now
@@ -149,4 +149,4 @@ module _ {D : Type 0} (shown : ShownDevice D) (reads : (d : D) → IsTrue shown.
 
     pub repair_since : Runs shown (Becomes (Repairing t.phase t.order old)) t.device d
     repair_since = becomes_then shown (Repairing t.phase t.order old) t.device b d repair_midst
-        (since_by shown (Writes STATE (state_word Idle)) (Repairing t.phase t.order old) b d (Twins t.order old) (does.images told) twins (λ v w was by. inr (twins_writes t.order Idle old v w was by)))
+        (since_by shown (WritesWord STATE (state_word Idle)) (Repairing t.phase t.order old) b d (Twins t.order old) (does.images told) twins (λ v w was by. inr (twins_writes t.order Idle old v w was by)))

@@ -5,7 +5,7 @@ use Rattle.rom_model.specs.Space.{ChangesOnly}
 use Rattle.rom_model.proofs.Changes.{changes_none, changes_joins, changes_wider}
 use Rattle.rom_device.specs.Device.{ShownDevice, Does}
 use Rattle.rom_device.proofs.Going.{does_by, does_on}
-use Rattle.rom_ranges.specs.Ranges.{IsIn, IsHeld, held_count}
+use Rattle.rom_ranges.specs.Ranges.{IsInRange, IsHeld, held_count}
 use Rattle.rom_ranges.specs.declared.range.Range.{Range}
 use Rattle.rom_twin.specs.Ranges.{IsBut, WritesPart, WritesRanges}
 
@@ -53,7 +53,7 @@ part_wider base start len from count low high m x y piece = record {
 }
 
 -- an offset in the range of that number is held
-pub held_at : (i : ℕ) (rs : List Range) → i < length rs → (k : ℕ) → IsIn (get_or rs i record { start = 0; end = 0 }) k → IsHeld rs k
+pub held_at : (i : ℕ) (rs : List Range) → i < length rs → (k : ℕ) → IsInRange (get_or rs i record { start = 0; end = 0 }) k → IsHeld rs k
 held_at i [] lt k is = absurd (omega (arith, lt))
 held_at zero (r ∷ rs) lt k is = inl is
 held_at (suc i) (r ∷ rs) lt k is = inr (held_at i rs (omega (arith, lt)) k is)
@@ -69,7 +69,7 @@ range_wider base len r fits x y within = record {
 }
 
 -- what is written of a range is written of the region
-pub ranges_by : (rs : List Range) (base : ℕ) (m : List ℕ) (r : Range) → r.end ≤ length m → ((k : ℕ) → IsIn r k → IsHeld rs k) → (x y : List ℕ) → WritesPart base r.start (r.end - r.start) m x y → WritesRanges rs base m x y
+pub ranges_by : (rs : List Range) (base : ℕ) (m : List ℕ) (r : Range) → r.end ≤ length m → ((k : ℕ) → IsInRange r k → IsHeld rs k) → (x y : List ℕ) → WritesPart base r.start (r.end - r.start) m x y → WritesRanges rs base m x y
 ranges_by rs base m r fits held x y part = record {
   only = range_wider base (length m) r fits x y part.only;
   either = λ k lt. elim (cases_lt k r.start) [

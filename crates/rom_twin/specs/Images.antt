@@ -15,7 +15,7 @@ pub record Twins (order : ℕ) (image i : List ℕ) : Type 0 where
   pub back_is : back_of order i ≡ image
 
 -- a heap in this state, with these regions
-pub record Stands (order : ℕ) (state : State) (main back i : List ℕ) : Type 0 where
+pub record IsHeapInState (order : ℕ) (state : State) (main back i : List ℕ) : Type 0 where
   pub heap : IsHeap order i
   pub state_is : slice_index i STATE ≡ state_word state
   pub main_is : main_of order i ≡ main
@@ -46,17 +46,17 @@ pub record HasMain (order : ℕ) (main i : List ℕ) : Type 0 where
 --   Redo        COPYING     m      -
 abbrev pub ImageOf : Phase → ℕ → List ℕ → List ℕ → List ℕ → Type 0
 ImageOf Clean n c m i = Twins n c i
-ImageOf Begun n c m i = Stands n Mutating c c i
-ImageOf Persisted n c m i = Stands n Mutating m c i
-ImageOf Committed n c m i = Stands n Copying m c i
-ImageOf Copied n c m i = Stands n Copying m m i
+ImageOf Begun n c m i = IsHeapInState n Mutating c c i
+ImageOf Persisted n c m i = IsHeapInState n Mutating m c i
+ImageOf Committed n c m i = IsHeapInState n Copying m c i
+ImageOf Copied n c m i = IsHeapInState n Copying m m i
 ImageOf Undo n c m i = HasBack n c i ⊎ Twins n c i
-ImageOf Doubt n c m i = HasBack n c i ⊎ Stands n Copying m c i
+ImageOf Doubt n c m i = HasBack n c i ⊎ IsHeapInState n Copying m c i
 ImageOf Redo n c m i = HasMain n m i
 
 -- Within `begin` and `finish` each image is one of `Twins`, within `persist` of `HasBack`, within `copy` of `HasMain`. Within the commit both regions are whole, and the state says which one counts:
 abbrev pub Committing : ℕ → List ℕ → List ℕ → List ℕ → Type 0
-Committing n c m i = Stands n Mutating m c i ⊎ Stands n Copying m c i
+Committing n c m i = IsHeapInState n Mutating m c i ⊎ IsHeapInState n Copying m c i
 
 -- Within a repair one region is rewritten from the committed image: back in `Redo`, and else main, under MUTATING.
 abbrev pub Rewriting : Phase → ℕ → List ℕ → List ℕ → Type 0

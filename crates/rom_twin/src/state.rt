@@ -1,7 +1,7 @@
 //! The word of the state, written and made certain.
 ghost use Rattle.std.specs.Prelude.{◌≡◌, ◌<◌, OnOk, IsTrue, slice_set};
 ghost use Rattle.rom_model.specs.Faults.{Adds};
-ghost use Rattle.rom_device.specs.Device.{Counts, Does, IsSynced, Makes, Writes};
+ghost use Rattle.rom_device.specs.Device.{CountsCalls, Does, IsSynced, Makes, WritesWord};
 ghost use Rattle.rom_header.specs.Headers.{state_word};
 ghost use Rattle.rom_header.specs.Layout.{STATE};
 
@@ -14,8 +14,8 @@ pub fn write_state<D: Device>(device: &mut D, state: State) -> Result<(), Failed
     ensures written { IsTrue D.shown.tells_words →
         OnOk result (D.shown.words device.new
         ≡ slice_set (D.shown.words device.old) STATE (state_word state)) }
-    ensures does { Does D.shown (Writes STATE (state_word state)) device.old device.new }
-    ensures counts { Counts D.shown 0 1 0 device.old device.new result }
+    ensures does { Does D.shown (WritesWord STATE (state_word state)) device.old device.new }
+    ensures counts { CountsCalls D.shown 0 1 0 device.old device.new result }
 {
     device.write(STATE, state.word())
 }
@@ -27,7 +27,7 @@ pub fn set_state<D: Device>(device: &mut D, state: State) -> Result<(), Failed>
         OnOk result (D.shown.words device.new
         ≡ slice_set (D.shown.words device.old) STATE (state_word state)) }
     ensures certain { OnOk result (IsSynced D.shown device.new) }
-    ensures does { Does D.shown (Writes STATE (state_word state)) device.old device.new }
+    ensures does { Does D.shown (WritesWord STATE (state_word state)) device.old device.new }
     ensures writes { Adds 1 (D.shown.writes device.old) (D.shown.writes device.new) }
     ensures makes { Makes D.shown 0 1 1 device.old device.new result }
 {

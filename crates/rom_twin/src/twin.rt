@@ -3,7 +3,7 @@ ghost use Rattle.std.specs.Prelude.{◌≡◌, ◌≤◌, OnOk, OnErr, IsTrue, l
 ghost use Rattle.rom_model.specs.Blocks.{region_len};
 ghost use Rattle.rom_model.specs.Faults.{Adds, AtMost, FailedLast, StopsAtFault, counted};
 ghost use Rattle.rom_model.specs.Space.{Looks};
-ghost use Rattle.rom_device.specs.Device.{Becomes, Counts, Does, IsSynced, Makes, Runs, Writes};
+ghost use Rattle.rom_device.specs.Device.{Becomes, CountsCalls, Does, IsSynced, Makes, Runs, WritesWord};
 ghost use Rattle.rom_header.specs.Headers.{state_word};
 ghost use Rattle.rom_header.specs.Layout.{MAIN, STATE, back_at, words_needed, main_of, back_of};
 ghost use Rattle.rom_header.specs.Regions.{IsHeap};
@@ -126,7 +126,7 @@ impl<D: Device> Twin<D> {
             Runs D.shown (Becomes (Twins self.old.order (committed D.shown self.old)))
             self.old.device self.new.device }
         // As far as words and images are told, only the state may change, to MUTATING.
-        ensures does { Does D.shown (Writes STATE (state_word State.Mutating))
+        ensures does { Does D.shown (WritesWord STATE (state_word State.Mutating))
             self.old.device self.new.device }
         // One write is counted, whatever it answers.
         ensures writes { D.shown.writes self.new.device ≡ counted (D.shown.writes self.old.device) }
@@ -194,7 +194,7 @@ impl<D: Device> Twin<D> {
             (main_now D.shown self.old)))
             self.old.device self.new.device }
         // As far as words and images are told, only the state may change, to COPYING.
-        ensures does { Does D.shown (Writes STATE (state_word State.Copying))
+        ensures does { Does D.shown (WritesWord STATE (state_word State.Copying))
             self.old.device self.new.device }
         // One write is counted, whatever it answers.
         ensures writes { D.shown.writes self.new.device ≡ counted (D.shown.writes self.old.device) }
@@ -256,10 +256,10 @@ impl<D: Device> Twin<D> {
             Runs D.shown (Becomes (Twins self.old.order (committed D.shown self.old)))
             self.old.device self.new.device }
         // As far as words and images are told, only the state may change, to IDLE.
-        ensures does { Does D.shown (Writes STATE (state_word State.Idle))
+        ensures does { Does D.shown (WritesWord STATE (state_word State.Idle))
             self.old.device self.new.device }
         // One write is counted and no other call, and a fault exactly where it fails.
-        ensures counts { Counts D.shown 0 1 0 self.old.device self.new.device result }
+        ensures counts { CountsCalls D.shown 0 1 0 self.old.device self.new.device result }
     {
         self.phase = Phase::Clean;
         write_state(&mut self.device, State::Idle)

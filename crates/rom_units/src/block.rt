@@ -1,6 +1,6 @@
 //! Blocks of a region that are taken and given back, and the words of the tree.
 ghost use Rattle.std.specs.Prelude.{◌≡◌, ◌≢◌, ℕ, ◌≤◌, length, IfOk, IfSome};
-ghost use Rattle.rom_model.specs.VecSpace.{words_of};
+ghost use Rattle.rom_model.specs.VecSpace.{words_of_space};
 ghost use Rattle.rom_model.specs.Blocks.{IsOrder, region_len};
 ghost use Rattle.rom_block.specs.Taken.{IsSomeTree, IsTakenAt};
 
@@ -13,8 +13,8 @@ use std::test::Fail;
 /// A region with all blocks free. Its other words are 77.
 fn free_region(alloc: Global, order: u32) -> Result<VecSpace, Fail>
     requires order { IsOrder order }
-    ensures len { IfOk result (λ space. length (words_of space) ≡ region_len order) }
-    ensures tree { IfOk result (λ space. IsSomeTree order (words_of space)) }
+    ensures len { IfOk result (λ space. length (words_of_space space) ≡ region_len order) }
+    ensures tree { IfOk result (λ space. IsSomeTree order (words_of_space space)) }
 {
     let mut space = VecSpace::of(vec![in alloc; 77u64; region_len(order) as usize]?);
     Blocks::format(&mut space, order);
@@ -24,13 +24,13 @@ fn free_region(alloc: Global, order: u32) -> Result<VecSpace, Fail>
 fn take(space: &mut VecSpace, order: u32, want: u32) -> Option<u64>
     requires order { IsOrder order }
     requires want { want ≤ order }
-    requires sized { length (words_of space.old) ≡ region_len order }
-    requires tree { IsSomeTree order (words_of space.old) }
-    ensures len { length (words_of space.new) ≡ region_len order }
-    ensures tree { IsSomeTree order (words_of space.new) }
-    ensures some { IfSome result (λ at. IsTakenAt order want at (words_of space.new)) }
-    ensures kept { (other at : ℕ) → IsTakenAt order other at (words_of space.old)
-        → IsTakenAt order other at (words_of space.new) }
+    requires sized { length (words_of_space space.old) ≡ region_len order }
+    requires tree { IsSomeTree order (words_of_space space.old) }
+    ensures len { length (words_of_space space.new) ≡ region_len order }
+    ensures tree { IsSomeTree order (words_of_space space.new) }
+    ensures some { IfSome result (λ at. IsTakenAt order want at (words_of_space space.new)) }
+    ensures kept { (other at : ℕ) → IsTakenAt order other at (words_of_space space.old)
+        → IsTakenAt order other at (words_of_space space.new) }
 {
     Blocks::take(space, order, want)
 }
@@ -38,13 +38,13 @@ fn take(space: &mut VecSpace, order: u32, want: u32) -> Option<u64>
 fn give(space: &mut VecSpace, order: u32, at: u64, want: u32)
     requires order { IsOrder order }
     requires want { want ≤ order }
-    requires sized { length (words_of space.old) ≡ region_len order }
-    requires taken { IsTakenAt order want at (words_of space.old) }
-    ensures len { length (words_of space.new) ≡ region_len order }
-    ensures tree { IsSomeTree order (words_of space.new) }
+    requires sized { length (words_of_space space.old) ≡ region_len order }
+    requires taken { IsTakenAt order want at (words_of_space space.old) }
+    ensures len { length (words_of_space space.new) ≡ region_len order }
+    ensures tree { IsSomeTree order (words_of_space space.new) }
     ensures kept { (other place : ℕ) → other ≤ order → (other ≡ want → place ≢ at)
-        → IsTakenAt order other place (words_of space.old)
-        → IsTakenAt order other place (words_of space.new) }
+        → IsTakenAt order other place (words_of_space space.old)
+        → IsTakenAt order other place (words_of_space space.new) }
 {
     Blocks::give(space, order, at, want)
 }

@@ -1,10 +1,10 @@
 //! The object by its words: the worked regions, the inspection's answers, and loads and stores counted.
 ghost use Rattle.std.specs.Prelude.{◌<◌, ◌≤◌, ℕ, length, IfOk};
-ghost use Rattle.rom_model.specs.VecSpace.{words_of};
+ghost use Rattle.rom_model.specs.VecSpace.{words_of_space};
 ghost use Rattle.rom_model.specs.History.{LAST_COUNT};
 ghost use Rattle.rom_model.specs.State.{State, empty};
 ghost use Rattle.rom_model.specs.Region.{Contents};
-ghost use Rattle.rom_counted.specs.Counted.{Begins};
+ghost use Rattle.rom_counted.specs.Counted.{BeginsLedger};
 
 use crate::regions::{BROKEN, BROKEN_OLD, FRESH, OLD, OLD_PAIRS, QUEUED, region};
 use rom_counted::Counted;
@@ -227,7 +227,7 @@ const UPDATES: [(&[Single], Single, SingleReply, Option<&[(usize, u64)]>); 16] =
 /// Does updates one after another on a new heap of order 4, and then one more; what that is told.
 pub(crate) fn apply_all(space: &mut VecSpace, calls: &[Single], last: &Call) -> Reply
     requires few { length calls.now ≤ 15 }
-    requires region { Contents 4 (words_of space.old) empty 0 }
+    requires region { Contents 4 (words_of_space space.old) empty 0 }
 {
     for call in calls {
         Trio::apply(space, 4, &Call::plain(*call));
@@ -330,7 +330,7 @@ const CAP: u64 = 61440;
 /// A heap of order 16 whose free blocks hold 7 in each word, after this update and so many new keys.
 fn filled(alloc: Global, first: Call, keys: u64) -> Result<VecSpace, Fail>
     ensures region { IfOk result (λ space. (s : State) × (k : ℕ)
-        × Contents 16 (words_of space) s k × (k < LAST_COUNT)) }
+        × Contents 16 (words_of_space space) s k × (k < LAST_COUNT)) }
 {
     let mut space = VecSpace::of(vec![in alloc; 7u64; 393232]?);
     Trio::format(&mut space, 16);
@@ -343,8 +343,8 @@ fn filled(alloc: Global, first: Call, keys: u64) -> Result<VecSpace, Fail>
 
 /// What an update is told in such a heap, and how many stores it makes.
 fn told_and_stores<L: Ledger>(blank: Blank, space: VecSpace, call: Call) -> (Reply, u64)
-    requires blank { Begins L.name L.parts blank.name blank.parts }
-    requires region { (s : State) × (k : ℕ) × Contents 16 (words_of space) s k × (k < LAST_COUNT) }
+    requires blank { BeginsLedger L.name L.parts blank.name blank.parts }
+    requires region { (s : State) × (k : ℕ) × Contents 16 (words_of_space space) s k × (k < LAST_COUNT) }
 {
     let limit = Trio::STORES * Trio::weight_of(&call);
     let mut space: Counted<L> = Counted::begin(space, limit, blank);
@@ -398,8 +398,8 @@ fn the_stores_of_a_group(rt: HostRuntime) -> Result<(), Fail> {
 
 /// What a query is told in such a heap, and how many loads it makes.
 fn answer_and_loads<L: Ledger>(blank: Blank, space: VecSpace, query: Query) -> (Answer, u64)
-    requires blank { Begins L.name L.parts blank.name blank.parts }
-    requires region { (s : State) × (k : ℕ) × Contents 16 (words_of space) s k × (k < LAST_COUNT) }
+    requires blank { BeginsLedger L.name L.parts blank.name blank.parts }
+    requires region { (s : State) × (k : ℕ) × Contents 16 (words_of_space space) s k × (k < LAST_COUNT) }
 {
     let mut space: Counted<L> = Counted::begin(space, 0, blank);
     let answer = Trio::answer(&mut space, 16, &query);

@@ -4,7 +4,7 @@ ghost use Rattle.rom_model.specs.Blocks.{IsOrder};
 ghost use Rattle.rom_model.specs.History.{LAST_COUNT};
 ghost use Rattle.rom_model.specs.Region.{Contents};
 ghost use Rattle.rom_model.specs.State.{State};
-ghost use Rattle.rom_model.specs.VecSpace.{words_of};
+ghost use Rattle.rom_model.specs.VecSpace.{words_of_space};
 
 use crate::regions::{FRESH, NEW_PAIRS, OLD, OLD_PAIRS, change, region};
 use crate::right::right;
@@ -75,7 +75,7 @@ fn grown(alloc: Global, order: u32, keys: &[u64]) -> Result<VecSpace, AllocError
     requires order { IsOrder order }
     requires few { length keys.now ≤ 2 ^ 20 }
     ensures region { IfOk result (λ space. (s : State) × (k : ℕ)
-        × Contents order (words_of space) s k × (k < LAST_COUNT)) }
+        × Contents order (words_of_space space) s k × (k < LAST_COUNT)) }
 {
     let mut space = new_region::<Trio>(alloc, order)?;
     for key in keys {

@@ -9,7 +9,7 @@ use Rattle.clap.specs.Walk.{Row, Text, all_of, nothing_held, walk_from}
 use Rattle.clap.specs.Simple.{Shape, subcommand_of}
 use Rattle.clap.specs.Takes.{takes}
 use Rattle.rom_words.specs.CommandLine.{HasNamedWords, HasValue, command_line}
-use Rattle.rom_words.specs.Words.{Command, Try, Run, Format, Stat, Upgrade, Drill, are_scripts, both_of, command, command_of, drill_from, drill_of, file_alone, format_of, has_bytes, number_within, run_of, said, stat_of, try_of, upgrade_of}
+use Rattle.rom_words.specs.Words.{Command, Try, Run, Format, Stat, Upgrade, Drill, are_scripts, both_of, command, command_of, drill_from, drill_command, file_alone, format_command, has_bytes, number_within, run_command, said, stat_command, try_command, upgrade_command}
 use Rattle.rom_words.specs.Words as spec
 use Rattle.rom_words.proofs.Many.{Later, Then, later_ends, later_option, later_plain, then_ends, then_option, then_plain}
 use Rattle.rom_words.proofs.One.{Each, IsFirst, IsOption, One, one_begins, one_ends, one_option, one_plain, said_as, Want}
@@ -155,7 +155,7 @@ command_or d (Some c) = c
 given : (c d : Command) (words : List Text) → Some c ≡ Some d → Matches c words → Matches d words
 given c d words e m = subst (λ c. Matches c words) (ap (command_or c) e) m
 
-from_try : (words plain : List Text) (options : List (Text × Text)) (c : Command) → said words None ≡ Some (record { plain = plain; options = options }) → try_of plain options ≡ Some c →
+from_try : (words plain : List Text) (options : List (Text × Text)) (c : Command) → said words None ≡ Some (record { plain = plain; options = options }) → try_command plain options ≡ Some c →
     Matches c (codes "try" ∷ words)
 from_try words plain (o ∷ os) c e is = cc
 from_try words plain [] c e is = go (are_scripts plain) refl is
@@ -164,7 +164,7 @@ from_try words plain [] c e is = go (are_scripts plain) refl is
     go false t is = cc
     go true t is = let few = few_scripts plain t in given (Try plain) c _ is (try_found words plain e few.0 few.1)
 
-from_run : (words plain : List Text) (options : List (Text × Text)) (c : Command) → said words None ≡ Some (record { plain = plain; options = options }) → run_of plain options ≡ Some c →
+from_run : (words plain : List Text) (options : List (Text × Text)) (c : Command) → said words None ≡ Some (record { plain = plain; options = options }) → run_command plain options ≡ Some c →
     Matches c (codes "run" ∷ words)
 from_run words [] options c e is = cc
 from_run words (f ∷ fs) (o ∷ os) c e is = cc
@@ -175,7 +175,7 @@ from_run words (f ∷ fs) [] c e is = go (has_bytes f) (are_scripts fs) refl is
     go true false t is = cc
     go true true t is = let few = few_scripts fs t in given (Run f fs) c _ is (run_found words fs f e few.0 few.1)
 
-from_format : (words plain : List Text) (options : List (Text × Text)) (c : Command) → said words None ≡ Some (record { plain = plain; options = options }) → format_of plain options ≡ Some c →
+from_format : (words plain : List Text) (options : List (Text × Text)) (c : Command) → said words None ≡ Some (record { plain = plain; options = options }) → format_command plain options ≡ Some c →
     Matches c (codes "format" ∷ words)
 from_format words [] options c e is = cc
 from_format words (f ∷ g ∷ gs) options c e is = cc
@@ -204,12 +204,12 @@ from_file make name words (f ∷ []) [] c found e is = go (has_bytes f) is
     go false is = cc
     go true is = given (make f) c _ is (found f e)
 
-from_stat : (words plain : List Text) (options : List (Text × Text)) (c : Command) → said words None ≡ Some (record { plain = plain; options = options }) → stat_of plain options ≡ Some c →
+from_stat : (words plain : List Text) (options : List (Text × Text)) (c : Command) → said words None ≡ Some (record { plain = plain; options = options }) → stat_command plain options ≡ Some c →
     Matches c (codes "stat" ∷ words)
 from_stat words plain options c =
     from_file Stat (codes "stat") words plain options c (λ f. file_found (codes "stat") (Stat f) words f has_stat (file_of_stat f) (λ rows has. has))
 
-from_upgrade : (words plain : List Text) (options : List (Text × Text)) (c : Command) → said words None ≡ Some (record { plain = plain; options = options }) → upgrade_of plain options ≡ Some c →
+from_upgrade : (words plain : List Text) (options : List (Text × Text)) (c : Command) → said words None ≡ Some (record { plain = plain; options = options }) → upgrade_command plain options ≡ Some c →
     Matches c (codes "upgrade" ∷ words)
 from_upgrade words plain options c =
     from_file Upgrade (codes "upgrade") words plain options c (λ f. file_found (codes "upgrade") (Upgrade f) words f has_upgrade (file_of_upgrade f) (λ rows has. has))
@@ -223,7 +223,7 @@ from_numbers words f a b c (Some x) None z k m n is e = cc
 from_numbers words f a b c (Some x) (Some y) None k m n is e = cc
 from_numbers words f a b c (Some x) (Some y) (Some z) k m n is e = given (Drill x y z) c _ is (drill_found words f a b x y z k m n e)
 
-from_drill : (words plain : List Text) (options : List (Text × Text)) (c : Command) → said words None ≡ Some (record { plain = plain; options = options }) → drill_of plain options ≡ Some c →
+from_drill : (words plain : List Text) (options : List (Text × Text)) (c : Command) → said words None ≡ Some (record { plain = plain; options = options }) → drill_command plain options ≡ Some c →
     Matches c (codes "drill" ∷ words)
 from_drill words [] options c e is = cc
 from_drill words (f ∷ g ∷ gs) options c e is = cc
@@ -263,8 +263,8 @@ matched (name ∷ words) c e = go (said words None) refl e
 
     by_name : (s : spec.Said) → said words None ≡ Some s → (t u v w x y : Bool) → bytes_eq name (codes "try") ≡ t → bytes_eq name (codes "run") ≡ u → bytes_eq name (codes "format") ≡ v →
         bytes_eq name (codes "stat") ≡ w → bytes_eq name (codes "upgrade") ≡ x → bytes_eq name (codes "drill") ≡ y →
-        cond t (try_of s.plain s.options) (cond u (run_of s.plain s.options) (cond v (format_of s.plain s.options) (cond w (stat_of s.plain s.options)
-        (cond x (upgrade_of s.plain s.options) (cond y (drill_of s.plain s.options) None))))) ≡ Some c →
+        cond t (try_command s.plain s.options) (cond u (run_command s.plain s.options) (cond v (format_command s.plain s.options) (cond w (stat_command s.plain s.options)
+        (cond x (upgrade_command s.plain s.options) (cond y (drill_command s.plain s.options) None))))) ≡ Some c →
         Matches c (name ∷ words)
     by_name s is true u v w x y k _ _ _ _ _ e = renamed (codes "try") k (from_try words s.plain s.options c is e)
     by_name s is false true v w x y _ k _ _ _ _ e = renamed (codes "run") k (from_run words s.plain s.options c is e)

@@ -9,7 +9,7 @@ use Rattle.std.proofs.lemmas.Bool.{lt-ltb}
 use Rattle.std.proofs.lemmas.Bool.Decides.{nat_tests}
 use Rattle.rom_words.specs.declared.said.Said.{Said}
 use Rattle.rom_words.specs.Wanted.{sort_at, texts, told}
-use Rattle.rom_words.specs.Words.{begins_with_dash, said, said_by, with_plain, with_option, Command, Run, Stat, Upgrade, Drill, are_scripts, both_of, command, command_of, drill_from, drill_of, file_alone, format_of, has_bytes, number_within, run_of, try_of}
+use Rattle.rom_words.specs.Words.{begins_with_dash, said, said_by, with_plain, with_option, Command, Run, Stat, Upgrade, Drill, are_scripts, both_of, command, command_of, drill_from, drill_command, file_alone, format_command, has_bytes, number_within, run_command, try_command}
 use Rattle.rom_words.specs.Words as spec
 
 -- what stands before, and then what is said
@@ -144,12 +144,12 @@ scripts_few words some few =
 abbrev pub IsTooMuch : List (List ℕ) → List (List ℕ × List ℕ) → Type 0
 IsTooMuch plain options = (17 < length plain) ⊎ (2 < length options)
 
-try_none : (plain : List (List ℕ)) (options : List (List ℕ × List ℕ)) → IsTooMuch plain options → try_of plain options ≡ None
+try_none : (plain : List (List ℕ)) (options : List (List ℕ × List ℕ)) → IsTooMuch plain options → try_command plain options ≡ None
 try_none plain (o ∷ os) h = refl
 try_none plain [] (inl h) = rw (scripts_many plain (omega (arith, h)))
 try_none plain [] (inr h) = absurd (omega (arith, h))
 
-run_none : (plain : List (List ℕ)) (options : List (List ℕ × List ℕ)) → IsTooMuch plain options → run_of plain options ≡ None
+run_none : (plain : List (List ℕ)) (options : List (List ℕ × List ℕ)) → IsTooMuch plain options → run_command plain options ≡ None
 run_none [] options h = refl
 run_none (f ∷ fs) (o ∷ os) h = refl
 run_none (f ∷ fs) [] (inl h) = go (has_bytes f)
@@ -159,7 +159,7 @@ run_none (f ∷ fs) [] (inl h) = go (has_bytes f)
     go false = refl
 run_none (f ∷ fs) [] (inr h) = absurd (omega (arith, h))
 
-format_none : (plain : List (List ℕ)) (options : List (List ℕ × List ℕ)) → IsTooMuch plain options → format_of plain options ≡ None
+format_none : (plain : List (List ℕ)) (options : List (List ℕ × List ℕ)) → IsTooMuch plain options → format_command plain options ≡ None
 format_none [] options h = refl
 format_none (f ∷ g ∷ gs) options h = refl
 format_none (f ∷ []) [] h = refl
@@ -174,7 +174,7 @@ file_none (f ∷ []) (o ∷ os) h = refl
 file_none (f ∷ []) [] (inl h) = absurd (omega (arith, h))
 file_none (f ∷ []) [] (inr h) = absurd (omega (arith, h))
 
-drill_none : (plain : List (List ℕ)) (options : List (List ℕ × List ℕ)) → IsTooMuch plain options → drill_of plain options ≡ None
+drill_none : (plain : List (List ℕ)) (options : List (List ℕ × List ℕ)) → IsTooMuch plain options → drill_command plain options ≡ None
 drill_none [] options h = refl
 drill_none (f ∷ g ∷ gs) options h = refl
 drill_none (f ∷ []) [] h = refl
@@ -208,8 +208,8 @@ unsaid name words h = go (said words None) refl
 pub drilled : (plain : List (List ℕ)) (options : List (List ℕ × List ℕ)) (start callers calls : List ℕ) (a b k : ℕ) → plain ≡ start ∷ [] →
     Some (callers, calls) ≡ both_of (codes "callers") (codes "calls") options →
     Some a ≡ number_within 0 18446744073709551615 start → Some b ≡ number_within 1 16 callers → Some k ≡ number_within 1 10000 calls →
-    Some (Drill a b k) ≡ drill_of plain options
-drilled plain options start callers calls a b k p o x y z = sym (ap (λ plain. drill_of plain options) p ∙ go _ (sym o) (sym x) (sym y) (sym z))
+    Some (Drill a b k) ≡ drill_command plain options
+drilled plain options start callers calls a b k p o x y z = sym (ap (λ plain. drill_command plain options) p ∙ go _ (sym o) (sym x) (sym y) (sym z))
   where
     go : (v : Option (List ℕ × List ℕ)) → v ≡ Some (callers, calls) → number_within 0 18446744073709551615 start ≡ Some a →
         number_within 1 16 callers ≡ Some b → number_within 1 10000 calls ≡ Some k →

@@ -105,20 +105,20 @@ abbrev pub are_scripts : List (List ℕ) → Bool
 are_scripts words = nat_lt 0 (length words) && nat_lt (length words) (MOST_SCRIPTS + 1) && list_all has_bytes words
 
 -- what plain words and options behind `try` ask for
-abbrev pub try_of : List (List ℕ) → List (List ℕ × List ℕ) → Option Command
-try_of scripts [] = if are_scripts scripts then Some (Try scripts) else None
-try_of scripts (option ∷ options) = None
+abbrev pub try_command : List (List ℕ) → List (List ℕ × List ℕ) → Option Command
+try_command scripts [] = if are_scripts scripts then Some (Try scripts) else None
+try_command scripts (option ∷ options) = None
 
 -- behind `run`
-abbrev pub run_of : List (List ℕ) → List (List ℕ × List ℕ) → Option Command
-run_of (file ∷ scripts) [] = if has_bytes file && are_scripts scripts then Some (Run file scripts) else None
-run_of plain options = None
+abbrev pub run_command : List (List ℕ) → List (List ℕ × List ℕ) → Option Command
+run_command (file ∷ scripts) [] = if has_bytes file && are_scripts scripts then Some (Run file scripts) else None
+run_command plain options = None
 
 -- behind `format`
-abbrev pub format_of : List (List ℕ) → List (List ℕ × List ℕ) → Option Command
-format_of (file ∷ []) (option ∷ []) =
+abbrev pub format_command : List (List ℕ) → List (List ℕ × List ℕ) → Option Command
+format_command (file ∷ []) (option ∷ []) =
     if has_bytes file && bytes_eq option.0 (codes "order") then option_map (Format file) (number_within 4 16 option.1) else None
-format_of plain options = None
+format_command plain options = None
 
 -- the file that is the one plain word, where there is no option
 abbrev pub file_alone : List (List ℕ) → List (List ℕ × List ℕ) → Option (List ℕ)
@@ -126,12 +126,12 @@ file_alone (file ∷ []) [] = if has_bytes file then Some file else None
 file_alone plain options = None
 
 -- behind `stat`
-abbrev pub stat_of : List (List ℕ) → List (List ℕ × List ℕ) → Option Command
-stat_of plain options = option_map Stat (file_alone plain options)
+abbrev pub stat_command : List (List ℕ) → List (List ℕ × List ℕ) → Option Command
+stat_command plain options = option_map Stat (file_alone plain options)
 
 -- behind `upgrade`
-abbrev pub upgrade_of : List (List ℕ) → List (List ℕ × List ℕ) → Option Command
-upgrade_of plain options = option_map Upgrade (file_alone plain options)
+abbrev pub upgrade_command : List (List ℕ) → List (List ℕ × List ℕ) → Option Command
+upgrade_command plain options = option_map Upgrade (file_alone plain options)
 
 -- a drill of this start, so many callers and so many calls, where all three are there
 abbrev pub drill_from : Option ℕ → Option ℕ → Option ℕ → Option Command
@@ -146,21 +146,21 @@ both_of one other (a ∷ b ∷ []) =
 both_of one other options = None
 
 -- behind `drill`
-abbrev pub drill_of : List (List ℕ) → List (List ℕ × List ℕ) → Option Command
-drill_of (start ∷ []) options =
+abbrev pub drill_command : List (List ℕ) → List (List ℕ × List ℕ) → Option Command
+drill_command (start ∷ []) options =
     option_and_then (λ values. drill_from (number_within 0 18446744073709551615 start) (number_within 1 16 values.0) (number_within 1 10000 values.1))
     (both_of (codes "callers") (codes "calls") options)
-drill_of plain options = None
+drill_command plain options = None
 
 -- the command of this name, with these plain words and options
 abbrev pub command_of : List ℕ → Said → Option Command
 command_of name s =
-    if bytes_eq name (codes "try") then try_of s.plain s.options else
-    if bytes_eq name (codes "run") then run_of s.plain s.options else
-    if bytes_eq name (codes "format") then format_of s.plain s.options else
-    if bytes_eq name (codes "stat") then stat_of s.plain s.options else
-    if bytes_eq name (codes "upgrade") then upgrade_of s.plain s.options else
-    if bytes_eq name (codes "drill") then drill_of s.plain s.options else None
+    if bytes_eq name (codes "try") then try_command s.plain s.options else
+    if bytes_eq name (codes "run") then run_command s.plain s.options else
+    if bytes_eq name (codes "format") then format_command s.plain s.options else
+    if bytes_eq name (codes "stat") then stat_command s.plain s.options else
+    if bytes_eq name (codes "upgrade") then upgrade_command s.plain s.options else
+    if bytes_eq name (codes "drill") then drill_command s.plain s.options else None
 
 -- the command that the words are, if they are one
 abbrev pub command : List (List ℕ) → Option Command

@@ -7,7 +7,7 @@ ghost use Rattle.clap.specs.Words.{first_value, found_of};
 ghost use Rattle.clap.specs.Walk.{rows_of};
 ghost use Rattle.rom_words.specs.CommandLine.{HasAsked};
 ghost use Rattle.rom_words.specs.Wanted.{AsksForFew, AsksForOrder, GivesFew, GivesOrder, IsWanted, matched_command, named, texts, told};
-ghost use Rattle.rom_words.specs.Words.{both_of, command, drill_of, file_alone, format_of, has_bytes, number_within, run_of, scripts_of, stat_of, try_of, upgrade_of};
+ghost use Rattle.rom_words.specs.Words.{both_of, command, drill_command, file_alone, format_command, has_bytes, number_within, run_command, scripts_of, stat_command, try_command, upgrade_command};
 ghost use Rattle.rom_words.specs.Words as spec;
 
 use crate::command_line::{found_in, matches_of, name_at, names_at, text_at, texts_of};
@@ -68,7 +68,7 @@ fn are_scripts(words: &[&str]) -> bool
 
 /// Scripts.
 fn read_try(said: Said<'_>) -> Option<CommandAsked<'_>>
-    ensures named { named result ≡ try_of (told said.entry).plain (told said.entry).options }
+    ensures named { named result ≡ try_command (told said.entry).plain (told said.entry).options }
     ensures order { IfSome result AsksForOrder }
     ensures few { IfSome result AsksForFew }
 {
@@ -81,7 +81,7 @@ fn read_try(said: Said<'_>) -> Option<CommandAsked<'_>>
 
 /// A file, and then the scripts to run on its heap.
 fn read_run(said: Said<'_>) -> Option<CommandAsked<'_>>
-    ensures named { named result ≡ run_of (told said.entry).plain (told said.entry).options }
+    ensures named { named result ≡ run_command (told said.entry).plain (told said.entry).options }
     ensures order { IfSome result AsksForOrder }
     ensures few { IfSome result AsksForFew }
 {
@@ -96,7 +96,7 @@ fn read_run(said: Said<'_>) -> Option<CommandAsked<'_>>
 
 /// A file, and the order of the heap that is made there.
 fn read_format(said: Said<'_>) -> Option<CommandAsked<'_>>
-    ensures named { named result ≡ format_of (told said.entry).plain (told said.entry).options }
+    ensures named { named result ≡ format_command (told said.entry).plain (told said.entry).options }
     ensures order { IfSome result AsksForOrder }
     ensures few { IfSome result AsksForFew }
 {
@@ -123,7 +123,7 @@ fn read_file(said: Said<'_>) -> Option<&str>
 
 /// The file whose heap's sizes are printed.
 fn read_stat(said: Said<'_>) -> Option<CommandAsked<'_>>
-    ensures named { named result ≡ stat_of (told said.entry).plain (told said.entry).options }
+    ensures named { named result ≡ stat_command (told said.entry).plain (told said.entry).options }
     ensures order { IfSome result AsksForOrder }
     ensures few { IfSome result AsksForFew }
 {
@@ -132,7 +132,7 @@ fn read_stat(said: Said<'_>) -> Option<CommandAsked<'_>>
 
 /// The file whose heap gets a region of version 2.
 fn read_upgrade(said: Said<'_>) -> Option<CommandAsked<'_>>
-    ensures named { named result ≡ upgrade_of (told said.entry).plain (told said.entry).options }
+    ensures named { named result ≡ upgrade_command (told said.entry).plain (told said.entry).options }
     ensures order { IfSome result AsksForOrder }
     ensures few { IfSome result AsksForFew }
 {
@@ -162,7 +162,7 @@ fn read_both<'a>(
 
 /// Where the drawing starts, and how many callers make how many calls each.
 fn read_drill(said: Said<'_>) -> Option<CommandAsked<'_>>
-    ensures named { named result ≡ drill_of (told said.entry).plain (told said.entry).options }
+    ensures named { named result ≡ drill_command (told said.entry).plain (told said.entry).options }
     ensures order { IfSome result AsksForOrder }
     ensures few { IfSome result AsksForFew }
 {

@@ -2,7 +2,7 @@
 ghost use Rattle.std.specs.Prelude.{◌≡◌, ◌≢◌, ℕ, ◌-◌, ◌^◌, ◌<◌, ◌≤◌, List, length, MatchResult, MatchOption};
 ghost use Rattle.rom_model.specs.Blocks.{IsOrder, block_of};
 ghost use Rattle.rom_model.specs.declared.unfit.Rule.TheVariants.{Link};
-ghost use Rattle.rom_heap.specs.Walks.{LeadsTo, Follows, AreMarks, AreSomeMarks};
+ghost use Rattle.rom_heap.specs.Walks.{LeadsTo, FollowsLink, AreMarks, AreSomeMarks};
 
 use rom_model::{Break, Rule, blocks_at, power_of_two};
 
@@ -32,7 +32,7 @@ pub fn follow(region: &[u64], order: u32, link: u64, marks: &mut [bool]) -> Resu
     requires link { link < length region.now }
     requires marks { AreSomeMarks order marks.old }
     ensures { (seen : List ℕ) → AreMarks order seen marks.old → MatchResult result
-        (λ node. Follows order region.now seen link node marks.new)
+        (λ node. FollowsLink order region.now seen link node marks.new)
         (λ e. ((b : ℕ) → LeadsTo order region.now seen link b → ⊥)
         × (e ≡ record { offset = link; rule = Link })) }
 {

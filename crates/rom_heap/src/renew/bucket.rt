@@ -1,7 +1,7 @@
 //! One bucket's chain in the order of its keys.
 ghost use Rattle.std.specs.Prelude.{◌≡◌, ℕ, List, length, OnOk, OnErr};
 ghost use Rattle.rom_model.specs.Blocks.{IsOrder, region_len};
-ghost use Rattle.rom_model.specs.VecSpace.{words_of};
+ghost use Rattle.rom_model.specs.VecSpace.{words_of_space};
 ghost use Rattle.rom_heap.specs.Node.{IsOldBucket};
 ghost use Rattle.rom_heap.specs.Renewed.{IsSortedBucket};
 
@@ -18,13 +18,13 @@ pub fn sort_bucket(
     nodes: &mut Vec<Node>,
 ) -> Result<(), AllocError>
     requires order { IsOrder order }
-    requires sized { length (words_of space.old) ≡ region_len order }
-    requires bucket { (blocks : List ℕ) × IsOldBucket order bucket (words_of space.old) blocks }
+    requires sized { length (words_of_space space.old) ≡ region_len order }
+    requires bucket { (blocks : List ℕ) × IsOldBucket order bucket (words_of_space space.old) blocks }
     ensures sorted { OnOk result ((blocks : List ℕ) →
-        IsOldBucket order bucket (words_of space.old) blocks →
-        IsSortedBucket order bucket blocks (words_of space.old) (words_of space.new)) }
-    ensures refused { OnErr result (words_of space.new ≡ words_of space.old) }
-    ensures long { length (words_of space.new) ≡ length (words_of space.old) }
+        IsOldBucket order bucket (words_of_space space.old) blocks →
+        IsSortedBucket order bucket blocks (words_of_space space.old) (words_of_space space.new)) }
+    ensures refused { OnErr result (words_of_space space.new ≡ words_of_space space.old) }
+    ensures long { length (words_of_space space.new) ≡ length (words_of_space space.old) }
 {
     collect(space.words(), order, bucket, nodes)?;
     nodes.sort_unstable_by_key(|node| node.key);

@@ -3,8 +3,8 @@ ghost use Rattle.std.specs.Prelude.{◌≡◌, ℕ, ◌<◌, List, length, OnOk}
 ghost use Rattle.rom_model.specs.Blocks.{IsOrder, region_len};
 ghost use Rattle.rom_model.specs.Chains.{Chain};
 ghost use Rattle.rom_model.specs.Region.{buckets};
-ghost use Rattle.rom_model.specs.VecSpace.{words_of};
-ghost use Rattle.rom_heap.specs.Node.{head_of, nodes_of, IsOldBucket, AreAt, ChangesLinks};
+ghost use Rattle.rom_model.specs.VecSpace.{words_of_space};
+ghost use Rattle.rom_heap.specs.Node.{head_of, nodes_of, IsOldBucket, BeginAtBlocks, ChangesLinks};
 
 use rom_map::MAP_LINK;
 use rom_model::{Space, VecSpace, blocks_at};
@@ -56,14 +56,14 @@ pub fn collect(
 /// Links the nodes one after another as the chain of a bucket.
 pub fn relink(space: &mut VecSpace, order: u32, bucket: u64, nodes: &[Node])
     requires order { IsOrder order }
-    requires sized { length (words_of space.old) ≡ region_len order }
+    requires sized { length (words_of_space space.old) ≡ region_len order }
     requires bucket { bucket < buckets order }
-    requires nodes { (blocks : List ℕ) × AreAt order nodes.now blocks }
-    ensures linked { (blocks : List ℕ) → AreAt order nodes.now blocks →
-        Chain order (words_of space.new) (head_of order bucket) 2 blocks }
-    ensures others { (blocks : List ℕ) → AreAt order nodes.now blocks →
-        ChangesLinks order bucket blocks (words_of space.old) (words_of space.new) }
-    ensures long { length (words_of space.new) ≡ length (words_of space.old) }
+    requires nodes { (blocks : List ℕ) × BeginAtBlocks order nodes.now blocks }
+    ensures linked { (blocks : List ℕ) → BeginAtBlocks order nodes.now blocks →
+        Chain order (words_of_space space.new) (head_of order bucket) 2 blocks }
+    ensures others { (blocks : List ℕ) → BeginAtBlocks order nodes.now blocks →
+        ChangesLinks order bucket blocks (words_of_space space.old) (words_of_space space.new) }
+    ensures long { length (words_of_space space.new) ≡ length (words_of_space space.old) }
 {
     let mut link = head_of(order, bucket);
     for node in nodes {

@@ -3,7 +3,7 @@ ghost use Rattle.std.specs.Prelude.{◌≡◌, ℕ, length, OnOk};
 ghost use Rattle.rom_model.specs.Blocks.{IsOrder};
 ghost use Rattle.rom_model.specs.State.{State};
 ghost use Rattle.rom_model.specs.Region.{Chains, IsOldRegion, OldContents, Contents};
-ghost use Rattle.rom_model.specs.VecSpace.{words_of};
+ghost use Rattle.rom_model.specs.VecSpace.{words_of_space};
 ghost use Rattle.rom_heap.specs.Renewed.{KeepsElements};
 
 use crate::renew::bucket::sort_bucket;
@@ -19,17 +19,17 @@ const RENEWED: u64 = 2;
 pub fn renew_region(alloc: Global, space: &mut VecSpace, order: u32) -> Result<(), AllocError>
     requires order { IsOrder order }
     // In version 1 the words stand for some state and count.
-    requires region { (s : State) × (k : ℕ) × OldContents order (words_of space.old) s k }
+    requires region { (s : State) × (k : ℕ) × OldContents order (words_of_space space.old) s k }
     // After `Ok` they stand for the same state and count in version 2, for each state and count that they
     // stood for.
-    ensures renewed { OnOk result ((s : State) (k : ℕ) → OldContents order (words_of space.old) s k
-        → Contents order (words_of space.new) s k) }
+    ensures renewed { OnOk result ((s : State) (k : ℕ) → OldContents order (words_of_space space.old) s k
+        → Contents order (words_of_space space.new) s k) }
     // After `Ok` no word differs but the version, the words of the bucket table, and the links of the map's
     // nodes.
     ensures kept { OnOk result ((p : Chains) (s : State) (k : ℕ) →
-        IsOldRegion order (words_of space.old) p s k →
-        KeepsElements order p (words_of space.old) (words_of space.new)) }
-    ensures long { length (words_of space.new) ≡ length (words_of space.old) }
+        IsOldRegion order (words_of_space space.old) p s k →
+        KeepsElements order p (words_of_space space.old) (words_of_space space.new)) }
+    ensures long { length (words_of_space space.new) ≡ length (words_of_space space.old) }
 {
     let mut nodes = Vec::new(alloc);
     for bucket in 0..power_of_two(order - 2) {

@@ -1,7 +1,7 @@
 //! A region of version 1 read from a device, and made one of version 2 in memory.
 ghost use Rattle.std.specs.Prelude.{◌<◌, ◌≡◌, ◌≤◌, IfOk, IfErr, IsTrue, Err, length};
 ghost use Rattle.rom_model.specs.Blocks.{region_len};
-ghost use Rattle.rom_model.specs.VecSpace.{words_of};
+ghost use Rattle.rom_model.specs.VecSpace.{words_of_space};
 ghost use Rattle.rom_device.specs.Device.{Does, IsSynced, Leaves, Stays};
 ghost use Rattle.rom_header.specs.Headers.{IsIdle};
 ghost use Rattle.rom_header.specs.Layout.{words_needed};
@@ -37,11 +37,11 @@ pub(crate) fn renew_region<D: Device, O: Renew>(
 ) -> Result<Renewal, Why>
     ensures renewed { IsTrue D.shown.tells_words → IfOk result (λ renewal.
         Renews O.Contents O.earlier renewal.geometry (D.shown.words device.old)
-        (words_of renewal.region)) }
+        (words_of_space renewal.region)) }
     ensures refused { IsTrue D.shown.tells_words →
         IfErr result (IsUpgradeRefusal O.earlier (D.shown.words device.old)) }
     ensures sized { IfOk result (λ renewal.
-        length (words_of renewal.region) ≡ region_len renewal.geometry) }
+        length (words_of_space renewal.region) ≡ region_len renewal.geometry) }
     ensures fits { IfOk result (λ renewal.
         words_needed renewal.geometry ≤ D.shown.size device.old) }
     ensures too_small { D.shown.size device.old < 8 →

@@ -3,7 +3,7 @@ ghost use Rattle.std.specs.Prelude.{◌≡◌, ℕ, ◌+◌, ◌*◌, ◌<◌, �
 ghost use Rattle.rom_model.specs.Space.{Stores, HasRoom};
 ghost use Rattle.rom_model.specs.Blocks.{IsOrder, region_len};
 ghost use Rattle.rom_order_region.specs.Tree.{Tree, blocks, attached};
-ghost use Rattle.rom_order_region.specs.Nodes.{BecomesTree, level_at};
+ghost use Rattle.rom_order_region.specs.Nodes.{BuildsTreeAt, level_at};
 ghost use Rattle.rom_order_region.specs.Attach.{MayAttach, IsAttach};
 
 use crate::tree::node::read_branch;
@@ -21,7 +21,7 @@ pub fn attach<M: Space>(space: &mut M, order: u32, top: u64, node: u64, key: u64
     // nodes.
     ensures attached { (b v : ℕ) (t : Tree)
         → IsAttach order (M.shown.image space.old) top node b key v t
-        → BecomesTree order (b ∷ blocks t) (M.shown.image space.old) (M.shown.image space.new)
+        → BuildsTreeAt order (b ∷ blocks t) (M.shown.image space.old) (M.shown.image space.new)
         (attached b key v t) result }
     ensures as_long { length (M.shown.image space.new) ≡ length (M.shown.image space.old) }
     // At most 9 stores for each level of the tree are counted.

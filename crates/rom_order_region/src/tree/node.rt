@@ -8,7 +8,7 @@ ghost use Rattle.std.specs.Prelude.{◌≡◌, ◌≢◌, ℕ, ◌+◌, ◌≤�
 ghost use Rattle.rom_model.specs.Space.{Costs, Looks, HasRoom};
 ghost use Rattle.rom_model.specs.Blocks.{IsOrder, region_len};
 ghost use Rattle.rom_order_region.specs.Tree.{Tree, Node, height};
-ghost use Rattle.rom_order_region.specs.Nodes.{IsTree, HasTree, IsFork, HasFork, TurnsIntoTree};
+ghost use Rattle.rom_order_region.specs.Nodes.{IsTree, HasTree, IsFork, HasFork, BuildsTree};
 
 use rom_model::{Look, Space, store_changed};
 
@@ -75,7 +75,7 @@ pub fn join<M: Space>(space: &mut M, order: u32, top: u64, left: u64, right: u64
     requires fork { HasFork order (M.shown.image space.old) top left right }
     requires room { HasRoom M.shown 3 space.old }
     ensures joined { (b k v : ℕ) (l r : Tree) → IsFork order (M.shown.image space.old) top left right b k v l r
-        → TurnsIntoTree order (b ∷ []) (M.shown.image space.old) (M.shown.image space.new) (Node b k v l r) }
+        → BuildsTree order (b ∷ []) (M.shown.image space.old) (M.shown.image space.new) (Node b k v l r) }
     ensures as_long { length (M.shown.image space.new) ≡ length (M.shown.image space.old) }
     ensures costs { Costs M.shown 5 3 space.old space.new }
 {

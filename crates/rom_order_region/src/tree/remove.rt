@@ -3,7 +3,7 @@ ghost use Rattle.std.specs.Prelude.{◌≡◌, ◌≢◌, ℕ, ◌+◌, ◌*◌,
 ghost use Rattle.rom_model.specs.Space.{Stores, HasRoom};
 ghost use Rattle.rom_model.specs.Blocks.{IsOrder, region_len};
 ghost use Rattle.rom_order_region.specs.Tree.{Tree, Node, blocks, merged, detached};
-ghost use Rattle.rom_order_region.specs.Nodes.{IsTree, HasTree, BecomesTree, level_at};
+ghost use Rattle.rom_order_region.specs.Nodes.{IsTree, HasTree, BuildsTreeAt, level_at};
 ghost use Rattle.rom_order_region.specs.Detach.{IsLeftmost, IsPair, HasPair};
 
 use crate::tree::node::read_branch;
@@ -54,7 +54,7 @@ fn merge<M: Space>(space: &mut M, order: u32, left: u64, right: u64) -> u64
     requires pair { HasPair order (M.shown.image space.old) left right }
     requires room { HasRoom M.shown (9 * level_at (M.shown.image space.old) right + 9) space.old }
     ensures merged { (l r : Tree) → IsPair order (M.shown.image space.old) left right l r
-        → BecomesTree order (blocks l ++ blocks r) (M.shown.image space.old)
+        → BuildsTreeAt order (blocks l ++ blocks r) (M.shown.image space.old)
         (M.shown.image space.new) (merged l r) result }
     ensures as_long { length (M.shown.image space.new) ≡ length (M.shown.image space.old) }
     ensures stores { Stores M.shown (9 * level_at (M.shown.image space.old) right + 9) space.old space.new }
@@ -76,7 +76,7 @@ pub fn detach<M: Space>(space: &mut M, order: u32, top: u64, key: u64) -> u64
     // The tree does not have the key then, and its top begins where the answer says. No word differs but
     // those of the nodes that it had.
     ensures detached { (t : Tree) → IsTree order (M.shown.image space.old) top t
-        → BecomesTree order (blocks t) (M.shown.image space.old) (M.shown.image space.new)
+        → BuildsTreeAt order (blocks t) (M.shown.image space.old) (M.shown.image space.new)
         (detached key t) result }
     ensures as_long { length (M.shown.image space.new) ≡ length (M.shown.image space.old) }
     // At most 9 stores for each level of the tree are counted.

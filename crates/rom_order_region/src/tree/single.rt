@@ -3,7 +3,7 @@ ghost use Rattle.std.specs.Prelude.{◌≡◌, ℕ, ◌-◌, ◌^◌, ◌<◌, �
 ghost use Rattle.rom_model.specs.Space.{Costs, HasRoom};
 ghost use Rattle.rom_model.specs.Blocks.{IsOrder, region_len};
 ghost use Rattle.rom_order_region.specs.Tree.{Node, Leaf};
-ghost use Rattle.rom_order_region.specs.Nodes.{TurnsIntoTree, node_at};
+ghost use Rattle.rom_order_region.specs.Nodes.{BuildsTree, node_at};
 
 use crate::tree::node::HEIGHT;
 use rom_block::fill_node;
@@ -17,7 +17,7 @@ pub fn fill_single<M: Space>(space: &mut M, order: u32, at: u64, key: u64, value
     requires room { HasRoom M.shown 8 space.old }
     // The node stands there, with no subtrees, and no word differs but those of its block.
     ensures filled { (b : ℕ) → at ≡ node_at order b → b < 2 ^ (order - 1)
-        → TurnsIntoTree order (b ∷ []) (M.shown.image space.old) (M.shown.image space.new) (Node b key value Leaf Leaf) }
+        → BuildsTree order (b ∷ []) (M.shown.image space.old) (M.shown.image space.new) (Node b key value Leaf Leaf) }
     ensures as_long { length (M.shown.image space.new) ≡ length (M.shown.image space.old) }
     ensures costs { Costs M.shown 8 8 space.old space.new }
 {

@@ -4,7 +4,7 @@ ghost use Rattle.std.specs.Prelude.{◌≡◌, ◌≢◌, ℕ, ◌+◌, ◌≤�
 ghost use Rattle.rom_model.specs.Space.{Costs, HasRoom, Looks, Stores};
 ghost use Rattle.rom_model.specs.Blocks.{IsOrder, region_len};
 ghost use Rattle.rom_order_region.specs.Tree.{Tree, Node, blocks, balanced};
-ghost use Rattle.rom_order_region.specs.Nodes.{IsTree, HasTree, IsFork, HasFork, TurnsIntoTree, BecomesTree};
+ghost use Rattle.rom_order_region.specs.Nodes.{IsTree, HasTree, IsFork, HasFork, BuildsTree, BuildsTreeAt};
 ghost use Rattle.rom_order_region.specs.Sides.{over, turned, IsForkOn, HasForkOn};
 
 use crate::tree::node::{height, join, read_branch};
@@ -59,7 +59,7 @@ fn join_on<M: Space>(space: &mut M, order: u32, side: Side, top: u64, near: u64,
     requires room { HasRoom M.shown 3 space.old }
     ensures joined { (b k v : ℕ) (x y : Tree)
         → IsForkOn order (M.shown.image space.old) side top near far b k v x y
-        → TurnsIntoTree order (b ∷ []) (M.shown.image space.old) (M.shown.image space.new)
+        → BuildsTree order (b ∷ []) (M.shown.image space.old) (M.shown.image space.new)
         (over side b k v x y) }
     ensures as_long { length (M.shown.image space.new) ≡ length (M.shown.image space.old) }
     ensures costs { Costs M.shown 5 3 space.old space.new }
@@ -81,7 +81,7 @@ fn turn<M: Space>(space: &mut M, order: u32, side: Side, top: u64, near: u64, fa
     requires room { HasRoom M.shown 9 space.old }
     ensures turned { (b k v : ℕ) (x y : Tree)
         → IsForkOn order (M.shown.image space.old) side top near far b k v x y
-        → BecomesTree order (blocks (over side b k v x y)) (M.shown.image space.old)
+        → BuildsTreeAt order (blocks (over side b k v x y)) (M.shown.image space.old)
         (M.shown.image space.new) (turned side b k v x y) result }
     ensures as_long { length (M.shown.image space.new) ≡ length (M.shown.image space.old) }
     ensures stores { Stores M.shown 9 space.old space.new }
@@ -113,7 +113,7 @@ pub fn balance<M: Space>(space: &mut M, order: u32, top: u64, left: u64, right: 
     requires room { HasRoom M.shown 9 space.old }
     ensures turned { (b k v : ℕ) (l r : Tree)
         → IsFork order (M.shown.image space.old) top left right b k v l r
-        → BecomesTree order (blocks (Node b k v l r)) (M.shown.image space.old)
+        → BuildsTreeAt order (blocks (Node b k v l r)) (M.shown.image space.old)
         (M.shown.image space.new) (balanced b k v l r) result }
     ensures as_long { length (M.shown.image space.new) ≡ length (M.shown.image space.old) }
     ensures stores { Stores M.shown 9 space.old space.new }

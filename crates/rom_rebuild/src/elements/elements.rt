@@ -32,7 +32,7 @@ impl Elements {
     ghost use Rattle.rom_model.specs.Blocks.{IsOrder};
     ghost use Rattle.rom_model.specs.Region.{Contents, IsWellFormed};
     ghost use Rattle.rom_model.specs.State.{State};
-    ghost use Rattle.rom_model.specs.VecSpace.{words_of};
+    ghost use Rattle.rom_model.specs.VecSpace.{words_of_space};
     ghost use Rattle.rom_rebuild.specs.Elements.{AreElements, ElementFits, ElementSeen, elements_in};
 
     /// Those of a region. Each list gets the room that the region's counts name, and no more; the words
@@ -43,13 +43,13 @@ impl Elements {
     /// bytes, and gives them back before it answers.
     pub fn of(alloc: Global, space: &mut VecSpace, order: u32) -> Result<Elements, AllocError>
         requires order { IsOrder order }
-        requires region { IsWellFormed order (words_of space.old) }
+        requires region { IsWellFormed order (words_of_space space.old) }
         // The elements are those of the state that the region stands for, in the order of a script.
         ensures are { IfOk result (λ elements. (s : State) (k : ℕ) →
-            Contents order (words_of space.old) s k → AreElements s (elements_in elements)) }
+            Contents order (words_of_space space.old) s k → AreElements s (elements_in elements)) }
         // The numbers of the elements have at most 64 bits.
         ensures fit { IfOk result (λ elements. AllByRecursion ElementFits (elements_in elements)) }
-        ensures words { words_of space.new ≡ words_of space.old }
+        ensures words { words_of_space space.new ≡ words_of_space space.old }
     {
         let words = space.words();
         let mut queue = Vec::with_capacity(alloc, words[QUEUE_LEN as usize] as usize)?;

@@ -4,7 +4,7 @@ ghost use Rattle.std.specs.Option.{unwrap_or};
 ghost use Rattle.rom_model.specs.Blocks.{IsOrder};
 ghost use Rattle.rom_model.specs.Region.{Contents, IsWellFormed};
 ghost use Rattle.rom_model.specs.State.{State, value_of};
-ghost use Rattle.rom_model.specs.VecSpace.{words_of};
+ghost use Rattle.rom_model.specs.VecSpace.{words_of_space};
 ghost use Rattle.rom_text.specs.Phrases.{NumbersFit};
 
 use rom_map::map_get;
@@ -19,13 +19,13 @@ pub fn values_of(
     keys: &[u64],
 ) -> Result<Vec<u64>, AllocError>
     requires order { IsOrder order }
-    requires region { IsWellFormed order (words_of space.old) }
+    requires region { IsWellFormed order (words_of_space space.old) }
     ensures values { IfOk result (λ values. (s : State) (k : ℕ) →
-        Contents order (words_of space.old) s k →
+        Contents order (words_of_space space.old) s k →
         values.items ≡ map (λ key. unwrap_or (value_of s key) 0) keys.now) }
     ensures many { IfOk result (λ values. length values.items ≡ length keys.now) }
     ensures fit { IfOk result (λ values. NumbersFit values.items) }
-    ensures words { words_of space.new ≡ words_of space.old }
+    ensures words { words_of_space space.new ≡ words_of_space space.old }
 {
     let mut values = Vec::with_capacity(alloc, keys.len())?;
     for key in keys {

@@ -5,7 +5,7 @@ ghost use Rattle.rom_model.specs.Region.{Contents};
 ghost use Rattle.rom_model.specs.Trio.{trio};
 ghost use Rattle.rom_run.specs.Asked.{HasSources, IsAskedOf, asked_use};
 ghost use Rattle.rom_run.specs.Promise.{Promise};
-ghost use Rattle.rom_script.specs.Lines.{Reads};
+ghost use Rattle.rom_script.specs.Lines.{ReadsTrio};
 ghost use Rattle.rom_text.specs.Lines.{AreScripts};
 ghost use Rattle.rom_replica.specs.Shipped.{AreShipped};
 
@@ -39,7 +39,7 @@ pub fn run_primary<R: Threads + Wait + Sync, D: Device + Send, S: Source, O: Sin
     requires sources { IfSome asked (HasSources (length scripts.items)) }
     // What became of the request, with frames as its text: the fields of the record `Promise` say it.
     ensures promise { Promise trio Contents Rejects earlier D.shown S.shown O.shown
-        (AreScripts Reads S.shown) (AreShipped O.shown) (asked_use asked) device result.device scripts
+        (AreScripts ReadsTrio S.shown) (AreShipped O.shown) (asked_use asked) device result.device scripts
         result.scripts out.old out.new result.status result.session }
 {
     run_asked::<Trio, TrioLines, HistoryFrames, D, S, O, R, G>(

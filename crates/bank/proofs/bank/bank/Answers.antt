@@ -11,7 +11,7 @@ use Rattle.rom_store.specs.Callers.{Caller, IsCallerOf, IsNewCaller, IsNumberedC
 use Rattle.rom_store.specs.Closing.{ClosedSeen, kept_in}
 use Rattle.rom_store.specs.Indexed.{Indexed}
 use Rattle.rom_store.specs.Sessions.{EachStory, HasStory, SessionSeen}
-use Rattle.bank.specs.Promise.{IsBalanced, IsTallyOf, total_after}
+use Rattle.bank.specs.Promise.{IsTallyOf, KeepsTotal, total_after}
 use Rattle.bank.specs.Tellers.{IsTeller}
 use Rattle.bank.specs.declared.bank.Teller.{Teller}
 use Rattle.bank.proofs.Closing.{HasEnded, all_four, all_reads, at_place, back_again, balance, none_left, numbered_five, same_at_end, taken, tallies, told_total}
@@ -174,7 +174,7 @@ returns g c =
       based = subst (λ (z : SessionSeen). (z.order ≡ g.N.Label.base.order) × (z.image ≡ g.N.Label.base.image)) same (e.order, e.image);
       story = subst (λ (z : SessionSeen). HasStory trio Contents z) same c.close-closed.ensures.story;
       closed = each (λ story. IsClosed trio story 5) e.closed;
-      balanced = each (IsBalanced put_in) (balance table base session put_in seen m a b c' d e);
+      balanced = each (KeepsTotal put_in) (balance table base session put_in seen m a b c' d e);
       tallies = each (λ story. Indexed (λ i tally. IsTallyOf story (i + 1) tally) (a.tally ∷ b.tally ∷ c'.tally ∷ d.tally ∷ [])) (tallies table base session put_in seen m a b c' d e);
       reads = all_reads table base session put_in seen m a b c' d e some of;
       total = each (λ story. c.total_in.result ≡ total_after story.order story.opening story.opening_count story.history)

@@ -1,7 +1,7 @@
 use Rattle.rom_model.specs.Machine.{on_words}
 use Rattle.std.proofs.Common.{arith, ◌≡◌, ℕ, List, [], ◌∷◌, sym, refl, ap, ◌∙◌, subst, Some}
-use Rattle.rom_announce.specs.Answering.{answered_with, fate_of, with_reply}
-use Rattle.rom_rule.specs.CallKinds.{IsAnswer, IsPending, altered, answering, placing}
+use Rattle.rom_announce.specs.Answering.{answered_with, fate_of_place, with_reply}
+use Rattle.rom_rule.specs.CallKinds.{IsAnswerToRequest, IsPending, altered, answering, placing}
 use Rattle.rom_rule.specs.Calls.{packed}
 use Rattle.rom_rule.specs.Views.{plan_of}
 use Rattle.rom_rule.specs.declared.views.Plan.{Plan}
@@ -15,13 +15,13 @@ pub store_reply-requires-clause-found : goal.store_reply-requires-clause-found
 store_reply-requires-clause-found g c = let found = c.requires.found in let begun = c.begin.ensures.begun in (
   begun.0,
   found.0,
-  pending_in g.O.Object.Contents (on_words g.O.Object.machine) c.args.seat.now.token.me.0.base (plan_of c.args.seat.now.token.me.0) (fate_of c.args.place) c.args.before c.args.after begun.0 c.args.caller found.0 begun.1 found.1,
+  pending_in g.O.Object.Contents (on_words g.O.Object.machine) c.args.seat.now.token.me.0.base (plan_of c.args.seat.now.token.me.0) (fate_of_place c.args.place) c.args.before c.args.after begun.0 c.args.caller found.0 begun.1 found.1,
   ap plan_of begun.2.2 ∙ ap (λ (n : ℕ). altered c.args.caller (with_reply (n ∷ [])) begun.0) c.len.ensures.many,
 )
 
 pub store_place-requires-clause-found : goal.store_place-requires-clause-found
 store_place-requires-clause-found g c = let found = c.requires.found in let begun = c.begin.ensures.begun in let n : ℕ = c.len.result in let ws : List ℕ = packed c.args.reply.now in let f : Request = found.0 in let q : Plan = begun.0 in
-    let here : IsPending q c.args.caller f = pending_in g.O.Object.Contents (on_words g.O.Object.machine) c.args.seat.now.token.me.0.base (plan_of c.args.seat.now.token.me.0) (fate_of c.args.place) c.args.before c.args.after q c.args.caller f begun.1 found.1 in
+    let here : IsPending q c.args.caller f = pending_in g.O.Object.Contents (on_words g.O.Object.machine) c.args.seat.now.token.me.0.base (plan_of c.args.seat.now.token.me.0) (fate_of_place c.args.place) c.args.before c.args.after q c.args.caller f begun.1 found.1 in
     let first : IsPending (plan_of c.begin.new.seat.token.me.0) c.args.caller (with_reply (n ∷ []) f) = subst (λ (p : Plan). IsPending p c.args.caller (with_reply (n ∷ []) f)) (sym (ap plan_of begun.2.2)) (pending_on c.args.caller (with_reply (n ∷ [])) q f refl refl here) in (
       with_reply ws f,
       subst (λ (p : Plan). IsPending p c.args.caller (with_reply ws f)) (sym (ap plan_of c.store_reply.ensures.stored.2)) (pending_on c.args.caller (with_reply ws) (plan_of c.begin.new.seat.token.me.0) (with_reply (n ∷ []) f) refl refl first),
@@ -29,8 +29,8 @@ store_place-requires-clause-found g c = let found = c.requires.found in let begu
 
 pub finish-requires-clause-found : goal.finish-requires-clause-found
 finish-requires-clause-found g c = let found = c.requires.found in let begun = c.begin.ensures.begun in let n : ℕ = c.len.result in let ws : List ℕ = packed c.args.reply.now in let f : Request = found.0 in let q : Plan = begun.0 in let place : ℕ = c.args.place in
-    let here : IsPending q c.args.caller f = pending_in g.O.Object.Contents (on_words g.O.Object.machine) c.args.seat.now.token.me.0.base (plan_of c.args.seat.now.token.me.0) (fate_of c.args.place) c.args.before c.args.after q c.args.caller f begun.1 found.1 in
-    let told = answer_in g.O.Object.Contents (on_words g.O.Object.machine) c.args.seat.now.token.me.0.base (plan_of c.args.seat.now.token.me.0) (fate_of c.args.place) c.args.before c.args.after q c.args.caller f place c.args.reply.now begun.1 found.1 found.2.0 found.2.1 in
+    let here : IsPending q c.args.caller f = pending_in g.O.Object.Contents (on_words g.O.Object.machine) c.args.seat.now.token.me.0.base (plan_of c.args.seat.now.token.me.0) (fate_of_place c.args.place) c.args.before c.args.after q c.args.caller f begun.1 found.1 in
+    let told = answer_in g.O.Object.Contents (on_words g.O.Object.machine) c.args.seat.now.token.me.0.base (plan_of c.args.seat.now.token.me.0) (fate_of_place c.args.place) c.args.before c.args.after q c.args.caller f place c.args.reply.now begun.1 found.1 found.2.0 found.2.1 in
     let one : plan_of c.begin.new.seat.token.me.0 ≡ altered c.args.caller (with_reply (n ∷ [])) q = ap plan_of begun.2.2 in
     let two : plan_of c.store_reply.new.seat.token.me.0 ≡ altered c.args.caller (with_reply ws) (altered c.args.caller (with_reply (n ∷ [])) q) = ap plan_of c.store_reply.ensures.stored.2 ∙ ap (altered c.args.caller (with_reply ws)) one in
     let three : plan_of c.store_place.new.seat.token.me.0 ≡ altered c.args.caller (placing place) (altered c.args.caller (with_reply ws) (altered c.args.caller (with_reply (n ∷ [])) q)) = ap plan_of c.store_place.ensures.stored.2 ∙ ap (altered c.args.caller (placing place)) two in
@@ -42,7 +42,7 @@ finish-requires-clause-found g c = let found = c.requires.found in let begun = c
       found.1.2,
       (
         (let p = subst (λ (p : Plan). IsPending p c.args.caller (placing place (with_reply ws f))) (sym three) pending in (p.0, p.1, refl, p.3)),
-        subst (λ (p : Plan). IsAnswer p (placing place (with_reply ws f)) told.0) (sym three) told.1,
+        subst (λ (p : Plan). IsAnswerToRequest p (placing place (with_reply ws f)) told.0) (sym three) told.1,
         refl,
         sym told.2,
       ),

@@ -1,7 +1,7 @@
 use Rattle.rom_model.specs.Machine.{on_words}
 use Rattle.std.proofs.Common.{rules, refl, ◌≡◌, ℕ, ◌+◌, ◌<◌, ◌≤◌, [], ◌∷◌, ◌++◌, take, length, sym, ap, ◌∙◌, subst, IsTrue}
 use Rattle.rom_lr.specs.Side.{side_number}
-use Rattle.rom_rule.specs.Places.{indicator_of, slot_at, word_at}
+use Rattle.rom_rule.specs.Places.{indicator_of, side_word_at, slot_at}
 use Rattle.rom_rule.specs.Views.{base_of, indicator_in, is_reading, side_read}
 use Rattle.rom_rule.specs.declared.views.Base.{Base}
 use Rattle.rom_rule.specs.declared.views.View.{View}
@@ -26,7 +26,7 @@ invariant_of-seat g c = let s = c.args.seat.now in let v : View = s.token.me.0 i
       plain = ap (λ (z : View). z.plan) now ∙ s.plain;
       numbered = subst (λ (z : View). 0 < z.number) (sym now) s.numbered;
       within = subst (λ (z : View). z.number ≤ z.base.callers) (sym now) s.within;
-      known = subst (λ (z : View). IsTrue (is_reading z.position) → (indicator_of s.number s.version ≡ indicator_in z.position) × (s.version < 2) × (side_number s.side ≡ side_read z.position) × (s.first ≡ word_at z.base.order z.base.callers (side_read z.position) 0)) (sym now) s.known;
+      known = subst (λ (z : View). IsTrue (is_reading z.position) → (indicator_of s.number s.version ≡ indicator_in z.position) × (s.version < 2) × (side_number s.side ≡ side_read z.position) × (s.first ≡ side_word_at z.base.order z.base.callers (side_read z.position) 0)) (sym now) s.known;
       near = s.near;
       placed = s.placed;
     }

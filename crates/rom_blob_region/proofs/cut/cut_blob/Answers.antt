@@ -2,7 +2,7 @@ use Rattle.std.proofs.Common.{◌≡◌, ◌+◌, ◌*◌, ℕ, List, length, sl
 use Rattle.rom_model.specs.Region.{bucket_of}
 use Rattle.rom_model.proofs.Looks.{looks_more, costs_then, room_left, stores_most}
 use Rattle.rom_bucket.specs.Buckets.{keys_beside}
-use Rattle.rom_bucket.specs.Link.{IsUnlinked}
+use Rattle.rom_bucket.specs.Link.{IsNodeUnlinked}
 use Rattle.rom_bucket.proofs.Finding.{own_within}
 use Rattle.rom_bucket.proofs.Keys.{holds_bucket}
 use Rattle.rom_bucket.proofs.Places.{before_node, link_inside, link_high}
@@ -97,7 +97,7 @@ give-requires-clause-taken g c =
     let o = c.requires.order in
     let is = c.requires.region.2.1 in
     let same = c.load-body.ensures.image ∙ c.load-len.ensures.image ∙ stays o is c.find-place.ensures in
-    let un = subst (λ (v : List ℕ). IsUnlinked 3 c.find-place.result v (g.M.Look.shown.image c.unlink_node.new.space)) same c.unlink_node.ensures.unlinked in
+    let un = subst (λ (v : List ℕ). IsNodeUnlinked 3 c.find-place.result v (g.M.Look.shown.image c.unlink_node.new.space)) same c.unlink_node.ensures.unlinked in
     may_give o is (spot o is c.find-place.ensures c.if-place-eq0.false) un
 
 pub give-requires-clause-room : goal.give-requires-clause-room
@@ -120,7 +120,7 @@ give_body-requires-clause-holds g c some =
     let is = c.requires.region.2.1 in
     let found = c.find-place.ensures in
     let same = c.load-body.ensures.image ∙ c.load-len.ensures.image ∙ stays o is found in
-    let un = subst (λ (v : List ℕ). IsUnlinked 3 c.find-place.result v (g.M.Look.shown.image c.unlink_node.new.space)) same c.unlink_node.ensures.unlinked in
+    let un = subst (λ (v : List ℕ). IsNodeUnlinked 3 c.find-place.result v (g.M.Look.shown.image c.unlink_node.new.space)) same c.unlink_node.ensures.unlinked in
     let t = spot o is found c.if-place-eq0.false in
     let len = c.load-len.ensures.word ∙ len_is o is found c.if-place-eq0.false in
     let at = c.load-body.ensures.word ∙ ap (λ (v : List ℕ). slice_index v (c.find-place.result.node + 3)) c.load-len.ensures.image ∙ data_is o is found c.if-place-eq0.false in
@@ -143,7 +143,7 @@ returns-clause-done g c s k held =
     let w = g.M.Look.shown.image c.args.space.now in
     let new = g.M.Look.shown.image c.give_body.new.space in
     let same = c.load-body.ensures.image ∙ c.load-len.ensures.image ∙ stays o is found in
-    let un = subst (λ (v : List ℕ). IsUnlinked 3 c.find-place.result v (g.M.Look.shown.image c.unlink_node.new.space)) same c.unlink_node.ensures.unlinked in
+    let un = subst (λ (v : List ℕ). IsNodeUnlinked 3 c.find-place.result v (g.M.Look.shown.image c.unlink_node.new.space)) same c.unlink_node.ensures.unlinked in
     let t = spot o is found c.if-place-eq0.false in
     let len = c.load-len.ensures.word ∙ len_is o is found c.if-place-eq0.false in
     let at = c.load-body.ensures.word ∙ ap (λ (v : List ℕ). slice_index v (c.find-place.result.node + 3)) c.load-len.ensures.image ∙ data_is o is found c.if-place-eq0.false in

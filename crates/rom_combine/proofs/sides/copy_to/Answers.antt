@@ -5,7 +5,7 @@ use Rattle.rom_combine.specs.Copying.{Copies, with_side, words_at}
 use Rattle.rom_combine.proofs.Copies.{same_all, same_but_more, side_again, side_sized, side_still, side_unread, words_beside}
 use Rattle.rom_combine.proofs.Writing.{writes_still}
 use Rattle.rom_lr.specs.Side.{other_side}
-use Rattle.rom_lr.specs.Writing.{Writes}
+use Rattle.rom_lr.specs.Writing.{SetsPlan}
 use Rattle.rom_lr.specs.declared.side.Side.{Side}
 use Rattle.rom_model.specs.Blocks.{region_len}
 use Rattle.rom_ranges.specs.Changes.{SameBut}
@@ -57,4 +57,4 @@ returns g c =
     let base = ap (λ (z : View). region_len z.base.order) inv.kept.2 in
     let long : length now ≡ length source = side_sized side (plan_of v) (region_len v.base.order) c.loop-range.seat.sized ∙ (base ∙ sym (side_sized (other_side side) p (region_len u.base.order) c.args.seat.now.sized)) in
     let all : now ≡ source = same_all source now long (subst (λ (l : List Range). SameBut l now source) none inv.but) in
-    subst (λ (l : List ℕ). Writes c.args.seat.now c.loop-range.seat (with_side side l p)) all inv.kept
+    subst (λ (l : List ℕ). SetsPlan c.args.seat.now c.loop-range.seat (with_side side l p)) all inv.kept

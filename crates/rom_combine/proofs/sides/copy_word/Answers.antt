@@ -1,6 +1,6 @@
 use Rattle.std.proofs.Common.{Some, ◌≡◌, ℕ, get_or, set, sym, ap, ◌∙◌, subst}
 use Rattle.rom_lr.specs.Side.{other_side, side_number}
-use Rattle.rom_lr.specs.Writing.{Writes}
+use Rattle.rom_lr.specs.Writing.{SetsPlan}
 use Rattle.rom_lr.specs.declared.side.Side.{Side}
 use Rattle.rom_lr.specs.declared.side.Side.TheVariants.{Back, Main}
 use Rattle.rom_rule.specs.Readers.{Settled}
@@ -23,9 +23,9 @@ returns-in-Main g c =
     let word : c.load_back-word.result ≡ get_or p.back at 0 = c.load_back-word.ensures.word in
     let was : Plan = record (plan_of v) { main = set (plan_of v).main at c.load_back-word.result } in
     let now : was ≡ record p { main = set p.main at (get_or p.back at 0) } = (λ i. record (one i) { main = set (one i).main at (word i) }) in
-    let written : Writes c.args.seat.now c.store_main.new.seat (with_side Main (set p.main at (get_or p.back at 0)) p)
+    let written : SetsPlan c.args.seat.now c.store_main.new.seat (with_side Main (set p.main at (get_or p.back at 0)) p)
     = (store.0 ∙ load.0, store.1 ∙ load.1, subst (λ (z : Plan). w ≡ record u { plan = Some z; steps = w.steps }) now (writes_chain u v w p was load.2 store.2)) in
-    subst (λ (side : Side). Writes c.args.seat.now c.store_main.new.seat (with_side side (set (words_at side p) at (get_or (words_at (other_side side) p) at 0)) p)) (sym c.in-Main.is) written
+    subst (λ (side : Side). SetsPlan c.args.seat.now c.store_main.new.seat (with_side side (set (words_at side p) at (get_or (words_at (other_side side) p) at 0)) p)) (sym c.in-Main.is) written
 
 pub store_back-requires-clause-unread : goal.store_back-requires-clause-unread
 store_back-requires-clause-unread g c = let u : View = c.args.seat.now.token.me.0 in
@@ -39,6 +39,6 @@ returns-in-Back g c =
     let word : c.load_main-word.result ≡ get_or p.main at 0 = c.load_main-word.ensures.word in
     let was : Plan = record (plan_of v) { back = set (plan_of v).back at c.load_main-word.result } in
     let now : was ≡ record p { back = set p.back at (get_or p.main at 0) } = (λ i. record (one i) { back = set (one i).back at (word i) }) in
-    let written : Writes c.args.seat.now c.store_back.new.seat (with_side Back (set p.back at (get_or p.main at 0)) p)
+    let written : SetsPlan c.args.seat.now c.store_back.new.seat (with_side Back (set p.back at (get_or p.main at 0)) p)
     = (store.0 ∙ load.0, store.1 ∙ load.1, subst (λ (z : Plan). w ≡ record u { plan = Some z; steps = w.steps }) now (writes_chain u v w p was load.2 store.2)) in
-    subst (λ (side : Side). Writes c.args.seat.now c.store_back.new.seat (with_side side (set (words_at side p) at (get_or (words_at (other_side side) p) at 0)) p)) (sym c.in-Back.is) written
+    subst (λ (side : Side). SetsPlan c.args.seat.now c.store_back.new.seat (with_side side (set (words_at side p) at (get_or (words_at (other_side side) p) at 0)) p)) (sym c.in-Back.is) written

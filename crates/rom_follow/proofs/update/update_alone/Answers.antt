@@ -5,7 +5,7 @@ use Rattle.rom_model.specs.Lawful.{as_words}
 use Rattle.rom_model.specs.Machine.{on_words}
 use Rattle.rom_model.specs.Region.{Contents}
 use Rattle.rom_model.specs.Trio.{trio}
-use Rattle.rom_rule.specs.CallKinds.{IsTold}
+use Rattle.rom_rule.specs.CallKinds.{IsToldByPass}
 use Rattle.rom_follow.specs.Alone.{IsAlone}
 use Rattle.rom_follow.proofs.Alone.{outcome_is}
 use Rattle.rom_follow.proofs.update.update_alone.Goals as goal
@@ -13,7 +13,7 @@ use Rattle.rom_follow.proofs.update.update_alone.Goals as goal
 pub returns-clause-told : goal.returns-clause-told
 returns-clause-told g c few =
     let v = c.args.pass.now.view in
-    subst (λ (n : ℕ). IsTold Contents (on_words trio) g.N.Label.base (record { caller = n; seq = length v.outcomes; args = call_words c.args.call.now }, as_words trio c.update.result) (length v.seen) v.seen c.update.new.pass.view.seen)
+    subst (λ (n : ℕ). IsToldByPass Contents (on_words trio) g.N.Label.base (record { caller = n; seq = length v.outcomes; args = call_words c.args.call.now }, as_words trio c.update.result) (length v.seen) v.seen c.update.new.pass.view.seen)
     c.requires.alone.numbered.number (c.update.ensures.taken few)
 
 pub returns-clause-outcome : goal.returns-clause-outcome

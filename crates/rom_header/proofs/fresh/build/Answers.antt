@@ -2,14 +2,14 @@ use Rattle.std.proofs.Common.{◌≡◌, ◌≢◌, set, OnOk, Result, Ok, Err, 
 use Rattle.rom_model.specs.Blocks.{region_len}
 use Rattle.rom_model.specs.Space.{ChangesOnly}
 use Rattle.rom_device.proofs.Going.{leaves_none, leaves_on, leaves_then}
-use Rattle.rom_header.specs.Fresh.{NoneOrNew, IsNew}
+use Rattle.rom_header.specs.Fresh.{NoneOrNew, IsNewHeap}
 use Rattle.rom_header.specs.Layout.{words_needed, MAGIC}
 use Rattle.rom_header.proofs.Making.{still_none, sealed, made}
 use Rattle.rom_header.proofs.fresh.build.Goals as goal
 
 -- once the magic is put after what was laid out
-put : {T E : Type 0} (r : Result T E) (order : ℕ) (image y z : List ℕ) → OnOk r (z ≡ set y 0 MAGIC) → IsNew order image (set y 0 MAGIC) → OnOk r (IsNew order image z)
-put (Ok done) order image y z is new = subst (λ (l : List ℕ). IsNew order image l) (sym is) new
+put : {T E : Type 0} (r : Result T E) (order : ℕ) (image y z : List ℕ) → OnOk r (z ≡ set y 0 MAGIC) → IsNewHeap order image (set y 0 MAGIC) → OnOk r (IsNewHeap order image z)
+put (Ok done) order image y z is new = subst (λ (l : List ℕ). IsNewHeap order image l) (sym is) new
 put (Err failed) order image y z is new = tt
 
 pub returns-clause-images : goal.returns-clause-images

@@ -2,13 +2,13 @@ use Rattle.std.proofs.Common.{◌+◌, List, take, length, [], ◌∷◌, ◌++�
 use Rattle.std.proofs.lemmas.List.{take_more}
 use Rattle.rom_model.specs.declared.call.Single.{Single}
 use Rattle.rom_model.specs.declared.call.SingleReply.{SingleReply}
-use Rattle.rom_heap.specs.Updates.{DoesAll}
+use Rattle.rom_heap.specs.Updates.{DoesUpdates}
 use Rattle.rom_heap.proofs.Grouping.{does_none, does_more, few_of_all, room_after}
 use Rattle.rom_heap.proofs.apply.update_all.Goals as goal
 
 pub loop-call-init : goal.loop-call-init
 loop-call-init g c = record {
-  does = subst (λ (told : List SingleReply). DoesAll g.M.Look.shown c.args.order [] told c.args.space.now c.args.space.now) (sym c.new-replies.ensures) does_none;
+  does = subst (λ (told : List SingleReply). DoesUpdates g.M.Look.shown c.args.order [] told c.args.space.now c.args.space.now) (sym c.new-replies.ensures) does_none;
   many = ap length c.new-replies.ensures;
 }
 
@@ -32,7 +32,7 @@ loop-call-preserved g c =
     let long = l.invariant.many ∙ sym (length-take-le l.call-index calls (omega (arith, c.loop-call-test.true))) in
     let more = does_more c.args.order (take l.call-index calls) l.replies _ c.update.result long l.invariant.does c.update.ensures.does in
     record {
-      does = subst (λ (told : List SingleReply). DoesAll g.M.Look.shown c.args.order (take (l.call-index + 1) calls) told c.args.space.now c.update.new.space) (sym c.push.ensures)
-          (subst (λ (cs : List Single). DoesAll g.M.Look.shown c.args.order cs (l.replies ++ c.update.result ∷ []) c.args.space.now c.update.new.space) (sym (take_more calls l.call-index _ c.loop-call-test.true)) more);
+      does = subst (λ (told : List SingleReply). DoesUpdates g.M.Look.shown c.args.order (take (l.call-index + 1) calls) told c.args.space.now c.update.new.space) (sym c.push.ensures)
+          (subst (λ (cs : List Single). DoesUpdates g.M.Look.shown c.args.order cs (l.replies ++ c.update.result ∷ []) c.args.space.now c.update.new.space) (sym (take_more calls l.call-index _ c.loop-call-test.true)) more);
       many = ap length c.push.ensures ∙ (length-append l.replies (c.update.result ∷ []) ∙ ap (λ m. m + 1) l.invariant.many);
     }

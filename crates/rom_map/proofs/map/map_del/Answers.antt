@@ -6,7 +6,7 @@ use Rattle.rom_model.specs.Walks.{keys_under, end_loads}
 use Rattle.rom_model.specs.Region.{bucket_of, Contents}
 use Rattle.rom_model.proofs.Nodes.{pow_positive}
 use Rattle.rom_model.proofs.Looks.{looks_more, costs_most, costs_then, room_left}
-use Rattle.rom_bucket.specs.Link.{IsUnlinked}
+use Rattle.rom_bucket.specs.Link.{IsNodeUnlinked}
 use Rattle.rom_bucket.proofs.Sparing.{sparing_after, sparing_load, range_last}
 use Rattle.rom_bucket.proofs.Entries.{remove_absent}
 use Rattle.rom_bucket.proofs.Keys.{holds_bucket}
@@ -94,7 +94,7 @@ give-requires-clause-taken g c =
     let o = c.requires.order in
     let is = c.requires.region.contents.1 in
     let same = c.load-was.ensures.image ∙ image_same o is c.find_rising-sought.ensures in
-    may_give o.least is (own_within c.args.key o) (node o is c.find_rising-sought.ensures (not-false c.find_rising-sought.result.found c.if-not-sought.false)) (subst (λ v. IsUnlinked 9 c.find_rising-sought.result.place v (g.M.Look.shown.image c.unlink_node.new.space)) same c.unlink_node.ensures.unlinked)
+    may_give o.least is (own_within c.args.key o) (node o is c.find_rising-sought.ensures (not-false c.find_rising-sought.result.found c.if-not-sought.false)) (subst (λ v. IsNodeUnlinked 9 c.find_rising-sought.result.place v (g.M.Look.shown.image c.unlink_node.new.space)) same c.unlink_node.ensures.unlinked)
 
 pub give-requires-clause-room : goal.give-requires-clause-room
 give-requires-clause-room g c =
@@ -106,7 +106,7 @@ pub returns-clause-others : goal.returns-clause-others
 returns-clause-others g c p s k is =
     let o = c.requires.order in
     let same = c.load-was.ensures.image ∙ image_same o is c.find_rising-sought.ensures in
-    deleted o.least is (own_within c.args.key o) (node o is c.find_rising-sought.ensures (not-false c.find_rising-sought.result.found c.if-not-sought.false)) (subst (λ v. IsUnlinked 9 c.find_rising-sought.result.place v (g.M.Look.shown.image c.unlink_node.new.space)) same c.unlink_node.ensures.unlinked)
+    deleted o.least is (own_within c.args.key o) (node o is c.find_rising-sought.ensures (not-false c.find_rising-sought.result.found c.if-not-sought.false)) (subst (λ v. IsNodeUnlinked 9 c.find_rising-sought.result.place v (g.M.Look.shown.image c.unlink_node.new.space)) same c.unlink_node.ensures.unlinked)
     (g.M.Look.shown.image c.give.new.space) c.give.ensures.given c.give.ensures.others
 
 pub returns-clause-was : goal.returns-clause-was

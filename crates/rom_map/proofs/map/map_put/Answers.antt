@@ -8,7 +8,7 @@ use Rattle.rom_model.proofs.Room.{region_disjoint, full}
 use Rattle.rom_bucket.proofs.Keys.{holds_bucket}
 use Rattle.rom_bucket.proofs.Finding.{own_within}
 use Rattle.rom_bucket.proofs.Sparing.{sparing_after, sparing_range}
-use Rattle.rom_map.specs.Map.{get_loads, with_entry, with_pairs, with_bucket, IsAdded}
+use Rattle.rom_map.specs.Map.{get_loads, with_entry, with_pairs, with_bucket, IsAddedToMap}
 use Rattle.rom_map.proofs.Keyed.{map_keys}
 use Rattle.rom_map.proofs.Finding.{still, still_stopped, still_no_key, looked, image_same, long, no_value, sooner, node, value, inside, small}
 use Rattle.rom_map.proofs.Adding.{had_room, at_least, at_most, size_small, place_high, place_inside, place_outside, place_differs, added}
@@ -153,7 +153,7 @@ returns-clause-others g c p s k is =
     let o = c.requires.order in
     let e = c.find_rising-sought.ensures in
     let new = g.M.Look.shown.image c.link_at.new.space in
-    subst (λ v. IsAdded c.args.order v p s k c.args.key c.args.value c.args.stamp new) (image_same o is e)
+    subst (λ v. IsAddedToMap c.args.order v p s k c.args.key c.args.value c.args.stamp new) (image_same o is e)
     (added o.least (still o is e) c.in-Some.ensures.others c.in-Some.ensures.taken (own_within c.args.key o) (still_no_key o is e c.if-sought.false) (still_stopped o is e) c.if-sought.false c.args.value c.args.stamp
     (omega (arith, c.requires.stamp, is.shape.root.count_is)) new c.link_at.ensures.linked)
 

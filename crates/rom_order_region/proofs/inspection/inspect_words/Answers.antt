@@ -6,7 +6,7 @@ use Rattle.std.proofs.lemmas.Grind.{common_steps}
 use Rattle.rom_model.specs.declared.unfit.Unfit.{Unfit}
 use Rattle.rom_model.specs.declared.unfit.Unfit.TheVariants.{Malformed}
 use Rattle.rom_block.specs.Levels.{IsMarked}
-use Rattle.rom_order_region.specs.Marks.{IsOrderInspected}
+use Rattle.rom_order_region.specs.Marks.{IsIndexInspected}
 use Rattle.rom_order_region.specs.Region.{taken_pairs}
 use Rattle.rom_order_region.proofs.Subtrees.{after_tree, before_tree, none_marked, all_false}
 use Rattle.rom_order_region.proofs.inspection.inspect_words.Goals as goal
@@ -20,7 +20,7 @@ pub returns-in_err-inspect_nodes : goal.returns-in_err-inspect_nodes
 returns-in_err-inspect_nodes c =
     let e = c.in_err-inspect_nodes.field-0.0 in
     let is : c.from_residual.result ≡ Err (Malformed e.offset e.rule) = grind (arith, common_steps) in
-    subst (λ (r : Result (Unit {0}) Unfit). IsOrderInspected c.args.order c.args.region.now r) (sym is) (before_tree c.args.order c.args.region.now e c.in_err-inspect_nodes.ensures)
+    subst (λ (r : Result (Unit {0}) Unfit). IsIndexInspected c.args.order c.args.region.now r) (sym is) (before_tree c.args.order c.args.region.now e c.in_err-inspect_nodes.ensures)
 
 pub returns : goal.returns
 returns c =

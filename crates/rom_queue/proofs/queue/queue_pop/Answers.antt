@@ -1,8 +1,8 @@
 use Rattle.std.proofs.Common.{◌≡◌, inl, inr, ⊎_elim, ◌<◌, length, drop, slice_index, slice_get, arith, sym, ◌∙◌, ap, subst}
 use Rattle.rom_model.specs.Space.{ChangesOnly, differing}
 use Rattle.rom_model.specs.Region.{Contents}
-use Rattle.rom_queue.specs.Queue.{with_blocks, with_queue}
-use Rattle.rom_queue.specs.Ends.{Begins, IsUnlinked}
+use Rattle.rom_queue.specs.Queue.{with_queue, with_queue_blocks}
+use Rattle.rom_queue.specs.Ends.{BeginsQueue, IsHeadUnlinked}
 use Rattle.std.proofs.lemmas.Bool.{cases_lt}
 use Rattle.rom_block.proofs.Apart.{sparing_then}
 use Rattle.rom_queue.proofs.Heads.{no_values, head_of, may_give, given_back}
@@ -30,7 +30,7 @@ unlink_first-requires-clause-queue g c =
     let r = c.requires.region in
     let held : Contents c.args.order (g.M.Look.shown.image c.args.space.now) r.state r.count = r.contents in
     let h = head_of c.requires.order.least held.1 c.load-head.result c.load-head.ensures.word (omega arith) in
-    subst (λ v. Begins c.args.order c.load-head.result v) (sym (c.load-value.ensures.image ∙ c.load-head.ensures.image)) h.begins
+    subst (λ v. BeginsQueue c.args.order c.load-head.result v) (sym (c.load-value.ensures.image ∙ c.load-head.ensures.image)) h.begins
 
 pub give-requires-clause-taken : goal.give-requires-clause-taken
 give-requires-clause-taken g c =
@@ -48,7 +48,7 @@ returns-clause-others g c s k held =
     let head = c.load-head.result in
     let same : g.M.Look.shown.image c.load-value.new.self ≡ w = c.load-value.ensures.image ∙ c.load-head.ensures.image in
     let only : ChangesOnly 3 3 w w1 = subst (λ v. ChangesOnly 3 3 v w1) same c.unlink_first.ensures.others in
-    let unlinked = subst (λ v. (q : Begins c.args.order head v) → IsUnlinked q w1) same c.unlink_first.ensures.unlinked in
+    let unlinked = subst (λ v. (q : BeginsQueue c.args.order head v) → IsHeadUnlinked q w1) same c.unlink_first.ensures.unlinked in
     let value : c.load-value.result ≡ slice_index w head = c.load-value.ensures.word ∙ ap (λ v. slice_index v head) c.load-head.ensures.image in
     let some : 0 < head = omega arith in
     given_back c.requires.order.least held.1 head c.load-head.ensures.word some w1 only (g.M.Look.shown.image c.give.new.space) c.load-value.result value unlinked c.give.ensures.given c.give.ensures.others
@@ -59,7 +59,7 @@ returns-clause-first g c s k held = let x = returns-clause-others g c s k held i
 pub returns-clause-contents : goal.returns-clause-contents
 returns-clause-contents g c s k held =
     let x = returns-clause-others g c s k held in
-    subst (λ vs. Contents c.args.order (g.M.Look.shown.image c.give.new.space) (with_queue s vs) k) (sym (ap (drop 1) x.values)) (with_blocks held.0 x.behind, x.becomes.region)
+    subst (λ vs. Contents c.args.order (g.M.Look.shown.image c.give.new.space) (with_queue s vs) k) (sym (ap (drop 1) x.values)) (with_queue_blocks held.0 x.behind, x.becomes.region)
 
 pub returns-clause-region : goal.returns-clause-region
 returns-clause-region g c =

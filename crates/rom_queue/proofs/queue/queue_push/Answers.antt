@@ -1,7 +1,7 @@
 use Rattle.std.proofs.Common.{[], ◌∷◌, ◌++◌}
 use Rattle.rom_model.specs.Region.{element_blocks, taken_by, Contents}
 use Rattle.rom_model.proofs.Room.{region_disjoint, full}
-use Rattle.rom_queue.specs.Queue.{with_blocks, with_last}
+use Rattle.rom_queue.specs.Queue.{with_last, with_queue_blocks}
 use Rattle.rom_block.proofs.Apart.{sparing_then, tree_apart}
 use Rattle.rom_queue.proofs.Taking.{had_room, may_take, became}
 use Rattle.rom_queue.proofs.queue.queue_push.Goals as goal
@@ -32,7 +32,7 @@ returns-clause-others g c s k held =
     became le held.1 take.others take.taken (g.M.Look.shown.image c.append.new.space) c.args.value (c.append.ensures.appended (may_take le held.1 take.others take.taken))
 
 pub returns-clause-contents : goal.returns-clause-contents
-returns-clause-contents g c s k held = let b = returns-clause-others g c s k held in (with_blocks held.0 (held.0.queue ++ b.block ∷ []), b.becomes.region)
+returns-clause-contents g c s k held = let b = returns-clause-others g c s k held in (with_queue_blocks held.0 (held.0.queue ++ b.block ∷ []), b.becomes.region)
 
 pub returns-clause-region : goal.returns-clause-region
 returns-clause-region g c =

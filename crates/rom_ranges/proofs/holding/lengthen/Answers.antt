@@ -1,7 +1,7 @@
 use Rattle.std.proofs.Common.{◌≡◌, ◌≢◌, ℕ, suc, ◌+◌, ◌<◌, List, length, get_or, sym, ap, ◌∙◌, subst, arith}
 use Rattle.std.proofs.lemmas.List.{get_or_default}
 use Rattle.rom_ranges.proofs.Placed.{read_same, placed_end, placed_join}
-use Rattle.rom_ranges.specs.Holding.{Holds}
+use Rattle.rom_ranges.specs.Holding.{AddsOffset}
 use Rattle.rom_ranges.specs.declared.range.Range.{Range}
 use Rattle.rom_ranges.proofs.holding.lengthen.Goals.{else-i-len-via-then-i-len+else-index-at, else-i-len-via-else-i-len}
 use Rattle.rom_ranges.proofs.holding.lengthen.Goals as goal
@@ -18,7 +18,7 @@ returns-then-index-at-clause-holds c =
     let there : s ≡ get_or rs (suc i) s = c.index-then-index-at.ensures ∙ ap (λ (n : ℕ). get_or rs n s) one in
     let same : c.index.result.now ≡ s = read_same rs (suc i) c.index.result.now s more (c.index.ensures ∙ ap (λ (n : ℕ). get_or rs n c.index.result.now) one) there in
     let ends : r.end ≡ c.args.at = ap (λ (z : Range). z.end) c.index_mut.ensures.value ∙ c.requires.ends r in
-    subst (λ (l : List Range). Holds c.args.at rs l) (sym c.remove.ensures.items)
+    subst (λ (l : List Range). AddsOffset c.args.at rs l) (sym c.remove.ensures.items)
     (placed_join c.args.at i rs c.requires.apart c.requires.before lt r c.index_mut.ensures.value s ends more there (ap (λ (z : Range). z.start) (sym same) ∙ c.if-index-at.true))
 
 -- the next range, if there is one, does not begin there

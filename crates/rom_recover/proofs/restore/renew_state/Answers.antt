@@ -1,5 +1,5 @@
 use Rattle.std.proofs.Common.{ℕ, Result, Ok, Err, OnOk, ◌∙◌, sym, subst}
-use Rattle.rom_device.specs.Device.{Runs, Stays, Writes}
+use Rattle.rom_device.specs.Device.{Runs, Stays, WritesWord}
 use Rattle.rom_device.proofs.Going.{runs_on, runs_then}
 use Rattle.rom_recover.proofs.Restoring.{again, runs_again}
 use Rattle.rom_recover.proofs.restore.renew_state.Goals as goal
@@ -25,12 +25,12 @@ returns-clause-images g c images =
 
 pub returns-in_err-write-clause-doubts : goal.returns-in_err-write-clause-doubts
 returns-in_err-write-clause-doubts g c doubts =
-    subst (λ (k : ℕ). Runs g.D.Device.shown (Writes 3 k) c.args.device.now c.write.new.self) c.word.ensures.word (c.write.ensures.does.doubts doubts)
+    subst (λ (k : ℕ). Runs g.D.Device.shown (WritesWord 3 k) c.args.device.now c.write.new.self) c.word.ensures.word (c.write.ensures.does.doubts doubts)
 
 pub returns-clause-doubts : goal.returns-clause-doubts
 returns-clause-doubts g c doubts =
-    subst (λ (k : ℕ). Runs g.D.Device.shown (Writes 3 k) c.args.device.now c.sync.new.self) c.word.ensures.word
-    (runs_then g.D.Device.shown (Writes 3 c.word.result) _ _ _ (c.write.ensures.does.doubts doubts) (c.sync.ensures.does.doubts doubts))
+    subst (λ (k : ℕ). Runs g.D.Device.shown (WritesWord 3 k) c.args.device.now c.sync.new.self) c.word.ensures.word
+    (runs_then g.D.Device.shown (WritesWord 3 c.word.result) _ _ _ (c.write.ensures.does.doubts doubts) (c.sync.ensures.does.doubts doubts))
 
 pub returns-clause-renews : goal.returns-clause-renews
 returns-clause-renews g c = on_ok c.sync.result (λ is. c.in_ok-write.ensures.renews (c.sync.ensures.does.fewer 3 is))

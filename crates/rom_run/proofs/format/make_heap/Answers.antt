@@ -1,6 +1,6 @@
 use Rattle.std.proofs.Common.{◌++◌, ◌∙◌, ap, codes, subst}
 use Rattle.rom_header.specs.Calls.{format_reads, format_writes, format_syncs}
-use Rattle.rom_text.specs.Runs.{IsLineTold}
+use Rattle.rom_text.specs.Runs.{IsLineWrittenOrCutShort}
 use Rattle.rom_run.specs.Statuses.{exit_number}
 use Rattle.rom_run.proofs.Joined.{two_pieces}
 use Rattle.rom_run.proofs.Showing.{making_failed, refused_alone, want_of_memory}
@@ -13,7 +13,7 @@ returns-in-Ok-clause-made g c = λ done. record {
   held = c.in-Ok.ensures.held;
   images = c.in-Ok.ensures.held_images;
   faults = c.in-Ok.ensures.makes.cause.none;
-  told = subst (λ line. IsLineTold g.K.Sink.shown c.args.out.now c.tell.new.out line)
+  told = subst (λ line. IsLineWrittenOrCutShort g.K.Sink.shown c.args.out.now c.tell.new.out line)
       (two_pieces (codes "formatted order ") c.format.result.now ∙ ap (λ digits. codes "formatted order " ++ digits) c.format.ensures.text) c.tell.ensures.told;
 }
 

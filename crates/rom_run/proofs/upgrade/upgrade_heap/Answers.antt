@@ -1,6 +1,6 @@
 use Rattle.std.proofs.Common.{◌≡◌, ◌++◌, ◌∙◌, ℕ, IsTrue, ap, arith, codes, subst, sym}
 use Rattle.rom_header.specs.Held.{Holds}
-use Rattle.rom_text.specs.Runs.{IsLineTold}
+use Rattle.rom_text.specs.Runs.{IsLineWrittenOrCutShort}
 use Rattle.rom_open.specs.Refusals.{named_order}
 use Rattle.rom_open.specs.Upgrading.{IsWholeHeap}
 use Rattle.rom_run.proofs.Joined.{two_pieces}
@@ -35,7 +35,7 @@ returns-in-Ok-clause-made g c = λ done.
       holds = λ images state count is. subst (λ (n : ℕ). Holds o.Contents n (shown.words c.in-Ok.device) state count) (sym (named images)) ((told.upgraded images).holds state count (held images state count is));
       images = λ images state count is i left. subst (λ (n : ℕ). Holds o.Contents n i state count) (sym (named images)) ((told.upgraded images).images state count (held images state count is) i left);
       whole = λ images. subst (λ (n : ℕ). IsWholeHeap n (shown.words c.in-Ok.device)) (sym (named images)) (told.upgraded images).whole;
-      told = subst (λ line. IsLineTold g.K.Sink.shown c.args.out.now c.tell.new.out line)
+      told = subst (λ line. IsLineWrittenOrCutShort g.K.Sink.shown c.args.out.now c.tell.new.out line)
           (two_pieces (codes "upgraded order ") c.format.result.now ∙ ap (λ digits. codes "upgraded order " ++ digits) c.format.ensures.text) c.tell.ensures.told;
     }
 

@@ -2,7 +2,7 @@ use Rattle.std.proofs.Common.{◌≡◌, ◌++◌, codes, sym, subst}
 use Rattle.std.specs.Prelude.{MatchOption}
 use Rattle.rom_model.specs.declared.line.Step.TheVariants.{Unread}
 use Rattle.rom_script.specs.Asking.{Asks}
-use Rattle.rom_script.specs.Lines.{Reads}
+use Rattle.rom_script.specs.Lines.{ReadsTrio}
 use Rattle.rom_script.proofs.Asking.{NoGroup, asked_reads, group_text, no_phrase_reads}
 use Rattle.rom_script.proofs.line.read_words.Goals as goal
 
@@ -11,7 +11,7 @@ returns-in-Some c =
     let line = c.args.line.now in
     let told = c.put_group.ensures in
     let begins = subst (λ o. MatchOption o (NoGroup line) (λ x. line ≡ codes "tx " ++ x.now)) c.in-Some.is (group_text line c.strip_prefix.result c.strip_prefix.ensures.cases) in
-    record { reads = (told.0, told.1, subst (λ l. Reads l told.0) (sym begins) told.2) }
+    record { reads = (told.0, told.1, subst (λ l. ReadsTrio l told.0) (sym begins) told.2) }
 
 pub returns-in-Some-read_phrase : goal.returns-in-Some-read_phrase
 returns-in-Some-read_phrase c =

@@ -3,7 +3,7 @@ use Rattle.rom_model.specs.State.{State}
 use Rattle.rom_model.specs.Blocks.{AreWords}
 use Rattle.rom_model.specs.Region.{Chains, element_blocks, taken_by, IsRegion}
 use Rattle.rom_model.proofs.Room.{region_disjoint, full, not_full}
-use Rattle.rom_set.specs.Set.{IsAdded}
+use Rattle.rom_set.specs.Set.{IsAddedToSet}
 use Rattle.rom_set.proofs.Places.{region_set, same_words, found_contains}
 use Rattle.rom_block.proofs.Apart.{sparing_then, sparing_looks, tree_apart}
 use Rattle.rom_set.proofs.Taking.{new, may_link, became}
@@ -41,7 +41,7 @@ link_node-requires-clause-may g c =
     may_link le x.0 x.1 c.if-place.false c.in-Some.ensures.others (c.in-Some.ensures.taken _ (region_disjoint le x.0) x.0.shape.tree)
 
 added : (g : Over) (c : goal.After-link_node g) (p : Chains) (s : State) (k : ℕ) → IsRegion c.args.order (g.M.Look.shown.image c.args.space.now) p s k
-    → IsAdded c.args.order (g.M.Look.shown.image c.args.space.now) p s k c.args.key (g.M.Look.shown.image c.link_node.new.space)
+    → IsAddedToSet c.args.order (g.M.Look.shown.image c.args.space.now) p s k c.args.key (g.M.Look.shown.image c.link_node.new.space)
 added g c p s k is =
     let le = c.requires.order.least in
     let same = c.find-place.ensures.ends.image in
@@ -49,7 +49,7 @@ added g c p s k is =
     let only = c.in-Some.ensures.others in
     let takes = c.in-Some.ensures.taken _ (region_disjoint le x.0) x.0.shape.tree in
     let w2 = g.M.Look.shown.image c.link_node.new.space in
-    subst (λ (v : List ℕ). IsAdded c.args.order v p s k c.args.key w2) same
+    subst (λ (v : List ℕ). IsAddedToSet c.args.order v p s k c.args.key w2) same
     (became le x.0 x.1 c.if-place.false only takes w2 (c.link_node.ensures.linked (may_link le x.0 x.1 c.if-place.false only takes)))
 
 pub returns-clause-contents : goal.returns-clause-contents

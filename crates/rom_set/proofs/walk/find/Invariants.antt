@@ -4,7 +4,7 @@ use Rattle.std.specs.Ordering.{nat_cmp}
 use Rattle.std.specs.FinSet as set
 use Rattle.rom_model.specs.Space.{Looks}
 use Rattle.rom_model.specs.Region.{IsSet}
-use Rattle.rom_set.specs.Walk.{Walked}
+use Rattle.rom_set.specs.Walk.{HasWalkedSet}
 use Rattle.rom_set.proofs.walk.find.Given as goal
 
 -- each node that was passed took two loads
@@ -12,7 +12,7 @@ abbrev pub invariant-loop-node : goal.invariant-loop-node
 invariant-loop-node g l = record {
   image : g.M.Look.shown.image l.space ≡ g.M.Look.shown.image l.fn.space;
   way : (blocks : List ℕ) (members : set.FinSet nat_cmp) → IsSet l.order (g.M.Look.shown.image l.fn.space) blocks members
-      → (x : Walked l.order (g.M.Look.shown.image l.fn.space) blocks l.key l.link l.node) × Looks g.M.Look.shown (1 + 2 * length x.front) l.fn.space l.space;
+      → (x : HasWalkedSet l.order (g.M.Look.shown.image l.fn.space) blocks l.key l.link l.node) × Looks g.M.Look.shown (1 + 2 * length x.front) l.fn.space l.space;
 }
 
 -- the keys rise up to this one

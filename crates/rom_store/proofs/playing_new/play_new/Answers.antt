@@ -3,11 +3,11 @@ use Rattle.rom_combine.specs.AtRest.{IsReady}
 use Rattle.rom_rule.specs.declared.views.Base.{Base}
 use Rattle.rom_combine.specs.Costs.{WithinHeap}
 use Rattle.rom_device.specs.Device.{Leaves}
-use Rattle.rom_header.specs.Fresh.{IsNew}
+use Rattle.rom_header.specs.Fresh.{IsNewHeap}
 use Rattle.rom_header.specs.Held.{Holds}
 use Rattle.rom_open.specs.Making.{NoneOrHolds}
 use Rattle.rom_open.specs.Within.{LiesAtRest, WithinMaking}
-use Rattle.rom_model.specs.VecSpace.{words_of}
+use Rattle.rom_model.specs.VecSpace.{words_of_space}
 use Rattle.rom_rule.specs.Views.{base_of}
 use Rattle.rom_store.specs.Openings.{Started}
 use Rattle.rom_store.specs.Playing.{CanPlay}
@@ -38,10 +38,10 @@ returns-clause-session g c =
     let opening = c.of-opening.result in
     let base_is = (λ j. base_of (c.of-opening.ensures.opening j).key) ∙ c.in-Ok.ensures.base in
     let within = subst (λ d. WithinMaking shown c.args.order c.args.device d) (λ j. (sym c.of-opening.ensures.opening j).device) c.write_heap.ensures.within in
-    let region : List ℕ = words_of c.in-Ok.made.region in
+    let region : List ℕ = words_of_space c.in-Ok.made.region in
     let rests : LiesAtRest shown c.args.order c.write_heap.new.device = λ told.
     let made = c.write_heap.ensures.made told in
-    let new : IsNew c.args.order region (shown.words c.write_heap.new.device) = search rules in
+    let new : IsNewHeap c.args.order region (shown.words c.write_heap.new.device) = search rules in
     (region, record { heap = new.heap; idle = new.idle; main_is = new.main_is; back_is = new.back_is }) in
     let making : IsTrue shown.tells_images → Leaves shown (NoneOrHolds g.O.Object.Contents c.args.order g.O.Object.machine.empty) c.args.device c.write_heap.new.device = λ told. c.write_heap.ensures.images told in
     let stands : IsTrue shown.tells_images → (i : List ℕ) → shown.leaves c.write_heap.new.device i → Holds g.O.Object.Contents c.args.order i g.O.Object.machine.empty 0 = λ told. let held = c.write_heap.ensures.held_images told in search rules in
@@ -81,7 +81,7 @@ pub returns-clause-empty : goal.returns-clause-empty
 returns-clause-empty g c = λ story is.
     let object = g.O.Object in
     let session = c.play_on.result.closed.session in
-    let region : List ℕ = words_of c.in-Ok.made.region in
+    let region : List ℕ = words_of_space c.in-Ok.made.region in
     let base_is = (λ j. base_of (c.of-opening.ensures.opening j).key) ∙ c.in-Ok.ensures.base in
     let order_is : session.order ≡ c.args.order = c.play_on.ensures.played.order ∙ (λ j. (base_is j).order) in
     let image_is : session.image ≡ region = c.play_on.ensures.played.image ∙ (λ j. (base_is j).image) in

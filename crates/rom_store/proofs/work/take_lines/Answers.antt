@@ -5,7 +5,7 @@ use Rattle.rom_model.proofs.Hearing.{begun, told_few}
 use Rattle.rom_lines.specs.Replies.{HasRoomFor}
 use Rattle.rom_lines.proofs.Replies.{room_left}
 use Rattle.rom_store.specs.Closing.{kept_in}
-use Rattle.rom_store.specs.Working.{HasDone}
+use Rattle.rom_store.specs.Working.{HasDoneLines}
 use Rattle.rom_store.proofs.work.take_lines.Goals as goal
 
 pub loop-i-init : goal.loop-i-init
@@ -38,10 +38,10 @@ loop-i-preserved g c =
     record {
       of = told.of;
       number = told.number ∙ before.number;
-      done = subst (λ ls. HasDone g.O.Object.machine g.O.Object.Contents g.N.Label.base c.take_line.new.pass ls c.take_line.new.results.items) (sym at.before) (took.done (take c.loop-i.i items) before.done);
+      done = subst (λ ls. HasDoneLines g.O.Object.machine g.O.Object.Contents g.N.Label.base c.take_line.new.pass ls c.take_line.new.results.items) (sym at.before) (took.done (take c.loop-i.i items) before.done);
       room = room_left g.O.Object.machine.call_words at.asks (drop (c.loop-i.i + 1) items) c.loop-i.results c.take_line.new.results took.used (subst (λ ls. HasRoomFor g.O.Object.machine.call_words ls c.loop-i.results) at.left before.room) took.room took.few;
     }
 
 pub returns-clause-done : goal.returns-clause-done
-returns-clause-done g c = subst (λ ls. HasDone g.O.Object.machine g.O.Object.Contents g.N.Label.base c.loop-i.pass ls c.loop-i.results.items)
+returns-clause-done g c = subst (λ ls. HasDoneLines g.O.Object.machine g.O.Object.Contents g.N.Label.base c.loop-i.pass ls c.loop-i.results.items)
     (take_all c.loop-i.i c.args.script.now.items (omega (arith, c.loop-i-test.false, c.len-i-end.ensures))) c.loop-i.invariant.done

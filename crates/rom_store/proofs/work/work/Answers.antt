@@ -1,7 +1,7 @@
 use Rattle.std.proofs.Common.{sym, subst, arith, length, ◌≡◌, ◌-◌, ◌<◌, ℕ}
 use Rattle.std.proofs.lemmas.List.{length-map}
 use Rattle.rom_lines.specs.Replies.{HasRoomFor}
-use Rattle.rom_store.specs.Working.{HasDone}
+use Rattle.rom_store.specs.Working.{HasDoneLines}
 use Rattle.rom_store.proofs.Dealing.{script_is}
 use Rattle.rom_store.proofs.work.work.Goals as goal
 
@@ -21,5 +21,5 @@ returns-clause-done g c =
     let ready = c.requires.ready in
     let place : c.number.result - 1 ≡ number - 1 = omega (arith, c.number.ensures.number) in
     let lt : c.number.result - 1 < length scripts = omega (arith, place, ready.known, ready.from_one, length-map scripts (λ v. v.items)) in
-    subst (λ ls. HasDone g.O.Object.machine g.O.Object.Contents g.N.Label.base c.take_counted.new.pass ls c.take_counted.new.results.items)
+    subst (λ ls. HasDoneLines g.O.Object.machine g.O.Object.Contents g.N.Label.base c.take_counted.new.pass ls c.take_counted.new.results.items)
     (sym (script_is (λ v. v.items) scripts number (c.number.result - 1) c.index-room-number.result place lt)) c.take_counted.ensures.done

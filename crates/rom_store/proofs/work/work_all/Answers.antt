@@ -2,7 +2,7 @@ use Rattle.std.proofs.Common.{rules, map}
 use denote.Exit.{no}
 use denote.Param.{param, copied}
 use denote.Param.Send.{param_sync, arg_sync}
-use Rattle.rom_store.specs.Working.{HasDone, script_of}
+use Rattle.rom_store.specs.Working.{HasDoneLines, script_of}
 use Rattle.rom_store.proofs.Each.{of_each}
 use Rattle.rom_store.proofs.Sharing.{captures, room_sync}
 use Rattle.rom_store.proofs.work.work_all.Goals as goal
@@ -17,4 +17,4 @@ for_each_mut-requires-sync-F g c κs within =
 
 pub returns-clause-done : goal.returns-clause-done
 returns-clause-done g c =
-    of_each _ _ (λ x y. HasDone g.O.Object.machine g.O.Object.Contents g.N.Label.base y.pass (script_of (map (λ v. v.items) c.args.room.now.scripts.now) x.pass.view.number) y.results.items) _ _ c.for_each_mut.ensures (λ n p q post. search rules)
+    of_each _ _ (λ x y. HasDoneLines g.O.Object.machine g.O.Object.Contents g.N.Label.base y.pass (script_of (map (λ v. v.items) c.args.room.now.scripts.now) x.pass.view.number) y.results.items) _ _ c.for_each_mut.ensures (λ n p q post. search rules)

@@ -1,5 +1,5 @@
 use Rattle.std.proofs.Common.{rules, inl, inr, ⊎_elim, ℕ, List, sym, subst, arith}
-use Rattle.rom_device.specs.Device.{Writes}
+use Rattle.rom_device.specs.Device.{WritesWord}
 use Rattle.rom_model.specs.Blocks.{region_len}
 use Rattle.rom_model.proofs.Looks.{looks_most}
 use Rattle.rom_header.specs.Headers.{state_word}
@@ -21,7 +21,7 @@ returns-in_err-set_state g c =
       restores = record {
         looks = search rules;
         now = search rules;
-        since = λ told all. since_but shown (Writes STATE (state_word Mutating)) (HasBack n m) c.args.device.now c.set_state.new.device (c.set_state.ensures.does.images told)
+        since = λ told all. since_but shown (WritesWord STATE (state_word Mutating)) (HasBack n m) c.args.device.now c.set_state.new.device (c.set_state.ensures.does.images told)
             (λ x y was by. ⊎_elim (λ same. inl (subst (λ l. shown.leaves c.args.device.now l) (sym same) was)) (λ set. inr set) (undoing n m x y (all x was) by));
         does = does_state shown MAIN (region_len n) _ (omega arith) _ _ c.set_state.ensures.does;
         makes = search rules;
@@ -47,7 +47,7 @@ returns g c =
             c.put_ranges.ensures.certain (c.put_ranges.ensures.written words (whole_but c.main.result (region_len n) _ m _ c.requires.image c.whole.ensures.start c.whole.ensures.end));
         since = λ told all.
             let words = g.met.D.Device.tells_both told in
-            let first = since_but shown (Writes STATE (state_word Mutating)) (HasBack n m) c.args.device.now c.set_state.new.device (c.set_state.ensures.does.images told)
+            let first = since_but shown (WritesWord STATE (state_word Mutating)) (HasBack n m) c.args.device.now c.set_state.new.device (c.set_state.ensures.does.images told)
             (λ x y was by. ⊎_elim (λ same. inl (subst (λ l. shown.leaves c.args.device.now l) (sym same) was)) (λ set. inr set) (undoing n m x y (all x was) by)) in
             let marked : HasBack n m y = subst (λ (l : List ℕ). HasBack n m l) (sym (c.in_ok-set_state.ensures.written words)) (back_set n m x (all x (g.met.D.Device.reads_image c.args.device.now told))) in
             becomes_then shown (HasBack n m) c.args.device.now c.set_state.new.device c.put_ranges.new.device first

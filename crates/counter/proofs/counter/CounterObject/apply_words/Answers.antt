@@ -1,6 +1,6 @@
 use Rattle.std.proofs.Common.{◌≡◌, ◌++◌, [], ◌∷◌, List, ℕ, Option, Some, sym, ap, ◌∙◌}
 use Rattle.std.specs.Prelude.{option_map}
-use Rattle.counter.specs.Counter.{counter, words_add}
+use Rattle.counter.specs.Counter.{add_from_words, counter}
 use Rattle.counter.specs.declared.counter.Add.{Add}
 use Rattle.counter.specs.declared.counter.Sum.{Sum}
 use Rattle.counter.proofs.counter.CounterObject.apply_words.Goals as goal
@@ -10,7 +10,7 @@ returns-clause-done g c s k held =
     let call = c.unwrap-call.result in
     let sum = c.apply-sum.result in
     let after = counter.step c.args.order s k call in
-    let is : words_add c.args.words.now ≡ Some call = sym c.words_call.ensures.call ∙ c.unwrap-call.ensures in
+    let is : add_from_words c.args.words.now ≡ Some call = sym c.words_call.ensures.call ∙ c.unwrap-call.ensures in
     let done = c.apply-sum.ensures.done s k held in
     let spelt : c.extend.new.self ≡ sum.value ∷ [] = c.extend.ensures ∙ ap (λ ws. ws ++ sum.value ∷ []) c.clear.ensures in
     let told : c.extend.new.self ≡ after.1.value ∷ [] = spelt ∙ ap (λ (sum : Sum). sum.value ∷ []) done.0 in

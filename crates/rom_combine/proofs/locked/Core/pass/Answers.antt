@@ -35,7 +35,7 @@ use Rattle.rom_rule.specs.declared.views.Plan.{Plan}
 use Rattle.rom_rule.specs.declared.views.View.{View}
 use Rattle.rom_rule.specs.Views.{Each, base_of, is_made, plan_of, records_of}
 use Rattle.rom_rule.specs.Calls.{AreScanned, caller_in, found_of}
-use Rattle.rom_rule.specs.Kinds.{MayRaise, raised}
+use Rattle.rom_rule.specs.Kinds.{MayRaise, with_faults_after}
 use Rattle.rom_rule.specs.CallKinds.{beginning}
 use Rattle.rom_rule.proofs.Books.{full_batch}
 use Rattle.rom_rule.specs.Records.{IsCall}
@@ -379,7 +379,7 @@ invariant_of-self-2 g c = let v : View = c.self.inside.seat.token.me.0 in let w 
           inl (record { region = (plan_of z).main; current = subst (λ (r : ℕ × List ℕ). IsCurrentRegion r.0 i r.1) (λ j. (order j, committed_is told j)) counts; contents = held });
       failed = λ needs. ⊎_elim (λ e. absurd (clean_needs_none t.phase e needs)) (λ e. (c.settle.ensures.cause e).last) c.settle.ensures.phase;
       answered = subst (λ (r : Plan). Each (λ _ f. f.answered ≡ true) r.requests) (sym settled) c.answer_all-2.ensures.answered;
-      counts = let e : faults_after z.base.faults (records_of (plan_of z)) ≡ end = ap (λ (r : Plan). faults_after z.base.faults (records_of r)) kept ∙ (ap (λ (l : List PassRecord). faults_after z.base.faults ((plan_of y).records ++ map (raised end) l)) pb.mine ∙ faults_rested end z.base.faults (plan_of y).records (map found_of (plan_of x).requests) _ (sym (ap is_made pb.mine) ∙ made)) in omega (arith, e);
+      counts = let e : faults_after z.base.faults (records_of (plan_of z)) ≡ end = ap (λ (r : Plan). faults_after z.base.faults (records_of r)) kept ∙ (ap (λ (l : List PassRecord). faults_after z.base.faults ((plan_of y).records ++ map (with_faults_after end) l)) pb.mine ∙ faults_rested end z.base.faults (plan_of y).records (map found_of (plan_of x).requests) _ (sym (ap is_made pb.mine) ∙ made)) in omega (arith, e);
     } in
     (now, ready_by (g.O.Object.STORES * g.O.Object.WEIGHT) v.base z.base c.self.inside.log c.settle.new.log c.self.invariant.1 (base_z ∙ base_x) c.settle.ensures.cleared (c.settle.ensures.room ∙ c.publish-outcome.ensures.room))
 

@@ -1,5 +1,5 @@
 use Rattle.std.proofs.Common.{◌≡◌, ◌+◌, ◌-◌, ◌<◌, ◌≤◌, ◌∙◌, ℕ, length, List, IfSome, false, arith, rules, slice_index, subst, ap}
-use Rattle.rom_device.specs.Run.{word_of}
+use Rattle.rom_device.specs.Run.{word_of_run}
 use Rattle.rom_device.specs.Cached.{shown_by_cached}
 use Rattle.std.proofs.lemmas.List.{places}
 use borrow.Rule.Slice.PartMut.{put_mid}
@@ -17,8 +17,8 @@ loop-done-preserved g c =
     record {
       within = search rules;
       len = search rules;
-      waits = places-put_mid (λ k seen. IfSome (word_of pending (at + k)) (λ word. seen ≡ word)) done c.copy-ahead.result c.loop-done.into c.copy-ahead.new.into c.loop-done.invariant.within (omega (arith, c.copy-ahead.ensures.most, c.copy-ahead.ensures.len)) c.loop-done.invariant.waits
-          (λ k lt. subst (λ (n : ℕ). IfSome (word_of pending n) (λ word. slice_index c.copy-ahead.new.into k ≡ word)) (omega arith) (c.copy-ahead.ensures.waits k lt));
+      waits = places-put_mid (λ k seen. IfSome (word_of_run pending (at + k)) (λ word. seen ≡ word)) done c.copy-ahead.result c.loop-done.into c.copy-ahead.new.into c.loop-done.invariant.within (omega (arith, c.copy-ahead.ensures.most, c.copy-ahead.ensures.len)) c.loop-done.invariant.waits
+          (λ k lt. subst (λ (n : ℕ). IfSome (word_of_run pending n) (λ word. slice_index c.copy-ahead.new.into k ≡ word)) (omega arith) (c.copy-ahead.ensures.waits k lt));
       told = λ tells. places-put_mid (λ k seen. seen ≡ slice_index (shown.words c.args.self.now) (at + k)) done c.copy-ahead.result c.loop-done.into c.copy-ahead.new.into c.loop-done.invariant.within (omega (arith, c.copy-ahead.ensures.most, c.copy-ahead.ensures.len)) (c.loop-done.invariant.told tells)
           (λ k lt.
           let there : at + done + k ≡ at + (done + k) = omega arith in
@@ -50,10 +50,10 @@ loop-done-preserved-then-ahead-eq0 g c =
     record {
       within = search rules;
       len = search rules;
-      waits = places-set (λ k seen. IfSome (word_of now (at + k)) (λ word. seen ≡ word)) (done + ahead) (put_mid done (length into - done) into copied) c.in-Some.word (omega (arith, long, inside, c.if-ahead-eq0.true))
-          (places-put_mid (λ k seen. IfSome (word_of now (at + k)) (λ word. seen ≡ word)) done ahead into copied c.loop-done.invariant.within most
+      waits = places-set (λ k seen. IfSome (word_of_run now (at + k)) (λ word. seen ≡ word)) (done + ahead) (put_mid done (length into - done) into copied) c.in-Some.word (omega (arith, long, inside, c.if-ahead-eq0.true))
+          (places-put_mid (λ k seen. IfSome (word_of_run now (at + k)) (λ word. seen ≡ word)) done ahead into copied c.loop-done.invariant.within most
           (λ k lt. waits_on c.loop-done.self.pending now (at + k) (slice_index into k) c.find.ensures.pending (c.loop-done.invariant.waits k lt)) (λ k lt. absurd (omega (arith, lt, c.if-ahead-eq0.true))))
-          (waits_on c.loop-done.self.pending now (at + (done + ahead)) c.in-Some.word c.find.ensures.pending (gives_word (word_of c.loop-done.self.pending (at + (done + ahead))) c.find.result c.in-Some.word c.in-Some.is (c.find.ensures.waits there)));
+          (waits_on c.loop-done.self.pending now (at + (done + ahead)) c.in-Some.word c.find.ensures.pending (gives_word (word_of_run c.loop-done.self.pending (at + (done + ahead))) c.find.result c.in-Some.word c.in-Some.is (c.find.ensures.waits there)));
       told = λ tells. places-set (λ k seen. seen ≡ slice_index (shown.words c.args.self.now) (at + k)) (done + ahead) (put_mid done (length into - done) into copied) c.in-Some.word (omega (arith, long, inside, c.if-ahead-eq0.true))
           (places-put_mid (λ k seen. seen ≡ slice_index (shown.words c.args.self.now) (at + k)) done ahead into copied c.loop-done.invariant.within most (c.loop-done.invariant.told tells) (λ k lt. absurd (omega (arith, lt, c.if-ahead-eq0.true))))
           (c.in-Some.ensures.word tells ∙ ap (λ (x : List ℕ). slice_index x (at + (done + ahead))) (c.loop-done.invariant.only.words tells));

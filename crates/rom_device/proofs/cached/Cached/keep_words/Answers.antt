@@ -1,6 +1,6 @@
 use Rattle.std.proofs.Common.{◌≡◌, inl, inr, ◌+◌, ◌-◌, ℕ, Option, Some, IfSome, arith, rules, slice_index, subst, sym}
 use Rattle.std.proofs.lemmas.Bool.{cases_lt}
-use Rattle.rom_device.specs.Run.{word_of}
+use Rattle.rom_device.specs.Run.{word_of_run}
 use Rattle.rom_device.specs.Windows.{word_in}
 use Rattle.rom_device.specs.Cached.{shown_by_cached}
 use Rattle.rom_device.proofs.Many.{many_on, many_only, renewed_on, renewed_still}
@@ -47,7 +47,7 @@ loop-index-preserved g c =
       };
       waits = λ some.
           let last : index + 1 - 1 ≡ index = omega arith in
-          subst (λ (n : ℕ). word_of c.keep.new.self.pending (c.args.at + n) ≡ Some (slice_index c.args.values.now n)) (sym last) c.if-not-keep.ensures.waits;
+          subst (λ (n : ℕ). word_of_run c.keep.new.self.pending (c.args.at + n) ≡ Some (slice_index c.args.values.now n)) (sym last) c.if-not-keep.ensures.waits;
       does = many_on shown c.args.at c.args.values.now index c.loop-index-test.true c.args.self.now now c.keep.new.self c.loop-index.invariant.does c.keep.ensures.does;
       renews = renewed_on shown c.args.at index now c.keep.new.self c.keep.ensures.does.fewer c.loop-index.invariant.renews c.if-not-keep.ensures.renews;
       only = λ told. many_only c.args.at index (slice_index c.args.values.now index) (shown.words c.args.self.now) (shown.words now) (shown.words c.keep.new.self) (c.loop-index.invariant.only told) (inr (c.if-not-keep.ensures.written told));

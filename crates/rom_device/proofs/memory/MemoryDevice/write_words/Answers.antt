@@ -1,6 +1,6 @@
 use Rattle.std.proofs.Common.{◌≡◌, ◌+◌, true, false, is_err, length, nat_lt, inr, ℕ, rules, arith, slice_index, subst}
 use Rattle.std.proofs.lemmas.Bool.Decides.{nat_tests}
-use Rattle.rom_device.specs.Memory.{shown_by_memory, words_of, writes_from}
+use Rattle.rom_device.specs.Memory.{shown_by_memory, words_of_memory, writes_from}
 use Rattle.rom_device.specs.declared.call.LoggedCall.TheVariants.{Write}
 use Rattle.rom_device.proofs.Many.{many_on, many_only}
 use Rattle.rom_device.proofs.Listing.{SoFar, so_far_next, so_far_failed, so_far_all, write_of, writes_end}
@@ -27,7 +27,7 @@ loop-index-preserved c =
     let well : is_err c.write.result ≡ false = search rules in
     record {
       does = many_on shown_by_memory c.args.at c.args.values.now c.loop-index.index c.loop-index-test.true c.args.self.now c.loop-index.self c.write.new.self c.loop-index.invariant.does c.write.ensures.does;
-      only = many_only c.args.at c.loop-index.index (slice_index c.args.values.now c.loop-index.index) (words_of c.args.self.now) (words_of c.loop-index.self) (words_of c.write.new.self)
+      only = many_only c.args.at c.loop-index.index (slice_index c.args.values.now c.loop-index.index) (words_of_memory c.args.self.now) (words_of_memory c.loop-index.self) (words_of_memory c.write.new.self)
           c.loop-index.invariant.only (inr (search rules));
       written = search rules;
       reads = search rules;

@@ -2,12 +2,12 @@ use Rattle.std.proofs.Common.{◌≡◌, ◌+◌, ◌-◌, ◌*◌, length, arit
 use Rattle.std.proofs.Common.{List, ℕ, drop}
 use borrow.Rule.Slice.PartMut.{put_mid}
 use Rattle.byteorder.specs.Endian.{little_number}
-use Rattle.rom_device.specs.Page.{word_at}
+use Rattle.rom_device.specs.Page.{page_word}
 use Rattle.rom_device.proofs.Paged.{word_here, word_other}
 use Rattle.rom_device.proofs.page.Page.set.Goals as goal
 
 pub returns-clause-here : goal.returns-clause-here
-unfolding word_at
+unfolding page_word
 returns-clause-here c =
     let bytes : List ℕ = c.args.self.now.bytes in
     let at : ℕ = 8 * c.args.index in
@@ -16,7 +16,7 @@ returns-clause-here c =
     ∙ word_here bytes at (4096 - at) c.args.word whole (omega (arith, c.requires)) c.ranges.word.fits
 
 pub returns-clause-others : goal.returns-clause-others
-unfolding word_at
+unfolding page_word
 returns-clause-others c k other =
     let bytes : List ℕ = c.args.self.now.bytes in
     let at : ℕ = 8 * c.args.index in

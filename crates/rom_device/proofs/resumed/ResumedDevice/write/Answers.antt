@@ -1,5 +1,5 @@
 use Rattle.std.proofs.Common.{◌≡◌, inl, refl, rules, Bool, true, false, is_err, Result, Ok, Err, OnOk}
-use Rattle.rom_device.specs.Device.{Writes}
+use Rattle.rom_device.specs.Device.{WritesWord}
 use Rattle.rom_device.specs.Doubt.{untold}
 use Rattle.rom_device.specs.declared.call.LoggedCall.TheVariants.{Write}
 use Rattle.rom_device.proofs.Older.{after_write, fewer_on, goes, lands_well, renewed_by, runs_on, went_well}
@@ -16,7 +16,7 @@ returns-clause-does c =
       size = search rules;
       words = c.write.ensures.does.words;
       images = λ never. untold never;
-      doubts = λ told. let runs = runs_on (older_of old) old.memory c.write.new.self c.write.ensures.lists.rest.start (Writes c.args.at c.args.value) (λ x. inl refl) (Write c.args.at c.args.value lands) (λ i. after_write (older_of old) (start_of old.memory) (log_of old) c.args.at c.args.value lands i) next in record { later = runs.later; now = runs.now; nothing_else = runs.nothing_else; keeps = runs.keeps };
+      doubts = λ told. let runs = runs_on (older_of old) old.memory c.write.new.self c.write.ensures.lists.rest.start (WritesWord c.args.at c.args.value) (λ x. inl refl) (Write c.args.at c.args.value lands) (λ i. after_write (older_of old) (start_of old.memory) (log_of old) c.args.at c.args.value lands i) next in record { later = runs.later; now = runs.now; nothing_else = runs.nothing_else; keeps = runs.keeps };
       fewer = fewer_on (older_of old) old.memory c.write.new.self c.write.ensures.lists.rest.start (Write c.args.at c.args.value lands) next;
     }
 

@@ -1,5 +1,5 @@
 use Rattle.std.proofs.Common.{length, get_or, refl, ◌∙◌, ap, arith, length-set}
-use Rattle.rom_model.specs.VecSpace.{words_of}
+use Rattle.rom_model.specs.VecSpace.{words_of_space}
 use Rattle.rom_model.proofs.Nodes.{pow_small}
 use Rattle.rom_heap.specs.Node.{head_of}
 use Rattle.rom_heap.specs.declared.renew.node.Node.{Node}
@@ -8,7 +8,7 @@ use Rattle.rom_heap.proofs.renew.node.relink.Goals as goal
 
 pub loop-node-init : goal.loop-node-init
 loop-node-init c = record {
-  linked = at_first (words_of c.args.space.now) (head_of c.args.order c.args.bucket) c.args.nodes.now c.head_of-link.result c.head_of-link.ensures.is;
+  linked = at_first (words_of_space c.args.space.now) (head_of c.args.order c.args.bucket) c.args.nodes.now c.head_of-link.result c.head_of-link.ensures.is;
   within = c.head_of-link.ensures.within;
   long = refl;
 }
@@ -24,19 +24,19 @@ loop-node-preserved c =
     let i = c.loop-node.node-index in
     let at = (get_or c.args.nodes.now i d).at in
     record {
-      linked = one_further c.loop-node.invariant.linked d c.loop-node-test.true (words_of c.store.new.self) c.store.ensures.image;
+      linked = one_further c.loop-node.invariant.linked d c.loop-node-test.true (words_of_space c.store.new.self) c.store.ensures.image;
       within = omega (arith, node_within c.requires.nodes.1 i d c.loop-node-test.true);
-      long = ap length c.store.ensures.image ∙ length-set (words_of c.loop-node.space) c.loop-node.link at ∙ c.loop-node.invariant.long;
+      long = ap length c.store.ensures.image ∙ length-set (words_of_space c.loop-node.space) c.loop-node.link at ∙ c.loop-node.invariant.long;
     }
 
 pub returns-clause-linked : goal.returns-clause-linked
 returns-clause-linked c blocks are =
-    let old = words_of c.args.space.now in
-    let new = words_of c.store-2.new.self in
+    let old = words_of_space c.args.space.now in
+    let new = words_of_space c.store-2.new.self in
     linked are old new c.requires.order.least c.requires.bucket c.requires.sized (at_last c.loop-node.invariant.linked c.loop-node-test.false new c.store-2.ensures.image)
 
 pub returns-clause-others : goal.returns-clause-others
 returns-clause-others c blocks are =
-    let old = words_of c.args.space.now in
-    let new = words_of c.store-2.new.self in
+    let old = words_of_space c.args.space.now in
+    let new = words_of_space c.store-2.new.self in
     changes are old new c.requires.order.least c.requires.bucket c.requires.sized (at_last c.loop-node.invariant.linked c.loop-node-test.false new c.store-2.ensures.image)

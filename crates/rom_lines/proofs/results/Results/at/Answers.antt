@@ -1,5 +1,5 @@
 use Rattle.std.proofs.Common.{ap, refl, ◌∙◌, drop, take}
-use Rattle.rom_lines.specs.Replies.{result_of, Fits}
+use Rattle.rom_lines.specs.Replies.{result_of, ReplyCellFits}
 use Rattle.rom_lines.specs.declared.results.Cell.TheVariants as cell
 use Rattle.rom_lines.proofs.Runs.{at_image, at_holds, run_cut}
 use Rattle.rom_lines.proofs.Replies.{done_result, read_result, told_at}
@@ -26,7 +26,7 @@ returns-in-Done g c =
     (at_image (result_of wr words answers) cells c.args.self.now.items c.args.i c.index.result.now x e c.requires c.index.ensures c.in-Done.is)
     (done_result wr words c.in-Done.place c.in-Done.from c.in-Done.many _
     (run_cut c.deref.result.now c.in-Done.from c.in-Done.many ∙ ap (λ w. take c.in-Done.many (drop c.in-Done.from w)) c.deref.ensures.value)
-    (at_holds (Fits wr words answers) (result_of wr words answers) cells c.args.self.now.items c.args.i c.index.result.now x c.self.invariant.0 e c.requires c.index.ensures c.in-Done.is))
+    (at_holds (ReplyCellFits wr words answers) (result_of wr words answers) cells c.args.self.now.items c.args.i c.index.result.now x c.self.invariant.0 e c.requires c.index.ensures c.in-Done.is))
 
 pub returns-in-Undone : goal.returns-in-Undone
 returns-in-Undone g c =
@@ -49,5 +49,5 @@ returns-in-Read g c =
     told_at wr c.args.self.now.items c.args.i (result_of wr words answers x) _
     (at_image (result_of wr words answers) cells c.args.self.now.items c.args.i c.index.result.now x e c.requires c.index.ensures c.in-Read.is)
     (read_result wr answers c.in-Read.front c.in-Read.at c.index-in-Read.result.now
-    (at_holds (Fits wr words answers) (result_of wr words answers) cells c.args.self.now.items c.args.i c.index.result.now x c.self.invariant.0 e c.requires c.index.ensures c.in-Read.is)
+    (at_holds (ReplyCellFits wr words answers) (result_of wr words answers) cells c.args.self.now.items c.args.i c.index.result.now x c.self.invariant.0 e c.requires c.index.ensures c.in-Read.is)
     c.index-in-Read.ensures)

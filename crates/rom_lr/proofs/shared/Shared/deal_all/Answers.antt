@@ -1,5 +1,5 @@
 use Rattle.std.proofs.Common.{◌≡◌, ℕ, ◌+◌, ◌∷◌, [], length, length-append, ap, sym, ◌∙◌, subst}
-use Rattle.rom_lr.specs.Opening.{AreNew}
+use Rattle.rom_lr.specs.Opening.{AreNewSeats}
 use Rattle.rom_lr.specs.Seats.{opened_with}
 use Rattle.rom_lr.proofs.Dealing.{new_pushed}
 use Rattle.rom_rule.specs.Kinds.{dealing, newcomer}
@@ -13,6 +13,6 @@ loop-i-preserved g c = let kept = c.loop-i.invariant in let d = c.deal-seat.ensu
       (d.same.0 ∙ kept.0.0, ap (λ v. v.base) d.writer ∙ kept.0.1),
       d.writer ∙ ap dealing kept.1,
       (ap length items ∙ length-append c.loop-i.seats.items (c.deal-seat.result ∷ [])) ∙ ap (λ (n : ℕ). n + 1) many,
-      subst (AreNew shared) (sym items) (new_pushed shared c.loop-i.seats.items c.deal-seat.result kept.3
+      subst (AreNewSeats shared) (sym items) (new_pushed shared c.loop-i.seats.items c.deal-seat.result kept.3
           (d.of, d.number ∙ ap (λ (n : ℕ). n + 1) (sym many), d.seat ∙ (ap newcomer kept.1 ∙ ap (λ (n : ℕ). let v : View = record (fresh_view (opened_with shared)) { number = n + 1 } in v) (sym many)))),
     )

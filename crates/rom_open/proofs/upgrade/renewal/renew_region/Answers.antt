@@ -1,6 +1,6 @@
 use Rattle.std.proofs.Common.{◌≡◌, ◌∙◌, ℕ, Result, Err, IsTrue, List, ap, rules, subst}
 use Rattle.rom_model.specs.Blocks.{region_len}
-use Rattle.rom_model.specs.VecSpace.{words_of}
+use Rattle.rom_model.specs.VecSpace.{words_of_space}
 use Rattle.rom_recover.specs.Recovered.{IsDone}
 use Rattle.rom_open.specs.Calls.{is_recovered}
 use Rattle.rom_open.specs.Refusals.{named_order}
@@ -20,7 +20,7 @@ returns-in_err-geometry-clause-recovered g c told late =
 pub returns-clause-sized : goal.returns-clause-sized
 returns-clause-sized g c =
     let fit = c.in_ok-inspect_earlier.ensures.fit in
-    let contents : g.O.Object.earlier.Contents c.order.result (words_of c.of-region.result) fit.0 fit.1 = search rules in
+    let contents : g.O.Object.earlier.Contents c.order.result (words_of_space c.of-region.result) fit.0 fit.1 = search rules in
     (g.met.O.Object.contents_within _ _ _ _ (c.in_ok-renew.ensures.renewed fit.0 fit.1 contents)).0 ∙ ap (λ (n : ℕ). region_len n) c.order.ensures.order
 
 pub returns-in_default-clause-too_small : goal.returns-in_default-clause-too_small

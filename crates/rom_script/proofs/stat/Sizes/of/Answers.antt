@@ -2,7 +2,7 @@ use Rattle.std.proofs.Common.{◌≡◌, ℕ, sym, ◌∙◌, subst}
 use Rattle.rom_heap.specs.Laws.{contents_within}
 use Rattle.rom_model.specs.Region.{Contents}
 use Rattle.rom_model.specs.State.{State}
-use Rattle.rom_model.specs.VecSpace.{words_of}
+use Rattle.rom_model.specs.VecSpace.{words_of_space}
 use Rattle.rom_script.proofs.stat.Sizes.of.Goals as goal
 
 pub answer-requires-clause-region : goal.answer-requires-clause-region
@@ -35,7 +35,7 @@ returns c = record {
       let held2 = subst (λ w. Contents n w s k) (sym second) held in
       let third = c.free_elements.ensures.looks.image ∙ second in
       let held3 = subst (λ w. Contents n w s k) (sym third) held in
-      let count : c.load.result ≡ k = c.load.ensures.word ∙ (contents_within n (words_of c.args.space.now) s k held).1 in
+      let count : c.load.result ≡ k = c.load.ensures.word ∙ (contents_within n (words_of_space c.args.space.now) s k held).1 in
       let sizes = c.answer.ensures.told s k held1 in
       let free = c.free_elements.ensures.free s k held2 in
       let total = c.answer-2.ensures.told s k held3 in

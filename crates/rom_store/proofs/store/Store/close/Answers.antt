@@ -1,6 +1,6 @@
 use Rattle.std.proofs.Common.{◌≡◌, ℕ, ◌+◌, List, length, refl, ap, sym, ◌∙◌, subst}
 use Rattle.rom_model.specs.Machine.{on_words}
-use Rattle.rom_model.specs.VecSpace.{words_of}
+use Rattle.rom_model.specs.VecSpace.{words_of_space}
 use Rattle.rom_rule.specs.Readers.{Held}
 use Rattle.rom_rule.specs.Views.{base_of, plan_of, records_of}
 use Rattle.rom_rule.specs.declared.views.Base.{Base}
@@ -25,7 +25,7 @@ last_plan g c = ap plan_of c.load_main-count.ensures.still.2
 abbrev session_at : (g : given.Over) (c : goal.After-load_main-count g) → SessionSeen
 session_at g c = record {
   order = c.args.self.begun.order;
-  image = words_of c.args.self.begun.image.value;
+  image = words_of_space c.args.self.begun.image.value;
   faults = c.args.self.begun.faults;
   history = (plan_of c.load_main-count.new.seat.token.me.0).history;
   records = records_of (plan_of c.load_main-count.new.seat.token.me.0);
@@ -82,7 +82,7 @@ invariant_of-result g c =
     let e = at_end g c in
     let same = last_plan g c in
     let key : base_of self.shared.table.shared.key ≡ base = self.based in
-    let opened : (s : g.O.Object.State) (k : ℕ) → contents self.begun.order (words_of self.begun.image.value) s k → contents base.order base.image s k
+    let opened : (s : g.O.Object.State) (k : ℕ) → contents self.begun.order (words_of_space self.begun.image.value) s k → contents base.order base.image s k
     = λ s k op. subst (λ (z : ℕ × List ℕ). contents z.0 z.1 s k) (λ i. (self.ordered i, self.imaged i)) op in
     record {
       of = writer_at_end self.shared.table.shared.table_id g.N.Label.table self.shared.table.shared.key base c.into_core.result c.into_parts-twin.result.1 c.take_in_all.new.writer c.review.new.writer c.load_main-count.new.seat

@@ -5,7 +5,7 @@ use Rattle.rom_model.specs.Machine.{on_words}
 use Rattle.rom_model.specs.Seen.{next_call}
 use Rattle.rom_model.specs.declared.call.Updated.{Updated}
 use Rattle.rom_lines.specs.Replies.{updated_as}
-use Rattle.rom_rule.specs.CallKinds.{IsTold}
+use Rattle.rom_rule.specs.CallKinds.{IsToldByPass}
 use Rattle.rom_rule.specs.Views.{kept_of}
 use Rattle.rom_store.specs.Updating.{IsDoneIn}
 use Rattle.rom_store.proofs.Becoming.{done_by_words}
@@ -28,7 +28,7 @@ returns-clause-told g c = λ few. c.update_words-became.ensures.told few ∙ (λ
 
 pub returns-clause-taken : goal.returns-clause-taken
 returns-clause-taken g c = λ few. let old = c.args.pass.now.view in
-    subst (λ (z : List ℕ × Updated (List ℕ)). IsTold g.O.Object.Contents (on_words g.O.Object.machine) g.N.Label.base (next_call (kept_of old) z.0, z.1) (length old.seen) old.seen c.update_words-became.new.pass.view.seen)
+    subst (λ (z : List ℕ × Updated (List ℕ)). IsToldByPass g.O.Object.Contents (on_words g.O.Object.machine) g.N.Label.base (next_call (kept_of old) z.0, z.1) (length old.seen) old.seen c.update_words-became.new.pass.view.seen)
     (λ j. (words_are g c j, as_words g.O.Object.machine (sym c.updated_by.ensures j))) (c.update_words-became.ensures.taken few)
 
 pub returns-clause-done : goal.returns-clause-done

@@ -4,7 +4,7 @@ use Rattle.rom_model.specs.Lawful.{as_words}
 use Rattle.rom_model.specs.Machine.{on_words}
 use Rattle.rom_model.specs.Seen.{next_call}
 use Rattle.rom_model.specs.declared.call.Updated.{Updated}
-use Rattle.rom_lines.specs.Replies.{IsReplied, updated_as}
+use Rattle.rom_lines.specs.Replies.{HasReplyWords, updated_as}
 use Rattle.rom_rule.specs.Calls.{answer_words, packed}
 use Rattle.rom_rule.specs.Views.{kept_of}
 use Rattle.rom_rule.specs.declared.views.View.{View}
@@ -21,7 +21,7 @@ post_words-requires-clause-call g c s k = call_steps g.O.Object.machine c.args.w
 was_told : (g : Over) (c : goal.After-became_of g) → (u : Updated _) × IsWithinPlaces u × IsReadBack g.O.Object.machine u × (answer_words (as_words g.O.Object.machine u) ≡ c.take_into-word.result ∷ packed c.take_into-word.new.reply)
 was_told g c = told_some g.O.Object.machine g.O.Object.Contents g.met.O.Object.reply_back c.post_words.new.seat.token.me.0 c.await_answer.new.seat.token.me.0 c.await_answer.ensures.told _ c.take_into-word.ensures.answer
 
-became : (g : Over) (c : goal.After-became_of g) → (updated_as g.O.Object.machine.words_reply c.became_of.result c.take_into-word.new.reply ≡ (was_told g c).0) × IsReplied g.O.Object.machine.words_reply c.became_of.result c.take_into-word.new.reply
+became : (g : Over) (c : goal.After-became_of g) → (updated_as g.O.Object.machine.words_reply c.became_of.result c.take_into-word.new.reply ≡ (was_told g c).0) × HasReplyWords g.O.Object.machine.words_reply c.became_of.result c.take_into-word.new.reply
 became g c = let told = was_told g c in became_is g.O.Object.machine told.0 c.became_of.result c.take_into-word.result c.take_into-word.new.reply told.1 told.2 told.3 c.became_of.ensures
 
 told_words : (g : Over) (c : goal.After-became_of g) → answer_words (as_words g.O.Object.machine (updated_as g.O.Object.machine.words_reply c.became_of.result c.take_into-word.new.reply)) ≡ c.take_into-word.result ∷ packed c.take_into-word.new.reply

@@ -1,5 +1,5 @@
 use Rattle.std.proofs.Common.{rules, ◌∙◌, ap, subst, arith}
-use Rattle.rom_device.specs.Device.{Becomes, Does, Runs, Writes}
+use Rattle.rom_device.specs.Device.{Becomes, Does, Runs, WritesWord}
 use Rattle.rom_header.specs.Headers.{state_word}
 use Rattle.rom_header.specs.Layout.{STATE}
 use Rattle.rom_header.specs.declared.header.State.TheVariants.{Mutating}
@@ -28,7 +28,7 @@ returns-in_err-set_state-clause-kept g c = record {
 }
 
 pub returns-in_err-set_state-clause-does : goal.returns-in_err-set_state-clause-does
-returns-in_err-set_state-clause-does g c = subst (λ s. Does g.D.Device.shown (Writes STATE (state_word Mutating)) s.device c.set_state.new.device) c.self.view_is c.set_state.ensures.does
+returns-in_err-set_state-clause-does g c = subst (λ s. Does g.D.Device.shown (WritesWord STATE (state_word Mutating)) s.device c.set_state.new.device) c.self.view_is c.set_state.ensures.does
 
 pub returns-clause-since : goal.returns-clause-since
 returns-clause-since g c told =
@@ -44,4 +44,4 @@ returns-clause-kept g c = record {
 }
 
 pub returns-clause-does : goal.returns-clause-does
-returns-clause-does g c = subst (λ s. Does g.D.Device.shown (Writes STATE (state_word Mutating)) s.device c.set_state.new.device) c.self.view_is c.set_state.ensures.does
+returns-clause-does g c = subst (λ s. Does g.D.Device.shown (WritesWord STATE (state_word Mutating)) s.device c.set_state.new.device) c.self.view_is c.set_state.ensures.does

@@ -1,5 +1,5 @@
 use Rattle.std.proofs.Common.{rules, ◌∙◌, ap, subst, arith}
-use Rattle.rom_device.specs.Device.{Becomes, Does, Runs, Writes}
+use Rattle.rom_device.specs.Device.{Becomes, Does, Runs, WritesWord}
 use Rattle.rom_header.specs.Headers.{state_word}
 use Rattle.rom_header.specs.Layout.{STATE}
 use Rattle.rom_header.specs.declared.header.State.TheVariants.{Copying}
@@ -31,7 +31,7 @@ pub returns-in_err-set_state-clause-main : goal.returns-in_err-set_state-clause-
 returns-in_err-set_state-clause-main g c told = commit_main g.D.Device.shown g.met.D.Device.reads_image g.met.D.Device.tells_both told _ (c.self.invariant.images told) c.set_state.new.device (ap (λ s. s.phase) c.self.view_is ∙ c.requires.phase) c.set_state.ensures.does ∙ ap (main_now g.D.Device.shown) c.self.view_is
 
 pub returns-in_err-set_state-clause-does : goal.returns-in_err-set_state-clause-does
-returns-in_err-set_state-clause-does g c = subst (λ s. Does g.D.Device.shown (Writes STATE (state_word Copying)) s.device c.set_state.new.device) c.self.view_is c.set_state.ensures.does
+returns-in_err-set_state-clause-does g c = subst (λ s. Does g.D.Device.shown (WritesWord STATE (state_word Copying)) s.device c.set_state.new.device) c.self.view_is c.set_state.ensures.does
 
 pub returns-clause-since : goal.returns-clause-since
 returns-clause-since g c told =
@@ -50,4 +50,4 @@ pub returns-clause-main : goal.returns-clause-main
 returns-clause-main g c told = commit_main g.D.Device.shown g.met.D.Device.reads_image g.met.D.Device.tells_both told _ (c.self.invariant.images told) c.set_state.new.device (ap (λ s. s.phase) c.self.view_is ∙ c.requires.phase) c.set_state.ensures.does ∙ ap (main_now g.D.Device.shown) c.self.view_is
 
 pub returns-clause-does : goal.returns-clause-does
-returns-clause-does g c = subst (λ s. Does g.D.Device.shown (Writes STATE (state_word Copying)) s.device c.set_state.new.device) c.self.view_is c.set_state.ensures.does
+returns-clause-does g c = subst (λ s. Does g.D.Device.shown (WritesWord STATE (state_word Copying)) s.device c.set_state.new.device) c.self.view_is c.set_state.ensures.does

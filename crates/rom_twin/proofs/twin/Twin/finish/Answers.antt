@@ -1,5 +1,5 @@
 use Rattle.std.proofs.Common.{rules, ◌∙◌, ap, subst, arith}
-use Rattle.rom_device.specs.Device.{Becomes, Does, Runs, Writes}
+use Rattle.rom_device.specs.Device.{Becomes, Does, Runs, WritesWord}
 use Rattle.rom_header.specs.Headers.{state_word}
 use Rattle.rom_header.specs.Layout.{STATE}
 use Rattle.rom_header.specs.declared.header.State.TheVariants.{Idle}
@@ -25,4 +25,4 @@ returns-clause-kept g c = record {
 }
 
 pub returns-clause-does : goal.returns-clause-does
-returns-clause-does g c = subst (λ s. Does g.D.Device.shown (Writes STATE (state_word Idle)) s.device c.write_state.new.device) c.self.view_is c.write_state.ensures.does
+returns-clause-does g c = subst (λ s. Does g.D.Device.shown (WritesWord STATE (state_word Idle)) s.device c.write_state.new.device) c.self.view_is c.write_state.ensures.does

@@ -1,6 +1,6 @@
 use Rattle.std.proofs.Common.{◌≡◌, ◌++◌, map, sym, ◌∙◌, ap, subst}
 use Rattle.std.specs.FinMap as finite
-use Rattle.rom_model.specs.VecSpace.{words_of}
+use Rattle.rom_model.specs.VecSpace.{words_of_space}
 use Rattle.std.specs.Option.{unwrap_or}
 use Rattle.rom_model.specs.State.{value_of}
 use Rattle.rom_model.specs.Chains.{Chain, each_word}
@@ -23,7 +23,7 @@ pub returns-clause-are : goal.returns-clause-are
 returns-clause-are c s k held =
     let n = c.args.order in
     let shape = held.1.shape in
-    let w = words_of c.args.space.now in
+    let w = words_of_space c.args.space.now in
     let is : c.words-words.result.now ≡ w = c.words-words.ensures in
     let queue : c.collect_chain.new.into.items ≡ s.queue =
     c.in_ok-collect_chain.ensures.collected held.0.queue (subst (λ v. Chain n v 3 1 held.0.queue) (sym is) shape.queue.chain) ∙ ap (λ xs. xs ++ each_word n c.words-words.result.now 0 held.0.queue) c.in_ok-queue.ensures.items
