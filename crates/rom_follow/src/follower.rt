@@ -4,21 +4,17 @@ ghost use Rattle.rom_model.specs.Codes as codes;
 ghost use Rattle.rom_model.specs.History.{IsLegal};
 ghost use Rattle.rom_model.specs.Leaving.{IsClosed};
 ghost use Rattle.rom_model.specs.Machine.{on_words};
-ghost use Rattle.rom_model.specs.Passes.{faults_after};
 ghost use Rattle.rom_model.specs.Region.{Contents};
 ghost use Rattle.rom_model.specs.State.{State};
 ghost use Rattle.rom_model.specs.Trio.{trio};
 ghost use Rattle.rom_model.specs.declared.entry.Entry.{Entry};
-ghost use Rattle.rom_combine.specs.Costs.{WithinHeap};
-ghost use Rattle.rom_combine.specs.Session.{ImageNow, SessionImage};
 ghost use Rattle.rom_rule.specs.CallKinds.{IsToldByPass};
 ghost use Rattle.rom_rule.specs.Views.{Told, base_of};
 ghost use Rattle.rom_store.specs.Callers.{IsNewCaller};
-ghost use Rattle.rom_store.specs.Closing.{HasLeftSince};
+ghost use Rattle.rom_store.specs.Closing.{HasLeftSince, IsClosedFrom};
 ghost use Rattle.rom_store.specs.Indexed.{Indexed};
-ghost use Rattle.rom_store.specs.Sessions.{EachStory, HasStory};
-ghost use Rattle.rom_store.specs.Start.{HasStarted, device_start};
-ghost use Rattle.rom_store.specs.Traced.{WentThrough};
+ghost use Rattle.rom_store.specs.Sessions.{EachStory};
+ghost use Rattle.rom_store.specs.Start.{device_start};
 ghost use Rattle.rom_frame.specs.declared.frame.Frame.{Frame};
 ghost use Rattle.rom_follow.specs.Closing.{ArePassesOf};
 ghost use Rattle.rom_follow.specs.Followed.{HasDoneUpdates};
@@ -234,11 +230,7 @@ impl<D: Device, N: Label> Follower<D, N> {
 
     /// Ends the session. It takes no memory.
     pub fn close<R: Wait>(self, rt: &R) -> Closed<D, Trio>
-        ensures order { result.session.order ≡ N.base.order }
-        ensures image { result.session.image ≡ N.base.image }
-        ensures opening_faults { result.session.faults ≡ N.base.faults }
-        ensures story { HasStory trio Contents result.session }
-
+        ensures ended { IsClosedFrom D.shown trio Contents N.base N.start N.since result }
         // What the follower has done is legal from the opening's state and count on, and ends at its count.
         ensures done { (s : State) (k : ℕ) → Contents N.base.order N.base.image s k →
             HasDoneUpdates N.base.order s k self }
@@ -249,17 +241,6 @@ impl<D: Device, N: Label> Follower<D, N> {
         ensures passes { ArePassesOf result.session.records self.tried }
         // The session's history is that of its passes, and each update that they found is of caller 1.
         ensures closed { EachStory trio Contents result.session (λ story. IsClosed trio story 1) }
-
-        // Where images are told, what a stop leaves now holds the history, or the history and the batch in
-        // doubt.
-        ensures now { IsTrue D.shown.tells_images → EachStory trio Contents result.session
-            (λ story. (i : List ℕ) → D.shown.leaves result.device i →
-            ImageNow Contents (on_words trio) story i) }
-        // Where images are told, what a stop since the start might have left could be left before, or is an
-        // image of the session.
-        ensures since { IsTrue D.shown.tells_images → EachStory trio Contents result.session
-            (λ story. HasLeftSince D.shown N.start N.since
-            (SessionImage Contents (on_words trio) story) result.device) }
 
         // Where images are told, what a stop leaves now holds a prefix of each history that is followed. That
         // prefix is no shorter than the one at the start.
@@ -275,17 +256,6 @@ impl<D: Device, N: Label> Follower<D, N> {
             FollowsHistory N.base s0 n0 history first self →
             HasLeftSince D.shown N.start N.since
             (HoldsPrefix N.base.order s0 n0 history first) result.device }
-
-        // The device went through the passes of the records, one after another, from the start on.
-        ensures went { EachStory trio Contents result.session (λ story. WentThrough D.shown
-            Contents (on_words trio) story
-            (HasStarted D.shown N.base.faults N.start N.since) result.device) }
-        ensures size { D.shown.size result.device ≡ N.start.size }
-        // Where words are told, none differs from the start's but the heap's state and its two regions.
-        ensures outside { IsTrue D.shown.tells_words →
-            WithinHeap N.base.order N.start.words (D.shown.words result.device) }
-        ensures faults { faults_after result.session.faults result.session.records
-            ≤ D.shown.faults result.device }
     {
         let Follower {
             store,

@@ -10,4 +10,4 @@ pub mod Outside
 pub mod Writing
 pub mod Leaving
 pub mod Upgraded
-pub mod Unready
+pub mod Late

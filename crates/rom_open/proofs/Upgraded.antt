@@ -16,50 +16,37 @@ use Rattle.rom_open.specs.UpgradeCalls.{AreUpgradeSyncs, AreUpgradeWrites, Upgra
 most_more : (k n before now : ℕ) → AtMost k before now → AtMost (k + n) before now
 most_more k n before now most = record { later = most.later; most = omega (arith, most.most) }
 
-refused_writes : (T : Type 0) (order state : ℕ) (why : Why) (before now : ℕ) → opening.AreOpeningWrites {T = T} order state (Err why) before now → AreUpgradeWrites {T = Unit {0}} order state (Err why) before now
-refused_writes T order state NotAHeap before now writes = writes
-refused_writes T order state (BadVersion version) before now writes = writes
-refused_writes T order state (BadOrder n) before now writes = writes
-refused_writes T order state (BadState word) before now writes = writes
-refused_writes T order state (TooSmall need have) before now writes = writes
-refused_writes T order state (Twins offset main back) before now writes = writes
-refused_writes T order state OldRegion before now writes = writes
-refused_writes T order state NewRegion before now writes = writes
-refused_writes T order state (Malformed offset rule) before now writes = writes
-refused_writes T order state OutOfMemory before now writes = writes
-refused_writes T order state Device before now writes = most_more _ _ before now writes
+refused_writes : (order state : ℕ) (why : Why) (before now : ℕ) → opening.AreOpeningWrites {T = Unit {0}} order state (Err why) before now → AreUpgradeWrites {T = Unit {0}} order state (Err why) before now
+refused_writes order state NotAHeap before now writes = writes
+refused_writes order state (BadVersion version) before now writes = writes
+refused_writes order state (BadOrder n) before now writes = writes
+refused_writes order state (BadState word) before now writes = writes
+refused_writes order state (TooSmall need have) before now writes = writes
+refused_writes order state (Twins offset main back) before now writes = writes
+refused_writes order state OldRegion before now writes = writes
+refused_writes order state NewRegion before now writes = writes
+refused_writes order state (Malformed offset rule) before now writes = writes
+refused_writes order state OutOfMemory before now writes = writes
+refused_writes order state Device before now writes = most_more _ _ before now writes
 
-refused_syncs : (T : Type 0) (state : ℕ) (why : Why) (before now : ℕ) → opening.AreOpeningSyncs {T = T} state (Err why) before now → AreUpgradeSyncs {T = Unit {0}} state (Err why) before now
-refused_syncs T state NotAHeap before now syncs = syncs
-refused_syncs T state (BadVersion version) before now syncs = syncs
-refused_syncs T state (BadOrder n) before now syncs = syncs
-refused_syncs T state (BadState word) before now syncs = syncs
-refused_syncs T state (TooSmall need have) before now syncs = syncs
-refused_syncs T state (Twins offset main back) before now syncs = syncs
-refused_syncs T state OldRegion before now syncs = syncs
-refused_syncs T state NewRegion before now syncs = syncs
-refused_syncs T state (Malformed offset rule) before now syncs = syncs
-refused_syncs T state OutOfMemory before now syncs = syncs
-refused_syncs T state Device before now syncs = most_more _ _ before now syncs
+refused_syncs : (state : ℕ) (why : Why) (before now : ℕ) → opening.AreOpeningSyncs {T = Unit {0}} state (Err why) before now → AreUpgradeSyncs {T = Unit {0}} state (Err why) before now
+refused_syncs state NotAHeap before now syncs = syncs
+refused_syncs state (BadVersion version) before now syncs = syncs
+refused_syncs state (BadOrder n) before now syncs = syncs
+refused_syncs state (BadState word) before now syncs = syncs
+refused_syncs state (TooSmall need have) before now syncs = syncs
+refused_syncs state (Twins offset main back) before now syncs = syncs
+refused_syncs state OldRegion before now syncs = syncs
+refused_syncs state NewRegion before now syncs = syncs
+refused_syncs state (Malformed offset rule) before now syncs = syncs
+refused_syncs state OutOfMemory before now syncs = syncs
+refused_syncs state Device before now syncs = most_more _ _ before now syncs
 
-refused_reads : (T : Type 0) (order state : ℕ) (why : Why) (before now : ℕ) → opening.AreOpeningReads {T = T} order state (Err why) before now → opening.AreOpeningReads {T = Unit {0}} order state (Err why) before now
-refused_reads T order state NotAHeap before now reads = reads
-refused_reads T order state (BadVersion version) before now reads = reads
-refused_reads T order state (BadOrder n) before now reads = reads
-refused_reads T order state (BadState word) before now reads = reads
-refused_reads T order state (TooSmall need have) before now reads = reads
-refused_reads T order state (Twins offset main back) before now reads = reads
-refused_reads T order state OldRegion before now reads = reads
-refused_reads T order state NewRegion before now reads = reads
-refused_reads T order state (Malformed offset rule) before now reads = reads
-refused_reads T order state OutOfMemory before now reads = reads
-refused_reads T order state Device before now reads = reads
-
-pub refused_calls : {D : Type 0} (T : Type 0) (shown : ShownDevice D) (x : List ℕ) (a b : D) (why : Why) → OpeningCalls {T = T} shown x a b (Err why) → UpgradeCalls {T = Unit {0}} shown x a b (Err why)
-refused_calls T shown x a b why calls = record {
-  reads = refused_reads T _ _ why _ _ calls.reads;
-  writes = refused_writes T _ _ why _ _ calls.writes;
-  syncs = refused_syncs T _ why _ _ calls.syncs;
+pub refused_calls : {D : Type 0} (shown : ShownDevice D) (x : List ℕ) (a b : D) (why : Why) → OpeningCalls {T = Unit {0}} shown x a b (Err why) → UpgradeCalls {T = Unit {0}} shown x a b (Err why)
+refused_calls shown x a b why calls = record {
+  reads = calls.reads;
+  writes = refused_writes _ _ why _ _ calls.writes;
+  syncs = refused_syncs _ why _ _ calls.syncs;
 }
 
 module _ {D : Type 0} (shown : ShownDevice D) (a b : D) where

@@ -1,13 +1,20 @@
 -- The calls of an opening and of a making, counted by their answers, are no more than any makes.
-use Rattle.std.specs.Prelude.{◌≡◌, ℕ, ◌==◌, ◌≤◌, min, Bool, true, false, if◌then◌else◌, Result, Ok, Err, IsTrue}
+use Rattle.std.specs.Prelude.{◌≡◌, ℕ, ◌==◌, ◌<◌, ◌≤◌, min, Bool, true, false, if◌then◌else◌, Result, Ok, Err, IfErr, IsTrue}
 use Rattle.std.proofs.Common.{arith, inl, inr}
 use Rattle.rom_model.specs.Faults.{Adds, AtMost, StopsAtFault}
-use Rattle.rom_device.specs.Device.{ShownDevice, Does, Makes, Stays}
+use Rattle.rom_device.specs.Device.{ShownDevice, Does, IsSynced, Leaves, Makes, Stays}
 use Rattle.rom_header.specs.Calls.{format_fault, format_reads, format_syncs, format_writes}
 use Rattle.rom_header.specs.Headers.{IsIdle}
+use Rattle.rom_header.specs.Regions.{SameRegion}
+use Rattle.rom_header.specs.Writing.{Alters}
 use Rattle.rom_header.specs.declared.fresh.FormatRefused.{FormatRefused}
 use Rattle.rom_header.specs.declared.fresh.FormatRefused.TheVariants as format
-use Rattle.rom_open.specs.Calls.{AreOpeningReads, AreOpeningSyncs, AreOpeningWrites, HasOpeningFaults, OpeningCalls, opening_reads, opening_syncs, opening_writes}
+use Rattle.rom_recover.specs.Doubt.{IsLeftInDoubt}
+use Rattle.rom_recover.specs.Recovered.{IsDone, Mended}
+use Rattle.rom_open.specs.Calls.{AreOpeningReads, AreOpeningSyncs, AreOpeningWrites, HasOpeningFaults, OpeningCalls, is_recovered, opening_reads, opening_syncs, opening_writes}
+use Rattle.rom_open.specs.Opening.{MendsNamed}
+use Rattle.rom_open.specs.Opens.{Opens}
+use Rattle.rom_open.specs.Refusals.{NamesTooFew, named_order}
 use Rattle.rom_open.specs.Within.{CallsOfSomeOrder, WithinMaking, WithinOpening}
 use Rattle.rom_open.specs.declared.reasons.Why.{Why}
 use Rattle.rom_open.specs.declared.reasons.Why.TheVariants.{NotAHeap, BadVersion, BadOrder, BadState, TooSmall, Twins, OldRegion, NewRegion, Malformed, Device, OutOfMemory}
@@ -96,7 +103,7 @@ stops_opening (Err NewRegion) before now failing same = inl same
 stops_opening (Err (Malformed offset rule)) before now failing same = inl same
 stops_opening (Err OutOfMemory) before now failing same = inl same
 
-pub within_opening : {D T : Type 0} (shown : ShownDevice D) (was now : D) (result : Result T Why) → (IsTrue shown.tells_words → OpeningCalls shown (shown.words was) was now result)
+within_opening : {D T : Type 0} (shown : ShownDevice D) (was now : D) (result : Result T Why) → (IsTrue shown.tells_words → OpeningCalls shown (shown.words was) was now result)
     → (IsTrue shown.tells_words → IsIdle (shown.words was) → Does shown Stays was now) → HasOpeningFaults result (shown.faults was) (shown.faults now) (shown.failing now) → CallsOfSomeOrder shown was now → WithinOpening shown was now
 within_opening shown was now result calls idle faults by_order = record {
   calls = λ told. record {
@@ -107,6 +114,26 @@ within_opening shown was now result calls idle faults by_order = record {
   by_order = by_order;
   idle = idle;
   stops = stops_opening result _ _ _ faults;
+}
+
+-- what an opening does, of which the calls are given one by one
+pub opens_by : {D : Type 0} (shown : ShownDevice D) (was now : D) (answer : Result (Unit {0}) Why) → (shown.size was < 8 → answer ≡ Err (TooSmall 8 (shown.size was))) → IfErr answer (NamesTooFew (shown.size was))
+    → (IsTrue shown.tells_words → IsTrue (is_recovered answer) → IsDone (named_order (shown.words was)) (shown.words was) (shown.words now)) → (IsTrue (is_recovered answer) → IsSynced shown now) → Alters shown MendsNamed was now
+    → (IsTrue shown.tells_images → Leaves shown (Mended (named_order (shown.words was)) (shown.words was)) was now)
+    → (IsTrue shown.tells_doubts → IsLeftInDoubt shown (named_order (shown.words was)) was → Leaves shown (SameRegion (shown.words was)) was now)
+    → (IsTrue shown.tells_words → IsIdle (shown.words was) → Does shown Stays was now) → HasOpeningFaults answer (shown.faults was) (shown.faults now) (shown.failing now)
+    → (IsTrue shown.tells_words → OpeningCalls shown (shown.words was) was now answer) → CallsOfSomeOrder shown was now → Opens shown was now answer
+opens_by shown was now answer too_small sizes recovered certain left images doubts idle faults calls by_order = record {
+  too_small = too_small;
+  sizes = sizes;
+  recovered = recovered;
+  certain = certain;
+  left = left;
+  images = images;
+  doubts = doubts;
+  faults = faults;
+  calls = calls;
+  within = within_opening shown was now answer calls idle faults by_order;
 }
 
 pub within_making : {D : Type 0} (shown : ShownDevice D) (order : ℕ) (was now : D) (result : Result (Unit {0}) FormatRefused)

@@ -5,6 +5,7 @@ pub mod AtRest
 pub mod Opening
 pub mod Making
 pub mod Within
+pub mod Opens
 pub mod View
 pub mod Upgrading
 pub mod UpgradeCalls

@@ -84,7 +84,15 @@ IsUnfit Contents Rejects order region (TooSmall need have) = ⊥
 IsUnfit Contents Rejects order region (Twins offset main back) = ⊥
 IsUnfit Contents Rejects order region Device = ⊥
 
--- The refusal of these words, of which the object says what a region stands for and why one stands for nothing. Header and regions are refused; or else they are accepted, and the region that counts is refused.
+-- The refusal of these words, of which `Unfit` says why the region that counts is refused in a heap of this order. Header and regions are refused; or else they are accepted, and that region is refused. A device that fails may answer so in place of either.
+abbrev pub IsRefusedBy : (ℕ → List ℕ → Why → Type 0) → List ℕ → Why → Type 0
+IsRefusedBy Unfit words why =
+    IsUnready words why ⊎ ((region : List ℕ) × IsCurrentRegion (named_order words) words region × Unfit (named_order words) region why)
+
+-- no region is refused, but there was no memory for it
+abbrev pub IsUnkept : ℕ → List ℕ → Why → Type 0
+IsUnkept order region why = why ≡ OutOfMemory
+
+-- So where the object says what a region stands for and why one stands for nothing.
 abbrev pub IsRefusal : {S : Type 0} → (ℕ → List ℕ → S → ℕ → Type 0) → (ℕ → List ℕ → Unfit → Type 0) → List ℕ → Why → Type 0
-IsRefusal Contents Rejects words why =
-    IsUnready words why ⊎ ((region : List ℕ) × IsCurrentRegion (named_order words) words region × IsUnfit Contents Rejects (named_order words) region why)
+IsRefusal Contents Rejects words why = IsRefusedBy (IsUnfit Contents Rejects) words why

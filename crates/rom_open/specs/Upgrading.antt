@@ -7,10 +7,10 @@ use Rattle.rom_device.specs.Device.{ShownDevice}
 use Rattle.rom_header.specs.Headers.{IsIdle, state_word}
 use Rattle.rom_header.specs.Held.{Holds}
 use Rattle.rom_header.specs.Layout.{MAIN, STATE, main_of, back_of}
-use Rattle.rom_header.specs.Regions.{IsCurrentRegion, IsHeap, SameRegion}
+use Rattle.rom_header.specs.Regions.{IsHeap, SameRegion}
 use Rattle.rom_header.specs.Writing.{StateOrWithin}
 use Rattle.rom_header.specs.declared.header.State.TheVariants.{Copying}
-use Rattle.rom_open.specs.Refusals.{IsRejected, IsUnready, named_order}
+use Rattle.rom_open.specs.Refusals.{IsRefusedBy, IsRejected, named_order}
 use Rattle.rom_open.specs.declared.from_device.Refused.{Refused}
 use Rattle.rom_open.specs.declared.reasons.Why.{Why}
 use Rattle.rom_open.specs.declared.reasons.Why.TheVariants.{NotAHeap, BadVersion, BadOrder, BadState, TooSmall, Twins, OldRegion, NewRegion, Malformed, Device, OutOfMemory}
@@ -41,10 +41,9 @@ module _ {S : Type 0} (earlier : Earlier S) where
   IsUnfitOld order region (Twins offset main back) = ⊥
   IsUnfitOld order region Device = ⊥
 
-  -- The refusal of these words: the header and the regions are refused as an opening refuses them; or else they are accepted, and the region that counts is refused. A device that fails may answer so in place of either.
+  -- The refusal of these words: the header and the regions are refused as an opening refuses them; or else they are accepted, and the region that counts is refused.
   abbrev pub IsUpgradeRefusal : List ℕ → Why → Type 0
-  IsUpgradeRefusal words why =
-      IsUnready words why ⊎ ((region : List ℕ) × IsCurrentRegion (named_order words) words region × IsUnfitOld (named_order words) region why)
+  IsUpgradeRefusal words why = IsRefusedBy IsUnfitOld words why
 
   -- The answer to these words: the order that they name, where they hold a state and a count in the version before; or the first refusal whose test fails.
   abbrev pub IsUpgradeAnswer : {D : Type 0} → List ℕ → Result (D × ℕ) (Refused D) → Type 0

@@ -1,25 +1,18 @@
 //! The command `follow`: the heap is opened, takes the frames of a stream, and is closed.
-ghost use Rattle.std.specs.Prelude.{◌≡◌, ◌⊎◌, ℕ, ◌≤◌, List, length, IfErr, IfOk, IfSome, IsNone, IsSome, IsTrue, OnErr, OnOk, Some};
+ghost use Rattle.std.specs.Prelude.{◌≡◌, ◌⊎◌, ℕ, List, length, IfErr, IfOk, IfSome, IsNone, IsSome, IsTrue, OnErr, OnOk, Some};
 ghost use Rattle.rom_model.specs.Leaving.{IsClosed};
-ghost use Rattle.rom_model.specs.Machine.{on_words};
-ghost use Rattle.rom_model.specs.Passes.{faults_after};
 ghost use Rattle.rom_model.specs.Region.{Contents};
 ghost use Rattle.rom_model.specs.State.{State};
 ghost use Rattle.rom_model.specs.Story.{count};
 ghost use Rattle.rom_model.specs.Trio.{trio};
 ghost use Rattle.rom_heap.specs.Answers.{Rejects, earlier};
-ghost use Rattle.rom_device.specs.Device.{Leaves};
-ghost use Rattle.rom_combine.specs.Costs.{WithinHeap};
-ghost use Rattle.rom_combine.specs.Session.{ImageNow, SessionImage};
 ghost use Rattle.rom_rule.specs.Views.{base_of};
 ghost use Rattle.rom_store.specs.Callers.{IsNewCaller};
-ghost use Rattle.rom_store.specs.Closing.{HasLeftSince};
+ghost use Rattle.rom_store.specs.Closing.{IsClosedFrom};
 ghost use Rattle.rom_store.specs.Indexed.{Indexed};
-ghost use Rattle.rom_store.specs.Sessions.{EachStory, HasStory};
-ghost use Rattle.rom_store.specs.Start.{HasStarted, device_start};
-ghost use Rattle.rom_store.specs.Traced.{WentThrough};
-ghost use Rattle.rom_run.specs.Statuses as run;
-ghost use Rattle.rom_run.specs.Working.{HasNone, HasSession, IsDeviceKept};
+ghost use Rattle.rom_store.specs.Sessions.{EachStory};
+ghost use Rattle.rom_store.specs.Start.{device_start};
+ghost use Rattle.rom_run.specs.Working.{HasNoHeap, HasNone, HasSession, IsDeviceKept};
 ghost use Rattle.rom_run.specs.declared.heap.Heap.TheVariants.{Standing};
 ghost use Rattle.rom_text.specs.Runs.{AreAskedOnce};
 ghost use Rattle.rom_text.specs.Streams.{IsAskedOnce, StopsWriting, WriteFailed};
@@ -64,28 +57,11 @@ fn follow_as<D: Device + Send, N: Label, S: Source, R: Wait, G: Gate>(
     requires one { (length opening.passes ≡ 1) × (N.base.callers ≡ 1) }
     requires passes { Indexed (IsNewCaller Contents N.table N.base) opening.passes }
     requires formed { (s : State) × (k : ℕ) × Contents N.base.order N.base.image s k }
-    ensures order { result.closed.session.order ≡ N.base.order }
-    ensures image { result.closed.session.image ≡ N.base.image }
-    ensures opening_faults { result.closed.session.faults ≡ N.base.faults }
-    ensures story { HasStory trio Contents result.closed.session }
+    ensures ended { IsClosedFrom D.shown trio Contents N.base N.start N.since result.closed }
     ensures left { HasClosed S.shown stream.old stream.new result.tally result.stop
         result.closed.session }
     ensures closed { EachStory trio Contents result.closed.session (λ story.
         IsClosed trio story 1) }
-    ensures now { IsTrue D.shown.tells_images → EachStory trio Contents result.closed.session
-        (λ story. (i : List ℕ) → D.shown.leaves result.closed.device i →
-        ImageNow Contents (on_words trio) story i) }
-    ensures since { IsTrue D.shown.tells_images → EachStory trio Contents result.closed.session
-        (λ story. HasLeftSince D.shown N.start N.since
-        (SessionImage Contents (on_words trio) story) result.closed.device) }
-    ensures went { EachStory trio Contents result.closed.session (λ story. WentThrough D.shown
-        Contents (on_words trio) story (HasStarted D.shown N.base.faults N.start N.since)
-        result.closed.device) }
-    ensures size { D.shown.size result.closed.device ≡ N.start.size }
-    ensures outside { IsTrue D.shown.tells_words →
-        WithinHeap N.base.order N.start.words (D.shown.words result.closed.device) }
-    ensures faults { faults_after result.closed.session.faults result.closed.session.records
-        ≤ D.shown.faults result.closed.device }
     ensures asked_once { IsAskedOnce S.shown stream.old stream.new }
 {
     let mut follower = Follower::<D, N>::start(opening);
@@ -109,29 +85,12 @@ fn follow_on<D: Device + Send, S: Source, R: Wait, G: Gate>(
         opening.passes }
     requires formed { let b = base_of opening.key in
         (s : State) × (k : ℕ) × Contents b.order b.image s k }
-    ensures order { result.closed.session.order ≡ (base_of opening.key).order }
-    ensures image { result.closed.session.image ≡ (base_of opening.key).image }
-    ensures opening_faults { result.closed.session.faults ≡ (base_of opening.key).faults }
-    ensures story { HasStory trio Contents result.closed.session }
+    ensures ended { IsClosedFrom D.shown trio Contents (base_of opening.key)
+        (device_start D.shown opening.device) (D.shown.left_since opening.device) result.closed }
     ensures left { HasClosed S.shown stream.old stream.new result.tally result.stop
         result.closed.session }
     ensures closed { EachStory trio Contents result.closed.session (λ story.
         IsClosed trio story 1) }
-    ensures now { IsTrue D.shown.tells_images → EachStory trio Contents result.closed.session
-        (λ story. (i : List ℕ) → D.shown.leaves result.closed.device i →
-        ImageNow Contents (on_words trio) story i) }
-    ensures since { IsTrue D.shown.tells_images → EachStory trio Contents result.closed.session
-        (λ story. Leaves D.shown (SessionImage Contents (on_words trio) story) opening.device
-        result.closed.device) }
-    ensures went { EachStory trio Contents result.closed.session (λ story. WentThrough D.shown
-        Contents (on_words trio) story (HasStarted D.shown (base_of opening.key).faults
-        (device_start D.shown opening.device) (D.shown.left_since opening.device))
-        result.closed.device) }
-    ensures size { D.shown.size result.closed.device ≡ D.shown.size opening.device }
-    ensures outside { IsTrue D.shown.tells_words → WithinHeap (base_of opening.key).order
-        (D.shown.words opening.device) (D.shown.words result.closed.device) }
-    ensures faults { faults_after result.closed.session.faults result.closed.session.records
-        ≤ D.shown.faults result.closed.device }
     ensures asked_once { IsAskedOnce S.shown stream.old stream.new }
 {
     follow_as::<D, Brand, S, R, G>(rt, opening, stream, gate)
@@ -151,13 +110,8 @@ fn follow_heap<D: Device + Send, S: Source, O: Sink, R: Wait, G: Gate>(
         f.closed.session) }
     ensures kept { IfOk result (λ f. IsDeviceKept D.shown Standing device f.closed.device) }
     ensures unprinted { OnOk result (out.new ≡ out.old) }
-    ensures none { IfErr result (λ worked. HasNone trio Contents D.shown O.shown Rejects earlier
-        Standing device worked.device out.old out.new (run.exit_number worked.status)) }
-    ensures none_kept { IfErr result (λ worked.
-        IsDeviceKept D.shown Standing device worked.device) }
-    ensures none_statuses { IfErr result (λ worked. (worked.status ≡ Status.HeapRefused)
-        ⊎ (worked.status ≡ Status.NoMemory) ⊎ (worked.status ≡ Status.DeviceFailed)) }
-    ensures none_ran { IfErr result (λ worked. IsNone worked.session) }
+    ensures none { IfErr result (HasNoHeap trio Contents D.shown O.shown Rejects earlier Standing
+        device out.old out.new) }
     ensures unread { OnErr result (stream.new ≡ stream.old) }
     ensures asked_once { IsAskedOnce S.shown stream.old stream.new }
     ensures writing { StopsWriting O.shown out.old out.new }
@@ -185,13 +139,8 @@ fn follow_only<D: Device + Send, S: Source, O: Sink, R: Wait, G: Gate>(
         IsStreamFollowed S.shown was now f.tally f.stop story)) f.closed.session) }
     ensures kept { IfOk result (λ f. IsDeviceKept D.shown Standing device f.closed.device) }
     ensures unprinted { OnOk result (out.new ≡ out.old) }
-    ensures none { IfErr result (λ worked. HasNone trio Contents D.shown O.shown Rejects earlier
-        Standing device worked.device out.old out.new (run.exit_number worked.status)) }
-    ensures none_kept { IfErr result (λ worked.
-        IsDeviceKept D.shown Standing device worked.device) }
-    ensures none_statuses { IfErr result (λ worked. (worked.status ≡ Status.HeapRefused)
-        ⊎ (worked.status ≡ Status.NoMemory) ⊎ (worked.status ≡ Status.DeviceFailed)) }
-    ensures none_ran { IfErr result (λ worked. IsNone worked.session) }
+    ensures none { IfErr result (HasNoHeap trio Contents D.shown O.shown Rejects earlier Standing
+        device out.old out.new) }
     ensures unread { OnErr result (inputs.new ≡ inputs.old) }
     ensures many { length inputs.new ≡ length inputs.old }
     ensures asked_once { AreAskedOnce S.shown inputs.old inputs.new }

@@ -26,6 +26,11 @@ module _ {S : Type 0} (source : ShownSource S) where
   all_unasked [] = tt
   all_unasked (x ∷ xs) = (unasked x, all_unasked xs)
 
+  -- where there are none, none is too long, and no byte is left
+  pub none_left : (xs : List S) → length xs ≡ 0 → AreNotTooLong source xs × AreAtEnd source xs
+  none_left [] none = (tt, tt)
+  none_left (x ∷ xs) none = absurd (omega arith)
+
   -- some sources were asked, and then others
   both_asked : (xs ys vs ws : List S) → AreAskedOnce source xs ys → AreAskedOnce source vs ws → AreAskedOnce source (xs ++ vs) (ys ++ ws)
   both_asked [] [] vs ws first others = others

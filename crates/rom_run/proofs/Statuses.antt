@@ -36,9 +36,10 @@ module _ {P : Type 0} (status : ℕ) (is : (status ≡ 0) ⊎ (status ≡ 1) ⊎
   pub played_not_long : status ≡ 8 → P
   played_not_long eight = absurd (omega (arith, is, eight))
 
-  pub played_not_unread : (status ≡ 4) ⊎ (status ≡ 8) → P
-  played_not_unread (inl four) = played_not_failed four
-  played_not_unread (inr eight) = played_not_long eight
+  pub played_not_unread : (status ≡ 2) ⊎ (status ≡ 4) ⊎ (status ≡ 8) → P
+  played_not_unread (inl two) = absurd (omega (arith, is, two))
+  played_not_unread (inr (inl four)) = played_not_failed four
+  played_not_unread (inr (inr eight)) = played_not_long eight
 
   pub played_not_run : ((status ≡ 3) ⊎ (status ≡ 6) → P) → (status ≡ 3) ⊎ (status ≡ 4) ⊎ (status ≡ 6) ⊎ (status ≡ 8) → P
   played_not_run left (inl three) = left (inl three)

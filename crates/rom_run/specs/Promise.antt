@@ -30,7 +30,7 @@ module _ {S C Q R A D X K : Type 0} (machine : Machine S C Q R A) (Contents : �
     pub few_faults : IfSome session (λ s. EachStory machine Contents s (HasFewFaults machine shown was now))
 
   -- A command that asks for this use of the device's heap, or words that are none: whatever becomes of it, it ends so and prints so.
-  pub record Promise (asked : Option Use) (was now : D) (sources left : Vec X) (old new : K) (status : ℕ) (session : Option SessionSeen) : Type 0 where
+  pub record HasEnded (asked : Option Use) (was now : D) (sources left : Vec X) (old new : K) (status : ℕ) (session : Option SessionSeen) : Type 0 where
     -- the status, and where a session is left
     pub statuses : IsStatus asked status
     pub ran : HasRun asked status → IsSome session
@@ -38,8 +38,6 @@ module _ {S C Q R A D X K : Type 0} (machine : Machine S C Q R A) (Contents : �
     -- where scripts were run or a heap was shown, the results of one history are printed, and what a stop leaves is told by it
     pub story : IfSome asked (λ does. IfSome session (HasSession machine Contents shown (heap_of does) was now (HasReplies machine AreRun Prints sources.items old new status)))
     pub still : IfSome session (λ s. EachStory machine Contents s (IsStill Contents shown asked was now))
-    -- each pass that added to the history was certain at its commit: no stop since then has left less of it
-    pub lasting : IfSome session (λ s. EachStory machine Contents s (λ story. HasLasted shown Contents (on_words machine) story now))
     -- else what a stop may leave, and why scripts were not run, or a heap not shown or not upgraded
     pub none : IfSome asked (λ does. IsNone session → HasNone machine Contents shown sink Rejects earlier (heap_of does) was now old new status)
     -- with 0 a heap that was to be made or upgraded is made or upgraded, as far as the device tells
@@ -70,5 +68,11 @@ module _ {S C Q R A D X K : Type 0} (machine : Machine S C Q R A) (Contents : �
     pub writing : StopsWriting sink old new
     -- what the sink has beside its bytes stays
     pub rest : sink.rest new ≡ sink.rest old
+
+  -- All that is promised of it.
+  pub record Promise (asked : Option Use) (was now : D) (sources left : Vec X) (old new : K) (status : ℕ) (session : Option SessionSeen) : Type 0 where
+    pub ended : HasEnded asked was now sources left old new status session
+    -- each pass that added to the history was certain at its commit: no stop since then has left less of it
+    pub lasting : IfSome session (λ s. EachStory machine Contents s (λ story. HasLasted shown Contents (on_words machine) story now))
     -- and what follows from all this
     pub corollaries : Corollaries asked was now sources left old new status session

@@ -1,5 +1,5 @@
 -- What is promised of a heap that a command works on.
-use Rattle.std.specs.Prelude.{◌≡◌, ◌≤◌, ℕ, List, [], IsTrue, codes, Option, Some, None}
+use Rattle.std.specs.Prelude.{◌≡◌, ◌≤◌, ◌⊎◌, ℕ, List, [], IsNone, IsTrue, codes, Option, Some, None}
 use Rattle.rom_model.specs.Earlier.{Earlier}
 use Rattle.rom_model.specs.Machine.{Machine}
 use Rattle.rom_model.specs.Story.{Story}
@@ -14,8 +14,12 @@ use Rattle.rom_open.specs.Refusals.{named_order}
 use Rattle.rom_open.specs.Within.{WithinOpening}
 use Rattle.rom_store.specs.Sessions.{EachStory, HasStory, SessionSeen}
 use Rattle.rom_run.specs.Keeping.{AreWordsKept, CountsFaults, HasDeviceFailed, IsCalledWithin, IsHeapRefused, IsHeldNow, IsLeft, IsLeftBySession, IsMade, IsSpared, IsStoryOpening, IsUncalled, IsUpgraded}
+use Rattle.rom_run.specs.Statuses.{exit_number}
 use Rattle.rom_run.specs.Use.{Makes, Plays, Shows, Upgrades, Use}
 use Rattle.rom_run.specs.declared.heap.Heap.{Heap}
+use Rattle.rom_run.specs.declared.status.Status.{Status}
+use Rattle.rom_run.specs.declared.status.Status.TheVariants.{DeviceFailed, HeapRefused, NoMemory}
+use Rattle.rom_run.specs.declared.worked.Worked.{Worked}
 
 module _ {D : Type 0} (shown : ShownDevice D) where
   -- Whatever becomes of it, the device keeps its length and its other words.
@@ -49,6 +53,17 @@ module _ {S C Q R A : Type 0} (machine : Machine S C Q R A) (Contents : ℕ → 
       pub unfailed : status ≡ 6 → shown.faults now ≡ shown.faults was
       pub uncalled : status ≡ 6 → IsUncalled shown heap was now
       pub no_memory : status ≡ 6 → IsLineWrittenOrCutShort sink old new (codes "no memory")
+
+    -- There is no heap to work on, and the work on the device has ended so: it is refused by name (3), memory is short (6), or the device failed (7).
+    pub record HasNoHeap (heap : Heap) (was : D) (old new : K) (worked : Worked D) : Type 0 where
+      pub none : HasNone heap was worked.device old new (exit_number worked.status)
+      pub kept : IsDeviceKept shown heap was worked.device
+      pub statuses : (worked.status ≡ HeapRefused) ⊎ (worked.status ≡ NoMemory) ⊎ (worked.status ≡ DeviceFailed)
+      pub ran : IsNone worked.session
+
+-- how the work on a device has ended, with no session
+abbrev pub without_session : {D : Type 0} → D → Status → Worked D
+without_session device status = record { device = device; status = status; session = None }
 
 -- A heap that is only shown is as it was: no pass was made on it, so that the session's first device is its last one; its words hold what the story begins with; whatever a stop leaves, the same region counts as before; and the device was called no more often than to open it.
 pub record IsAsBefore {S D : Type 0} (Contents : ℕ → List ℕ → S → ℕ → Type 0) (shown : ShownDevice D) (was now : D) (story : Story S) : Type 0 where

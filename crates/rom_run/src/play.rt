@@ -9,7 +9,7 @@ ghost use Rattle.rom_run.specs.Refusing.{refusal_line, unmade_line};
 ghost use Rattle.rom_run.specs.Refusing as refusing;
 ghost use Rattle.rom_run.specs.Statuses.{exit_number};
 ghost use Rattle.rom_run.specs.Use.{HasRun, IsPlayable, Plays, Read};
-ghost use Rattle.rom_run.specs.Working.{HasNone, HasSession, IsDeviceKept};
+ghost use Rattle.rom_run.specs.Working.{HasNoHeap, HasNone, HasSession, IsDeviceKept, without_session};
 ghost use Rattle.rom_run.specs.declared.heap.Heap.{Heap};
 ghost use Rattle.rom_store.specs.Sessions.{EachStory};
 
@@ -32,15 +32,10 @@ use std::thread::Threads;
 
 /// Prints that there is no memory, where the device was not called for it.
 pub fn end_without_memory<O: Object, D: Device, K: Sink>(device: D, out: &mut K) -> Worked<D>
-    ensures worked { result ≡ record {
-      device = device;
-      status = Status.NoMemory;
-      session = None;
-    } }
-    // Whichever heap was asked for, all holds that is promised of a command without a session, with 6.
-    ensures none { (heap : Heap) → HasNone O.machine O.Contents D.shown K.shown O.Rejects
-        O.earlier heap device device out.old out.new 6 }
-    ensures kept { (heap : Heap) → IsDeviceKept D.shown heap device device }
+    ensures worked { result ≡ without_session device Status.NoMemory }
+    // Whichever heap was asked for, there is none.
+    ensures none { (heap : Heap) → HasNoHeap O.machine O.Contents D.shown K.shown O.Rejects
+        O.earlier heap device out.old out.new result }
     ensures told { IsLineWrittenOrCutShort K.shown out.old out.new (codes "no memory") }
     ensures writing { StopsWriting K.shown out.old out.new }
     ensures rest { K.shown.rest out.new ≡ K.shown.rest out.old }
@@ -55,11 +50,7 @@ pub fn end_without_memory<O: Object, D: Device, K: Sink>(device: D, out: &mut K)
 
 /// Prints why no heap was made for scripts.
 fn end_unmade<D: Device, K: Sink>(unmade: Unmade<D>, out: &mut K) -> Worked<D>
-    ensures worked { result ≡ record {
-      device = unmade.device;
-      status = refusing.unmade_status unmade.why;
-      session = None;
-    } }
+    ensures worked { result ≡ without_session unmade.device (refusing.unmade_status unmade.why) }
     ensures told { IsLineWrittenOrCutShort K.shown out.old out.new (unmade_line unmade.why) }
     ensures writing { StopsWriting K.shown out.old out.new }
     ensures rest { K.shown.rest out.new ≡ K.shown.rest out.old }
@@ -75,11 +66,7 @@ fn end_unmade<D: Device, K: Sink>(unmade: Unmade<D>, out: &mut K) -> Worked<D>
 
 /// Prints why no heap was opened or upgraded.
 pub(crate) fn end_unopened<D: Device, K: Sink>(refused: Refused<D>, out: &mut K) -> Worked<D>
-    ensures worked { result ≡ record {
-      device = refused.device;
-      status = refusing.refusal_status refused.why;
-      session = None;
-    } }
+    ensures worked { result ≡ without_session refused.device (refusing.refusal_status refused.why) }
     ensures told { IsLineWrittenOrCutShort K.shown out.old out.new (refusal_line refused.why) }
     ensures writing { StopsWriting K.shown out.old out.new }
     ensures rest { K.shown.rest out.new ≡ K.shown.rest out.old }
@@ -161,16 +148,9 @@ where
         IsDeviceKept D.shown heap device played.closed.device) }
     // After `Ok` nothing is printed yet.
     ensures unprinted { OnOk result (out.new ≡ out.old) }
-    // After an error there is no session: what a stop may leave, the most calls of the device, and the cause.
-    ensures none { IfErr result (λ worked. HasNone O.machine O.Contents D.shown K.shown O.Rejects
-        O.earlier heap device worked.device out.old out.new (exit_number worked.status)) }
-    // After an error the device has kept the same.
-    ensures none_kept { IfErr result (λ worked.
-        IsDeviceKept D.shown heap device worked.device) }
-    // After an error: the heap is refused by name (3), memory was short (6), or the device failed (7).
-    ensures none_statuses { IfErr result (λ worked. (worked.status ≡ Status.HeapRefused)
-        ⊎ (worked.status ≡ Status.NoMemory) ⊎ (worked.status ≡ Status.DeviceFailed)) }
-    ensures none_ran { IfErr result (λ worked. IsNone worked.session) }
+    // After an error there is no heap: it is refused by name (3), memory was short (6), or the device failed (7).
+    ensures none { IfErr result (HasNoHeap O.machine O.Contents D.shown K.shown O.Rejects O.earlier
+        heap device out.old out.new) }
     ensures writing { StopsWriting K.shown out.old out.new }
     ensures rest { K.shown.rest out.new ≡ K.shown.rest out.old }
 {

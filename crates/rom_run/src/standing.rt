@@ -1,16 +1,14 @@
 //! The heap that a device has, opened to be shown.
-ghost use Rattle.std.specs.Prelude.{◌≡◌, ◌⊎◌, ℕ, [], IfErr, IfOk, IsNone, OnOk};
+ghost use Rattle.std.specs.Prelude.{◌≡◌, ℕ, [], IfErr, IfOk, OnOk};
 ghost use Rattle.rom_model.specs.Blocks.{IsOrder};
 ghost use Rattle.rom_model.specs.VecSpace.{words_of_space};
 ghost use Rattle.rom_run.specs.Played.{AreAnswered};
-ghost use Rattle.rom_run.specs.Statuses.{exit_number};
-ghost use Rattle.rom_run.specs.Working.{HasNone, HasSession, IsAsBefore, IsDeviceKept};
+ghost use Rattle.rom_run.specs.Working.{HasNoHeap, HasSession, IsAsBefore, IsDeviceKept};
 ghost use Rattle.rom_run.specs.declared.heap.Heap.TheVariants.{Standing};
 ghost use Rattle.rom_text.specs.Streams.{StopsWriting};
 ghost use Rattle.rom_store.specs.Sessions.{EachStory};
 
 use crate::play::end_unopened;
-use crate::status::Status;
 use crate::worked::Worked;
 use rom_device::Device;
 use rom_model::{Object, VecSpace};
@@ -56,15 +54,9 @@ pub fn open_heap<O: Object, D: Device, K: Sink>(
     // After `Ok` the device's count of faults is what it was.
     ensures unfailed { IfOk result (λ heap. D.shown.faults heap.device ≡ D.shown.faults device) }
     ensures unprinted { OnOk result (out.new ≡ out.old) }
-    // After an error there is no session: what a stop may leave, the most calls of the device, and the cause.
-    ensures none { IfErr result (λ worked. HasNone O.machine O.Contents D.shown K.shown O.Rejects
-        O.earlier Standing device worked.device out.old out.new (exit_number worked.status)) }
-    ensures none_kept { IfErr result (λ worked.
-        IsDeviceKept D.shown Standing device worked.device) }
-    // After an error: the heap is refused by name (3), memory was short (6), or the device failed (7).
-    ensures none_statuses { IfErr result (λ worked. (worked.status ≡ Status.HeapRefused)
-        ⊎ (worked.status ≡ Status.NoMemory) ⊎ (worked.status ≡ Status.DeviceFailed)) }
-    ensures none_ran { IfErr result (λ worked. IsNone worked.session) }
+    // After an error there is no heap: it is refused by name (3), memory was short (6), or the device failed (7).
+    ensures none { IfErr result (HasNoHeap O.machine O.Contents D.shown K.shown O.Rejects O.earlier
+        Standing device out.old out.new) }
     ensures writing { StopsWriting K.shown out.old out.new }
     ensures rest { K.shown.rest out.new ≡ K.shown.rest out.old }
 {

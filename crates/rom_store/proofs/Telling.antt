@@ -1,9 +1,10 @@
 -- What an update was told: the words of a reply with a place below the last count, or a code.
-use Rattle.std.specs.Prelude.{◌≡◌, ℕ, zero, suc, ◌+◌, ◌-◌, ◌^◌, ◌*◌, ◌≤◌, List, [], ◌∷◌, ◌++◌, length, map, nat_lt, cond, Bool, true, false, Option, Some, None, option_map, slice_get, slice_index_or}
+use Rattle.std.specs.Prelude.{◌≡◌, ℕ, zero, suc, ◌+◌, ◌-◌, ◌^◌, ◌*◌, ◌<◌, ◌≤◌, List, [], ◌∷◌, ◌++◌, length, map, nat_lt, cond, Bool, true, false, Option, Some, None, option_map, slice_get, slice_index_or}
 use Rattle.std.specs.List.{AllByRecursion}
-use Rattle.std.proofs.Common.{refl, sym, ap, ◌∙◌, subst, arith}
+use Rattle.std.proofs.Common.{refl, sym, ap, ◌∙◌, subst, arith, append-nil}
 use mathlib.Core.Option.{some, some-injective, some-ne-none}
 use lib.ListN.{get_elem?}
+use Rattle.atomic_table.specs.Seated.{TableId}
 use Rattle.rom_model.specs.declared.call.Updated.{Updated}
 use Rattle.rom_model.specs.declared.call.Updated.TheVariants as told
 use Rattle.rom_model.specs.declared.entry.Entry.{Entry}
@@ -18,11 +19,13 @@ use Rattle.rom_model.specs.Seen.{next_call}
 use Rattle.rom_model.proofs.Recorded.{history_legal, history_more}
 use Rattle.rom_rule.specs.CallKinds.{IsLast, IsToldByPass, longer}
 use Rattle.rom_rule.specs.Calls.{answer_words}
+use Rattle.rom_rule.specs.Records.{KnowsEntries}
 use Rattle.rom_rule.specs.Views.{Told, kept_of}
 use Rattle.rom_rule.specs.declared.views.Base.{Base}
 use Rattle.rom_rule.specs.declared.views.View.{View}
 use Rattle.rom_rule.proofs.Told.{at_low}
-use Rattle.rom_store.specs.Updating.{HasBeenTold, IsDoneIn}
+use Rattle.rom_store.specs.Callers.{Caller, IsCallerOf}
+use Rattle.rom_store.specs.Updating.{HasBeenTold, HasUpdated, IsDoneIn}
 use Rattle.rom_store.proofs.Becoming.{IsReadBack, IsWithinPlaces, legal_few}
 
 -- an answer's words stand for it alone
@@ -272,3 +275,49 @@ module _ {S C Q R A : Type 0} (m : Machine S C Q R A) (Contents : ℕ → List �
         let once = told_once in
         let is = done_since Contents (on_words m) b told_call old.seen new.seen once (m.reply_words reply) place (ap (as_words m) done) in
         legal_few m few b.order once.start once.count new.seen (place - once.count) _ is.legal is.entry
+
+    -- all of the view afterwards, by the one before
+    pub new_is : new ≡ record old { calls = old.calls ++ args ∷ []; laid = h.laid; since = length old.seen; outcomes = old.outcomes ++ told_call ∷ []; seen = w.seen; steps = h.more }
+    new_is = h.takes ∙ ((λ i. record (h.told_of.view i) { steps = h.more }) ∙ (λ i. record (h.posts i) { outcomes = (h.posts i).outcomes ++ told_is i ∷ []; seen = w.seen; steps = h.more }))
+
+    -- and what it has seen is still known
+    pub new_knows : (s : S) (k : ℕ) → Contents b.order b.image s k → KnowsEntries b.callers k new
+    new_knows s k held =
+        let base : v.base ≡ b = ap (λ (z : View). z.base) h.posts ∙ h.base_is in
+        let knows = h.told_of.knows s k (subst (λ (z : Base). Contents z.order z.image s k) (sym base) held) in
+        let same : KnowsEntries v.base.callers k (record w { steps = h.more }) = record { known = knows.known; own = knows.own } in
+        subst (λ (z : Base × View). KnowsEntries z.0.callers k z.1) (λ i. (base i, sym h.takes i)) same
+
+  -- All that an update leaves, where its call was posted.
+  pub told_all : ((order : ℕ) (words : List ℕ) (s t : S) (j k : ℕ) → Contents order words s j → Contents order words t k → (s ≡ t) × (j ≡ k)) → (table : TableId) (b : Base) (p q : Caller) (v w : View) (args : List ℕ) (u : Updated R) →
+      IsTaken b p.view v w q.view args u → p.table_id ≡ table → q.table_id ≡ p.table_id → length p.view.outcomes < LAST_COUNT → HasUpdated m Contents table b args u p q
+  told_all one table b p q v w args u h at kept few =
+      let is = new_is b p.view v w q.view args u h in
+      let once = told_once b p.view v w q.view args u h in
+      record {
+        of = record { table_is = kept ∙ at; base_is = ap (λ (z : View). z.base) is ∙ h.base_is; knows = new_knows b p.view v w q.view args u h };
+        same = (kept, ap (λ (z : View). z.base) is, ap (λ (z : View). z.number) is);
+        later = once.begins;
+        fronts = ap (λ (z : View). z.fronts) is;
+        joined = ap (λ (z : View). z.joined) is;
+        unposted = λ many. absurd (omega (arith, many, few));
+        posted = λ _. ap (λ (z : View). z.calls) is;
+        told = λ _. told_next b p.view v w q.view args u h;
+        taken = λ _. once;
+        done = told_done b p.view v w q.view args u h (λ s t j k. one b.order b.image s t j k);
+      }
+
+  -- and where none was
+  pub told_none : (table : TableId) (b : Base) (p : Caller) (args : List ℕ) → IsCallerOf Contents table b p → LAST_COUNT ≤ length p.view.outcomes → HasUpdated m Contents table b args told.Spent p p
+  told_none table b p args of many = record {
+    of = of;
+    same = (refl, refl, refl);
+    later = ([], sym (append-nil p.view.seen));
+    fronts = refl;
+    joined = refl;
+    unposted = λ _. (refl, refl);
+    posted = λ few. absurd (omega (arith, many, few));
+    told = λ few. absurd (omega (arith, many, few));
+    taken = λ few. absurd (omega (arith, many, few));
+    done = λ s k held reply place never. absurd (cc never);
+  }

@@ -15,6 +15,7 @@ pub mod Lasting
 pub mod Moments
 pub mod Held
 pub mod Openings
+pub mod Seating
 pub mod Sessions
 pub mod Closing
 pub mod Working

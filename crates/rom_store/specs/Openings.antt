@@ -1,14 +1,17 @@
 -- What contracts see of a heap that is opened for callers, and what is left of one that is not.
-use Rattle.std.specs.Prelude.{◌≡◌, ℕ, List, [], Err, IsTrue}
+use Rattle.std.specs.Prelude.{◌≡◌, ℕ, ◌≤◌, List, [], Ok, Err, IsTrue}
 use Rattle.atomic_table.specs.Seated.{TableId}
 use Rattle.rom_model.specs.VecSpace.{words_of_space}
 use Rattle.rom_model.specs.declared.unfit.Unfit.{Unfit}
 use Rattle.rom_device.specs.Device.{IsSynced, Leaves, ShownDevice}
+use Rattle.rom_header.specs.Held.{Holds}
+use Rattle.rom_header.specs.Layout.{words_needed}
 use Rattle.rom_header.specs.Regions.{IsCurrentRegion}
 use Rattle.rom_recover.specs.Recovered.{IsDone, Mended}
+use Rattle.rom_open.specs.AtRest.{IsHeapAtRest}
 use Rattle.rom_open.specs.Calls.{HasOpeningFaults, OpeningCalls, is_late}
 use Rattle.rom_open.specs.Refusals.{IsRefusal, NamesTooFew, named_order}
-use Rattle.rom_open.specs.Within.{WithinOpening}
+use Rattle.rom_open.specs.Within.{CallsOfOrder, WithinOpening}
 use Rattle.rom_open.specs.declared.reasons.Why.{Why}
 use Rattle.rom_combine.specs.Costs.{WithinHeap}
 use Rattle.rom_twin.specs.declared.phase.Phase.TheVariants.{Clean}
@@ -55,3 +58,28 @@ pub record HasBeenRefused {D S : Type 0} (shown : ShownDevice D) (Contents : ℕ
   pub calls : IsTrue shown.tells_words → OpeningCalls {T = Unit {0}} shown (shown.words was) was now (Err why)
   pub within : WithinOpening shown was now
   pub faults : HasOpeningFaults {T = Unit {0}} (Err why) (shown.faults was) (shown.faults now) (shown.failing now)
+
+-- The heap on a device was opened, and the callers' table has its image.
+pub record HasOpenedHeap {D S : Type 0} (shown : ShownDevice D) (Contents : ℕ → List ℕ → S → ℕ → Type 0) (was : D) (o : Started D) : Type 0 where
+  -- the heap has the order that the device's header names, and the device has room for it
+  pub order : IsTrue shown.tells_words → (base_of o.key).order ≡ named_order (shown.words was)
+  pub fits : words_needed (base_of o.key).order ≤ shown.size was
+  -- What the image stands for is what the device's words held before, and what they hold now.
+  pub held : IsTrue shown.tells_words → (s : S) (k : ℕ) → Contents (base_of o.key).order (base_of o.key).image s k → Holds Contents (base_of o.key).order (shown.words was) s k
+  pub holds : IsTrue shown.tells_words → (s : S) (k : ℕ) → Contents (base_of o.key).order (base_of o.key).image s k → Holds Contents (base_of o.key).order (shown.words o.device) s k
+  -- Each image that a stop might have left by now could be left before, or holds what the image stands for, in the region that counted.
+  pub held_images : IsTrue shown.tells_images → (s : S) (k : ℕ) → Contents (base_of o.key).order (base_of o.key).image s k → Leaves shown (λ i. Holds Contents (base_of o.key).order i s k) was o.device
+  pub images : IsTrue shown.tells_images → Leaves shown (Mended (named_order (shown.words was)) (shown.words was)) was o.device
+  -- no write is unsynced: where images are told, a stop leaves the words as they read
+  pub certain : IsSynced shown o.device
+  -- the device has its length, and of its words only the state and the two regions of the heap may differ
+  pub size : shown.size o.device ≡ shown.size was
+  pub outside : IsTrue shown.tells_words → WithinHeap (named_order (shown.words was)) (shown.words was) (shown.words o.device)
+  -- no call of the device failed, and its count of faults is the one that the session begins with
+  pub faults : (shown.faults o.device ≡ shown.faults was) × ((base_of o.key).faults ≡ shown.faults was)
+  -- the device is at rest: its state is IDLE, and both regions are the image
+  pub rest : IsTrue shown.tells_words → IsHeapAtRest (base_of o.key).order (base_of o.key).image (shown.words o.device)
+  -- The device was called exactly as an opening of these words calls it: under IDLE, no write and one sync. That is no more than one opening calls it, and under IDLE every word stays; also where words are not told, it is no more than the longest opening of a heap of this order calls it.
+  pub calls : IsTrue shown.tells_words → OpeningCalls {T = Unit {0}} shown (shown.words was) was o.device (Ok tt)
+  pub within : WithinOpening shown was o.device
+  pub by_order : CallsOfOrder shown (base_of o.key).order was o.device

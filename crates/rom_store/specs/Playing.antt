@@ -1,16 +1,26 @@
 -- Scripts that are played on a heap: what they ask for, and what their session is.
-use Rattle.std.specs.Prelude.{◌≡◌, ℕ, ◌≤◌, List, [], All, IsTrue, length, map, vec_capacity, vec_len}
+use Rattle.std.specs.Prelude.{◌≡◌, ℕ, ◌≤◌, List, [], All, IsTrue, Ok, Err, length, map, vec_capacity, vec_len}
 use Rattle.std.specs.Global.{Vec}
 use Rattle.atomic_table.specs.Seated.{TableId}
 use Rattle.rom_model.specs.History.{LAST_COUNT}
 use Rattle.rom_model.specs.Lawful.{IsLawful}
 use Rattle.rom_model.specs.Machine.{Machine, on_words}
 use Rattle.rom_model.specs.Passes.{faults_after}
+use Rattle.rom_model.specs.Space.{ChangesOnly}
 use Rattle.rom_model.specs.Story.{Story}
 use Rattle.rom_model.specs.declared.line.LineResult.{LineResult}
 use Rattle.rom_model.specs.declared.unfit.Unfit.{Unfit}
 use Rattle.rom_model.specs.declared.line.Step.{Step}
-use Rattle.rom_device.specs.Device.{Leaves, ShownDevice}
+use Rattle.rom_device.specs.Device.{Does, Leaves, ShownDevice, Stays}
+use Rattle.rom_header.specs.Fresh.{HasTooFewFor, IsFormatAnswer, IsFormatRefused}
+use Rattle.rom_header.specs.Held.{Holds}
+use Rattle.rom_header.specs.Layout.{words_needed}
+use Rattle.rom_header.specs.declared.fresh.FormatRefused.{FormatRefused}
+use Rattle.rom_open.specs.Making.{HasFaultsUnmade, NoneOrHolds}
+use Rattle.rom_open.specs.Refusals.{named_order}
+use Rattle.rom_open.specs.Within.{HasMadeHeap, HasOpened, MakesNone, WithinMaking}
+use Rattle.rom_open.specs.declared.new_heap.NotFormatted.{NotFormatted}
+use Rattle.rom_open.specs.declared.new_heap.NotFormatted.TheVariants as unmade
 use Rattle.rom_combine.specs.Costs.{WithinHeap}
 use Rattle.rom_combine.specs.Session.{ImageNow, SessionImage}
 use Rattle.rom_lines.specs.Replies.{Reserved}
@@ -46,6 +56,27 @@ abbrev pub IsUnplayed : {D S : Type 0} → ShownDevice D → (ℕ → List ℕ �
 IsUnplayed shown Contents Rejects was (NoRoom device) = device ≡ was
 IsUnplayed shown Contents Rejects was (Unopened refused) = HasBeenRefused shown Contents Rejects was refused.device refused.why
 
+-- No heap of this order was made for scripts, for this reason.
+pub record HasMadeNone {D S : Type 0} (shown : ShownDevice D) (Contents : ℕ → List ℕ → S → ℕ → Type 0) (empty : S) (order : ℕ) (was now : D) (why : NotFormatted) : Type 0 where
+  -- for want of memory the device was not called
+  pub memory : why ≡ unmade.OutOfMemory → now ≡ was
+  -- `AlreadyAHeap` comes only where a heap stood, and `TooSmall` only where none did and there are too few words
+  pub refused : IsTrue shown.tells_words → (reason : FormatRefused) → why ≡ unmade.Refused reason → IsFormatAnswer order (shown.words was) (Err reason)
+  -- `TooSmall` names how many words are needed and how many there are, also where words are not told
+  pub sizes : (reason : FormatRefused) → why ≡ unmade.Refused reason → HasTooFewFor order (shown.size was) reason
+  pub size : shown.size now ≡ shown.size was
+  -- of the device's words only those that the heap would have may differ
+  pub outside : IsTrue shown.tells_words → ChangesOnly 0 (words_needed order) (shown.words was) (shown.words now)
+  -- each image that a stop might have left by now could be left before, or has no heap, or holds the empty state and the count 0
+  pub images : IsTrue shown.tells_images → Leaves shown (NoneOrHolds Contents order empty) was now
+  -- where a heap stood, or there are too few words, every word stays, and a stop leaves no other image than before
+  pub spared : IsTrue shown.tells_words → IsFormatRefused order (shown.words was) → Does shown Stays was now
+  -- where the reason is the device, its last call failed, and no other; else none did
+  pub faults : HasFaultsUnmade why (shown.faults was) (shown.faults now) (shown.failing now)
+  -- the device was called exactly as a making that ends for this reason calls it, which is no more than one making calls it, and not after a call that failed
+  pub calls : MakesNone shown order why was now
+  pub within : WithinMaking shown order was now
+
 module _ {D S C Q R A : Type 0} (shown : ShownDevice D) (machine : Machine S C Q R A) (Contents : ℕ → List ℕ → S → ℕ → Type 0) (scripts : List (Items (Step C Q))) (results : List (Reserved (LineResult R A))) where
   -- What every session of scripts is. It has a story, and of each: what the lines were told is lawful; each image that a stop leaves now holds the published history, or that with the batch in doubt; the device went through the passes of the records, from one on of which First holds, since which each image is one of the session; and the passes have no more faults than it counts.
   pub record IsSession (First : D → Type 0) (closed : ClosedSeen D) : Type 0 where
@@ -65,3 +96,32 @@ module _ {D S C Q R A : Type 0} (shown : ShownDevice D) (machine : Machine S C Q
     pub since : IsTrue shown.tells_images → EachStory machine Contents closed.session (λ story. Leaves shown (SessionImage Contents (on_words machine) story) was closed.device)
     pub size : shown.size closed.device ≡ shown.size was
     pub outside : IsTrue shown.tells_words → WithinHeap base.order (shown.words was) (shown.words closed.device)
+
+  -- They were played on the heap of a device, after one opening, of which no call failed.
+  pub record HasPlayed (was : D) (closed : ClosedSeen D) : Type 0 where
+    pub session : IsSession (HasOpened shown closed.session.order was) closed
+    -- the heap has the order that the device's header named, and the device has room for it
+    pub order : IsTrue shown.tells_words → closed.session.order ≡ named_order (shown.words was)
+    pub fits : words_needed closed.session.order ≤ shown.size was
+    -- the history begins with the state and the count that the device's words held
+    pub held : IsTrue shown.tells_words → EachStory machine Contents closed.session (λ story. Holds Contents story.order (shown.words was) story.opening story.opening_count)
+    pub faults : closed.session.faults ≡ shown.faults was
+    -- of the device's words only the state and the two regions of the heap may differ
+    pub size : shown.size closed.device ≡ shown.size was
+    pub outside : IsTrue shown.tells_words → WithinHeap (named_order (shown.words was)) (shown.words was) (shown.words closed.device)
+    -- each image that a stop might have left by now could be left before, or is one of the session
+    pub since : IsTrue shown.tells_images → EachStory machine Contents closed.session (λ story. Leaves shown (SessionImage Contents (on_words machine) story) was closed.device)
+
+  -- They were played on a heap of this order that was made for them, where none stood, by one making, of which no call failed.
+  pub record HasPlayedNew (made : ℕ) (was : D) (closed : ClosedSeen D) : Type 0 where
+    -- what a stop left by then is told by the making, and since then by the session
+    pub session : IsSession (HasMadeHeap shown Contents made machine.empty was) closed
+    pub order : closed.session.order ≡ made
+    pub accepted : IsTrue shown.tells_words → IsFormatAnswer made (shown.words was) (Ok tt)
+    pub fits : words_needed made ≤ shown.size was
+    -- the history begins with the object's empty state and the count 0
+    pub empty : EachStory machine Contents closed.session (λ story. (story.opening ≡ machine.empty) × (story.opening_count ≡ 0))
+    pub faults : closed.session.faults ≡ shown.faults was
+    -- of the device's words only those of the new heap may differ
+    pub size : shown.size closed.device ≡ shown.size was
+    pub outside : IsTrue shown.tells_words → ChangesOnly 0 (words_needed made) (shown.words was) (shown.words closed.device)

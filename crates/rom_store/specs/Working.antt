@@ -1,6 +1,7 @@
 -- A caller's work on its script.
 use Rattle.std.specs.Prelude.{◌≡◌, ℕ, ◌+◌, ◌-◌, ◌<◌, ◌≤◌, List, [], ◌∷◌, ◌++◌, length, unwrap_or, slice_get}
 use Rattle.atomic_table.specs.Seated.{TableId}
+use Rattle.rom_model.specs.History.{LAST_COUNT}
 use Rattle.rom_model.specs.declared.kept.Kept.{Kept}
 use Rattle.rom_model.specs.declared.line.Step.{Step}
 use Rattle.rom_model.specs.declared.line.LineResult.{LineResult}
@@ -21,6 +22,15 @@ pub record HasSeenNothing (v : Kept) : Type 0 where
   pub seen : v.seen ≡ []
   pub fronts : v.fronts ≡ []
   pub told : v.told ≡ []
+
+-- A caller that has done nothing may take these lines: it may post a call for each, there is room for a result of each, and the opening image stands for some state and count.
+pub record MayTakeLines {S C Q T : Type 0} (Contents : ℕ → List ℕ → S → ℕ → Type 0) (call_words : C → List ℕ) (table : TableId) (base : Base) (lines : List (Step C Q)) (pass : Caller) (results : Reserved T) : Type 0 where
+  pub of : IsCallerOf Contents table base pass
+  pub opened : (s : S) × (k : ℕ) × Contents base.order base.image s k
+  pub few : length lines ≤ LAST_COUNT
+  pub first : HasSeenNothing (kept_in pass)
+  pub none : results.items ≡ []
+  pub fits : HasRoomFor call_words lines results
 
 -- No results stand at this place, and there is room for one of each line of its script.
 pub record HasReservedRoom {C Q T : Type 0} (call_words : C → List ℕ) (scripts : List (List (Step C Q))) (i : ℕ) (results : Reserved T) : Type 0 where
@@ -46,6 +56,12 @@ module _ {S C Q R A : Type 0} (m : Machine S C Q R A) (Contents : ℕ → List �
   -- what the caller of this pass was told of these lines is what it keeps
   pub record HasDoneLines (pass : Caller) (lines : List (Step C Q)) (results : List (LineResult R A)) : Type 0 where
     pub heard : (s : S) (k : ℕ) → Contents base.order base.image s k → HasHeard m base.order s k (kept_in pass) lines results
+
+  -- The caller has taken these lines, and its results stand for them.
+  pub record HasWorked (table : TableId) (lines : List (Step C Q)) (was pass : Caller) (results : List (LineResult R A)) : Type 0 where
+    pub of : IsCallerOf Contents table base pass
+    pub number : pass.view.number ≡ was.view.number
+    pub done : HasDoneLines pass lines results
 
   -- One line more was taken, which asks for this: its result stands behind those of the lines before, and took no more room than was reserved for it.
   pub record HasTaken (asks : Step C Q) (was pass : Caller) (before results : Reserved (LineResult R A)) : Type 0 where

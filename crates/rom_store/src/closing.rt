@@ -1,17 +1,11 @@
 //! How a store is closed.
-ghost use Rattle.std.specs.Prelude.{◌≡◌, ℕ, ◌≤◌, ◌++◌, List, IsTrue, length, map};
+ghost use Rattle.std.specs.Prelude.{◌≡◌, ◌++◌, length, map};
 ghost use Rattle.rom_model.specs.Leaving.{IsClosed, IsKept};
-ghost use Rattle.rom_model.specs.Machine.{on_words};
-ghost use Rattle.rom_model.specs.Passes.{faults_after};
-ghost use Rattle.rom_combine.specs.Costs.{WithinHeap};
-ghost use Rattle.rom_combine.specs.Session.{ImageNow, SessionImage};
 ghost use Rattle.rom_lr.specs.Seats.{IsSameWriter, IsWriterOf, opened_with, steps_of, writer_view};
 ghost use Rattle.rom_store.specs.Callers.{IsCallerOf, IsNumberedCaller};
-ghost use Rattle.rom_store.specs.Closing.{HasLeftSince, joined_of, kept_in};
+ghost use Rattle.rom_store.specs.Closing.{IsClosedFrom, joined_of, kept_in};
 ghost use Rattle.rom_store.specs.Indexed.{Indexed};
-ghost use Rattle.rom_store.specs.Sessions.{EachStory, HasStory};
-ghost use Rattle.rom_store.specs.Start.{HasStarted};
-ghost use Rattle.rom_store.specs.Traced.{WentThrough};
+ghost use Rattle.rom_store.specs.Sessions.{EachStory};
 
 use crate::closed::Closed;
 use crate::label::Label;
@@ -46,12 +40,7 @@ impl<D: Device, O: Object, N: Label> Store<D, O, N> {
     pub fn close<R: Wait>(self, _rt: &R, passes: Vec<Pass>) -> Closed<D, O>
         requires passes { Indexed (IsNumberedCaller O.Contents N.table N.base) passes.items }
         requires all { length passes.items ≡ N.base.callers }
-        ensures order { result.session.order ≡ N.base.order }
-        ensures image { result.session.image ≡ N.base.image }
-        ensures opening_faults { result.session.faults ≡ N.base.faults }
-        // The session has a story, so what is said of each of its stories is said of one at least.
-        ensures story { HasStory O.machine O.Contents result.session }
-
+        ensures ended { IsClosedFrom D.shown O.machine O.Contents N.base N.start N.since result }
         // The history is the one that the records make, and they have no updates but those of the callers.
         ensures closed { EachStory O.machine O.Contents result.session (λ story.
             IsClosed O.machine story (length passes.items)) }
@@ -59,30 +48,6 @@ impl<D: Device, O: Object, N: Label> Store<D, O, N> {
         // or after a pass, and it was told of its updates what the records tell.
         ensures kept { EachStory O.machine O.Contents result.session (λ story.
             Indexed (λ _ v. IsKept O.machine story v) (map kept_in passes.items)) }
-
-        // Each image that a stop leaves now holds the published history, or that followed by the batch in
-        // doubt.
-        ensures now { IsTrue D.shown.tells_images → EachStory O.machine O.Contents result.session
-            (λ story. (i : List ℕ) → D.shown.leaves result.device i →
-            ImageNow O.Contents (on_words O.machine) story i) }
-        // Each image that a stop might have left by now could be left by the start, or is one of the session.
-        ensures since { IsTrue D.shown.tells_images → EachStory O.machine O.Contents result.session
-            (λ story. HasLeftSince D.shown N.start N.since
-            (SessionImage O.Contents (on_words O.machine) story) result.device) }
-
-        // The device went through the passes of the records, one after another, from the start on.
-        ensures went { EachStory O.machine O.Contents result.session (λ story. WentThrough D.shown
-            O.Contents (on_words O.machine) story
-            (HasStarted D.shown N.base.faults N.start N.since) result.device) }
-        ensures size { D.shown.size result.device ≡ N.start.size }
-        // Of the device's words only the state and the two regions of the heap may differ from those at the
-        // start.
-        ensures outside { IsTrue D.shown.tells_words →
-            WithinHeap N.base.order N.start.words (D.shown.words result.device) }
-        // The count of faults after the last record, or at the opening where there is none, is not above the
-        // device's.
-        ensures faults { faults_after result.session.faults result.session.records
-            ≤ D.shown.faults result.device }
     {
         let Store {
             shared,

@@ -1,25 +1,17 @@
 //! A heap that is opened for callers, whose lock isn't made yet.
-ghost use Rattle.std.specs.Prelude.{◌≡◌, ℕ, ◌*◌, ◌≤◌, List, IfErr, IfOk, IsTrue, Ok, length};
+ghost use Rattle.std.specs.Prelude.{◌≡◌, ℕ, ◌*◌, ◌≤◌, List, IfErr, IfOk, IsTrue, length};
 ghost use Rattle.rom_model.specs.Blocks.{IsOrder};
 ghost use Rattle.rom_model.specs.VecSpace.{words_of_space};
-ghost use Rattle.rom_device.specs.Device.{IsSynced, Leaves};
-ghost use Rattle.rom_header.specs.Held.{Holds};
+ghost use Rattle.rom_device.specs.Device.{IsSynced};
 ghost use Rattle.rom_header.specs.Layout.{back_of, main_of, words_needed};
 ghost use Rattle.rom_header.specs.Regions.{IsHeap};
-ghost use Rattle.rom_lr.specs.Opening.{dealt_view};
-ghost use Rattle.rom_lr.specs.Seats.{IsWriterOf, opened_with, writer_view};
-ghost use Rattle.rom_recover.specs.Recovered.{Mended};
-ghost use Rattle.rom_open.specs.AtRest.{IsHeapAtRest};
-ghost use Rattle.rom_open.specs.Calls.{OpeningCalls};
-ghost use Rattle.rom_open.specs.Refusals.{named_order};
-ghost use Rattle.rom_open.specs.Within.{CallsOfOrder, WithinOpening};
-ghost use Rattle.rom_combine.specs.AtRest.{IsReady};
-ghost use Rattle.rom_combine.specs.Costs.{WithinHeap};
+ghost use Rattle.rom_lr.specs.Seats.{opened_with};
 ghost use Rattle.rom_rule.specs.Places.{AreCallers};
 ghost use Rattle.rom_rule.specs.Views.{base_of};
 ghost use Rattle.rom_store.specs.Callers.{IsNewCaller};
 ghost use Rattle.rom_store.specs.Indexed.{Indexed};
-ghost use Rattle.rom_store.specs.Openings.{HasBeenRefused};
+ghost use Rattle.rom_store.specs.Openings.{HasBeenRefused, HasOpenedHeap};
+ghost use Rattle.rom_store.specs.Seating.{IsSeated};
 ghost use Rattle.rom_store.specs.Start.{device_start};
 
 use crate::begun::Begun;
@@ -78,16 +70,8 @@ impl<D: Device, O: Object> Opening<D, O> {
         requires back { IsTrue D.shown.tells_words →
             back_of geometry (D.shown.words device) ≡ words_of_space seated.begun.image.value }
         requires certain { IsSynced D.shown device }
-        requires of { IsWriterOf seated.shared seated.writer }
-        requires writer { let b = opened_with seated.shared in
-            writer_view seated.writer ≡ dealt_view b b.callers }
-        requires begun { let b = opened_with seated.shared in
-            (seated.begun.order ≡ b.order) × (words_of_space seated.begun.image.value ≡ b.image)
-            × (seated.begun.faults ≡ b.faults) × (b.order ≡ geometry) }
-        requires ready { let callers = (opened_with seated.shared).callers in
-            IsReady (O.STORES * O.WEIGHT) callers seated.log }
-        requires formed { let b = opened_with seated.shared in
-            (s : O.State) × (k : ℕ) × O.Contents b.order b.image s k }
+        requires seated { IsSeated O.Contents (O.STORES * O.WEIGHT) (opened_with seated.shared) seated }
+        requires order_is { (opened_with seated.shared).order ≡ geometry }
         requires faults { D.shown.faults device ≡ seated.begun.faults }
         ensures opening { result ≡ record {
           table_id = seated.shared.table.shared.table_id;
@@ -163,53 +147,8 @@ pub fn open_store<D: Device + Send, O: Object>(
     // The image that was opened stands for some state and count.
     ensures formed { IfOk result (λ o. let b = base_of o.key in
         (s : O.State) × (k : ℕ) × O.Contents b.order b.image s k) }
-    // The heap has the order that the device's header names.
-    ensures order { IsTrue D.shown.tells_words → IfOk result (λ o.
-        (base_of o.key).order ≡ named_order (D.shown.words device)) }
-    // What the image stands for is what the device's words held at the call.
-    ensures held { IsTrue D.shown.tells_words → IfOk result (λ o. let b = base_of o.key in
-        (s : O.State) (k : ℕ) → O.Contents b.order b.image s k →
-        Holds O.Contents b.order (D.shown.words device) s k) }
-    // Each image that a stop might have left by now could be left before the call, or holds what the image
-    // stands for.
-    ensures held_images { IsTrue D.shown.tells_images → IfOk result (λ o. let b = base_of o.key in
-        (s : O.State) (k : ℕ) → O.Contents b.order b.image s k →
-        Leaves D.shown (λ i. Holds O.Contents b.order i s k) device o.device) }
-    // The device's words now hold what the image stands for.
-    ensures holds { IsTrue D.shown.tells_words → IfOk result (λ o. let b = base_of o.key in
-        (s : O.State) (k : ℕ) → O.Contents b.order b.image s k →
-        Holds O.Contents b.order (D.shown.words o.device) s k) }
-    // Each image that a stop might have left by now could be left before the call, or the region that counted
-    // counts there.
-    ensures images { IsTrue D.shown.tells_images → IfOk result (λ o.
-        Leaves D.shown (Mended (named_order (D.shown.words device)) (D.shown.words device))
-        device o.device) }
-    // No write is unsynced: where images are told, a stop leaves the words as they read.
-    ensures certain { IfOk result (λ o. IsSynced D.shown o.device) }
-    ensures size { IfOk result (λ o. D.shown.size o.device ≡ D.shown.size device) }
-    // The device has room for the heap.
-    ensures fits { IfOk result (λ o. words_needed (base_of o.key).order ≤ D.shown.size device) }
-    // Of the device's words only the state and the two regions of the heap may differ.
-    ensures outside { IsTrue D.shown.tells_words → IfOk result (λ o.
-        WithinHeap (named_order (D.shown.words device)) (D.shown.words device)
-        (D.shown.words o.device)) }
-    // No call of the device failed, and its count of faults is the one that the session begins with.
-    ensures faults { IfOk result (λ o. (D.shown.faults o.device ≡ D.shown.faults device)
-        × ((base_of o.key).faults ≡ D.shown.faults device)) }
-
-    // The device is at rest: its state is IDLE, and both regions are the image.
-    ensures rest { IsTrue D.shown.tells_words → IfOk result (λ o. let b = base_of o.key in
-        IsHeapAtRest b.order b.image (D.shown.words o.device)) }
-    // The device was called exactly as an opening of these words calls it: under IDLE, no write and one sync.
-    ensures calls { IsTrue D.shown.tells_words → IfOk result (λ o.
-        OpeningCalls {T = Unit {0}} D.shown (D.shown.words device) device o.device (Ok tt)) }
-    // The device was called no more than one opening calls it, and under IDLE every word stays.
-    ensures within { IfOk result (λ o. WithinOpening D.shown device o.device) }
-    // Also where words are not told, the device was called no more than the longest opening of a heap of this
-    // order calls it.
-    ensures by_order { IfOk result (λ o.
-        CallsOfOrder D.shown (base_of o.key).order device o.device) }
-
+    // The heap was opened by one opening, and no call of the device failed.
+    ensures opened { IfOk result (HasOpenedHeap D.shown O.Contents device) }
     // Else the device is refused by the first test that fails, and handed back.
     ensures refused { IfErr result (λ refused. HasBeenRefused D.shown O.Contents O.Rejects device
         refused.device refused.why) }

@@ -3,8 +3,7 @@
 //! A query is inlined down to its loads, since each call between them would save registers and hand the
 //! answer over in memory. With the call of the object's `answer` alone left, a read of the queue's head made
 //! 67 instructions, and 40 with none.
-ghost use Rattle.std.specs.Prelude.{◌≡◌, ℕ, ◌+◌, ◌<◌, ◌≤◌, ◌++◌, ◌∷◌, [], IsTrue, length};
-ghost use Rattle.rom_model.specs.History.{after};
+ghost use Rattle.std.specs.Prelude.{◌≡◌, ℕ, ◌+◌, ◌<◌, ◌++◌, ◌∷◌, [], IsTrue, length};
 ghost use Rattle.rom_model.specs.Machine.{on_words};
 ghost use Rattle.rom_model.specs.Seen.{StartsWith};
 ghost use Rattle.rom_lr.specs.Seats.{IsSameSeat, IsSeatOf, view};
@@ -12,7 +11,7 @@ ghost use Rattle.rom_rule.specs.Readers.{IsHeldSinceOpening};
 ghost use Rattle.rom_rule.specs.Views.{front_of, image_of, is_reading};
 ghost use Rattle.rom_rule.specs.declared.views.Position.TheVariants.{Out};
 ghost use Rattle.rom_store.specs.Callers.{IsCallerOf, IsReaderOf, IsSameCaller};
-ghost use Rattle.rom_store.specs.Reading.{HasCountedSteps};
+ghost use Rattle.rom_store.specs.Reading.{HasAnswered, HasCost, IsAnswer, OnlySteps};
 
 use crate::label::Label;
 use crate::pass::Pass;
@@ -59,31 +58,12 @@ impl<D: Device, O: Object, N: Label> Store<D, O, N> {
         steps: &mut Steps<L>,
     ) -> (O::Answer, u64)
         requires of { IsCallerOf O.Contents N.table N.base pass.old }
-        ensures of { IsCallerOf O.Contents N.table N.base pass.new }
-        ensures same { IsSameCaller pass.old pass.new }
-        // What the caller has now seen begins with all that it had seen.
-        ensures later { StartsWith pass.new.view.seen pass.old.view.seen }
-        // The front is the count at the opening, and one more for each update that the caller has now seen.
-        ensures front { (s : O.State) (k : ℕ) → O.Contents N.base.order N.base.image s k →
-            result.1 ≡ k + length pass.new.view.seen }
-        // The answer is the object's in the state after the updates that the caller has now seen.
-        ensures answer { (s : O.State) (k : ℕ) → O.Contents N.base.order N.base.image s k →
-            result.0 ≡ O.machine.tell
-            (after (on_words O.machine) N.base.order s k pass.new.view.seen) query.now }
-        // The caller keeps the front, behind those that it was told before.
-        ensures fronts { pass.new.view.fronts ≡ pass.old.view.fronts ++ result.1 ∷ [] }
-        // Of what the caller knows only what it has seen, its fronts and the number of its steps change.
-        ensures still { pass.new.view ≡ record pass.old.view {
-          seen = pass.new.view.seen;
-          fronts = pass.new.view.fronts;
-          steps = pass.new.view.steps;
-        } }
-        // The counter rises by the steps that the caller makes.
-        ensures counted { HasCountedSteps pass.old.view pass.new.view steps.old steps.new }
-        // The read makes at most five steps more than the query costs in that state.
-        ensures most { (s : O.State) (k : ℕ) → O.Contents N.base.order N.base.image s k →
-            steps.new ≤ steps.old + O.machine.cost N.base.order
-            (after (on_words O.machine) N.base.order s k pass.new.view.seen) query.now + 5 }
+        ensures answered { HasAnswered O.machine O.Contents N.base N.table query.now pass.old pass.new
+            result }
+        // The read makes at most five steps more than the query costs in the state after the updates that the
+        // caller has now seen, and the counter rises by them.
+        ensures cost { HasCost O.machine O.Contents N.base 5 pass.new.view.seen query.now
+            pass.old.view pass.new.view steps.old steps.new }
     {
         self.shared.enter(&mut pass.seat);
         steps.add(ENTER_STEPS);
@@ -104,20 +84,7 @@ impl<D: Device, O: Object, N: Label> Store<D, O, N> {
         requires name { blank.name ≡ L.name }
         requires parts { (blank.parts ≡ L.parts) × (0 < blank.parts) }
         requires of { IsCallerOf O.Contents N.table N.base pass.old }
-        ensures of { IsCallerOf O.Contents N.table N.base pass.new }
-        ensures same { IsSameCaller pass.old pass.new }
-        ensures later { StartsWith pass.new.view.seen pass.old.view.seen }
-        ensures front { (s : O.State) (k : ℕ) → O.Contents N.base.order N.base.image s k →
-            result.1 ≡ k + length pass.new.view.seen }
-        ensures answer { (s : O.State) (k : ℕ) → O.Contents N.base.order N.base.image s k →
-            result.0 ≡ O.machine.tell
-            (after (on_words O.machine) N.base.order s k pass.new.view.seen) query.now }
-        ensures fronts { pass.new.view.fronts ≡ pass.old.view.fronts ++ result.1 ∷ [] }
-        ensures still { pass.new.view ≡ record pass.old.view {
-          seen = pass.new.view.seen;
-          fronts = pass.new.view.fronts;
-          steps = pass.new.view.steps;
-        } }
+        ensures { HasAnswered O.machine O.Contents N.base N.table query.now pass.old pass.new result }
     {
         self.read(pass, query, &mut Steps::<L>::of(blank))
     }
@@ -127,25 +94,7 @@ impl<D: Device, O: Object, N: Label> Store<D, O, N> {
     #[inline(always)]
     pub fn query(&self, pass: &mut Pass, query: &O::Query) -> (O::Answer, u64)
         requires of { IsCallerOf O.Contents N.table N.base pass.old }
-        ensures of { IsCallerOf O.Contents N.table N.base pass.new }
-        ensures same { IsSameCaller pass.old pass.new }
-        // What the caller has now seen begins with all that it had seen.
-        ensures later { StartsWith pass.new.view.seen pass.old.view.seen }
-        // The front is the count at the opening, and one more for each update that the caller has now seen.
-        ensures front { (s : O.State) (k : ℕ) → O.Contents N.base.order N.base.image s k →
-            result.1 ≡ k + length pass.new.view.seen }
-        // The answer is the object's in the state after the updates that the caller has now seen.
-        ensures answer { (s : O.State) (k : ℕ) → O.Contents N.base.order N.base.image s k →
-            result.0 ≡ O.machine.tell
-            (after (on_words O.machine) N.base.order s k pass.new.view.seen) query.now }
-        // The caller keeps the front, behind those that it was told before.
-        ensures fronts { pass.new.view.fronts ≡ pass.old.view.fronts ++ result.1 ∷ [] }
-        // Of what the caller knows only what it has seen, its fronts and the number of its steps change.
-        ensures still { pass.new.view ≡ record pass.old.view {
-          seen = pass.new.view.seen;
-          fronts = pass.new.view.fronts;
-          steps = pass.new.view.steps;
-        } }
+        ensures { HasAnswered O.machine O.Contents N.base N.table query.now pass.old pass.new result }
     {
         self.read_counted::<Brand>(Blank::new(1), pass, query)
     }
@@ -196,18 +145,13 @@ impl<D: Device, O: Object, N: Label> Store<D, O, N> {
         ensures seen { (s : O.State) (k : ℕ) → O.Contents N.base.order N.base.image s k →
             result.1 ≡ k + length reading.old.view.seen }
         // The answer is the object's in the state after the updates that the caller has seen.
-        ensures answer { (s : O.State) (k : ℕ) → O.Contents N.base.order N.base.image s k →
-            result.0 ≡ O.machine.tell
-            (after (on_words O.machine) N.base.order s k reading.old.view.seen) query.now }
-        ensures still { reading.new.view ≡ record reading.old.view {
-          steps = reading.new.view.steps;
-        } }
-        // The counter rises by the steps that the caller makes.
-        ensures counted { HasCountedSteps reading.old.view reading.new.view steps.old steps.new }
-        // The call makes at most one step more than the query costs in that state.
-        ensures most { (s : O.State) (k : ℕ) → O.Contents N.base.order N.base.image s k →
-            steps.new ≤ steps.old + O.machine.cost N.base.order
-            (after (on_words O.machine) N.base.order s k reading.old.view.seen) query.now + 1 }
+        ensures answer { IsAnswer O.machine O.Contents N.base reading.old.view.seen query.now
+            result.0 }
+        ensures still { OnlySteps reading.old.view reading.new.view }
+        // The call makes at most one step more than the query costs in that state, and the counter rises by
+        // its steps.
+        ensures cost { HasCost O.machine O.Contents N.base 1 reading.old.view.seen query.now
+            reading.old.view reading.new.view steps.old steps.new }
     {
         self.ask_seat(&mut reading.seat, query, steps)
     }
@@ -242,18 +186,12 @@ impl<D: Device, O: Object, N: Label> Store<D, O, N> {
         requires stands { let v = view seat.old in IsHeldSinceOpening O.Contents (on_words O.machine)
             v.base (image_of v.position) v.seen (front_of v.position) }
         ensures same { IsSameSeat seat.old seat.new }
-        ensures still { view seat.new ≡ record (view seat.old) {
-          steps = (view seat.new).steps;
-        } }
+        ensures still { OnlySteps (view seat.old) (view seat.new) }
         ensures front { result.1 ≡ front_of (view seat.old).position }
-        ensures answer { let v = view seat.old in (s : O.State) (k : ℕ) →
-            O.Contents v.base.order v.base.image s k →
-            result.0 ≡ O.machine.tell (after (on_words O.machine) v.base.order s k v.seen)
-            query.now }
-        ensures counted { HasCountedSteps (view seat.old) (view seat.new) steps.old steps.new }
-        ensures most { let v = view seat.old in (s : O.State) (k : ℕ) →
-            O.Contents v.base.order v.base.image s k → steps.new ≤ steps.old + O.machine.cost
-            v.base.order (after (on_words O.machine) v.base.order s k v.seen) query.now + 1 }
+        ensures answer { let v = view seat.old in
+            IsAnswer O.machine O.Contents v.base v.seen query.now result.0 }
+        ensures cost { let v = view seat.old in HasCost O.machine O.Contents v.base 1 v.seen
+            query.now v (view seat.new) steps.old steps.new }
     {
         let front = self.shared.load(seat, COUNT);
         steps.add(1);

@@ -1,16 +1,11 @@
 //! Scripts on an opened heap, one caller each, in threads, and its closing.
-ghost use Rattle.std.specs.Prelude.{◌≡◌, ℕ, ◌≤◌, List, map, IsTrue};
+ghost use Rattle.std.specs.Prelude.{◌≡◌, ℕ, List, map, IsTrue};
 ghost use Rattle.rom_model.specs.Lawful.{IsLawful};
-ghost use Rattle.rom_model.specs.Machine.{on_words};
-ghost use Rattle.rom_model.specs.Passes.{faults_after};
-ghost use Rattle.rom_combine.specs.Costs.{WithinHeap};
-ghost use Rattle.rom_combine.specs.Session.{ImageNow, SessionImage};
 ghost use Rattle.rom_rule.specs.Views.{base_of};
-ghost use Rattle.rom_store.specs.Closing.{HasLeftSince};
+ghost use Rattle.rom_store.specs.Closing.{IsClosedFrom};
 ghost use Rattle.rom_store.specs.Playing.{CanPlay, IsPlayed};
-ghost use Rattle.rom_store.specs.Sessions.{EachStory, HasStory};
-ghost use Rattle.rom_store.specs.Start.{HasStarted, device_start};
-ghost use Rattle.rom_store.specs.Traced.{WentThrough};
+ghost use Rattle.rom_store.specs.Sessions.{EachStory};
+ghost use Rattle.rom_store.specs.Start.{device_start};
 
 use crate::closed::Closed;
 use crate::label::Label;
@@ -32,7 +27,7 @@ pub struct Played<D: Device, O: Object> {
     pub closed: Closed<D, O>,
 }
 
-// All that follows the opening, with a label. Each fact of `IsPlayed` is a clause of its own here.
+// All that follows the opening, with a label.
 fn play_as<
     D: Device + Send,
     O: Object + Send + Sync,
@@ -53,27 +48,10 @@ where
         × (D.shown.left_since opening.device t i → N.since t i) }
     requires ready { CanPlay O.Contents O.machine.call_words N.table N.base opening.passes
         scripts.now rooms.results rooms.jobs }
-    ensures order { result.closed.session.order ≡ N.base.order }
-    ensures image { result.closed.session.image ≡ N.base.image }
-    ensures opening_faults { result.closed.session.faults ≡ N.base.faults }
-    ensures story { HasStory O.machine O.Contents result.closed.session }
+    ensures ended { IsClosedFrom D.shown O.machine O.Contents N.base N.start N.since result.closed }
     ensures lawful { EachStory O.machine O.Contents result.closed.session (λ story.
         IsLawful O.machine story (map (λ v. v.items) scripts.now)
         (map (λ v. v.items) result.results.items)) }
-    ensures now { IsTrue D.shown.tells_images → EachStory O.machine O.Contents
-        result.closed.session (λ story. (i : List ℕ) → D.shown.leaves result.closed.device i →
-        ImageNow O.Contents (on_words O.machine) story i) }
-    ensures since { IsTrue D.shown.tells_images → EachStory O.machine O.Contents
-        result.closed.session (λ story. HasLeftSince D.shown N.start N.since
-        (SessionImage O.Contents (on_words O.machine) story) result.closed.device) }
-    ensures went { EachStory O.machine O.Contents result.closed.session (λ story.
-        WentThrough D.shown O.Contents (on_words O.machine) story
-        (HasStarted D.shown N.base.faults N.start N.since) result.closed.device) }
-    ensures size { D.shown.size result.closed.device ≡ N.start.size }
-    ensures outside { IsTrue D.shown.tells_words →
-        WithinHeap N.base.order N.start.words (D.shown.words result.closed.device) }
-    ensures faults { faults_after result.closed.session.faults result.closed.session.records
-        ≤ D.shown.faults result.closed.device }
 {
     let Rooms {
         mut results,

@@ -1,14 +1,13 @@
 //! A table whose callers have their seats.
-ghost use Rattle.std.specs.Prelude.{◌≡◌, ℕ, ◌*◌, ◌≤◌, All, IfOk, length, map};
-ghost use Rattle.rom_model.specs.Blocks.{IsOrder, region_len};
+ghost use Rattle.std.specs.Prelude.{◌≡◌, ℕ, ◌*◌, All, IfOk, map};
+ghost use Rattle.rom_model.specs.Blocks.{IsOrder};
 ghost use Rattle.rom_model.specs.VecSpace.{words_of_space};
-ghost use Rattle.rom_lr.specs.Opening.{AreNewSeats, dealt_view};
-ghost use Rattle.rom_lr.specs.Seats.{IsWriterOf, opened_with, view, writer_view};
+ghost use Rattle.rom_lr.specs.Seats.{view};
 ghost use Rattle.rom_combine.specs.AtRest.{IsReady};
 ghost use Rattle.rom_rule.specs.Kinds.{IsIdleView};
 ghost use Rattle.rom_rule.specs.Places.{AreCallers};
-ghost use Rattle.rom_store.specs.Callers.{IsNewCaller, caller_at};
-ghost use Rattle.rom_store.specs.Indexed.{Indexed};
+ghost use Rattle.rom_store.specs.Callers.{caller_at};
+ghost use Rattle.rom_store.specs.Seating.{IsSeated, base_for};
 
 use crate::begun::Begun;
 use crate::pass::Pass;
@@ -65,21 +64,8 @@ impl<O: Object> Seated<O> {
         requires order { IsOrder order }
         requires callers { AreCallers callers }
         requires formed { (s : O.State) × (k : ℕ) × O.Contents order (words_of_space image.now) s k }
-        ensures of { IfOk result (λ t. IsWriterOf t.shared t.writer) }
-        ensures base { IfOk result (λ t. opened_with t.shared ≡ record {
-          order = order;
-          callers = callers;
-          image = words_of_space image.now;
-          faults = faults;
-        }) }
-        ensures writer { IfOk result (λ t. writer_view t.writer
-            ≡ dealt_view (opened_with t.shared) callers) }
-        ensures ready { IfOk result (λ t. IsReady (O.STORES * O.WEIGHT) callers t.log) }
-        ensures many { IfOk result (λ t. length t.passes.items ≡ callers) }
-        ensures passes { IfOk result (λ t. Indexed (IsNewCaller O.Contents
-            t.shared.table.shared.table_id (opened_with t.shared)) t.passes.items) }
-        ensures begun { IfOk result (λ t. (t.begun.order ≡ order)
-            × (words_of_space t.begun.image.value ≡ words_of_space image.now) × (t.begun.faults ≡ faults)) }
+        ensures { IfOk result (λ t. IsSeated O.Contents (O.STORES * O.WEIGHT)
+            (base_for order callers (words_of_space image.now) faults) t) }
     {
         let (shared, writer, seats) = Shared::new(alloc, order, callers, image.words(), faults)?;
         let log = log_for::<O>(alloc, callers)?;

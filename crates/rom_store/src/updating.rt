@@ -1,20 +1,15 @@
 //! How callers update.
-ghost use Rattle.std.specs.Prelude.{◌≡◌, ℕ, ◌+◌, ◌*◌, ◌<◌, ◌≤◌, ◌++◌, ◌∷◌, [], List, length, IsSome};
-ghost use Rattle.std.specs.Bool.{OnFalse, OnTrue};
-ghost use Rattle.rom_model.specs.History.{LAST_COUNT};
+ghost use Rattle.std.specs.Prelude.{◌≡◌, ℕ, ◌*◌, ◌≤◌, [], length, IsSome};
 ghost use Rattle.rom_model.specs.Lawful.{as_words};
 ghost use Rattle.rom_model.specs.Machine.{on_words};
-ghost use Rattle.rom_model.specs.Seen.{StartsWith, next_call};
 ghost use Rattle.rom_model.specs.declared.call.Updated.{Updated};
 ghost use Rattle.rom_model.specs.declared.words.TheConstants.{CALL_WORDS};
 ghost use Rattle.rom_lines.specs.Replies.{HasReplyWords, updated_as};
 ghost use Rattle.rom_lines.specs.declared.results.Became.{Became};
 ghost use Rattle.rom_lines.specs.declared.results.Undone.{Undone};
 ghost use Rattle.rom_lr.specs.Seats.{IsPosted, IsSameSeat, IsSeatOf, view};
-ghost use Rattle.rom_rule.specs.CallKinds.{IsToldByPass};
-ghost use Rattle.rom_rule.specs.Views.{kept_of};
-ghost use Rattle.rom_store.specs.Callers.{IsCallerOf, IsSameCaller};
-ghost use Rattle.rom_store.specs.Updating.{HasBeenTold, IsDoneIn, Says};
+ghost use Rattle.rom_store.specs.Callers.{IsCallerOf};
+ghost use Rattle.rom_store.specs.Updating.{HasBeenTold, HasLooked, HasUpdated, Says};
 
 use crate::held::Held;
 use crate::label::Label;
@@ -73,41 +68,9 @@ impl<D: Device, O: Object, N: Label> Store<D, O, N> {
         gate: &G,
     ) -> Updated<O::Reply>
         requires of { IsCallerOf O.Contents N.table N.base pass.old }
-        ensures of { IsCallerOf O.Contents N.table N.base pass.new }
-        ensures same { IsSameCaller pass.old pass.new }
-        // What the caller has now seen begins with all that it had seen.
-        ensures later { StartsWith pass.new.view.seen pass.old.view.seen }
-        ensures fronts { pass.new.view.fronts ≡ pass.old.view.fronts }
-        ensures joined { pass.new.view.joined ≡ pass.old.view.joined }
-        // A caller that was told of 2^62 calls already is told `Spent`, and what it knows stays as it was.
-        ensures unposted { LAST_COUNT ≤ length pass.old.view.outcomes →
-            (result ≡ Updated.Spent) × (pass.new ≡ pass.old) }
-        // Else the call is posted: its words follow those of the caller's earlier calls.
-        ensures posted { length pass.old.view.outcomes < LAST_COUNT →
-            pass.new.view.calls ≡ pass.old.view.calls ++ O.machine.call_words call.now ∷ [] }
-        // Then the caller keeps, behind what it was told before, this call and what is answered here.
-        ensures told { length pass.old.view.outcomes < LAST_COUNT →
-            pass.new.view.outcomes ≡ pass.old.view.outcomes
-            ++ (
-              next_call (kept_of pass.old.view) (O.machine.call_words call.now),
-              as_words O.machine result,
-            ) ∷ [] }
-
-        // What one pass told of it, in whose record the device's counts of faults stand.
-        ensures taken { length pass.old.view.outcomes < LAST_COUNT →
-            IsToldByPass O.Contents (on_words O.machine) N.base (
-              next_call (kept_of pass.old.view) (O.machine.call_words call.now),
-              as_words O.machine result,
-            )
-            (length pass.old.view.seen) pass.old.view.seen pass.new.view.seen }
-
-        // Where it is done, the caller has seen a legal history that ends with the batch of that
-        // pass and has the update's entry at its place.
-        ensures done { (s : O.State) (k : ℕ) → O.Contents N.base.order N.base.image s k →
-            (reply : O.Reply) (place : ℕ) → result ≡ Updated.Done reply place →
-            IsDoneIn (on_words O.machine) N.base.order s k
-            (next_call (kept_of pass.old.view) (O.machine.call_words call.now))
-            (O.machine.reply_words reply) place pass.old.view.seen pass.new.view.seen }
+        // This became of a call with the words of the call, and this the caller has then seen and keeps.
+        ensures { HasUpdated O.machine O.Contents N.table N.base (O.machine.call_words call.now)
+            result pass.old pass.new }
     {
         let mut words = Args::new();
         let mut told = Back::new();
@@ -130,44 +93,15 @@ impl<D: Device, O: Object, N: Label> Store<D, O, N> {
         requires of { IsCallerOf O.Contents N.table N.base pass.old }
         requires call { IsSome (O.machine.words_call words.now) }
         requires few { length words.now ≤ CALL_WORDS }
-        ensures of { IsCallerOf O.Contents N.table N.base pass.new }
-        ensures same { IsSameCaller pass.old pass.new }
-        // What the caller has now seen begins with all that it had seen.
-        ensures later { StartsWith pass.new.view.seen pass.old.view.seen }
-        ensures fronts { pass.new.view.fronts ≡ pass.old.view.fronts }
-        ensures joined { pass.new.view.joined ≡ pass.old.view.joined }
-        // A caller that was told of 2^62 calls already is told `Spent`, and what it knows stays as it was.
-        ensures unposted { LAST_COUNT ≤ length pass.old.view.outcomes →
-            (result ≡ Became.Undone Undone.Spent) × (pass.new ≡ pass.old) × (told.new ≡ []) }
-        // Else the call is posted: its words follow those of the caller's earlier calls.
-        ensures posted { length pass.old.view.outcomes < LAST_COUNT →
-            pass.new.view.calls ≡ pass.old.view.calls ++ words.now ∷ [] }
-        // Then the caller keeps, behind what it was told before, this call and what is answered here.
-        ensures told { length pass.old.view.outcomes < LAST_COUNT →
-            pass.new.view.outcomes ≡ pass.old.view.outcomes
-            ++ (
-              next_call (kept_of pass.old.view) words.now,
-              as_words O.machine (updated_as O.machine.words_reply result told.new),
-            ) ∷ [] }
-
-        // What one pass told of it, in whose record the device's counts of faults stand.
-        ensures taken { length pass.old.view.outcomes < LAST_COUNT →
-            IsToldByPass O.Contents (on_words O.machine) N.base (
-              next_call (kept_of pass.old.view) words.now,
-              as_words O.machine (updated_as O.machine.words_reply result told.new),
-            )
-            (length pass.old.view.seen) pass.old.view.seen pass.new.view.seen }
-
-        // Where it is done, the caller has seen a legal history that ends with the batch of that
-        // pass and has the update's entry at its place.
-        ensures done { (s : O.State) (k : ℕ) → O.Contents N.base.order N.base.image s k →
-            (place : ℕ) → result ≡ Became.Done place →
-            IsDoneIn (on_words O.machine) N.base.order s k
-            (next_call (kept_of pass.old.view) words.now)
-            told.new place pass.old.view.seen pass.new.view.seen }
-
+        // So of a call with these words; the reply is read from the words that are left.
+        ensures updated { HasUpdated O.machine O.Contents N.table N.base words.now
+            (updated_as O.machine.words_reply result told.new) pass.old pass.new }
         // The words that are left are those of a reply, where it is done.
         ensures replied { HasReplyWords O.machine.words_reply result told.new }
+        // Where it is done, that reply's words are no others.
+        ensures reply { (place : ℕ) → result ≡ Became.Done place →
+            as_words O.machine (updated_as O.machine.words_reply result told.new)
+            ≡ Updated.Done told.new place }
         // No words are left where it is not done.
         ensures none { (why : Undone) → result ≡ Became.Undone why → told.new ≡ [] }
         // So many words at most are left, so that room for them can be reserved before.
@@ -205,12 +139,7 @@ impl<D: Device, O: Object, N: Label> Store<D, O, N> {
     fn look<R: Wait, G: Gate>(&self, rt: &R, seat: &mut Seat, gate: &G) -> bool
         requires of { IsSeatOf self.now.shared seat.old }
         requires posted { IsPosted seat.old }
-        ensures same { IsSameSeat seat.old seat.new }
-        ensures not_yet { OnFalse result (view seat.new ≡ record (view seat.old) {
-          steps = (view seat.new).steps;
-        }) }
-        ensures told { OnTrue result (HasBeenTold O.Contents (on_words O.machine)
-            (view seat.old) (view seat.new)) }
+        ensures { HasLooked O.Contents (on_words O.machine) result seat.old seat.new }
     {
         for looked in 0..LOOKS {
             if self.look_once(rt, seat, gate, looked) {
@@ -223,12 +152,7 @@ impl<D: Device, O: Object, N: Label> Store<D, O, N> {
     fn look_once<R: Wait, G: Gate>(&self, rt: &R, seat: &mut Seat, gate: &G, looked: u64) -> bool
         requires of { IsSeatOf self.now.shared seat.old }
         requires posted { IsPosted seat.old }
-        ensures same { IsSameSeat seat.old seat.new }
-        ensures not_yet { OnFalse result (view seat.new ≡ record (view seat.old) {
-          steps = (view seat.new).steps;
-        }) }
-        ensures told { OnTrue result (HasBeenTold O.Contents (on_words O.machine)
-            (view seat.old) (view seat.new)) }
+        ensures { HasLooked O.Contents (on_words O.machine) result seat.old seat.new }
     {
         match self.held.try_lock() {
             Some(held) => self.look_or_pass(rt, seat, gate, held),
@@ -264,12 +188,7 @@ impl<D: Device, O: Object, N: Label> Store<D, O, N> {
     ) -> bool
         requires of { IsSeatOf self.now.shared seat.old }
         requires posted { IsPosted seat.old }
-        ensures same { IsSameSeat seat.old seat.new }
-        ensures not_yet { OnFalse result (view seat.new ≡ record (view seat.old) {
-          steps = (view seat.new).steps;
-        }) }
-        ensures told { OnTrue result (HasBeenTold O.Contents (on_words O.machine)
-            (view seat.old) (view seat.new)) }
+        ensures { HasLooked O.Contents (on_words O.machine) result seat.old seat.new }
     {
         if answered(&self.shared, seat) {
             return true;

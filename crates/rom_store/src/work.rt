@@ -1,13 +1,12 @@
 //! Callers in threads.
-ghost use Rattle.std.specs.Prelude.{◌≡◌, ℕ, ◌+◌, ◌<◌, ◌≤◌, [], length, map, slice_get, Some, All, vec_len};
+ghost use Rattle.std.specs.Prelude.{◌≡◌, ℕ, ◌<◌, ◌≤◌, length, map, slice_get, Some, All, vec_len};
 ghost use Rattle.rom_model.specs.History.{LAST_COUNT};
 ghost use Rattle.rom_model.specs.declared.line.Step.{Step};
-ghost use Rattle.rom_lines.specs.Replies.{HasRoomFor};
 ghost use Rattle.rom_lines.specs.Steps.{IsLine, need};
 ghost use Rattle.rom_store.specs.Callers.{IsCallerOf};
 ghost use Rattle.rom_store.specs.Closing.{kept_in};
 ghost use Rattle.rom_store.specs.Indexed.{Indexed};
-ghost use Rattle.rom_store.specs.Working.{HasDoneLines, HasNotBegun, HasSeenNothing, HasTaken, IsNext, IsPast, script_of};
+ghost use Rattle.rom_store.specs.Working.{HasDoneLines, HasNotBegun, HasTaken, HasWorked, IsNext, IsPast, MayTakeLines, script_of};
 
 use crate::label::Label;
 use crate::pass::Pass;
@@ -83,16 +82,10 @@ fn take_lines<D: Device, O: Object, N: Label, R: Wait, G: Gate, L: Ledger>(
     results: &mut Results<O>,
     steps: &mut Steps<L>,
 )
-    requires of { IsCallerOf O.Contents N.table N.base pass.old }
-    requires opened { (s : O.State) × (k : ℕ) × O.Contents N.base.order N.base.image s k }
-    requires few { length script.now.items ≤ LAST_COUNT }
-    requires first { HasSeenNothing (kept_in pass.old) }
-    requires none { results.old.items ≡ [] }
-    requires fits { HasRoomFor O.machine.call_words script.now.items results.old }
-    ensures of { IsCallerOf O.Contents N.table N.base pass.new }
-    ensures number { pass.new.view.number ≡ pass.old.view.number }
-    ensures done { HasDoneLines O.machine O.Contents N.base pass.new
-        script.now.items results.new.items }
+    requires { MayTakeLines O.Contents O.machine.call_words N.table N.base script.now.items
+        pass.old results.old }
+    ensures { HasWorked O.machine O.Contents N.base N.table script.now.items pass.old pass.new
+        results.new.items }
 {
     let mut told = Back::new();
     for i in 0..script.len() {
@@ -112,16 +105,10 @@ fn take_counted<D: Device, O: Object, N: Label, R: Wait, G: Gate, L: Ledger>(
 )
     requires name { blank.name ≡ L.name }
     requires parts { (blank.parts ≡ L.parts) × (0 < blank.parts) }
-    requires of { IsCallerOf O.Contents N.table N.base pass.old }
-    requires opened { (s : O.State) × (k : ℕ) × O.Contents N.base.order N.base.image s k }
-    requires few { length script.now.items ≤ LAST_COUNT }
-    requires first { HasSeenNothing (kept_in pass.old) }
-    requires none { results.old.items ≡ [] }
-    requires fits { HasRoomFor O.machine.call_words script.now.items results.old }
-    ensures of { IsCallerOf O.Contents N.table N.base pass.new }
-    ensures number { pass.new.view.number ≡ pass.old.view.number }
-    ensures done { HasDoneLines O.machine O.Contents N.base pass.new
-        script.now.items results.new.items }
+    requires ready { MayTakeLines O.Contents O.machine.call_words N.table N.base script.now.items
+        pass.old results.old }
+    ensures { HasWorked O.machine O.Contents N.base N.table script.now.items pass.old pass.new
+        results.new.items }
 {
     let mut steps = Steps::<L>::of(blank);
     take_lines(rt, room, pass, script, results, &mut steps);
@@ -137,11 +124,9 @@ fn work<D: Device, O: Object, N: Label, R: Wait, G: Gate>(
     requires few { All (λ v. length v.items ≤ LAST_COUNT) room.now.scripts.now }
     requires ready { HasNotBegun O.Contents O.machine.call_words N.table N.base
         (map (λ v. v.items) room.now.scripts.now) job.old.pass job.old.results }
-    ensures of { IsCallerOf O.Contents N.table N.base job.new.pass }
-    ensures number { job.new.pass.view.number ≡ job.old.pass.view.number }
-    ensures done { HasDoneLines O.machine O.Contents N.base job.new.pass
+    ensures { HasWorked O.machine O.Contents N.base N.table
         (script_of (map (λ v. v.items) room.now.scripts.now) job.old.pass.view.number)
-        job.new.results.items }
+        job.old.pass job.new.pass job.new.results.items }
 {
     let script = &room.scripts[job.pass.number() as usize - 1];
     take_counted::<D, O, N, R, G, Brand>(

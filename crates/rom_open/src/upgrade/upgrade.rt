@@ -1,22 +1,19 @@
 //! The upgrade of a heap on a device.
 ghost use Rattle.std.specs.Prelude.{◌<◌, ◌≡◌, ◌≢◌, ◌≤◌, ℕ, List, IfOk, IfErr, IsTrue, Err};
 ghost use Rattle.rom_model.specs.Blocks.{IsOrder};
-ghost use Rattle.rom_device.specs.Device.{IsSynced, Leaves};
+ghost use Rattle.rom_device.specs.Device.{Leaves};
 ghost use Rattle.rom_header.specs.Held.{Holds, HoldsOne};
 ghost use Rattle.rom_header.specs.Layout.{words_needed};
 ghost use Rattle.rom_header.specs.Writing.{Alters};
-ghost use Rattle.rom_recover.specs.Recovered.{IsDone, Mended};
-ghost use Rattle.rom_open.specs.Calls.{is_late};
-ghost use Rattle.rom_open.specs.Opening.{MendsNamed};
+ghost use Rattle.rom_open.specs.Opens.{Opens};
 ghost use Rattle.rom_open.specs.Refusals.{NamesTooFew, named_order};
-ghost use Rattle.rom_open.specs.Within.{WithinOpening};
 ghost use Rattle.rom_open.specs.declared.reasons.Why.TheVariants.{TooSmall};
 ghost use Rattle.rom_open.specs.UpgradeCalls.{HasUpgradeFaults, UpgradeCalls, UpgradeOfOrder, WithinUpgrade};
 ghost use Rattle.rom_open.specs.Upgrading.{HasUpgraded, HoldsEither, IsUpgradeAnswer, UpgradeImage, WithinNamed, upgrade_refusal, upgraded_device};
 
 use crate::upgrade::batch::replace_regions;
-use crate::upgrade::renewal::{Renewal, renew_region};
-use crate::{Refused, Why};
+use crate::upgrade::renewal::renew_region;
+use crate::{Refused, Why, make_ready};
 use rom_device::Device;
 use rom_model::Renew;
 use std::alloc::Global;
@@ -70,29 +67,10 @@ pub fn upgrade_device<D: Device, O: Renew>(alloc: Global, device: D) -> Result<(
     // The size stays. Where the device tells its words, none differs but the state and the two regions.
     ensures within { Alters D.shown WithinNamed device (upgraded_device result) }
 
-    // Where the device tells its words: if the region that counts was refused, or memory was short, both
-    // regions are that one, and the state is IDLE.
-    ensures recovered { IsTrue D.shown.tells_words → IfErr result (λ refused.
-        IsTrue (is_late refused.why) → IsDone (named_order (D.shown.words device))
-        (D.shown.words device) (D.shown.words refused.device)) }
-    // Where images are told: if the region that counts was refused, or memory was short, a stop leaves the
-    // words as they read.
-    ensures certain { IfErr result (λ refused.
-        IsTrue (is_late refused.why) → IsSynced D.shown refused.device) }
-    // Where the device tells its words: after each refusal but `Device` they are as they were, or mended as
-    // by a recovery.
-    ensures left { IfErr result (λ refused.
-        refused.why ≢ Why.Device → Alters D.shown MendsNamed device refused.device) }
-    // Where images are told, a stop up to each refusal but `Device` leaves what could be left before, or a
-    // heap in which the same region counts.
-    ensures left_images { IsTrue D.shown.tells_images → IfErr result (λ refused.
-        refused.why ≢ Why.Device →
-        Leaves D.shown (Mended (named_order (D.shown.words device)) (D.shown.words device))
-        device refused.device) }
-    // After each refusal but `Device`, no more calls were made than one opening makes, and none after one
-    // that failed.
-    ensures within_opening { IfErr result (λ refused.
-        refused.why ≢ Why.Device → WithinOpening D.shown device refused.device) }
+    // After each refusal but `Device`, of the device became what becomes of it at an opening that is refused
+    // so.
+    ensures opens { IfErr result (λ refused.
+        refused.why ≢ Why.Device → Opens D.shown device refused.device (Err refused.why)) }
 
     // No call follows one that failed. After `Device` the last call failed, after `Ok` and `Twins` it may
     // have failed, and after any other refusal none did.
@@ -110,23 +88,20 @@ pub fn upgrade_device<D: Device, O: Renew>(alloc: Global, device: D) -> Result<(
     ensures by_order { IfOk result (λ done. UpgradeOfOrder D.shown done.1 device done.0) }
 {
     let mut device = device;
-    let renewed = renew_region::<D, O>(alloc, &mut device);
-    match renewed {
-        Ok(
-            Renewal {
-                geometry,
-                mut region,
-            },
-        ) => {
-            let (device, written) = replace_regions(device, geometry, &mut region);
-            match written {
-                Ok(()) => Ok((device, geometry.order())),
-                Err(_) => Err(Refused {
-                    device,
-                    why: Why::Device,
-                }),
+    match make_ready(alloc, &mut device) {
+        Ok(ready) => match renew_region::<O>(alloc, ready.image, ready.geometry) {
+            Ok(mut region) => {
+                let (device, written) = replace_regions(device, ready.geometry, &mut region);
+                match written {
+                    Ok(()) => Ok((device, ready.geometry.order())),
+                    Err(_) => Err(Refused {
+                        device,
+                        why: Why::Device,
+                    }),
+                }
             }
-        }
+            Err(why) => Err(Refused { device, why }),
+        },
         Err(why) => Err(Refused { device, why }),
     }
 }

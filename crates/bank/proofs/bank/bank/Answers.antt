@@ -117,7 +117,7 @@ close-closed-requires-clause-passes g c =
 
 pub total_in-requires : goal.total_in-requires
 total_in-requires g c =
-    let (s, k, at) = c.requires.opened in let closed = c.close-closed.ensures in
+    let (s, k, at) = c.requires.opened in let closed = c.close-closed.ensures.ended in
     (_, c.ask.ensures.told s k (subst (λ (z : ℕ × List ℕ). Contents z.0 z.1 s k) (λ i. (sym closed.order i, sym closed.image i)) at))
 
 -- what the closed store has of its callers
@@ -151,8 +151,8 @@ ended g c =
     let all : c.push_reserved-5.new.self.items ≡ a.pass ∷ b.pass ∷ c'.pass ∷ d.pass ∷ m ∷ [] = back_again _ _ _ _ _ _ a.pass b.pass c'.pass d.pass m (none_left _ at0.2) c.push_reserved.ensures.items c.push_reserved-2.ensures.items c.push_reserved-3.ensures.items c.push_reserved-4.ensures.items c.push_reserved-5.ensures.items in
     let closed = c.close-closed.ensures in record {
       five = c.requires.many.1;
-      order = closed.order;
-      image = closed.image;
+      order = closed.ended.order;
+      image = closed.ended.image;
       closed = λ story is. subst (λ (zs : List Caller). IsClosed trio story (length zs)) all (closed.closed story is);
       kept = λ story is. subst (λ (zs : List Caller). Indexed (λ _ v. IsKept trio story v) (map kept_in zs)) all (closed.kept story is);
       manager = (c.note-4.ensures.of, last, knows);
@@ -167,12 +167,12 @@ pub returns : goal.returns
 returns g c =
     let table = g.N.Label.table in let base = g.N.Label.base in let session = c.close-closed.result.session in let put_in = c.pay_in-put_in.result in let seen = c.pay_in-put_in.new.pass.view.seen in
     let m = c.note-4.new.pass in let a = c.into-first.result.0 in let b = c.into-first.result.1 in let c' = c.into-first.result.2 in let d = c.into-first.result.3 in
-    let e = ended g c in let (some, of) = c.close-closed.ensures.story in
+    let e = ended g c in let (some, of) = c.close-closed.ensures.ended.story in
     let same : session ≡ c.ask.new.self.session = ap (λ (z : ClosedSeen g.row.D.Denot). z.session) (sym c.ask.ensures.still) in
     let each : (P : Story State → Type 0) → EachStory trio Contents session P → EachStory trio Contents c.ask.new.self.session P = λ P all. subst (λ (z : SessionSeen). EachStory trio Contents z P) same all in
     record {
       based = subst (λ (z : SessionSeen). (z.order ≡ g.N.Label.base.order) × (z.image ≡ g.N.Label.base.image)) same (e.order, e.image);
-      story = subst (λ (z : SessionSeen). HasStory trio Contents z) same c.close-closed.ensures.story;
+      story = subst (λ (z : SessionSeen). HasStory trio Contents z) same c.close-closed.ensures.ended.story;
       closed = each (λ story. IsClosed trio story 5) e.closed;
       balanced = each (KeepsTotal put_in) (balance table base session put_in seen m a b c' d e);
       tallies = each (λ story. Indexed (λ i tally. IsTallyOf story (i + 1) tally) (a.tally ∷ b.tally ∷ c'.tally ∷ d.tally ∷ [])) (tallies table base session put_in seen m a b c' d e);

@@ -26,11 +26,11 @@ returns-in_err-opening-clause-made g c = λ tells long zero.
 pub returns-clause-made : goal.returns-clause-made
 returns-clause-made g c = λ tells long zero.
     let words = g.D.Device.shown.words c.make_where_new.new.device in
-    (tt, goes_on (base_of c.in_ok-opening.opening.key) c.bank.result.closed.session words 5 trio.empty 0 c.bank.ensures.based (c.in_ok-opening.ensures.held tells) (c.in_default.ensures.made tells long zero))
+    (tt, goes_on (base_of c.in_ok-opening.opening.key) c.bank.result.closed.session words 5 trio.empty 0 c.bank.ensures.based (c.in_ok-opening.ensures.opened.held tells) (c.in_default.ensures.made tells long zero))
 
 pub returns-clause-stood : goal.returns-clause-stood
 returns-clause-stood g c = λ tells n s k held.
     let magic = held.current.heap.header.magic in
     let still = (c.make_where_new.ensures.read tells (λ zero. omega (arith, zero, magic))).words tells in
-    goes_on (base_of c.in_ok-opening.opening.key) c.bank.result.closed.session (g.D.Device.shown.words c.make_where_new.new.device) n s k c.bank.ensures.based (c.in_ok-opening.ensures.held tells)
+    goes_on (base_of c.in_ok-opening.opening.key) c.bank.result.closed.session (g.D.Device.shown.words c.make_where_new.new.device) n s k c.bank.ensures.based (c.in_ok-opening.ensures.opened.held tells)
     (subst (λ (w : List ℕ). Holds Contents n w s k) (sym still) held)

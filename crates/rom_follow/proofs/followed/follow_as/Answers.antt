@@ -19,7 +19,7 @@ returns-clause-taken g c =
       ended = c.take_all.new.self;
       none = c.start-follower.ensures.none;
       count = λ s k there.
-          let here : Contents base.order base.image s k = subst (λ (n : ℕ). Contents n base.image s k) c.close.ensures.order (subst (λ (words : List ℕ). Contents session.order words s k) c.close.ensures.image there) in
+          let here : Contents base.order base.image s k = subst (λ (n : ℕ). Contents n base.image s k) c.close.ensures.ended.order (subst (λ (words : List ℕ). Contents session.order words s k) c.close.ensures.ended.image there) in
           omega (arith, (c.start-follower.ensures.done s k here).count_is, ap length c.start-follower.ensures.none.0);
       taken = c.take_all.ensures.taken;
       history = c.close.ensures.history;
@@ -38,9 +38,9 @@ returns-clause-follows g c s0 n0 history first legal has within held arrive =
       least = omega arith;
       within = ends_within base s0 n0 history first f kept.0;
       ends = λ s k there.
-          let here : Contents base.order base.image s k = subst (λ (n : ℕ). Contents n base.image s k) c.close.ensures.order (subst (λ (words : List ℕ). Contents closed.session.order words s k) c.close.ensures.image there) in
+          let here : Contents base.order base.image s k = subst (λ (n : ℕ). Contents n base.image s k) c.close.ensures.ended.order (subst (λ (words : List ℕ). Contents closed.session.order words s k) c.close.ensures.ended.image there) in
           let ends = ends_after base s0 n0 history first f kept.0 laws.one_contents-law s k here in (
-            (λ i. after (on_words trio) (c.close.ensures.order i) s k (c.close.ensures.history i)) ∙ ends.0,
+            (λ i. after (on_words trio) (c.close.ensures.ended.order i) s k (c.close.ensures.history i)) ∙ ends.0,
             ap (λ (es : List Entry). k + length es) c.close.ensures.history ∙ ends.1,
           );
       agrees = subst (λ (n : ℕ). All (AgreesBelow n) c.take_all.new.answers) count kept.1;

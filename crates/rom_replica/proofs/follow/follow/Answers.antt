@@ -1,10 +1,22 @@
-use Rattle.std.proofs.Common.{◌≡◌, ◌∙◌, ap, subst, sym}
+use Rattle.std.proofs.Common.{◌≡◌, ◌⊎◌, ◌∙◌, ap, arith, inl, inr, subst, sym, ⊎_elim}
 use Rattle.std.proofs.lemmas.List.{with_items_is}
 use Rattle.rom_model.specs.Story.{count}
+use Rattle.rom_run.specs.Statuses.{exit_number}
+use Rattle.rom_run.specs.declared.status.Status.{Status}
+use Rattle.rom_run.specs.declared.status.Status.TheVariants.{DeviceFailed, HeapRefused, NoMemory}
 use Rattle.rom_replica.specs.Following.{IsToldOfStream, IsFollowText, IsStreamFollowed}
-use Rattle.rom_replica.specs.Promise.{OfOne}
+use Rattle.rom_replica.specs.Promise.{IsFollowedStatus, OfOne}
 use Rattle.rom_replica.proofs.Closed.{of_one, told_by}
 use Rattle.rom_replica.proofs.follow.follow.Goals as goal
+
+-- with a status of no heap no stream was followed
+none_followed : {P : Type 0} (status : Status) → (status ≡ HeapRefused) ⊎ (status ≡ NoMemory) ⊎ (status ≡ DeviceFailed) → IsFollowedStatus (exit_number status) → P
+none_followed status is may =
+    let number : (exit_number status ≡ 3) ⊎ (exit_number status ≡ 6) ⊎ (exit_number status ≡ 7) = ⊎_elim (λ three. inl (ap exit_number three)) (λ more. inr (⊎_elim (λ six. inl (ap exit_number six)) (λ seven. inr (ap exit_number seven)) more)) is in
+    absurd (omega (arith, number, may))
+
+pub returns-in-Err-clause-taken : goal.returns-in-Err-clause-taken
+returns-in-Err-clause-taken g c = rw c.after.ensures (none_followed c.in-Err.worked.status c.in-Err.ensures.none.statuses)
 
 pub returns-in-Ok-clause-story : goal.returns-in-Ok-clause-story
 returns-in-Ok-clause-story g c =

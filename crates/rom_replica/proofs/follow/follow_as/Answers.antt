@@ -12,10 +12,10 @@ returns-clause-left g c =
       follower = c.take_frames-stop.new.follower;
       stream = c.take_frames-stop.ensures.followed;
       done = λ s k at.
-          let there = subst (λ (z : ℕ × List ℕ). Contents z.0 z.1 s k) (λ i. (close.order i, close.image i)) at in
+          let there = subst (λ (z : ℕ × List ℕ). Contents z.0 z.1 s k) (λ i. (close.ended.order i, close.ended.image i)) at in
           let begun = first.ensures.done s k there in
           let none = ap length first.ensures.none.0 in
-          (omega (arith, begun.count_is, none), subst (λ (n : ℕ). HasDoneUpdates n s k c.take_frames-stop.new.follower) (sym close.order) (close.done s k there));
+          (omega (arith, begun.count_is, none), subst (λ (n : ℕ). HasDoneUpdates n s k c.take_frames-stop.new.follower) (sym close.ended.order) (close.done s k there));
       history = close.history;
       passes = close.passes;
     }

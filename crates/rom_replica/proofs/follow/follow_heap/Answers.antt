@@ -28,8 +28,8 @@ returns-in-Ok-clause-session g c =
     let shown = g.D.Device.shown in
     let was = c.args.device in
     let opening = c.in-Ok.opening in
-    let opened = c.in-Ok.ensures in
-    let after = c.follow_on.ensures in
+    let opened = c.in-Ok.ensures.opened in
+    let after = c.follow_on.ensures.ended in
     let closed = c.follow_on.result.closed in
     let b : Base = base_of opening.key in
     let same : (story : Story State) → IsStoryOf trio Contents closed.session story → story.order ≡ b.order = λ story of. of.order_is ∙ after.order in
@@ -46,7 +46,8 @@ returns-in-Ok-clause-session g c =
         at_end = λ images. after.now images story of;
         since = λ images. leaves_both shown (λ i. Holds Contents b.order i story.opening story.opening_count) (SessionImage Contents (on_words trio) story) (SessionImage Contents (on_words trio) story) was opening.device closed.device
             (λ i held. held_opening Contents (on_words trio) story i (holds story of i held)) (λ i image. image)
-            (opened.held_images images story.opening story.opening_count (at story of)) (after.since images story of);
+            (opened.held_images images story.opening story.opening_count (at story of))
+            (let left = after.since images story of in record { later = left.later; nothing_else = λ t i early now. left.nothing_else t i now; keeps = left.keeps });
         faults = record {
           before = of.faults_is ∙ after.opening_faults ∙ opened.faults.1;
           after =
@@ -58,7 +59,7 @@ returns-in-Ok-clause-session g c =
               (after.went story of);
         };
       };
-      told = λ story of. followed_by g.S.Source.shown c.args.stream.now c.follow_on.new.stream c.follow_on.result.tally c.follow_on.result.stop closed.session story after.left of (after.closed story of);
+      told = λ story of. followed_by g.S.Source.shown c.args.stream.now c.follow_on.new.stream c.follow_on.result.tally c.follow_on.result.stop closed.session story c.follow_on.ensures.left of (c.follow_on.ensures.closed story of);
     }
 
 pub returns-in-Ok-clause-kept : goal.returns-in-Ok-clause-kept
@@ -67,11 +68,11 @@ returns-in-Ok-clause-kept g c =
     let opening = c.in-Ok.opening in
     let closed = c.follow_on.result.closed in
     record {
-      size = c.follow_on.ensures.size ∙ c.in-Ok.ensures.size;
+      size = c.follow_on.ensures.ended.size ∙ c.in-Ok.ensures.opened.size;
       outside = λ told.
           let n : ℕ = named_order (words c.args.device) in
-          let first : WithinHeap n (words c.args.device) (words opening.device) = c.in-Ok.ensures.outside told in
-          let second : WithinHeap n (words opening.device) (words closed.device) = subst (λ (m : ℕ). WithinHeap m (words opening.device) (words closed.device)) (c.in-Ok.ensures.order told) (c.follow_on.ensures.outside told) in
+          let first : WithinHeap n (words c.args.device) (words opening.device) = c.in-Ok.ensures.opened.outside told in
+          let second : WithinHeap n (words opening.device) (words closed.device) = subst (λ (m : ℕ). WithinHeap m (words opening.device) (words closed.device)) (c.in-Ok.ensures.opened.order told) (c.follow_on.ensures.ended.outside told) in
           record {
             as_long = second.as_long ∙ first.as_long;
             before = λ k low other. second.before k low other ∙ first.before k low other;

@@ -1,4 +1,4 @@
-use Rattle.std.proofs.Common.{rules}
+use Rattle.std.proofs.Common.{refl, rules}
 use Rattle.rom_store.specs.Openings.{HasBeenRefused}
 use Rattle.rom_run.proofs.Sessions.{kept_made, made_session, standing_session, unrefused}
 use Rattle.rom_run.proofs.Showing.{none_made, none_opened, refusal_ends, unmade_ends}
@@ -8,27 +8,21 @@ pub returns-in-Ok-clause-session : goal.returns-in-Ok-clause-session
 returns-in-Ok-clause-session g c =
     let o = g.O.Object in
     let played = c.in-Ok.played in
-    let is = c.in-Ok.ensures in
+    let is = c.in-Ok.ensures.played in
     rw c.in-New.is
     (made_session g.D.Device.shown o.machine o.Contents c.args.scripts.now played.results.items c.args.device played.closed is.faults c.in-New.order is.session is.order is.empty is.accepted is.fits)
 
 pub returns-in-Ok-clause-kept : goal.returns-in-Ok-clause-kept
 returns-in-Ok-clause-kept g c =
-    let is = c.in-Ok.ensures in
+    let is = c.in-Ok.ensures.played in
     rw c.in-New.is
     (kept_made g.D.Device.shown c.in-New.order c.args.device c.in-Ok.played.closed.device is.size is.outside (λ told refused. absurd (unrefused c.in-New.order (g.D.Device.shown.words c.args.device) (is.accepted told) refused)))
-
-pub returns-in-Err-clause-none_kept : goal.returns-in-Err-clause-none_kept
-returns-in-Err-clause-none_kept g c =
-    let failed = c.in-Err.ensures in
-    rw (c.in-New.is, c.end_unmade.ensures.worked)
-    (kept_made g.D.Device.shown c.in-New.order c.args.device c.in-Err.unmade.device failed.unmade_size failed.unmade_outside failed.spared)
 
 pub returns-in-Ok-play-clause-session : goal.returns-in-Ok-play-clause-session
 returns-in-Ok-play-clause-session g c =
     let o = g.O.Object in
     let played = c.in-Ok-play.played in
-    let is = c.in-Ok-play.ensures in
+    let is = c.in-Ok-play.ensures.played in
     rw c.in-Standing.is
     (standing_session g.D.Device.shown o.machine o.Contents c.args.scripts.now played.results.items c.args.device played.closed is.faults is.session is.held is.fits is.since)
 
@@ -36,10 +30,14 @@ pub returns-in-Err-clause-none : goal.returns-in-Err-clause-none
 returns-in-Err-clause-none g c =
     let o = g.O.Object in
     let ended = c.end_unmade.ensures in
-    let failed = c.in-Err.ensures in
-    rw (c.in-New.is, ended.worked)
-    (none_made o.machine o.Contents g.D.Device.shown g.K.Sink.shown o.Rejects o.earlier c.args.device c.in-Err.unmade.device c.args.out.now c.end_unmade.new.out c.in-New.order c.in-Err.unmade.why
-    failed.refused failed.unmade_sizes failed.unmade_calls failed.unmade_faults failed.unmade_images failed.memory failed.unmade_within ended.told)
+    let failed = c.in-Err.ensures.unmade in
+    rw (c.in-New.is, ended.worked) record {
+      none = none_made o.machine o.Contents g.D.Device.shown g.K.Sink.shown o.Rejects o.earlier c.args.device c.in-Err.unmade.device c.args.out.now c.end_unmade.new.out c.in-New.order c.in-Err.unmade.why
+          failed.refused failed.sizes failed.calls failed.faults failed.images failed.memory failed.within ended.told;
+      kept = kept_made g.D.Device.shown c.in-New.order c.args.device c.in-Err.unmade.device failed.size failed.outside failed.spared;
+      statuses = unmade_ends c.in-Err.unmade.why;
+      ran = refl;
+    }
 
 pub returns-in-Err-Unopened-clause-none : goal.returns-in-Err-Unopened-clause-none
 returns-in-Err-Unopened-clause-none g c =
@@ -47,12 +45,10 @@ returns-in-Err-Unopened-clause-none g c =
     let ended = c.end_unopened.ensures in
     let left = c.in-Err-Unopened.refused in
     let failed : HasBeenRefused g.D.Device.shown o.Contents o.Rejects c.args.device left.device left.why = search rules in
-    rw (c.in-Standing.is, ended.worked)
-    (none_opened o.machine o.Contents g.D.Device.shown g.K.Sink.shown o.Rejects o.earlier c.args.device left.device c.args.out.now c.end_unopened.new.out left.why
-    failed.refused failed.sizes failed.faults failed.images failed.calls failed.within ended.told)
-
-pub returns-in-Err-clause-none_statuses : goal.returns-in-Err-clause-none_statuses
-returns-in-Err-clause-none_statuses g c = rw c.end_unmade.ensures.worked (unmade_ends c.in-Err.unmade.why)
-
-pub returns-in-Err-Unopened-clause-none_statuses : goal.returns-in-Err-Unopened-clause-none_statuses
-returns-in-Err-Unopened-clause-none_statuses g c = rw c.end_unopened.ensures.worked (refusal_ends c.in-Err-Unopened.refused.why)
+    rw (c.in-Standing.is, ended.worked) record {
+      none = none_opened o.machine o.Contents g.D.Device.shown g.K.Sink.shown o.Rejects o.earlier c.args.device left.device c.args.out.now c.end_unopened.new.out left.why
+          failed.refused failed.sizes failed.faults failed.images failed.calls failed.within ended.told;
+      kept = record { size = failed.size; outside = failed.outside; spared = tt };
+      statuses = refusal_ends left.why;
+      ran = refl;
+    }

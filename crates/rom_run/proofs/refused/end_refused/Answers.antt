@@ -1,3 +1,4 @@
+use Rattle.std.proofs.Common.{refl}
 use Rattle.rom_run.proofs.Showing.{none_opened, refusal_ends}
 use Rattle.rom_run.proofs.refused.end_refused.Goals as goal
 
@@ -6,13 +7,13 @@ returns-clause-none g c = λ was failed.
     let o = g.O.Object in
     let ended = c.end_unopened.ensures in
     let left = c.args.refused in
-    rw ended.worked
-    (none_opened o.machine o.Contents g.D.Device.shown g.K.Sink.shown o.Rejects o.earlier was left.device c.args.out.now c.end_unopened.new.out left.why
-    failed.refused failed.sizes failed.faults failed.images failed.calls failed.within ended.told)
+    rw ended.worked record {
+      none = none_opened o.machine o.Contents g.D.Device.shown g.K.Sink.shown o.Rejects o.earlier was left.device c.args.out.now c.end_unopened.new.out left.why
+          failed.refused failed.sizes failed.faults failed.images failed.calls failed.within ended.told;
+      kept = record { size = failed.size; outside = failed.outside; spared = tt };
+      statuses = refusal_ends left.why;
+      ran = refl;
+    }
 
-pub returns-clause-none_kept : goal.returns-clause-none_kept
-returns-clause-none_kept g c = λ was failed.
-    rw c.end_unopened.ensures.worked record { size = failed.size; outside = failed.outside; spared = tt }
-
-pub returns-clause-none_statuses : goal.returns-clause-none_statuses
-returns-clause-none_statuses g c = rw c.end_unopened.ensures.worked (refusal_ends c.args.refused.why)
+pub returns-clause-statuses : goal.returns-clause-statuses
+returns-clause-statuses g c = rw c.end_unopened.ensures.worked (refusal_ends c.args.refused.why)

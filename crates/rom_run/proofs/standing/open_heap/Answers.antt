@@ -46,14 +46,14 @@ returns-in-Ok-clause-session g c =
       each = λ story of. record {
         opening = if_told shown.tells_words (shown.words was) (λ words. Holds o.Contents story.order words story.opening story.opening_count)
             (λ told. holds story of (shown.words was) ((c.in-Ok.ensures.held story.opening story.opening_count of.opening).before told));
-        fits = let long : words_needed story.order ≡ words_needed heap.geometry = ap (λ (n : ℕ). words_needed n) of.order_is in omega (arith, long, c.in-Ok.ensures.fits, c.in-Ok.ensures.left.size);
+        fits = let long : words_needed story.order ≡ words_needed heap.geometry = ap (λ (n : ℕ). words_needed n) of.order_is in omega (arith, long, c.in-Ok.ensures.fits, c.in-Ok.ensures.opens.left.size);
         at_end = λ images i left. held_now o.Contents (on_words o.machine) story i
-            (holds story of i (subst (λ words. Holds o.Contents heap.geometry words story.opening story.opening_count) (sym (c.in-Ok.ensures.certain refl images i left))
+            (holds story of i (subst (λ words. Holds o.Contents heap.geometry words story.opening story.opening_count) (sym (c.in-Ok.ensures.opens.certain refl images i left))
             ((c.in-Ok.ensures.held story.opening story.opening_count of.opening).holds (g.met.D.Device.tells_both images)))) of.history;
         since = λ images. leaves_by shown (λ i. Holds o.Contents heap.geometry i story.opening story.opening_count) (SessionImage o.Contents (on_words o.machine) story) was heap.device
             (λ i is. held_opening o.Contents (on_words o.machine) story i (holds story of i is)) ((c.in-Ok.ensures.held story.opening story.opening_count of.opening).images images);
         faults =
-            let same : shown.faults heap.device ≡ shown.faults was = c.in-Ok.ensures.faults in
+            let same : shown.faults heap.device ≡ shown.faults was = c.in-Ok.ensures.opens.faults in
             let none : faults_after story.opening_faults story.records ≡ story.opening_faults = ap (faults_after story.opening_faults) of.records in
             record {
               before = omega (arith, of.faults_is, c.fault_count-faults.ensures, same);
@@ -61,7 +61,7 @@ returns-in-Ok-clause-session g c =
               went =
                   let rests : LiesAtRest shown story.order heap.device = λ told. (heap.image.items, subst (λ (n : ℕ). IsHeapAtRest n heap.image.items (shown.words heap.device)) (sym of.order_is) (c.in-Ok.ensures.rest told)) in
                   went_none shown o.Contents (on_words o.machine) story (HasOpened shown story.order was) heap.device of.records
-                  (record { calls = c.in-Ok.ensures.within.calls; by_order = subst (λ (n : ℕ). CallsOfOrder shown n was heap.device) (sym of.order_is) c.in-Ok.ensures.by_order; faults = same; rest = rests });
+                  (record { calls = c.in-Ok.ensures.opens.within.calls; by_order = subst (λ (n : ℕ). CallsOfOrder shown n was heap.device) (sym of.order_is) c.in-Ok.ensures.by_order; faults = same; rest = rests });
             };
       };
       told = λ story of. nothing_done o.machine story of.history of.records of.in_doubt
@@ -77,39 +77,37 @@ returns-in-Ok-clause-still g c =
     rw session_is (λ story of. record {
       unpassed = of.records;
       held = λ told. subst (λ (n : ℕ). Holds o.Contents n (shown.words heap.device) story.opening story.opening_count) (sym of.order_is) ((c.in-Ok.ensures.held story.opening story.opening_count of.opening).holds told);
-      calls = c.in-Ok.ensures.within;
+      calls = c.in-Ok.ensures.opens.within;
       at_end = λ images i left. subst (λ (n : ℕ). Holds o.Contents n i story.opening story.opening_count) (sym of.order_is)
-          (subst (λ words. Holds o.Contents heap.geometry words story.opening story.opening_count) (sym (c.in-Ok.ensures.certain refl images i left))
+          (subst (λ words. Holds o.Contents heap.geometry words story.opening story.opening_count) (sym (c.in-Ok.ensures.opens.certain refl images i left))
           ((c.in-Ok.ensures.held story.opening story.opening_count of.opening).holds (g.met.D.Device.tells_both images)));
-      images = λ images. c.in-Ok.ensures.images images;
+      images = λ images. c.in-Ok.ensures.opens.images images;
     })
 
 pub returns-in-Ok-clause-kept : goal.returns-in-Ok-clause-kept
 returns-in-Ok-clause-kept g c =
     let shown = g.D.Device.shown in
     record {
-      size = c.in-Ok.ensures.left.size;
-      outside = λ told. mends_within (named_order (shown.words c.args.device)) (shown.words c.args.device) (shown.words c.in-Ok.field-0.device) (c.in-Ok.ensures.left.words told);
+      size = c.in-Ok.ensures.opens.left.size;
+      outside = λ told. mends_within (named_order (shown.words c.args.device)) (shown.words c.args.device) (shown.words c.in-Ok.field-0.device) (c.in-Ok.ensures.opens.left.words told);
       spared = tt;
     }
 
 pub returns-in-Err-clause-none : goal.returns-in-Err-clause-none
 returns-in-Err-clause-none g c =
     let o = g.O.Object in
+    let shown = g.D.Device.shown in
     let ended = c.end_unopened.ensures in
     let failed = c.in-Err.ensures in
-    rw ended.worked
-    (none_opened o.machine o.Contents g.D.Device.shown g.K.Sink.shown o.Rejects o.earlier c.args.device c.in-Err.refused.device c.args.out.now c.end_unopened.new.out c.in-Err.refused.why
-    failed.answer failed.sizes failed.faults failed.images failed.calls failed.within ended.told)
-
-pub returns-in-Err-clause-none_kept : goal.returns-in-Err-clause-none_kept
-returns-in-Err-clause-none_kept g c =
-    let shown = g.D.Device.shown in
-    rw c.end_unopened.ensures.worked record {
-      size = c.in-Err.ensures.left.size;
-      outside = λ told. mends_within (named_order (shown.words c.args.device)) (shown.words c.args.device) (shown.words c.in-Err.refused.device) (c.in-Err.ensures.left.words told);
-      spared = tt;
+    let refused = c.in-Err.refused in
+    rw ended.worked record {
+      none = none_opened o.machine o.Contents shown g.K.Sink.shown o.Rejects o.earlier c.args.device refused.device c.args.out.now c.end_unopened.new.out refused.why
+          failed.answer failed.opens.sizes failed.opens.faults failed.opens.images failed.opens.calls failed.opens.within ended.told;
+      kept = record {
+        size = failed.opens.left.size;
+        outside = λ told. mends_within (named_order (shown.words c.args.device)) (shown.words c.args.device) (shown.words refused.device) (failed.opens.left.words told);
+        spared = tt;
+      };
+      statuses = refusal_ends refused.why;
+      ran = refl;
     }
-
-pub returns-in-Err-clause-none_statuses : goal.returns-in-Err-clause-none_statuses
-returns-in-Err-clause-none_statuses g c = rw c.end_unopened.ensures.worked (refusal_ends c.in-Err.refused.why)

@@ -46,4 +46,4 @@ returns-in-Err-clause-none g c =
     let failed = c.in-Err.ensures in
     rw ended.worked
     (none_upgraded o.machine o.Contents g.D.Device.shown g.K.Sink.shown o.Rejects o.earlier c.args.device c.in-Err.refused.device c.args.out.now c.end_unopened.new.out c.in-Err.refused.why
-    failed.answer failed.sizes failed.faults failed.images failed.calls failed.within_upgrade failed.within_opening failed.left_images ended.told)
+    failed.answer failed.sizes failed.faults failed.images failed.calls failed.within_upgrade (λ not. (failed.opens not).within) (λ told not. (failed.opens not).images told) ended.told)

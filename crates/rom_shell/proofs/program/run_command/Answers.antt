@@ -11,12 +11,12 @@ use Rattle.rom_shell.proofs.program.run_command.Goals as goal
 pub returns-in-Try-clause-story : goal.returns-in-Try-clause-story
 returns-in-Try-clause-story g c =
     let is : Some (Try (texts c.in-Try.field-0.items)) ≡ command c.args.words.now = subst (λ a. named (Some a) ≡ command c.args.words.now) c.in-Try.is c.in-Some.ensures.named in
-    rw (sym is) c.play_sources.ensures.session
+    rw (sym is) c.play_sources.ensures.story
 
 pub returns-in-Run-clause-story : goal.returns-in-Run-clause-story
 returns-in-Run-clause-story g c =
     let is : Some (Run c.in-Run.file.now (texts c.in-Run.scripts.items)) ≡ command c.args.words.now = subst (λ a. named (Some a) ≡ command c.args.words.now) c.in-Run.is c.in-Some.ensures.named in
-    rw (sym is) c.play_sources-in-Run.ensures.session
+    rw (sym is) c.play_sources-in-Run.ensures.story
 
 pub returns-in-Run-clause-none : goal.returns-in-Run-clause-none
 returns-in-Run-clause-none g c =

@@ -14,8 +14,8 @@ returns-clause-lawful g c = λ story is.
     let closed = c.close-closed.ensures in
     let here : length scripts ≡ length c.args.scripts.now = length-map c.args.scripts.now (λ v. v.items) in
     let many : length ps ≡ length scripts = c.gather.ensures.passes_many ∙ sym here in
-    let at = subst (λ (z : ℕ × List ℕ). g.O.Object.Contents z.0 z.1 story.opening story.opening_count) (λ j. (closed.order j, closed.image j)) is.opening in
+    let at = subst (λ (z : ℕ × List ℕ). g.O.Object.Contents z.0 z.1 story.opening story.opening_count) (λ j. (closed.ended.order j, closed.ended.image j)) is.opening in
     lawful m story (map kept_in ps) scripts (map (λ v. v.items) c.gather.new.results.items)
     (subst (λ n. IsClosed m story n) many (closed.closed story is))
     (all_left g.O.Object.machine g.O.Object.Contents g.N.Label.table g.N.Label.base scripts story (λ v. v.items) ps c.gather.new.results.items
-    many (c.gather.ensures.results_many ∙ sym here) at (is.order_is ∙ closed.order) c.gather.ensures.passes c.gather.ensures.done (closed.kept story is))
+    many (c.gather.ensures.results_many ∙ sym here) at (is.order_is ∙ closed.ended.order) c.gather.ensures.passes c.gather.ensures.done (closed.kept story is))

@@ -9,7 +9,7 @@ use Rattle.rom_store.proofs.running.play_on.Goals as goal
 pub returns : goal.returns
 returns g c =
     let shown = g.D.Device.shown in
-    let closed = c.play_as.ensures in
+    let closed = c.play_as.ensures.ended in
     let last = c.play_as.result.closed.device in
     let opening = c.args.opening in
     let faults : ℕ = (base_of opening.key).faults in
@@ -17,7 +17,7 @@ returns g c =
       played = record {
         session = record {
           story = closed.story;
-          lawful = closed.lawful;
+          lawful = c.play_as.ensures.lawful;
           now = closed.now;
           went = closed.went;
           since = λ told story is.

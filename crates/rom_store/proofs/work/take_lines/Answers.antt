@@ -42,6 +42,10 @@ loop-i-preserved g c =
       room = room_left g.O.Object.machine.call_words at.asks (drop (c.loop-i.i + 1) items) c.loop-i.results c.take_line.new.results took.used (subst (λ ls. HasRoomFor g.O.Object.machine.call_words ls c.loop-i.results) at.left before.room) took.room took.few;
     }
 
-pub returns-clause-done : goal.returns-clause-done
-returns-clause-done g c = subst (λ ls. HasDoneLines g.O.Object.machine g.O.Object.Contents g.N.Label.base c.loop-i.pass ls c.loop-i.results.items)
-    (take_all c.loop-i.i c.args.script.now.items (omega (arith, c.loop-i-test.false, c.len-i-end.ensures))) c.loop-i.invariant.done
+pub returns : goal.returns
+returns g c = record {
+  of = c.loop-i.invariant.of;
+  number = c.loop-i.invariant.number;
+  done = subst (λ ls. HasDoneLines g.O.Object.machine g.O.Object.Contents g.N.Label.base c.loop-i.pass ls c.loop-i.results.items)
+      (take_all c.loop-i.i c.args.script.now.items (omega (arith, c.loop-i-test.false, c.len-i-end.ensures))) c.loop-i.invariant.done;
+}

@@ -1,25 +1,29 @@
-use Rattle.std.proofs.Common.{◌∙◌, ℕ, List, Err, refl, subst, sym}
+use Rattle.std.proofs.Common.{◌∙◌, ℕ, List, Err, inl, refl, subst, sym}
 use Rattle.rom_device.proofs.Going.{leaves_by}
+use Rattle.rom_model.specs.VecSpace.{words_of_space}
 use Rattle.rom_header.specs.Held.{Holds}
-use Rattle.rom_header.specs.Regions.{IsHeap}
+use Rattle.rom_recover.specs.Recovered.{Mended}
+use Rattle.rom_open.specs.Batch.{Renews}
+use Rattle.rom_open.specs.Opens.{Opens}
 use Rattle.rom_open.specs.Refusals.{named_order}
+use Rattle.rom_open.specs.Upgrading.{HoldsEither, IsUnfitOld, IsWholeHeap, UpgradeImage}
 use Rattle.rom_open.proofs.Holding.{holds_one}
-use Rattle.rom_open.proofs.Within.{within_opening}
-use Rattle.rom_open.specs.declared.upgrade.renewal.Renewal.{Renewal}
-use Rattle.rom_open.specs.Upgrading.{HoldsEither, IsWholeHeap, UpgradeImage}
-use Rattle.rom_open.proofs.Upgraded.{refused_calls, within_refused}
-use Rattle.rom_open.proofs.Leaving.{batch_within, holds_either, named, on_ok, twins_hold, upgrade_leaves, was_held}
+use Rattle.rom_open.proofs.Late.{refused_any, refused_late, refused_region, unfit_old_late}
+use Rattle.rom_open.proofs.Leaving.{alters_within, batch_within, holds_either, named, on_ok, twins_hold, upgrade_leaves, was_held}
+use Rattle.rom_open.proofs.Room.{room_for_header}
+use Rattle.rom_open.proofs.Upgraded.{refused_calls}
 use Rattle.rom_open.proofs.upgrade.upgrade.upgrade_device.Goals as goal
 
 pub replace_regions-device-requires-clause-heap : goal.replace_regions-device-requires-clause-heap
-replace_regions-device-requires-clause-heap g c told =
-    let words = g.met.D.Device.tells_both told in
-    let done = c.in-Ok.ensures.recovered words refl in
-    subst (λ (n : ℕ). IsHeap n (g.D.Device.shown.words c.renew_region-renewed.new.device)) (sym (named g.O.Object.Contents g.O.Object.earlier _ _ _ (c.in-Ok.ensures.renewed words))) done.heap
+replace_regions-device-requires-clause-heap g c told = (c.in-Ok.ensures.rest (g.met.D.Device.tells_both told)).heap
+
+pub replace_regions-device-requires-clause-twins : goal.replace_regions-device-requires-clause-twins
+replace_regions-device-requires-clause-twins g c told = let rest = c.in-Ok.ensures.rest (g.met.D.Device.tells_both told) in rest.main_is ∙ sym rest.back_is
 
 pub returns-in-Ok-written-clause-answer : goal.returns-in-Ok-written-clause-answer
 returns-in-Ok-written-clause-answer g c told =
-    let renews = c.in-Ok.ensures.renewed told in
+    let renews : Renews g.O.Object.Contents g.O.Object.earlier c.in-Ok.ready.geometry (g.D.Device.shown.words c.args.device) (words_of_space c.in-Ok-renew_region.region)
+    = record { region = c.in-Ok.ready.image.items; current = c.in-Ok.ensures.current (told); state = c.in-Ok-renew_region.ensures.renewed.0; count = c.in-Ok-renew_region.ensures.renewed.1; was = c.in-Ok-renew_region.ensures.renewed.2; is = c.in-Ok-renew_region.ensures.renewed.3 } in
     let order = c.order.ensures.order in (
       order ∙ named g.O.Object.Contents g.O.Object.earlier _ _ _ renews,
       (
@@ -32,7 +36,8 @@ returns-in-Ok-written-clause-answer g c told =
 pub returns-in-Ok-written-clause-upgraded : goal.returns-in-Ok-written-clause-upgraded
 returns-in-Ok-written-clause-upgraded g c told =
     let now = c.replace_regions-device.result.0 in
-    let renews = c.in-Ok.ensures.renewed (g.met.D.Device.tells_both told) in
+    let renews : Renews g.O.Object.Contents g.O.Object.earlier c.in-Ok.ready.geometry (g.D.Device.shown.words c.args.device) (words_of_space c.in-Ok-renew_region.region)
+    = record { region = c.in-Ok.ready.image.items; current = c.in-Ok.ensures.current (g.met.D.Device.tells_both told); state = c.in-Ok-renew_region.ensures.renewed.0; count = c.in-Ok-renew_region.ensures.renewed.1; was = c.in-Ok-renew_region.ensures.renewed.2; is = c.in-Ok-renew_region.ensures.renewed.3 } in
     let held = twins_hold g.O.Object.Contents g.O.Object.earlier _ _ _ renews (holds_one g.O.Object.earlier.Contents g.met.O.Renew.one_earlier) in
     let twins = on_ok _ _ c.in-Ok-written.is (c.replace_regions-device.ensures.now told) in
     record {
@@ -49,9 +54,10 @@ returns-in-Ok-written-clause-one_earlier g c = holds_one g.O.Object.earlier.Cont
 
 pub returns-in-Ok-written-clause-images : goal.returns-in-Ok-written-clause-images
 returns-in-Ok-written-clause-images g c told =
-    let words = g.met.D.Device.tells_both told in
-    upgrade_leaves g.O.Object.Contents g.O.Object.earlier _ _ _ (c.in-Ok.ensures.renewed words) g.D.Device.shown c.args.device c.renew_region-renewed.new.device c.replace_regions-device.result.0
-    (c.in-Ok.ensures.recovered words refl) (c.in-Ok.ensures.certain refl told) (c.in-Ok.ensures.images told) (c.replace_regions-device.ensures.since told)
+    let renews : Renews g.O.Object.Contents g.O.Object.earlier c.in-Ok.ready.geometry (g.D.Device.shown.words c.args.device) (words_of_space c.in-Ok-renew_region.region)
+    = record { region = c.in-Ok.ready.image.items; current = c.in-Ok.ensures.current (g.met.D.Device.tells_both told); state = c.in-Ok-renew_region.ensures.renewed.0; count = c.in-Ok-renew_region.ensures.renewed.1; was = c.in-Ok-renew_region.ensures.renewed.2; is = c.in-Ok-renew_region.ensures.renewed.3 } in
+    upgrade_leaves g.O.Object.Contents g.O.Object.earlier _ _ _ renews g.D.Device.shown c.args.device c.make_ready.new.device c.replace_regions-device.result.0
+    (c.in-Ok.ensures.opens.recovered (g.met.D.Device.tells_both told) refl) (c.in-Ok.ensures.opens.certain refl told) (c.in-Ok.ensures.opens.images told) (c.replace_regions-device.ensures.since told)
 
 pub returns-in-Ok-written-clause-held_images : goal.returns-in-Ok-written-clause-held_images
 returns-in-Ok-written-clause-held_images g c told s k held =
@@ -61,7 +67,30 @@ returns-in-Ok-written-clause-held_images g c told s k held =
 
 pub returns-in-Ok-written-clause-within : goal.returns-in-Ok-written-clause-within
 returns-in-Ok-written-clause-within g c =
-    batch_within g.D.Device.shown _ c.args.device c.renew_region-renewed.new.device c.replace_regions-device.result.0 c.in-Ok.ensures.left (λ told. named g.O.Object.Contents g.O.Object.earlier _ _ _ (c.in-Ok.ensures.renewed told)) c.replace_regions-device.ensures.does
+    batch_within g.D.Device.shown _ c.args.device c.make_ready.new.device c.replace_regions-device.result.0 c.in-Ok.ensures.opens.left (λ told. sym (c.in-Ok.ensures.current told).heap.header.order_is) c.replace_regions-device.ensures.does
+
+pub returns-in-Ok-renew_region-clause-one : goal.returns-in-Ok-renew_region-clause-one
+returns-in-Ok-renew_region-clause-one g c = holds_one g.O.Object.Contents g.met.O.Object.one_contents
+
+pub returns-in-Ok-renew_region-clause-one_earlier : goal.returns-in-Ok-renew_region-clause-one_earlier
+returns-in-Ok-renew_region-clause-one_earlier g c = holds_one g.O.Object.earlier.Contents g.met.O.Renew.one_earlier
+
+pub returns-in-Ok-renew_region-clause-images : goal.returns-in-Ok-renew_region-clause-images
+returns-in-Ok-renew_region-clause-images g c told =
+    let renews : Renews g.O.Object.Contents g.O.Object.earlier c.in-Ok.ready.geometry (g.D.Device.shown.words c.args.device) (words_of_space c.in-Ok-renew_region.region)
+    = record { region = c.in-Ok.ready.image.items; current = c.in-Ok.ensures.current (g.met.D.Device.tells_both told); state = c.in-Ok-renew_region.ensures.renewed.0; count = c.in-Ok-renew_region.ensures.renewed.1; was = c.in-Ok-renew_region.ensures.renewed.2; is = c.in-Ok-renew_region.ensures.renewed.3 } in
+    upgrade_leaves g.O.Object.Contents g.O.Object.earlier _ _ _ renews g.D.Device.shown c.args.device c.make_ready.new.device c.replace_regions-device.result.0
+    (c.in-Ok.ensures.opens.recovered (g.met.D.Device.tells_both told) refl) (c.in-Ok.ensures.opens.certain refl told) (c.in-Ok.ensures.opens.images told) (c.replace_regions-device.ensures.since told)
+
+pub returns-in-Ok-renew_region-clause-held_images : goal.returns-in-Ok-renew_region-clause-held_images
+returns-in-Ok-renew_region-clause-held_images g c told s k held =
+    let x : List ℕ = g.D.Device.shown.words c.args.device in
+    leaves_by g.D.Device.shown (UpgradeImage g.O.Object.Contents g.O.Object.earlier x) (λ i. HoldsEither g.O.Object.Contents g.O.Object.earlier (named_order x) i s k) c.args.device c.replace_regions-device.result.0
+    (holds_either g.O.Object.Contents g.O.Object.earlier (holds_one g.O.Object.earlier.Contents g.met.O.Renew.one_earlier) x s k held) (returns-in-Ok-renew_region-clause-images g c told)
+
+pub returns-in-Ok-renew_region-clause-within : goal.returns-in-Ok-renew_region-clause-within
+returns-in-Ok-renew_region-clause-within g c =
+    batch_within g.D.Device.shown _ c.args.device c.make_ready.new.device c.replace_regions-device.result.0 c.in-Ok.ensures.opens.left (λ told. sym (c.in-Ok.ensures.current told).heap.header.order_is) c.replace_regions-device.ensures.does
 
 pub returns-in-Ok-clause-one : goal.returns-in-Ok-clause-one
 returns-in-Ok-clause-one g c = holds_one g.O.Object.Contents g.met.O.Object.one_contents
@@ -69,36 +98,40 @@ returns-in-Ok-clause-one g c = holds_one g.O.Object.Contents g.met.O.Object.one_
 pub returns-in-Ok-clause-one_earlier : goal.returns-in-Ok-clause-one_earlier
 returns-in-Ok-clause-one_earlier g c = holds_one g.O.Object.earlier.Contents g.met.O.Renew.one_earlier
 
+pub returns-in-Ok-clause-answer : goal.returns-in-Ok-clause-answer
+returns-in-Ok-clause-answer g c told = refused_region (IsUnfitOld g.O.Object.earlier) c.in-Ok.ready.geometry (g.D.Device.shown.words c.args.device) c.in-Ok.ready.image.items c.in-Err-renew_region.why (c.in-Ok.ensures.current told) c.in-Err-renew_region.ensures.refused
+
 pub returns-in-Ok-clause-images : goal.returns-in-Ok-clause-images
 returns-in-Ok-clause-images g c told =
-    let words = g.met.D.Device.tells_both told in
-    upgrade_leaves g.O.Object.Contents g.O.Object.earlier _ _ _ (c.in-Ok.ensures.renewed words) g.D.Device.shown c.args.device c.renew_region-renewed.new.device c.replace_regions-device.result.0
-    (c.in-Ok.ensures.recovered words refl) (c.in-Ok.ensures.certain refl told) (c.in-Ok.ensures.images told) (c.replace_regions-device.ensures.since told)
+    let x : List ℕ = g.D.Device.shown.words c.args.device in
+    leaves_by g.D.Device.shown (Mended (named_order x) x) (UpgradeImage g.O.Object.Contents g.O.Object.earlier x) c.args.device c.make_ready.new.device (λ i mended. inl mended.same) (c.in-Ok.ensures.opens.images told)
 
 pub returns-in-Ok-clause-held_images : goal.returns-in-Ok-clause-held_images
 returns-in-Ok-clause-held_images g c told s k held =
     let x : List ℕ = g.D.Device.shown.words c.args.device in
-    leaves_by g.D.Device.shown (UpgradeImage g.O.Object.Contents g.O.Object.earlier x) (λ i. HoldsEither g.O.Object.Contents g.O.Object.earlier (named_order x) i s k) c.args.device c.replace_regions-device.result.0
-    (holds_either g.O.Object.Contents g.O.Object.earlier (holds_one g.O.Object.earlier.Contents g.met.O.Renew.one_earlier) x s k held) (returns-in-Ok-clause-images g c told)
+    leaves_by g.D.Device.shown (Mended (named_order x) x) (λ i. HoldsEither g.O.Object.Contents g.O.Object.earlier (named_order x) i s k) c.args.device c.make_ready.new.device
+    (λ i mended. holds_either g.O.Object.Contents g.O.Object.earlier (holds_one g.O.Object.earlier.Contents g.met.O.Renew.one_earlier) x s k held i (inl mended.same)) (c.in-Ok.ensures.opens.images told)
 
 pub returns-in-Ok-clause-within : goal.returns-in-Ok-clause-within
-returns-in-Ok-clause-within g c =
-    batch_within g.D.Device.shown _ c.args.device c.renew_region-renewed.new.device c.replace_regions-device.result.0 c.in-Ok.ensures.left (λ told. named g.O.Object.Contents g.O.Object.earlier _ _ _ (c.in-Ok.ensures.renewed told)) c.replace_regions-device.ensures.does
+returns-in-Ok-clause-within g c = alters_within g.D.Device.shown c.args.device c.make_ready.new.device c.in-Ok.ensures.opens.left
 
-pub returns-clause-one : goal.returns-clause-one
-returns-clause-one g c = holds_one g.O.Object.Contents g.met.O.Object.one_contents
+pub returns-in-Ok-clause-opens : goal.returns-in-Ok-clause-opens
+returns-in-Ok-clause-opens g c = λ by_name.
+    let opens : Opens g.D.Device.shown c.args.device c.make_ready.new.device (Err c.in-Err-renew_region.why)
+    = refused_late g.D.Device.shown c.args.device c.make_ready.new.device (λ few. room_for_header _ _ c.in-Ok.ensures.fits few) c.in-Ok.ensures.opens c.in-Err-renew_region.why (unfit_old_late g.O.Object.earlier c.in-Ok.ready.geometry c.in-Ok.ready.image.items c.in-Err-renew_region.why c.in-Err-renew_region.ensures.refused) in
+    opens
 
-pub returns-clause-one_earlier : goal.returns-clause-one_earlier
-returns-clause-one_earlier g c = holds_one g.O.Object.earlier.Contents g.met.O.Renew.one_earlier
+pub returns-in-Ok-clause-calls : goal.returns-in-Ok-clause-calls
+returns-in-Ok-clause-calls g c told =
+    let opens : Opens g.D.Device.shown c.args.device c.make_ready.new.device (Err c.in-Err-renew_region.why)
+    = refused_late g.D.Device.shown c.args.device c.make_ready.new.device (λ few. room_for_header _ _ c.in-Ok.ensures.fits few) c.in-Ok.ensures.opens c.in-Err-renew_region.why (unfit_old_late g.O.Object.earlier c.in-Ok.ready.geometry c.in-Ok.ready.image.items c.in-Err-renew_region.why c.in-Err-renew_region.ensures.refused) in
+    refused_calls g.D.Device.shown (g.D.Device.shown.words c.args.device) c.args.device c.make_ready.new.device c.in-Err-renew_region.why (opens.calls told)
 
-pub returns-clause-calls : goal.returns-clause-calls
-returns-clause-calls g c told = refused_calls _ g.D.Device.shown (g.D.Device.shown.words c.args.device) c.args.device c.renew_region-renewed.new.device c.in-Err.why (c.in-Err.ensures.calls told)
+pub returns-clause-answer : goal.returns-clause-answer
+returns-clause-answer g c told = refused_any (IsUnfitOld g.O.Object.earlier) (λ order region. tt) (g.D.Device.shown.words c.args.device) c.in-Err.why (c.in-Err.ensures.refused told)
 
-pub returns-clause-within_opening : goal.returns-clause-within_opening
-returns-clause-within_opening g c = λ by_name.
-    within_opening {T = Renewal} g.D.Device.shown c.args.device c.renew_region-renewed.new.device (Err c.in-Err.why) c.in-Err.ensures.calls c.in-Err.ensures.idle c.in-Err.ensures.faults c.in-Err.ensures.by_some_order
-
-pub returns-clause-within_upgrade : goal.returns-clause-within_upgrade
-returns-clause-within_upgrade g c =
-    within_refused g.D.Device.shown c.args.device c.renew_region-renewed.new.device
-    (within_opening {T = Renewal} g.D.Device.shown c.args.device c.renew_region-renewed.new.device (Err c.in-Err.why) c.in-Err.ensures.calls c.in-Err.ensures.idle c.in-Err.ensures.faults c.in-Err.ensures.by_some_order)
+pub returns-clause-held_images : goal.returns-clause-held_images
+returns-clause-held_images g c told s k held =
+    let x : List ℕ = g.D.Device.shown.words c.args.device in
+    leaves_by g.D.Device.shown (Mended (named_order x) x) (λ i. HoldsEither g.O.Object.Contents g.O.Object.earlier (named_order x) i s k) c.args.device c.make_ready.new.device
+    (λ i mended. holds_either g.O.Object.Contents g.O.Object.earlier (holds_one g.O.Object.earlier.Contents g.met.O.Renew.one_earlier) x s k held i (inl mended.same)) (c.in-Err.ensures.opens.images told)

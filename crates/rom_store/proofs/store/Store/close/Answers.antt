@@ -1,10 +1,14 @@
-use Rattle.std.proofs.Common.{◌≡◌, ℕ, ◌+◌, List, length, refl, ap, sym, ◌∙◌, subst}
+use Rattle.std.proofs.Common.{◌≡◌, ℕ, ◌+◌, ◌≤◌, List, length, refl, ap, sym, ◌∙◌, subst}
 use Rattle.rom_model.specs.Machine.{on_words}
+use Rattle.rom_model.specs.Passes.{faults_after}
 use Rattle.rom_model.specs.VecSpace.{words_of_space}
+use Rattle.rom_combine.specs.Costs.{WithinHeap}
+use Rattle.rom_twin.specs.Seen.{Seen}
 use Rattle.rom_rule.specs.Readers.{Held}
 use Rattle.rom_rule.specs.Views.{base_of, plan_of, records_of}
 use Rattle.rom_rule.specs.declared.views.Base.{Base}
 use Rattle.rom_rule.specs.declared.views.Plan.{Plan}
+use Rattle.rom_rule.specs.declared.views.View.{View}
 use Rattle.rom_store.specs.Callers.{IsCallerOf}
 use Rattle.rom_store.specs.Sessions.{SessionSeen}
 use Rattle.rom_store.proofs.Closings.{Ended, count_held, ended, ended_closed, ended_kept, ended_now, ended_since, ended_story, ended_went, plan_at_end, session_is, writer_at_end}
@@ -37,6 +41,10 @@ is_session g c = let same = last_plan g c in
     session_is g.N.Label.base (plan_of c.review.new.writer.token.me.0) c.into_parts-twin.result.0.phase (session_at g c) c.args.self.ordered c.args.self.imaged c.args.self.counted
     (ap (λ (p : Plan). p.history) same) (ap records_of same) refl
 
+-- what the writer knew of the opening
+base_at_rest : (g : given.Over) (c : goal.After-load_main-count g) → c.into_parts-twin.result.1.token.me.0.base ≡ g.N.Label.base
+base_at_rest g c = ap (λ (v : View). v.base) c.into_parts-twin.ensures.seat.2 ∙ c.into_core.ensures.held.base_is
+
 pub take_in_all-requires-clause-passes : goal.take_in_all-requires-clause-passes
 take_in_all-requires-clause-passes g c =
     let table = c.args.self.shared.table.shared in
@@ -45,8 +53,33 @@ take_in_all-requires-clause-passes g c =
           subst (λ base. IsCallerOf g.O.Object.Contents table.table_id base p) (sym c.args.self.based) (subst (λ named. IsCallerOf g.O.Object.Contents named g.N.Label.base p) (sym c.args.self.named) is);
     }
 
-pub returns-clause-story : goal.returns-clause-story
-returns-clause-story g c = ended_story g.O.Object.machine g.O.Object.Contents g.D.Device.shown g.N.Label.base (plan_of c.review.new.writer.token.me.0) c.into_parts-twin.result.0 c.args.passes.items (at_end g c) (session_at g c) (is_session g c)
+pub returns-clause-ended : goal.returns-clause-ended
+returns-clause-ended g c =
+    let o = g.O.Object in
+    let shown = g.D.Device.shown in
+    let base = g.N.Label.base in
+    let twin = c.into_parts-twin.result.0 in
+    let plan = plan_of c.review.new.writer.token.me.0 in
+    let held = c.into_core.ensures.held in
+    let twin_is = c.into_parts-twin.ensures.twin in
+    let e = at_end g c in
+    let is = is_session g c in
+    let plan_is = plan_at_end c.into_core.result.view c.into_parts-twin.result.1.token.me.0 c.take_in_all.new.writer.token.me.0 c.review.new.writer.token.me.0 c.args.passes.items
+    c.into_parts-twin.ensures.seat.2 c.take_in_all.ensures.joined c.review.ensures.still in
+    record {
+      order = c.args.self.ordered;
+      image = c.args.self.imaged;
+      opening_faults = c.args.self.counted;
+      story = ended_story o.machine o.Contents shown base plan twin c.args.passes.items e (session_at g c) is;
+      now = ended_now o.machine o.Contents shown base plan twin c.args.passes.items e (session_at g c) is;
+      since = ended_since o.machine o.Contents shown base plan twin c.args.passes.items e (session_at g c) is g.N.Label.table g.N.Label.start g.N.Label.since c.into_core.result held twin_is plan_is;
+      went = ended_went o.machine o.Contents shown base plan twin c.args.passes.items e (session_at g c) is g.N.Label.table g.N.Label.start g.N.Label.since c.into_core.result held twin_is plan_is;
+      size = ap (λ (t : Seen g.row.D.Denot). shown.size t.device) twin_is ∙ held.size_is;
+      outside = λ told. subst (λ (t : Seen g.row.D.Denot). WithinHeap base.order g.N.Label.start.words (shown.words t.device)) (sym twin_is) (held.outside told);
+      faults = subst (λ (z : SessionSeen). faults_after z.faults z.records ≤ shown.faults twin.device) (sym is)
+          (subst (λ (z : Base × Plan). faults_after z.0.faults (records_of z.1) ≤ shown.faults twin.device)
+          (λ i. (base_at_rest g c i, (sym (ap plan_of c.review.ensures.still ∙ ap plan_of c.take_in_all.ensures.joined)) i)) c.into_parts-twin.ensures.rest.counts);
+    }
 
 pub returns-clause-closed : goal.returns-clause-closed
 returns-clause-closed g c =
@@ -57,24 +90,6 @@ pub returns-clause-kept : goal.returns-clause-kept
 returns-clause-kept g c =
     ended_kept g.O.Object.machine g.O.Object.Contents g.D.Device.shown g.N.Label.base (plan_of c.review.new.writer.token.me.0) c.into_parts-twin.result.0 c.args.passes.items (at_end g c) (session_at g c) (is_session g c)
     g.N.Label.table c.requires.passes
-
-pub returns-clause-now : goal.returns-clause-now
-returns-clause-now g c =
-    ended_now g.O.Object.machine g.O.Object.Contents g.D.Device.shown g.N.Label.base (plan_of c.review.new.writer.token.me.0) c.into_parts-twin.result.0 c.args.passes.items (at_end g c) (session_at g c) (is_session g c)
-
-pub returns-clause-since : goal.returns-clause-since
-returns-clause-since g c =
-    ended_since g.O.Object.machine g.O.Object.Contents g.D.Device.shown g.N.Label.base (plan_of c.review.new.writer.token.me.0) c.into_parts-twin.result.0 c.args.passes.items (at_end g c) (session_at g c) (is_session g c)
-    g.N.Label.table g.N.Label.start g.N.Label.since c.into_core.result c.into_core.ensures.held c.into_parts-twin.ensures.twin
-    (plan_at_end c.into_core.result.view c.into_parts-twin.result.1.token.me.0 c.take_in_all.new.writer.token.me.0 c.review.new.writer.token.me.0 c.args.passes.items
-    c.into_parts-twin.ensures.seat.2 c.take_in_all.ensures.joined c.review.ensures.still)
-
-pub returns-clause-went : goal.returns-clause-went
-returns-clause-went g c =
-    ended_went g.O.Object.machine g.O.Object.Contents g.D.Device.shown g.N.Label.base (plan_of c.review.new.writer.token.me.0) c.into_parts-twin.result.0 c.args.passes.items (at_end g c) (session_at g c) (is_session g c)
-    g.N.Label.table g.N.Label.start g.N.Label.since c.into_core.result c.into_core.ensures.held c.into_parts-twin.ensures.twin
-    (plan_at_end c.into_core.result.view c.into_parts-twin.result.1.token.me.0 c.take_in_all.new.writer.token.me.0 c.review.new.writer.token.me.0 c.args.passes.items
-    c.into_parts-twin.ensures.seat.2 c.take_in_all.ensures.joined c.review.ensures.still)
 
 pub invariant_of-result : goal.invariant_of-result
 invariant_of-result g c =

@@ -1,16 +1,15 @@
 -- What the caller takes are the words of what one pass told of its call.
-use Rattle.std.proofs.Common.{◌≡◌, ◌+◌, ◌*◌, ◌∷◌, ◌≤◌, length, refl, subst, sym}
+use Rattle.std.proofs.Common.{◌≡◌, ◌∙◌, ◌+◌, ◌*◌, ◌∷◌, ◌<◌, ◌≤◌, List, ℕ, ap, arith, length, refl, subst, sym}
+use Rattle.rom_model.specs.History.{LAST_COUNT}
 use Rattle.rom_model.specs.Lawful.{as_words}
-use Rattle.rom_model.specs.Machine.{on_words}
-use Rattle.rom_model.specs.Seen.{next_call}
 use Rattle.rom_model.specs.declared.call.Updated.{Updated}
+use Rattle.rom_model.specs.declared.call.Updated.TheVariants as updated
 use Rattle.rom_lines.specs.Replies.{HasReplyWords, updated_as}
 use Rattle.rom_rule.specs.Calls.{answer_words, packed}
-use Rattle.rom_rule.specs.Views.{kept_of}
 use Rattle.rom_rule.specs.declared.views.View.{View}
-use Rattle.rom_store.specs.Updating.{IsDoneIn}
 use Rattle.rom_store.proofs.Becoming.{IsReadBack, IsWithinPlaces, became_is, call_steps, done_reply, few_beside, none_undone}
-use Rattle.rom_store.proofs.Telling.{IsTaken, posted_same, told_done, told_few, told_next, told_once, told_some}
+use Rattle.rom_store.specs.Callers.{Caller, caller_at}
+use Rattle.rom_store.proofs.Telling.{IsTaken, posted_same, told_all, told_few, told_some}
 use Rattle.rom_store.proofs.store.Store.update_words.Given.{Over}
 use Rattle.rom_store.proofs.store.Store.update_words.Goals as goal
 
@@ -49,21 +48,24 @@ taken g c =
       low = subst IsWithinPlaces (sym (became g c).0) (was_told g c).1;
     }
 
-pub returns-clause-told : goal.returns-clause-told
-returns-clause-told g c few = told_next g.O.Object.machine g.O.Object.Contents _ _ _ _ _ _ _ (taken g c)
-
-pub returns-clause-taken : goal.returns-clause-taken
-returns-clause-taken g c few = told_once g.O.Object.machine g.O.Object.Contents _ _ _ _ _ _ _ (taken g c)
-
-pub returns-clause-done : goal.returns-clause-done
-returns-clause-done g c = λ s k at place done.
-    let m = g.O.Object.machine in
-    let read = done_reply m g.met.O.Object.reply_only c.became_of.result c.take_into-word.new.reply place (became g c).1 done in
-    subst (λ ws. IsDoneIn (on_words m) g.N.Label.base.order s k (next_call (kept_of c.args.pass.now.view) c.args.words.now) ws place c.args.pass.now.view.seen c.take_into-word.new.seat.token.me.0.seen) read.2
-    (told_done m g.O.Object.Contents _ _ _ _ _ _ _ (taken g c) (λ s t j k. g.met.O.Object.one_contents _ _ s t j k) s k at read.0 place read.1)
+pub returns-clause-updated : goal.returns-clause-updated
+returns-clause-updated g c =
+    let inside : Caller = caller_at c.pass.inside.seat in
+    let was : inside ≡ c.args.pass.now = c.pass.view_is in
+    let kept = c.take_into-word.ensures.same.0 ∙ (c.await_answer.ensures.same.0 ∙ (c.post_words.ensures.same.0 ∙ ap (λ (p : Caller). p.table_id) was)) in
+    let taken_so = taken g c in
+    let few : length c.args.pass.now.view.outcomes < LAST_COUNT = omega (arith, taken_so.idle, c.pass.inside.seat.counted, ap (λ (p : Caller). length p.view.calls) was) in
+    told_all g.O.Object.machine g.O.Object.Contents g.met.O.Object.one_contents g.N.Label.table g.N.Label.base c.args.pass.now (caller_at c.take_into-word.new.seat) _ _ c.args.words.now _
+    taken_so c.requires.of.table_is kept few
 
 pub returns-clause-replied : goal.returns-clause-replied
 returns-clause-replied g c = (became g c).1
+
+pub returns-clause-reply : goal.returns-clause-reply
+returns-clause-reply g c = λ place done.
+    let m = g.O.Object.machine in
+    let read = done_reply m g.met.O.Object.reply_only c.became_of.result c.take_into-word.new.reply place (became g c).1 done in
+    ap (as_words m) read.1 ∙ ap (λ (ws : List ℕ). updated.Done ws place) read.2
 
 pub returns-clause-none : goal.returns-clause-none
 returns-clause-none g c why undone = none_undone g.O.Object.machine c.became_of.result c.take_into-word.result c.take_into-word.new.reply (told_words g c) why undone
