@@ -1,6 +1,5 @@
 -- The definitions that the contracts of this crate cite.
 pub mod Words
-pub mod Named
 pub mod Turns
 pub mod Stops
 pub mod Tallied

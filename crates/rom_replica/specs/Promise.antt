@@ -15,11 +15,10 @@ use Rattle.rom_store.specs.Sessions.{EachStory, SessionSeen}
 use Rattle.rom_script.specs.Lines.{ReadsTrio}
 use Rattle.rom_run.specs.Complete.{IsAtHand, IsRefusedByName, NoneFailed}
 use Rattle.rom_run.specs.Promise.{Promise}
-use Rattle.rom_run.specs.Use.{Makes, Plays, Read}
+use Rattle.rom_run.specs.Plain.{Follow, PlainCommand, plain_use}
 use Rattle.rom_run.specs.Working.{HasNone, HasSession, IsDeviceKept}
 use Rattle.rom_run.specs.declared.heap.Heap.TheVariants.{Standing}
 use Rattle.rom_replica.specs.Following.{IsToldOfStream}
-use Rattle.rom_replica.specs.Words.{Follow, Format, ReplicaCommand, Ship}
 use Rattle.rom_replica.specs.Shipped.{AreFramed, AreShipped}
 use Rattle.rom_follow.specs.Following.{HasWords}
 use Rattle.rom_model.specs.declared.entry.Entry.{Entry}
@@ -72,15 +71,11 @@ module _ {D X K : Type 0} (shown : ShownDevice D) (source : ShownSource X) (sink
     pub writing : StopsWriting sink old new
     pub rest : sink.rest new ≡ sink.rest old
 
-  -- So of each command. `ship` and `format`, and words that are no command, keep the promise of a program; what `ship` prints are the frames of the history.
-  abbrev pub ReplicaPromise : Option ReplicaCommand → D → D → Vec X → Vec X → K → K → ℕ → Option SessionSeen → Type 0
+  -- So of each command. All but `follow`, and words that are no command, keep the promise of a program; what `ship` prints are the frames of the history.
+  abbrev pub ReplicaPromise : Option PlainCommand → D → D → Vec X → Vec X → K → K → ℕ → Option SessionSeen → Type 0
   ReplicaPromise (Some (Follow file stream)) was now inputs left old new status session = FollowPromise was now inputs left old new status session
-  ReplicaPromise (Some (Ship file scripts)) was now inputs left old new status session =
-      Promise trio Contents Rejects earlier shown source sink (AreScripts ReadsTrio source) (AreShipped sink) (Some (Plays Standing Read)) was now inputs left old new status session
-  ReplicaPromise (Some (Format file order)) was now inputs left old new status session =
-      Promise trio Contents Rejects earlier shown source sink (AreScripts ReadsTrio source) (AreShipped sink) (Some (Makes order)) was now inputs left old new status session
-  ReplicaPromise None was now inputs left old new status session =
-      Promise trio Contents Rejects earlier shown source sink (AreScripts ReadsTrio source) (AreShipped sink) None was now inputs left old new status session
+  ReplicaPromise asked was now inputs left old new status session =
+      Promise trio Contents Rejects earlier shown source sink (AreScripts ReadsTrio source) (AreShipped sink) (plain_use asked) was now inputs left old new status session
 
 -- A history whose frames were shipped is one that can be followed: its frames are of 64-bit words.
 abbrev pub CanBeFollowed : Type 0

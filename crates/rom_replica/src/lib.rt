@@ -27,9 +27,9 @@ mod text;
 mod words;
 
 pub use program::run_replica;
-pub use rom_run::{Ended, Status};
+pub use rom_run::{Ended, Plain, Status};
 pub use rom_store::{NoGate, Session};
 pub use rom_text::{DeviceWant, Wanted};
 pub use stop::Stop;
 pub use tally::Tally;
-pub use words::{ReplicaAsked, files_of, read_command};
+pub use words::{files_of, read_command};

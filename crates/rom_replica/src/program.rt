@@ -1,13 +1,14 @@
 //! The top call: all that the program does.
 ghost use Rattle.std.specs.Prelude.{◌≡◌, length};
 ghost use Rattle.rom_replica.specs.Promise.{CanBeFollowed, FollowPromise, ReplicaPromise};
-ghost use Rattle.rom_replica.specs.Words.{inputs_of, replica_command};
+ghost use Rattle.rom_replica.specs.Words.{replica_command};
+ghost use Rattle.rom_run.specs.Plain.{plain_scripts};
 
 use crate::follow::follow;
 use crate::ship::run_primary;
-use crate::words::{ReplicaAsked, read_command};
+use crate::words::read_command;
 use rom_device::Device;
-use rom_run::{Asked as Use, Ended, Heap};
+use rom_run::{Ended, Plain, asked_by};
 use rom_store::Gate;
 use rom_text::{Names, Sink, Source};
 use std::alloc::Global;
@@ -48,7 +49,7 @@ pub fn run_replica<R: Threads + Wait + Sync, D: Device + Send, S: Source, O: Sin
     out: &mut O,
     gate: &G,
 ) -> Ended<D, S>
-    requires { length inputs.items ≡ length (inputs_of (replica_command words.now)) }
+    requires { length inputs.items ≡ length (plain_scripts (replica_command words.now)) }
 
     // What the words ask for is done so, and printed so: the facts are the record's fields.
     ensures promise { ReplicaPromise D.shown S.shown O.shown (replica_command words.now) device
@@ -57,15 +58,11 @@ pub fn run_replica<R: Threads + Wait + Sync, D: Device + Send, S: Source, O: Sin
     // The history that a primary ships is one that a follower may be sent.
     ensures followed { CanBeFollowed }
 {
-    match read_command(words) {
-        None => run_primary(rt, alloc, None, device, inputs, out, gate),
-        Some(ReplicaAsked::Ship { .. }) => {
-            let heap = Use::Play(Heap::Standing);
-            run_primary(rt, alloc, Some(heap), device, inputs, out, gate)
-        }
-        Some(ReplicaAsked::Format { file: _, order }) => {
-            run_primary(rt, alloc, Some(Use::Make(order)), device, inputs, out, gate)
-        }
-        Some(ReplicaAsked::Follow { .. }) => run_follower(rt, alloc, device, inputs, out, gate),
+    let Some(plain) = read_command(words) else {
+        return run_primary(rt, alloc, None, device, inputs, out, gate);
+    };
+    match plain {
+        Plain::Follow { .. } => run_follower(rt, alloc, device, inputs, out, gate),
+        _ => run_primary(rt, alloc, asked_by(Some(plain)), device, inputs, out, gate),
     }
 }

@@ -38,7 +38,10 @@ pub use ended::Ended;
 pub use format::make_heap;
 pub use heap::Heap;
 pub use output::{Output, ResultText};
-pub use plain::{Plain, are_scripts, copy_of, is_name, plain_files, read_plain, run_plain};
+pub use plain::{
+    Plain, asked_by, file_and_order, file_and_scripts, file_and_stream, is_name, plain_files,
+    read_plain, run_plain, wanted_by,
+};
 pub use play::{end_of, end_without_memory, play_heap, play_lines};
 pub use program::{Asked, run_asked};
 pub use refusals::{refusal_status, tell_refusal};

@@ -1,12 +1,10 @@
-//! A program whose commands are plain words: `try` with scripts, `run` with a file and scripts, and
-//! `format` with a file and an order.
-ghost use Rattle.std.specs.Prelude.{◌≡◌, ◌<◌, ◌≤◌, length, IfOk, IfSome, IsTrue};
-ghost use Rattle.rom_model.specs.Blocks.{IsOrder};
+//! Plain words, without options: what each shape of them asks for, and what that wants of `main`. A program
+//! says which shape its words have, by the command's name. The one that has `try`, `run` and `format` is here.
+ghost use Rattle.std.specs.Prelude.{◌≡◌, ◌<◌, ◌≤◌, ◌∷◌, [], length, IfOk, IfSome, IsTrue};
 ghost use Rattle.rom_text.specs.Lines.{AreScripts};
 ghost use Rattle.rom_text.specs.Text.{texts_of};
-ghost use Rattle.rom_run.specs.Asked.{HasSources, IsAskedOf};
-ghost use Rattle.rom_run.specs.Asked as asked;
-ghost use Rattle.rom_run.specs.Named.{PlainAsksForFew, PlainAsksForOrder, plain_command_read};
+ghost use Rattle.rom_run.specs.Asked.{HasSources, IsAskedOf, asked_use};
+ghost use Rattle.rom_run.specs.Named.{IsWithin, plain_command_read};
 ghost use Rattle.rom_run.specs.Plain.{IsPlainWanted, plain_command, plain_scripts, plain_use};
 ghost use Rattle.rom_run.specs.Plain as plain;
 ghost use Rattle.rom_run.specs.Played.{IsText};
@@ -36,6 +34,8 @@ pub enum Plain<'a> {
     Try(&'a [Name]),
     /// To run these scripts on the heap in this file.
     Run { file: &'a Name, scripts: &'a [Name] },
+    /// To do on the heap in this file what this stream says.
+    Follow { file: &'a Name, stream: &'a Name },
     /// To make a new heap of this order in this file.
     Format { file: &'a Name, order: u32 },
 }
@@ -54,18 +54,17 @@ fn are_names(words: &[Name]) -> bool
 }
 
 /// Whether words name scripts: there are 1 to 16.
-pub fn are_scripts(words: &[Name]) -> bool
+fn are_scripts(words: &[Name]) -> bool
     ensures named { result ≡ plain.are_script_names words.now }
     ensures few { IsTrue result → (0 < length words.now) × (length words.now ≤ 16) }
 {
     (1..=MAX_CALLERS as usize).contains(&words.len()) && are_names(words)
 }
 
-/// Scripts.
-fn read_try(words: &[Name]) -> Option<Plain<'_>>
-    ensures named { plain_command_read result ≡ plain.plain_try words.now }
-    ensures order { IfSome result PlainAsksForOrder }
-    ensures few { IfSome result PlainAsksForFew }
+/// Scripts alone, to run on a new heap.
+fn scripts_alone(words: &[Name]) -> Option<Plain<'_>>
+    ensures named { plain_command_read result ≡ plain.scripts_alone words.now }
+    ensures within { IfSome result IsWithin }
 {
     if are_scripts(words) {
         Some(Plain::Try(words))
@@ -75,10 +74,9 @@ fn read_try(words: &[Name]) -> Option<Plain<'_>>
 }
 
 /// A file, and then the scripts to run on its heap.
-fn read_run(words: &[Name]) -> Option<Plain<'_>>
-    ensures named { plain_command_read result ≡ plain.plain_run words.now }
-    ensures order { IfSome result PlainAsksForOrder }
-    ensures few { IfSome result PlainAsksForFew }
+pub fn file_and_scripts(words: &[Name]) -> Option<Plain<'_>>
+    ensures named { plain_command_read result ≡ plain.file_and_scripts words.now }
+    ensures within { IfSome result IsWithin }
 {
     let (file, scripts) = words.split_first()?;
     if is_name(file) && are_scripts(scripts) {
@@ -88,11 +86,25 @@ fn read_run(words: &[Name]) -> Option<Plain<'_>>
     }
 }
 
+/// A file, and the stream that its heap follows.
+pub fn file_and_stream(words: &[Name]) -> Option<Plain<'_>>
+    ensures named { plain_command_read result ≡ plain.file_and_stream words.now }
+    ensures within { IfSome result IsWithin }
+{
+    let [file, stream] = words else {
+        return None;
+    };
+    if is_name(file) && is_name(stream) {
+        Some(Plain::Follow { file, stream })
+    } else {
+        None
+    }
+}
+
 /// A file, and the order of the heap that is made there.
-fn read_format(words: &[Name]) -> Option<Plain<'_>>
-    ensures named { plain_command_read result ≡ plain.plain_format words.now }
-    ensures order { IfSome result PlainAsksForOrder }
-    ensures few { IfSome result PlainAsksForFew }
+pub fn file_and_order(words: &[Name]) -> Option<Plain<'_>>
+    ensures named { plain_command_read result ≡ plain.file_and_order words.now }
+    ensures within { IfSome result IsWithin }
 {
     let [file, order] = words else {
         return None;
@@ -104,23 +116,8 @@ fn read_format(words: &[Name]) -> Option<Plain<'_>>
     Some(Plain::Format { file, order })
 }
 
-/// The command that the words are. It takes no memory.
-pub fn read_plain(words: &Names) -> Option<Plain<'_>>
-    ensures named { plain_command_read result ≡ plain_command words.now }
-    ensures order { IfSome result PlainAsksForOrder }
-    ensures few { IfSome result PlainAsksForFew }
-{
-    let (name, words) = words.as_slice().split_first()?;
-    match name.as_str() {
-        "try" => read_try(words),
-        "run" => read_run(words),
-        "format" => read_format(words),
-        _ => None,
-    }
-}
-
 /// The same names, in memory of their own.
-pub fn copy_of(alloc: Global, names: &[Name]) -> Result<Names, AllocError>
+fn copy_of(alloc: Global, names: &[Name]) -> Result<Names, AllocError>
     ensures { IfOk result (λ copy. copy ≡ names.now) }
 {
     let mut copy = Names::new(alloc);
@@ -130,18 +127,27 @@ pub fn copy_of(alloc: Global, names: &[Name]) -> Result<Names, AllocError>
     Ok(copy)
 }
 
-/// What plain words ask `main` to hand to `run_plain`: a device, and the scripts in order.
-pub fn plain_files(alloc: Global, words: &Names) -> Result<Wanted, AllocError>
-    // After `Ok`: `try` wants words in memory, `run` a file that is there, `format` one that is made if need
-    // be and lengthened. Words that are no command want none.
-    ensures device { IfOk result (λ wanted. IsPlainWanted (plain_command words.now) wanted.device) }
-    ensures scripts { IfOk result (λ wanted. wanted.scripts ≡ plain_scripts (plain_command words.now)) }
+/// One name alone, in memory of its own.
+fn only(alloc: Global, name: &Name) -> Result<Names, AllocError>
+    ensures { IfOk result (λ names. names ≡ name.now ∷ []) }
 {
-    let none = Names::new(alloc);
-    let Some(plain) = read_plain(words) else {
+    let mut names = Names::new(alloc);
+    names.push(alloc, name.as_str())?;
+    Ok(names)
+}
+
+/// What a command asks `main` to hand to its program: a device, and the scripts in order, or the stream.
+pub fn wanted_by(alloc: Global, plain: Option<Plain<'_>>) -> Result<Wanted, AllocError>
+    requires { IfSome plain IsWithin }
+    // After `Ok`: scripts alone want words in memory, an order a file that is made if need be and lengthened,
+    // and all else a file that is there. Words that are no command want none.
+    ensures device { IfOk result (λ wanted. IsPlainWanted (plain_command_read plain.entry) wanted.device) }
+    ensures scripts { IfOk result (λ wanted. wanted.scripts ≡ plain_scripts (plain_command_read plain.entry)) }
+{
+    let Some(plain) = plain else {
         return Ok(Wanted {
             device: DeviceWant::Nothing,
-            scripts: none,
+            scripts: Names::new(alloc),
         });
     };
     let (device, scripts) = match plain {
@@ -153,28 +159,54 @@ pub fn plain_files(alloc: Global, words: &Names) -> Result<Wanted, AllocError>
             let file = Name::of(alloc, file.as_str())?;
             (DeviceWant::Old(file), copy_of(alloc, scripts)?)
         }
+        Plain::Follow { file, stream } => {
+            let file = Name::of(alloc, file.as_str())?;
+            (DeviceWant::Old(file), only(alloc, stream)?)
+        }
         Plain::Format { file, order } => {
             let file = Name::of(alloc, file.as_str())?;
-            (
-                DeviceWant::Made(file, Geometry::of_order(order).need()),
-                none,
-            )
+            let need = Geometry::of_order(order).need();
+            (DeviceWant::Made(file, need), Names::new(alloc))
         }
     };
     Ok(Wanted { device, scripts })
 }
 
-/// What the words ask for, as a use of a heap.
-fn asked_by(words: &Names) -> Option<Asked>
-    ensures uses { asked.asked_use result ≡ plain_use (plain_command words.now) }
+/// A command as a use of a heap. Of a stream its program says what is done.
+pub fn asked_by(plain: Option<Plain<'_>>) -> Option<Asked>
+    requires { IfSome plain IsWithin }
+    ensures uses { asked_use result ≡ plain_use (plain_command_read plain.entry) }
     ensures order { IfSome result IsAskedOf }
-    ensures sources { IfSome result (HasSources (length (plain_scripts (plain_command words.now)))) }
+    ensures sources { IfSome result (HasSources (length (plain_scripts (plain_command_read plain.entry)))) }
 {
-    match read_plain(words)? {
+    match plain? {
         Plain::Try(_) => Some(Asked::Play(Heap::New(TRY_ORDER))),
         Plain::Run { .. } => Some(Asked::Play(Heap::Standing)),
+        Plain::Follow { .. } => None,
         Plain::Format { file: _, order } => Some(Asked::Make(order)),
     }
+}
+
+/// The command that the words are. It takes no memory.
+pub fn read_plain(words: &Names) -> Option<Plain<'_>>
+    ensures named { plain_command_read result ≡ plain_command words.now }
+    ensures within { IfSome result IsWithin }
+{
+    let (name, words) = words.as_slice().split_first()?;
+    match name.as_str() {
+        "try" => scripts_alone(words),
+        "run" => file_and_scripts(words),
+        "format" => file_and_order(words),
+        _ => None,
+    }
+}
+
+/// What plain words ask `main` to hand to `run_plain`: a device, and the scripts in order.
+pub fn plain_files(alloc: Global, words: &Names) -> Result<Wanted, AllocError>
+    ensures device { IfOk result (λ wanted. IsPlainWanted (plain_command words.now) wanted.device) }
+    ensures scripts { IfOk result (λ wanted. wanted.scripts ≡ plain_scripts (plain_command words.now)) }
+{
+    wanted_by(alloc, read_plain(words))
 }
 
 /// Does all that a program of plain words does: runs the command that the words are on the device
@@ -214,7 +246,7 @@ where
         (plain_use (plain_command words.now)) device result.device scripts result.scripts out.old out.new
         result.status result.session }
 {
-    let asked = asked_by(words);
+    let asked = asked_by(read_plain(words));
     run_asked::<O, L, ResultText<Whole>, D, S, K, R, G>(
         rt, alloc, asked, device, scripts, out, gate,
     )
