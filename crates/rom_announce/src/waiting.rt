@@ -52,10 +52,10 @@ pub fn nap<O: Object, R: Wait>(rt: &R, shared: &Shared<O>, seat: &Seat, looked: 
     // The low 32 bits of the odd turn, which is twice the number of calls posted before, and one.
     let before = (seat.posted - 1) % (1 << 31);
     let odd = (2 * before + 1) as u32;
-    // Who answers stores the turn, and then looks whether anybody sleeps. Who sleeps counts itself, and then the
-    // system compares the turn, before it puts the caller to sleep. So the one sees the count, or the other the
-    // turn.
-    shared.count_sleeper();
+    // Who answers stores the turn, and then looks whether the caller sleeps. Who sleeps says so first, and then
+    // the system compares the turn, before it puts the caller to sleep. So the one sees the sleeper, or the other
+    // the turn.
+    shared.add_sleeper(seat.number);
     // The sleep takes no seat and changes no word, so the rule of the table knows nothing of it. It ends by
     // itself, since `wake_next` may miss a caller that is about to fall asleep.
     shared.table.shared.park_timeout(
@@ -64,24 +64,17 @@ pub fn nap<O: Object, R: Wait>(rt: &R, shared: &Shared<O>, seat: &Seat, looked: 
         odd,
         Duration::from_millis(NAP.saturating_mul(looked.saturating_add(1))),
     );
-    shared.uncount_sleeper();
+    shared.remove_sleeper(seat.number);
 }
 
-/// Wakes a caller where it sleeps. Where nobody sleeps it does nothing.
+/// Wakes a caller where it sleeps. Where it does not, this does nothing.
 pub(crate) fn wake<O: Object>(shared: &Shared<O>, caller: u32)
     requires within { (1 ≤ caller) × (caller ≤ shared.now.layout.callers) }
 {
-    if shared.is_any_asleep() {
-        wake_at_turn(shared, caller);
+    if shared.is_asleep(caller) {
+        let at = shared.layout.slot(caller, TURN) as usize;
+        shared.table.shared.wake_one(at);
     }
-}
-
-// Wakes a caller that sleeps on its turn.
-fn wake_at_turn<O: Object>(shared: &Shared<O>, caller: u32)
-    requires within { (1 ≤ caller) × (caller ≤ shared.now.layout.callers) }
-{
-    let at = shared.layout.slot(caller, TURN) as usize;
-    shared.table.shared.wake_one(at);
 }
 
 /// Wakes the first caller that has a call posted, where it sleeps, so that it may run the next pass.
@@ -93,7 +86,7 @@ pub fn wake_next<O: Object>(shared: &Shared<O>) {
     if shared.is_any_asleep() {
         for i in 0..shared.layout.callers() {
             if is_posted(shared, 1 + i) {
-                wake_at_turn(shared, 1 + i);
+                wake(shared, 1 + i);
                 break;
             }
         }

@@ -23,7 +23,7 @@ pub struct Shared<O: Object> {
     // Where the words of main and those of back begin, so that no load or store counts it out anew.
     pub(crate) main: u64,
     pub(crate) back: u64,
-    // Each step of each caller loads the fields above, so this count, which is written, has no cache line in
+    // Each step of each caller loads the fields above, so this set, which is written, has no cache line in
     // common with them. It is no word of the table.
     pub(crate) asleep: CachePadded<AtomicU64>,
     ghost sized: { table.shared.table_id.words ≡ table_len layout.order layout.callers },
@@ -33,21 +33,31 @@ pub struct Shared<O: Object> {
     ghost near: { (main < 2 ^ 32) × (back < 2 ^ 32) },
 }
 
-// How many callers sleep. No clause says what the count holds.
+// Which callers sleep. No clause says what the set holds.
 impl<O: Object> Shared<O> {
-    /// Counts a caller that is about to sleep.
-    pub fn count_sleeper(&self) {
-        self.asleep.fetch_add(1, Ordering::SeqCst);
+    /// Adds a caller that is about to sleep.
+    pub fn add_sleeper(&self, caller: u32) {
+        self.asleep.fetch_or(bit_of(caller), Ordering::SeqCst);
     }
 
-    /// Takes a caller out of the count, which was counted and sleeps no more.
-    pub fn uncount_sleeper(&self) {
-        self.asleep.fetch_sub(1, Ordering::SeqCst);
+    /// Takes out a caller that was added and sleeps no more.
+    pub fn remove_sleeper(&self, caller: u32) {
+        self.asleep.fetch_and(!bit_of(caller), Ordering::SeqCst);
     }
 
-    /// Whether a caller sleeps, or is about to. Who would wake one asks this first: a wake calls the system,
-    /// so a pass whose callers are all awake makes none.
+    /// Whether this caller sleeps, or is about to. Who would wake it asks this first: a wake calls the
+    /// system. So a pass wakes nobody that is awake, and its own caller least of all.
+    pub fn is_asleep(&self, caller: u32) -> bool {
+        self.asleep.load(Ordering::SeqCst) & bit_of(caller) > 0
+    }
+
+    /// Whether any caller sleeps, or is about to.
     pub fn is_any_asleep(&self) -> bool {
         self.asleep.load(Ordering::SeqCst) > 0
     }
+}
+
+// The caller's bit in a set of callers.
+fn bit_of(caller: u32) -> u64 {
+    1 << (caller % 64)
 }
