@@ -1,8 +1,9 @@
 -- What the books of a bank say once its store is closed.
 use Rattle.std.proofs.Common.{◌≡◌, inl, inr, ℕ, zero, suc, ◌+◌, ◌*◌, ◌<◌, ◌≤◌, List, [], ◌∷◌, ◌++◌, map, take, length, refl, sym, ◌∙◌, ap, subst, arith, append-nil, length-append}
 use Rattle.std.specs.Prelude.{All, ◌==◌, filter, slice_get, slice_index_or, None, Some}
-use Rattle.std.specs.List.{AllByRecursion, enumerate_from}
+use Rattle.std.specs.List.{AllByRecursion, Contains, enumerate_from}
 use Rattle.std.proofs.lemmas.Bool.{cases_eq}
+use Rattle.std.proofs.lemmas.List.Elements.{Contains-append_right}
 use Rattle.std.proofs.lemmas.Option.{slice_get-get_or, slice_get_within}
 use Rattle.atomic_table.specs.Seated.{TableId}
 use Rattle.rom_model.specs.Lawful.{told_to}
@@ -18,7 +19,7 @@ use Rattle.rom_model.specs.declared.entry.Entry.{Entry}
 use Rattle.rom_model.specs.declared.kept.Kept.{Kept}
 use Rattle.rom_rule.specs.declared.views.Base.{Base}
 use Rattle.rom_store.specs.Callers.{Caller, IsCallerOf, IsNumberedCaller}
-use Rattle.rom_store.specs.Closing.{kept_in}
+use Rattle.rom_store.specs.Closing.{joined_of, kept_in}
 use Rattle.rom_store.specs.Indexed.{Indexed}
 use Rattle.rom_store.specs.Sessions.{EachStory, IsStoryOf, SessionSeen}
 use Rattle.bank.specs.Moved.{IsMove, moved_in}
@@ -46,12 +47,19 @@ pub record HasEnded (table : TableId) (base : Base) (session : SessionSeen) (put
   pub image : session.image ≡ base.image
   pub closed : EachStory trio Contents session (λ story. IsClosed trio story 5)
   pub kept : EachStory trio Contents session (λ story. Indexed (λ _ v. IsKept trio story v) (map kept_in (a.pass ∷ b.pass ∷ c.pass ∷ d.pass ∷ m ∷ [])))
+  pub callers : session.callers ≡ joined_of (a.pass ∷ b.pass ∷ c.pass ∷ d.pass ∷ m ∷ [])
   pub manager : IsCallerOf Contents table base m × (m.view.number ≡ 5) × (m.view.seen ≡ first)
   pub one : IsTeller table base first 64 4 a × (a.pass.view.number ≡ 1)
   pub two : IsTeller table base first 64 4 b × (b.pass.view.number ≡ 2)
   pub three : IsTeller table base first 64 4 c × (c.pass.view.number ≡ 3)
   pub four : IsTeller table base first 64 4 d × (d.pass.view.number ≡ 4)
   pub total : (s : State) (k : ℕ) → Contents base.order base.image s k → put_in ≡ total_after base.order s k first
+
+-- what each of some callers keeps is among what the writer keeps that has taken them in
+joined_holds : (ps : List Caller) (i : ℕ) (p : Caller) → slice_get ps i ≡ Some p → Contains (joined_of ps) (kept_in p)
+joined_holds [] i p at = absurd (let no : None ≡ Some p = at in cc)
+joined_holds (q ∷ ps) zero p at = subst (λ (z : Caller). Contains (joined_of (q ∷ ps)) (kept_in z)) (let same : q ≡ p = cc in same) (0, omega arith, refl)
+joined_holds (q ∷ ps) (suc i) p at = Contains-append_right (kept_in q ∷ q.view.joined) (joined_of ps) (kept_in p) (joined_holds ps i p at)
 
 module _ (table : TableId) (base : Base) (session : SessionSeen) (put_in : ℕ) (first : List Entry) (m : Caller) (a b c d : Teller) (e : HasEnded table base session put_in first m a b c d) where
   at_opening : (story : Story State) → IsStoryOf trio Contents session story → Contents base.order base.image story.opening story.opening_count
@@ -60,6 +68,9 @@ module _ (table : TableId) (base : Base) (session : SessionSeen) (put_in : ℕ) 
   module _ (story : Story State) (is : IsStoryOf trio Contents session story) where
     kept_at : (i : ℕ) (v : Kept) → slice_get (map kept_in (a.pass ∷ b.pass ∷ c.pass ∷ d.pass ∷ m ∷ [])) i ≡ Some v → IsKept trio story v
     kept_at i v there = (e.kept story is).at i v there
+
+    among_at : (i : ℕ) (p : Caller) → slice_get (a.pass ∷ b.pass ∷ c.pass ∷ d.pass ∷ m ∷ []) i ≡ Some p → Contains session.callers (kept_in p)
+    among_at i p there = subst (λ (vs : List Kept). Contains vs (kept_in p)) (sym e.callers) (joined_holds (a.pass ∷ b.pass ∷ c.pass ∷ d.pass ∷ m ∷ []) i p there)
 
     abbrev Told : ℕ → Type 0
     Told n = (v : Kept) × (v.number ≡ n) × IsKept trio story v × AllByRecursion (λ x. IsMove x.0.args) v.told
@@ -138,10 +149,14 @@ module _ (table : TableId) (base : Base) (session : SessionSeen) (put_in : ℕ) 
     same_at_end total told = told ∙ stays story.history starts ([], sym (append-nil story.history))
 
     -- what a teller has done
-    tally_of : (t : Teller) (n : ℕ) → IsTeller table base first 64 4 t → t.pass.view.number ≡ n → IsKept trio story (kept_in t.pass) → IsTallyOf story n t.tally
-    tally_of t n teller number kept =
+    tally_of : (t : Teller) (n : ℕ) → IsTeller table base first 64 4 t → t.pass.view.number ≡ n → IsKept trio story (kept_in t.pass) → Contains session.callers (kept_in t.pass) → IsTallyOf story session.callers n t.tally
+    tally_of t n teller number kept among =
         let told : told_to trio story n ≡ t.pass.view.outcomes = ap (λ (z : ℕ). told_to trio story z) (sym number) ∙ kept.told in
         record {
+          keeps = kept_in t.pass;
+          among = among;
+          number = number;
+          told = sym told;
           asked = ap args_of told ∙ teller.asked;
           moved = teller.moved ∙ (ap moved_in (sym (own_is story (e.closed story is) (kept_in t.pass) kept)) ∙ ap (λ (z : ℕ). moved_in (own story z)) number);
           reads = record {
@@ -150,6 +165,7 @@ module _ (table : TableId) (base : Base) (session : SessionSeen) (put_in : ℕ) 
                 record {
                   at = at;
                   begins = starts_further at t.pass.view.seen story.history within kept.seen;
+                  learnt = within;
                   front = front;
                   total = total ∙ at_order at;
                   own = ap (λ (z : ℕ). filter (λ x. x.1.caller == z) (enumerate_from story.opening_count at)) (sym number) ∙ of ∙ ap (λ zs. done_in (take (16 * (round + 1)) zs)) (sym told);
@@ -174,14 +190,14 @@ module _ (table : TableId) (base : Base) (session : SessionSeen) (put_in : ℕ) 
       stays = λ at past within. stays at past within;
     }
 
-    pub tallies : Indexed (λ i tally. IsTallyOf story (i + 1) tally) (a.tally ∷ b.tally ∷ c.tally ∷ d.tally ∷ [])
+    pub tallies : Indexed (λ i tally. IsTallyOf story session.callers (i + 1) tally) (a.tally ∷ b.tally ∷ c.tally ∷ d.tally ∷ [])
     tallies = record { at = at }
       where
-        at : (i : ℕ) (x : Tally) → slice_get (a.tally ∷ b.tally ∷ c.tally ∷ d.tally ∷ []) i ≡ Some x → IsTallyOf story (i + 1) x
-        at zero x is = subst (IsTallyOf story 1) (let same : a.tally ≡ x = cc in same) (tally_of a 1 e.one.0 e.one.1 (kept_at 0 (kept_in a.pass) refl))
-        at (suc zero) x is = subst (IsTallyOf story 2) (let same : b.tally ≡ x = cc in same) (tally_of b 2 e.two.0 e.two.1 (kept_at 1 (kept_in b.pass) refl))
-        at (suc (suc zero)) x is = subst (IsTallyOf story 3) (let same : c.tally ≡ x = cc in same) (tally_of c 3 e.three.0 e.three.1 (kept_at 2 (kept_in c.pass) refl))
-        at (suc (suc (suc zero))) x is = subst (IsTallyOf story 4) (let same : d.tally ≡ x = cc in same) (tally_of d 4 e.four.0 e.four.1 (kept_at 3 (kept_in d.pass) refl))
+        at : (i : ℕ) (x : Tally) → slice_get (a.tally ∷ b.tally ∷ c.tally ∷ d.tally ∷ []) i ≡ Some x → IsTallyOf story session.callers (i + 1) x
+        at zero x is = subst (IsTallyOf story session.callers 1) (let same : a.tally ≡ x = cc in same) (tally_of a 1 e.one.0 e.one.1 (kept_at 0 (kept_in a.pass) refl) (among_at 0 a.pass refl))
+        at (suc zero) x is = subst (IsTallyOf story session.callers 2) (let same : b.tally ≡ x = cc in same) (tally_of b 2 e.two.0 e.two.1 (kept_at 1 (kept_in b.pass) refl) (among_at 1 b.pass refl))
+        at (suc (suc zero)) x is = subst (IsTallyOf story session.callers 3) (let same : c.tally ≡ x = cc in same) (tally_of c 3 e.three.0 e.three.1 (kept_at 2 (kept_in c.pass) refl) (among_at 2 c.pass refl))
+        at (suc (suc (suc zero))) x is = subst (IsTallyOf story session.callers 4) (let same : d.tally ≡ x = cc in same) (tally_of d 4 e.four.0 e.four.1 (kept_at 3 (kept_in d.pass) refl) (among_at 3 d.pass refl))
         at (suc (suc (suc (suc i)))) x is = absurd (let no : None ≡ Some x = is in cc)
 
     pub all_reads : All (λ tally. All (λ read. read.0 ≡ put_in) tally.reads) (a.tally ∷ b.tally ∷ c.tally ∷ d.tally ∷ [])

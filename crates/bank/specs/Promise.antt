@@ -1,6 +1,6 @@
 -- What a bank promises of the history, and of what its tellers have done and read.
 use Rattle.std.specs.Prelude.{◌≡◌, ℕ, zero, suc, ◌+◌, ◌*◌, ◌%◌, ◌==◌, List, [], ◌∷◌, ◌++◌, filter, length, map, take}
-use Rattle.std.specs.List.{AllByRecursion, enumerate_from}
+use Rattle.std.specs.List.{AllByRecursion, Contains, enumerate_from}
 use Rattle.rom_model.specs.Codes.{call_words}
 use Rattle.rom_model.specs.History.{after}
 use Rattle.rom_model.specs.Lawful.{told_to}
@@ -11,6 +11,7 @@ use Rattle.rom_model.specs.Story.{Story, own}
 use Rattle.rom_model.specs.Trio.{trio}
 use Rattle.rom_model.specs.declared.call.Call.TheVariants.{Move}
 use Rattle.rom_model.specs.declared.entry.Entry.{Entry}
+use Rattle.rom_model.specs.declared.kept.Kept.{Kept}
 use Rattle.rom_store.specs.Indexed.{Indexed}
 use Rattle.bank.specs.Moved.{IsMove, moved_in}
 use Rattle.bank.specs.declared.bank.Tally.{Tally}
@@ -37,16 +38,21 @@ pub record KeepsTotal (put_in : ℕ) (story : Story State) : Type 0 where
   pub moves : AllByRecursion (λ e. IsMove e.args) rest
   pub stays : (at : List Entry) → StartsWith at first → StartsWith story.history at → total_after story.order story.opening story.opening_count at ≡ put_in
 
--- A caller's read behind so many rounds, and this one: its total is that of the state after the first updates, as many as its front says, and of the caller's own these are the ones that are done of what it had tried by then.
-pub record IsReadOf (story : Story State) (caller round : ℕ) (read : ℕ × ℕ) : Type 0 where
+-- A read of a caller that has seen so much in the end, behind so many rounds, and this one: its total is that of the state after the first updates, as many as its front says, and of the caller's own these are the ones that are done of what it had tried by then.
+pub record IsReadOf (story : Story State) (seen : List Entry) (caller round : ℕ) (read : ℕ × ℕ) : Type 0 where
   pub at : List Entry
   pub begins : StartsWith story.history at
+  pub learnt : StartsWith seen at
   pub front : read.1 ≡ story.opening_count + length at
   pub total : read.0 ≡ total_after story.order story.opening story.opening_count at
   pub own : filter (λ x. x.1.caller == caller) (enumerate_from story.opening_count at) ≡ done_in (take (16 * (round + 1)) (told_to trio story caller))
 
--- The passes found of this caller these 64 moves and no other update, the history has as many that were made as it counts, and each of its totals is a read behind its round.
-pub record IsTallyOf (story : Story State) (caller : ℕ) (tally : Tally) : Type 0 where
+-- The passes found of this caller these 64 moves and no other update, the history has as many that were made as it counts, and each of its totals is a read behind its round. What they told it, and what it has read of, is what it keeps, as one of the session's callers.
+pub record IsTallyOf (story : Story State) (callers : List Kept) (caller : ℕ) (tally : Tally) : Type 0 where
+  pub keeps : Kept
+  pub among : Contains callers keeps
+  pub number : keeps.number ≡ caller
+  pub told : keeps.told ≡ told_to trio story caller
   pub asked : map (λ x. x.0.args) (told_to trio story caller) ≡ rounds 64
   pub moved : tally.moved ≡ moved_in (own story caller)
-  pub reads : Indexed (IsReadOf story caller) tally.reads
+  pub reads : Indexed (IsReadOf story keeps.seen caller) tally.reads

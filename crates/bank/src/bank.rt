@@ -2,11 +2,13 @@
 //! Each total that a teller reads is the one that was put in. No single call promises that. It follows from
 //! what all callers together did, by what is known of the session once it is closed.
 ghost use Rattle.std.specs.Prelude.{◌≡◌, ◌≢◌, ◌⊎◌, ◌+◌, ◌*◌, ◌/◌, ◌<◌, ◌≤◌, ℕ, [], List, All, IfErr, IfOk, IsErr, IsTrue, OnOk, length, slice_get, slice_index, Some};
+ghost use Rattle.std.specs.List.{AllByRecursion};
 ghost use Rattle.rom_device.specs.Device.{OnlyReads};
 ghost use Rattle.rom_header.specs.Held.{Holds};
 ghost use Rattle.rom_header.specs.Layout.{MAGIC, words_needed};
 ghost use Rattle.rom_model.specs.Faults.{Rose};
 ghost use Rattle.rom_model.specs.Leaving.{IsClosed};
+ghost use Rattle.rom_model.specs.Machine.{on_words};
 ghost use Rattle.rom_model.specs.Region.{Contents};
 ghost use Rattle.rom_model.specs.Seen.{StartsWith};
 ghost use Rattle.rom_model.specs.State.{State};
@@ -17,6 +19,7 @@ ghost use Rattle.rom_lr.specs.Seats.{noted};
 ghost use Rattle.rom_rule.specs.Views.{base_of};
 ghost use Rattle.rom_store.specs.Callers.{IsCallerOf, IsNewCaller};
 ghost use Rattle.rom_store.specs.Indexed.{Indexed};
+ghost use Rattle.rom_store.specs.Moments.{LastsFor};
 ghost use Rattle.rom_store.specs.Sessions.{EachStory, HasStory};
 ghost use Rattle.rom_store.specs.Start.{device_start};
 ghost use Rattle.bank.specs.Moved.{is_told_moved};
@@ -206,8 +209,11 @@ fn bank<D: Device + Send, N: Label + Send + Sync, R: Threads + Wait + Sync>(
     ensures closed { EachStory trio Contents result.closed.session (λ story.
         IsClosed trio story 5) }
     ensures balanced { EachStory trio Contents result.closed.session (KeepsTotal result.put_in) }
-    ensures tallies { EachStory trio Contents result.closed.session (λ story.
-        Indexed (λ i tally. IsTallyOf story (i + 1) tally) result.tallies) }
+    ensures tallies { let session = result.closed.session in EachStory trio Contents session (λ story.
+        Indexed (λ i tally. IsTallyOf story session.callers (i + 1) tally) result.tallies) }
+    ensures told_lasts { let closed = result.closed in EachStory trio Contents closed.session (λ story.
+        AllByRecursion (LastsFor D.shown Contents (on_words trio) story closed.device)
+        closed.session.callers) }
     ensures reads { All (λ tally. All (λ read. read.0 ≡ result.put_in) tally.reads) result.tallies }
     ensures total { EachStory trio Contents result.closed.session (λ story. result.total
         ≡ total_after story.order story.opening story.opening_count story.history) }
@@ -337,9 +343,16 @@ pub fn run_bank<D: Device + Send, R: Threads + Wait + Sync + AllocGlobal>(
     ensures balanced { IfOk result (λ books.
         EachStory trio Contents books.closed.session (KeepsTotal books.put_in)) }
 
-    // Each teller has tried its moves, and tells how many were made and what it read in between.
-    ensures tallies { IfOk result (λ books. EachStory trio Contents books.closed.session (λ story.
-        Indexed (λ i tally. IsTallyOf story (i + 1) tally) books.tallies)) }
+    // Each teller has tried its moves, and tells how many were made and what it read in between; it is one of
+    // the session's callers.
+    ensures tallies { IfOk result (λ books. let session = books.closed.session in
+        EachStory trio Contents session (λ story.
+        Indexed (λ i tally. IsTallyOf story session.callers (i + 1) tally) books.tallies)) }
+    // Each caller keeps the moments at which all that it was told, and has read of, was committed: no stop since
+    // the moment of an entry has left less of the history than up to this entry.
+    ensures told_lasts { IfOk result (λ books. let closed = books.closed in
+        EachStory trio Contents closed.session (λ story. AllByRecursion
+        (LastsFor D.shown Contents (on_words trio) story closed.device) closed.session.callers)) }
     // Each total that a teller has read is the one put in.
     ensures reads { IfOk result (λ books.
         All (λ tally. All (λ read. read.0 ≡ books.put_in) tally.reads) books.tallies) }

@@ -77,4 +77,4 @@ module _ {S : Type 0} (Contents : ℕ → List ℕ → S → ℕ → Type 0) (st
     where
       by_record : (t : Bool) → is_made (plan_of m.0).mine ≡ t → (q : Plan) × HasRecord Contents step m.0.base (plan_of m.0) q fate before now × (m' ≡ (planned m.0 (altered c (laying 0 st.first) q), m.1))
       by_record true e = (plan_of m.0, ((λ _. refl), λ e'. absurd (let z : true ≡ false = sym e ∙ e' in cc)), h.0 e c 0 pos (omega arith) at)
-      by_record false e = let g = h.1 e in (making fate before now g.0 g.1 (plan_of m.0), ((λ e'. absurd (let z : true ≡ false = sym e' ∙ e in cc)), λ _. (g.0, g.1, g.2, g.3, refl)), g.4 c 0 pos (omega arith) at)
+      by_record false e = let g = h.1 e in (making fate before now 0 g.0 g.1 (plan_of m.0), ((λ e'. absurd (let z : true ≡ false = sym e' ∙ e in cc)), λ _. (g.0, g.1, g.2, g.3, refl)), g.4 c 0 pos (omega arith) at)

@@ -46,7 +46,7 @@ module _ {S : Type 0} (Contents : ℕ → List ℕ → S → ℕ → Type 0) (st
   abbrev pub HasRecord : Base → Plan → Plan → Fate → ℕ → ℕ → Type 0
   HasRecord b p q fate before now =
       (is_made p.mine ≡ true → q ≡ p)
-      × (is_made p.mine ≡ false → (k : ℕ) × (more : List Entry) × IsBatch Contents step b p k more × TellsEach fate k more p × (q ≡ making fate before now k more p))
+      × (is_made p.mine ≡ false → (k : ℕ) × (more : List Entry) × IsBatch Contents step b p k more × TellsEach fate k more p × (q ≡ making fate before now 0 k more p))
 
   -- The writer's plan is then the one with this pass's record, where this caller's request is changed so. Nothing else of its view changes but the number of its steps.
   abbrev pub AltersRecorded : WriterSeat → WriterSeat → ℕ → (Request → Request) → Fate → ℕ → ℕ → Type 0

@@ -5,6 +5,7 @@ use Rattle.rom_model.specs.History.{IsLegal, after, left}
 use Rattle.rom_model.specs.Machine.{on_words}
 use Rattle.rom_model.specs.Story.{Story}
 use Rattle.rom_model.specs.declared.entry.Entry.{Entry}
+use Rattle.rom_model.specs.declared.kept.Kept.{Kept}
 use Rattle.rom_device.specs.Device.{ShownDevice}
 use Rattle.rom_store.specs.Sessions.{EachStory, SessionSeen}
 use Rattle.rom_run.specs.Use.{HasNotRun, Use, heap_of}
@@ -46,12 +47,12 @@ module _ (n : ℕ) (le : 4 ≤ n) where
   each_crowded (e ∷ before) behind entry call s k ranged legal is full = each_crowded before behind entry call (left s (on_words blobs n s k e.args)) (k + 1) (left_ranged s k e.args ranged) legal.1 is full
 
 -- so in each story of a session, where its history is legal
-module _ {D : Type 0} (shown : ShownDevice D) (was now : D) (P : Story BlobState → Type 0) (legal : (story : Story BlobState) → P story → IsLegal (on_words blobs) story.order story.opening story.opening_count story.history) where
+module _ {D : Type 0} (shown : ShownDevice D) (was now : D) (P : List Kept → Story BlobState → Type 0) (legal : (callers : List Kept) (story : Story BlobState) → P callers story → IsLegal (on_words blobs) story.order story.opening story.opening_count story.history) where
   story_crowded : (use_is : Use) (seen : SessionSeen) → HasSession blobs BlobContents shown (heap_of use_is) was now P seen → EachStory blobs BlobContents seen IsFullWhereCrowded
   story_crowded use_is seen has story of before behind entry call split is full =
       let order : 4 ≤ story.order = subst (λ n. 4 ≤ n) (sym of.order_is) of.opening.1.order.least in
       let ranged : IsRanged story.order story.opening = subst (λ n. IsRanged n story.opening) (sym of.order_is) (contents_ranged of.opening) in
-      let its = subst (λ history. IsLegal (on_words blobs) story.order story.opening story.opening_count history) split (legal story (has.told story of)) in
+      let its = subst (λ history. IsLegal (on_words blobs) story.order story.opening story.opening_count history) split (legal seen.callers story (has.told story of)) in
       each_crowded story.order order before behind entry call story.opening story.opening_count ranged its is full
 
   -- and where there is none no session is

@@ -55,9 +55,9 @@ one_record (f ∷ fs) r lt = refl
 
 -- the record of a pass that published nothing
 abbrev pub record_now : Plan → Fate → ℕ → ℕ → PassRecord
-record_now q f before now = record { found = map found_of q.requests; fate = f; faults_before = before; faults_after = now; len = length q.history }
+record_now q f before now = record { found = map found_of q.requests; fate = f; faults_before = before; faults_after = now; len = length q.history; committed = 0 }
 
-pub told_stays : (p q u : Plan) (f : Fate) (before now k : ℕ) (more : List Entry) → but_requests q ≡ but_requests (beginning p) → but_requests u ≡ but_requests (making f before now k more q) → published f more ≡ [] → 0 < length q.requests
+pub told_stays : (p q u : Plan) (f : Fate) (before now k : ℕ) (more : List Entry) → but_requests q ≡ but_requests (beginning p) → but_requests u ≡ but_requests (making f before now 0 k more q) → published f more ≡ [] → 0 < length q.requests
     → Stays (record_now q f before now ∷ []) p u
 told_stays p q u f before now k more scan kept none any_found = let st = scan_stays p q scan in let founds : List Found = map found_of q.requests in record {
   main = ap (λ (z : Plan). z.main) kept ∙ st.main;
@@ -66,7 +66,7 @@ told_stays p q u f before now k more scan kept none any_found = let st = scan_st
   clear = ap (λ (z : Plan). z.clear) kept ∙ st.clear;
   history = ap (λ (z : Plan). z.history) kept ∙ (ap (λ (l : List Entry). q.history ++ l) none ∙ (append-nil q.history ∙ st.history));
   records = ap records_of kept ∙ (λ j. ap (λ (z : Plan). z.records) scan j
-      ++ (ap (λ (len : ℕ). record_list founds (record { found = founds; fate = f; faults_before = before; faults_after = now; len = len })) (let e : length q.history + length (published f more) ≡ length q.history = omega (arith, ap length none) in e)
+      ++ (ap (λ (len : ℕ). record_list founds (record { found = founds; fate = f; faults_before = before; faults_after = now; len = len; committed = 0 })) (let e : length q.history + length (published f more) ≡ length q.history = omega (arith, ap length none) in e)
       ∙ one_record founds (record_now q f before now) (omega (arith, length_map found_of q.requests, any_found))) j);
 }
 
@@ -101,9 +101,9 @@ module _ {S : Type 0} (Contents : ℕ → List ℕ → S → ℕ → Type 0) (st
 
   -- the record that the answers made, where the plan had none
   pub made_by : (b : Base) (q u : Plan) (before now : ℕ) (items : List CallAnswer) (f : Fate) (x : CallAnswer) → get_elem? items 0 ≡ some x → fate_of_place x.place ≡ f → q.mine ≡ [] → IsRecordedBy Contents step b q u before now items
-      → (k : ℕ) × (more : List Entry) × IsBatch Contents step b q k more × (but_requests u ≡ but_requests (making f before now k more q))
+      → (k : ℕ) × (more : List Entry) × IsBatch Contents step b q k more × (but_requests u ≡ but_requests (making f before now 0 k more q))
   made_by b q u before now items f x at same unmade by = let h = by x at in let g = h.1.1 (ap is_made unmade) in
-      (g.0, g.1, g.2, h.3 ∙ ap but_requests (g.4 ∙ ap (λ (z : Fate). making z before now g.0 g.1 q) same))
+      (g.0, g.1, g.2, h.3 ∙ ap but_requests (g.4 ∙ ap (λ (z : Fate). making z before now 0 g.0 g.1 q) same))
 
   -- the answers that made it left which indicators count as loaded
   pub clear_by : (b : Base) (q u : Plan) (before now : ℕ) (items : List CallAnswer) → 0 < length items → q.mine ≡ [] → IsRecordedBy Contents step b q u before now items → u.clear ≡ q.clear
@@ -111,7 +111,7 @@ module _ {S : Type 0} (Contents : ℕ → List ℕ → S → ℕ → Type 0) (st
 
   -- a pass that published nothing
   pub pass_refused : (b : Base) (p q u : Plan) (callers before now k many : ℕ) (items : List Posted) (more : List Entry) (o : Outcome) → IsScan (IsCall step b) p q callers items → IsBatch Contents step b q k more
-      → but_requests u ≡ but_requests (making (outcomes.fate_of o) before now k more q) → published (outcomes.fate_of o) more ≡ [] → 0 < length items → many ≡ length items → Each (λ _ f. f.answered ≡ true) u.requests → o ≢ outcome.Nothing → SameCalls q u
+      → but_requests u ≡ but_requests (making (outcomes.fate_of o) before now 0 k more q) → published (outcomes.fate_of o) more ≡ [] → 0 < length items → many ≡ length items → Each (λ _ f. f.answered ≡ true) u.requests → o ≢ outcome.Nothing → SameCalls q u
       → (x : IsPass Contents step b p u callers before now (record { found = many; done = 0; outcome = o })) × (x.more ≡ more)
   pass_refused b p q u callers before now k many items more o scan batched kept none any_found many_is answered other calls = let f : Fate = outcomes.fate_of o in let founds : List Found = map found_of q.requests in
       let history : u.history ≡ q.history ++ published f more = ap (λ (z : Plan). z.history) kept in let long : length q.history + length (published f more) ≡ length u.history = sym (ap length history ∙ length-append q.history (published f more)) in (
@@ -126,11 +126,12 @@ module _ {S : Type 0} (Contents : ℕ → List ℕ → S → ℕ → Type 0) (st
           nothing = ((λ e. absurd (other e)), (λ z. absurd (omega arith)));
           front = k;
           more = more;
+          moment = 0;
           batch = batched;
           done = sym (ap length none);
           history = history ∙ ap (λ (l : List Entry). l ++ published f more) (ap (λ (z : Plan). z.history) scan.rest);
           records = ap records_of kept ∙ (λ j. ap (λ (z : Plan). z.records) scan.rest j
-              ++ ap (λ (len : ℕ). record_list founds (record { found = founds; fate = f; faults_before = before; faults_after = now; len = len })) long j);
+              ++ ap (λ (len : ℕ). record_list founds (record { found = founds; fate = f; faults_before = before; faults_after = now; len = len; committed = 0 })) long j);
           told = ap (λ (z : Plan). z.told) kept ∙ ap (λ l. l ++ fate_told f k founds more) (ap (λ (z : Plan). z.told) scan.rest);
           answered = answered;
         },
@@ -140,7 +141,7 @@ module _ {S : Type 0} (Contents : ℕ → List ℕ → S → ℕ → Type 0) (st
   -- and what a stop since its start leaves
   pub passed_refused : {D : Type 0} (shown : ShownDevice D) (a d : D) (b : Base) (p q u : Plan) (callers before now k many : ℕ) (items : List Posted) (more : List Entry) (o : Outcome)
       → IsScan (IsCall step b) p q callers items → IsBatch Contents step b q k more
-      → but_requests u ≡ but_requests (making (outcomes.fate_of o) before now k more q) → published (outcomes.fate_of o) more ≡ [] → 0 < length items → many ≡ length items → Each (λ _ f. f.answered ≡ true) u.requests → o ≢ outcome.Nothing → SameCalls q u
+      → but_requests u ≡ but_requests (making (outcomes.fate_of o) before now 0 k more q) → published (outcomes.fate_of o) more ≡ [] → 0 < length items → many ≡ length items → Each (λ _ f. f.answered ≡ true) u.requests → o ≢ outcome.Nothing → SameCalls q u
       → (IsTrue shown.tells_images → (s : S) (n : ℕ) → Contents b.order b.image s n → Runs shown (Becomes (PassMakes Contents step b s n (outcomes.fate_of o) q.history (batch_found Contents step b s n q))) a d)
       → (x : IsPass Contents step b p u callers before now (record { found = many; done = 0; outcome = o }))
       × (IsTrue shown.tells_images → (s : S) (n : ℕ) → Contents b.order b.image s n → Runs shown (Becomes (PassMakes Contents step b s n (outcomes.fate_of o) p.history x.more)) a d)
@@ -222,7 +223,7 @@ module _ {S : Type 0} (Contents : ℕ → List ℕ → S → ℕ → Type 0) (st
 
   -- the core after a pass that failed or is in doubt; b is the table's base as the publishing saw it, and q its plan
   pub core_refused : {D : Type 0} (shown : ShownDevice D) (t t' : Seen D) (v w : View) (b : Base) (q : Plan) (o : Outcome) (before now k : ℕ) (more : List Entry)
-      → (c : IsAtRest shown Contents step t v) → b ≡ v.base → w.base ≡ v.base → o ≢ outcome.Published → o ≢ outcome.Nothing → but_requests q ≡ but_requests (beginning (plan_of v)) → but_requests (plan_of w) ≡ but_requests (making (outcomes.fate_of o) before now k more q) → 0 < length q.requests
+      → (c : IsAtRest shown Contents step t v) → b ≡ v.base → w.base ≡ v.base → o ≢ outcome.Published → o ≢ outcome.Nothing → but_requests q ≡ but_requests (beginning (plan_of v)) → but_requests (plan_of w) ≡ but_requests (making (outcomes.fate_of o) before now 0 k more q) → 0 < length q.requests
       → Each (λ _ f. f.answered ≡ true) (plan_of w).requests → t'.order ≡ t.order → (IsTrue shown.tells_images → committed shown t' ≡ committed shown t) → (IsTrue shown.tells_images → InPhase shown t')
       → (o ≡ outcome.Failed → (t'.phase ≡ phase.Undo) ⊎ ((t'.phase ≡ t.phase) × NeedsRepair t.phase)) → (o ≡ outcome.Doubt → t'.phase ≡ phase.Doubt) → IsTrue (shown.failing t'.device)
       → (IsTrue shown.tells_images → Runs shown (Becomes (PassMakes Contents step b c.start c.count (outcomes.fate_of o) q.history (batch_found Contents step b c.start c.count q))) t.device t'.device)
@@ -242,7 +243,7 @@ module _ {S : Type 0} (Contents : ℕ → List ℕ → S → ℕ → Type 0) (st
 
   -- the core after a pass that found the count at its limit
   pub core_spent : {D : Type 0} (shown : ShownDevice D) (t : Seen D) (v w : View) (q : Plan) (before k : ℕ) (more : List Entry)
-      → IsAtRest shown Contents step t v → w.base ≡ v.base → but_requests q ≡ but_requests (beginning (plan_of v)) → but_requests (plan_of w) ≡ but_requests (making fate.Published before before k more q) → more ≡ [] → 0 < length q.requests
+      → IsAtRest shown Contents step t v → w.base ≡ v.base → but_requests q ≡ but_requests (beginning (plan_of v)) → but_requests (plan_of w) ≡ but_requests (making fate.Published before before 0 k more q) → more ≡ [] → 0 < length q.requests
       → Each (λ _ f. f.answered ≡ true) (plan_of w).requests → before ≤ shown.faults t.device → IsAtRest shown Contents step t w
   core_spent shown t v w q before k more c base scan kept none found answered last =
       let r : PassRecord = record_now q fate.Published before before in

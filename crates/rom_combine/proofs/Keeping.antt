@@ -139,10 +139,11 @@ module _ {S : Type 0} (Contents : ℕ → List ℕ → S → ℕ → Type 0) (st
     nothing = ((λ _. zero), (λ _. refl));
     front = n + length q.history;
     more = [];
+    moment = 0;
     batch = λ s' n' op'. let same = one s' s n' n op' op in (ap (λ (k : ℕ). k + length q.history) (sym same.1), sym (ap (λ (fs : List Request). batch step b.order (after step b.order s' n' q.history) (n + length q.history) (map found_of fs)) none));
     done = refl;
     history = st.history ∙ sym (append-nil p.history);
-    records = st.records ∙ ap (λ (fs : List Request). records_of p ++ record_list (map found_of fs) (record { found = map found_of q.requests; fate = fate.Published; faults_before = before; faults_after = now; len = length q.history })) (sym none);
+    records = st.records ∙ ap (λ (fs : List Request). records_of p ++ record_list (map found_of fs) (record { found = map found_of q.requests; fate = fate.Published; faults_before = before; faults_after = now; len = length q.history; committed = 0 })) (sym none);
     told = ap (λ (z : Plan). z.told) scan.rest ∙ (sym (append-nil p.told) ∙ ap (λ (fs : List Request). p.told ++ Rattle.rom_model.specs.Passes.batch_told (n + length q.history) (map found_of fs) []) (sym none));
     answered = answered;
   }
@@ -173,11 +174,12 @@ pass_published Contents step b p q m u callers before mid end version clear many
         nothing = ((λ (e : outcome.Published ≡ outcome.Nothing). absurd (differ e)), (λ z. absurd (omega arith)));
         front = pb.front;
         more = pb.more;
+        moment = pb.moment;
         batch = pb.batch;
         done = done_is;
         history = history ∙ ap (λ (l : List Entry). l ++ pb.more) st.history;
         records = ap records_of kept ∙ ((λ j. (pb.records ∙ ap (λ (z : Plan). z.records) scan.rest) j ++ map (Rattle.rom_rule.specs.Kinds.with_faults_after end) (pb.mine j))
-            ∙ ap (λ (l : List PassRecord). records_of p ++ l) (raised_list end (map found_of q.requests) _ ∙ ap (λ (k : ℕ). record_list (map found_of q.requests) (record { found = map found_of q.requests; fate = fate.Published; faults_before = before; faults_after = end; len = k })) long));
+            ∙ ap (λ (l : List PassRecord). records_of p ++ l) (raised_list end (map found_of q.requests) _ ∙ ap (λ (k : ℕ). record_list (map found_of q.requests) (record { found = map found_of q.requests; fate = fate.Published; faults_before = before; faults_after = end; len = k; committed = pb.moment })) long));
         told = ap (λ (z : Plan). z.told) kept ∙ (pb.told ∙ ap (λ l. l ++ Rattle.rom_model.specs.Passes.fate_told fate.Published pb.front (map found_of q.requests) pb.more) (ap (λ (z : Plan). z.told) scan.rest));
         answered = answered;
       },

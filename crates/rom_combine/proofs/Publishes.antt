@@ -65,10 +65,10 @@ module _ {S : Type 0} (Contents : ℕ → List ℕ → S → ℕ → Type 0) (st
     stands = subst (λ (fs : List Found). Rattle.rom_rule.specs.Readers.Held Contents step b s n main (p.history ++ batch step b.order (after step b.order s n p.history) (n + length p.history) fs)) (all_first i long) a.held;
   }
 
-  pub is_left : (main : List ℕ) (i before now k : ℕ) (more : List Entry) (given : List CallAnswer) → i ≡ length p.requests → Contents b.order b.image s n → AreScanned 0 b.callers (map caller_in p.requests) → Each (λ _ f. IsUnanswered (IsCall step b) f) p.requests
+  pub is_left : (main : List ℕ) (i before now moment k : ℕ) (more : List Entry) (given : List CallAnswer) → i ≡ length p.requests → Contents b.order b.image s n → AreScanned 0 b.callers (map caller_in p.requests) → Each (λ _ f. IsUnanswered (IsCall step b) f) p.requests
       → IsApplied Contents step b s n p main i given → n + length p.history + length (batch_first Contents step b s n p i) ≤ LAST_COUNT → IsBatch Contents step b (record p { main = main }) k more → TellsEach Published k more (record p { main = main })
-      → HasGiven Contents step b Published before now (switched 0 (making Published before now k more (record p { main = main }))) 0 given
-  is_left main i before now k more given long opening rising fresh a fits batched tells = let all = all_first i long in let same = batched s n opening in let k₀ : ℕ = n + length p.history in
+      → HasGiven Contents step b Published before now (switched 0 (making Published before now moment k more (record p { main = main }))) 0 given
+  is_left main i before now moment k more given long opening rising fresh a fits batched tells = let all = all_first i long in let same = batched s n opening in let k₀ : ℕ = n + length p.history in
       let told_same : batch_told k (map found_of p.requests) more ≡ batch_told k₀ (take i (map found_of p.requests)) (batch_first Contents step b s n p i)
       = (λ j. batch_told (same.0 j) (sym all j) ((same.1 ∙ (λ h. batch step b.order (after step b.order s n p.history) (same.0 h) (sym all h))) j)) in
       let laid : map laid_of given ≡ map laid_told (batch_told k (map found_of p.requests) more) = a.answers_are ∙ ap (map laid_told) (sym told_same) in record {

@@ -52,6 +52,8 @@ module _ {D S C Q R A : Type 0} (shown : ShownDevice D) (Contents : ℕ → List
     pub back : IsTrue shown.tells_images → committed shown new ≡ q.back
     -- The history has grown by the batch, and the pass has its one record.
     pub published : IsPublished Contents (on_words machine) b p q before (shown.faults new.device)
+    -- The record's moment is the device's now.
+    pub dated : published.moment ≡ shown.clock new.device
     -- Main stands for the published history.
     pub held : (s : S) × (n : ℕ) × Contents b.order b.image s n × Held Contents (on_words machine) b s n q.main q.history
     -- The log holds what is to be made of back.

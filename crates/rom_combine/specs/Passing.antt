@@ -1,10 +1,11 @@
 -- What a pass does to the published history, to the records, and to what callers are told.
-use Rattle.std.specs.Prelude.{◌≡◌, ◌⊎◌, ◌↔◌, ℕ, ◌+◌, ◌*◌, List, ◌++◌, map, length, true, Option, IsTrue}
+use Rattle.std.specs.Prelude.{◌≡◌, ◌⊎◌, ◌↔◌, ℕ, ◌+◌, ◌*◌, List, [], ◌∷◌, ◌++◌, map, length, true, Option, IsTrue}
 use Rattle.rom_model.specs.Blocks.{region_len}
 use Rattle.rom_model.specs.Faults.{Rose}
 use Rattle.rom_model.specs.Machine.{Machine, on_words, weight_on_words}
 use Rattle.rom_model.specs.Passes.{fate_told, published}
 use Rattle.rom_model.specs.declared.entry.Entry.{Entry}
+use Rattle.rom_model.specs.declared.record.PassRecord.{PassRecord}
 use Rattle.rom_device.specs.Device.{ShownDevice, Becomes, Runs}
 use Rattle.rom_twin.specs.declared.phase.Phase.TheVariants.{Clean, Redo}
 use Rattle.rom_combine.specs.Answering.{SameCalls}
@@ -23,7 +24,7 @@ use Rattle.rom_rule.specs.Views.{Each, plan_of, records_of}
 use Rattle.rom_rule.specs.declared.views.Base.{Base}
 use Rattle.rom_rule.specs.declared.views.Plan.{Plan}
 
--- One pass, from the plan p to the plan q, with the device's counts of faults at the pass's start and end. Each caller's turn was loaded once, in rising order. `front` is the count before, and `more` the batch of the found calls: the history grows by it where it is published. Where a call was found the pass has one record, which tells each of them what became of it, and each is answered so.
+-- One pass, from the plan p to the plan q, with the device's counts of faults at the pass's start and end. Each caller's turn was loaded once, in rising order. `front` is the count before, and `more` the batch of the found calls: the history grows by it where it is published. Where a call was found the pass has one record, with this moment, which tells each of them what became of it, and each is answered so.
 pub record IsPass {S : Type 0} (Contents : ℕ → List ℕ → S → ℕ → Type 0) (step : ℕ → S → ℕ → List ℕ → Option (S × List ℕ)) (b : Base) (p q : Plan) (callers before now : ℕ) (r : Passed) : Type 0 where
   pub passes : q.passes ≡ p.passes + 1
   pub dealt : q.dealt ≡ p.dealt
@@ -35,10 +36,11 @@ pub record IsPass {S : Type 0} (Contents : ℕ → List ℕ → S → ℕ → Ty
   pub nothing : (r.outcome ≡ Nothing) ↔ (length items ≡ 0)
   pub front : ℕ
   pub more : List Entry
+  pub moment : ℕ
   pub batch : IsBatch Contents step b scanned front more
   pub done : r.done ≡ length (published (fate_of r.outcome) more)
   pub history : q.history ≡ p.history ++ published (fate_of r.outcome) more
-  pub records : records_of q ≡ records_of p ++ record_list (map found_of scanned.requests) record { found = map found_of scanned.requests; fate = fate_of r.outcome; faults_before = before; faults_after = now; len = length q.history }
+  pub records : records_of q ≡ records_of p ++ record_list (map found_of scanned.requests) record { found = map found_of scanned.requests; fate = fate_of r.outcome; faults_before = before; faults_after = now; len = length q.history; committed = moment }
   pub told : q.told ≡ p.told ++ fate_told (fate_of r.outcome) front (map found_of scanned.requests) more
   pub answered : Each (λ _ f. f.answered ≡ true) q.requests
 
@@ -59,6 +61,8 @@ module _ {D S C Q R A : Type 0} (shown : ShownDevice D) (Contents : ℕ → List
   pub record HasDoneBatch (stores : ℕ) : Type 0 where
     -- the device at the commit
     pub mid : D
+    -- Its moment then stands in the pass's record, which is the last.
+    pub dated : (rs : List PassRecord) (r : PassRecord) → records_of (plan_of new.view) ≡ rs ++ r ∷ [] → r.committed ≡ shown.clock mid
     -- No more was called until then than up to the commit's sync.
     pub soon : SpendsAtMost shown (writes_before_commit old.twin.phase old.twin.order (region_len old.twin.order) + 1) (syncs_before_commit old.twin.phase + 1) old.twin.device mid
     -- A stop leaves the batch from the commit on, whatever becomes of the rest.

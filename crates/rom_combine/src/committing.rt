@@ -10,7 +10,10 @@ ghost use Rattle.rom_combine.specs.Publishing.{IsReadyToPublish};
 ghost use Rattle.rom_combine.specs.Scanning.{posted_of};
 ghost use Rattle.rom_combine.specs.Told.{fate_of};
 ghost use Rattle.rom_lr.specs.Seats.{IsWriterOf, plan, writer_view};
+ghost use Rattle.rom_lr.specs.Switch.{HasSwitched};
 ghost use Rattle.rom_lr.specs.Writing.{SetsPlan};
+ghost use Rattle.rom_lr.specs.declared.side.Side.TheVariants.{Main};
+ghost use Rattle.rom_rule.specs.Kinds.{CanSwitchToMain};
 
 use crate::answering::{CallAnswer, refuse};
 use crate::applying::apply_all;
@@ -23,7 +26,9 @@ use rom_device::Device;
 use rom_lr::{Shared, Side, WriterSeat};
 use rom_model::{DOUBT, FAILED, Object};
 use rom_ranges::RangeLog;
+use rom_rule::PassEnd;
 use rom_twin::{Phase, Twin};
+use std::marker::Brand;
 
 /// Makes the device ready, does the found calls on shared main, commits them, and sends readers to
 /// main. Only words that the calls stored to are written, and the log holds these then. Where the
@@ -95,7 +100,7 @@ pub(crate) fn publish<D: Device, O: Object>(
     apply_all(shared, seat, log, place, found, answers);
     if commit_on(twin, shared, seat, log.list()).is_ok() {
         let now = twin.fault_count();
-        shared.switch(seat, Side::Main, before, now);
+        send_to_main::<D, O, Brand>(twin, shared, seat, before, now);
         return Outcome::Published;
     }
     copy_to(shared, seat, Side::Main, log.list());
@@ -108,4 +113,24 @@ pub(crate) fn publish<D: Device, O: Object>(
     }
     refuse(found, FAILED, answers);
     Outcome::Failed
+}
+
+// Sends readers to main. The pass's record then has the device's moment of now: the batch is committed, and
+// nobody is answered yet.
+fn send_to_main<D: Device, O: Object, N: PassEnd>(
+    twin: &Twin<D>,
+    shared: &Shared<O>,
+    seat: &mut WriterSeat,
+    before: u64,
+    after: u64,
+)
+    requires picked { (N.before ≡ before) × (N.after ≡ after)
+        × (N.moment ≡ D.shown.clock twin.now.device) }
+    requires of { IsWriterOf shared.now seat.old }
+    requires can { CanSwitchToMain O.Contents (on_words O.machine) (writer_view seat.old).base
+        (plan seat.old) before after }
+    ensures switched { HasSwitched O.Contents (on_words O.machine) seat.old seat.new Main before
+        after (D.shown.clock twin.now.device) }
+{
+    shared.switch_as::<N>(seat, Side::Main, before, after);
 }

@@ -28,7 +28,7 @@ only_one (x ∷ []) q one = refl
 only_one (x ∷ y ∷ passes) q one = absurd (omega (arith, one))
 
 pub new_alone : (table : TableId) (base : Base) (p : Caller) → base.callers ≡ 1 → (s : State) × (k : ℕ) × Contents base.order base.image s k → IsNewCaller Contents table base 0 p → IsAlone table base p
-new_alone table base p one formed new = record { one = one; formed = formed; numbered = new.numbered }
+new_alone table base p one formed new = record { one = one; formed = formed; numbered = new.numbered; nobody = ap (λ v. v.joined) new.bare }
 
 pub new_done : (order : ℕ) (image : List ℕ) (s : State) (k count : ℕ) (q : Caller) → ((order : ℕ) (words : List ℕ) (s : State) (k : ℕ) → Contents order words s k → k ≤ LAST_COUNT) → Contents order image s k → count ≡ k → q.view.outcomes ≡ [] → q.view.seen ≡ [] → HasDoneUpdates order s k (followed count (q ∷ []) None)
 new_done order image s k count q within held is none unseen = record {

@@ -19,11 +19,12 @@ use Rattle.rom_follow.specs.Followed.{Followed, HasDoneUpdates}
 use Rattle.rom_follow.specs.Taking.{entry_at}
 use Rattle.rom_follow.specs.declared.taken.Divergence.{Divergence}
 
--- The caller is the only one of the store with this table and this opening, whose image stands for some state and count.
+-- The caller is the only one of the store with this table and this opening, whose image stands for some state and count; so it has learnt of no other.
 pub record IsAlone (table : TableId) (base : Base) (p : Caller) : Type 0 where
   pub one : base.callers ≡ 1
   pub formed : (s : State) × (k : ℕ) × Contents base.order base.image s k
   pub numbered : IsNumberedCaller Contents table base 0 p
+  pub nobody : p.view.joined ≡ []
 
 -- What became of its update, from the state and the count of the opening. One that is done has the next place, and its entry is all that the caller has seen since; of one that is not, it has seen nothing. `Spent` comes only where the count is the last.
 abbrev pub IsOutcome : ℕ → State → ℕ → Call → View → Updated Reply → View → Type 0

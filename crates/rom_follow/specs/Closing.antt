@@ -5,6 +5,7 @@ use Rattle.rom_model.specs.Region.{Contents}
 use Rattle.rom_model.specs.State.{State}
 use Rattle.rom_model.specs.declared.call.Updated.{Updated}
 use Rattle.rom_model.specs.declared.call.Updated.TheVariants as updated
+use Rattle.rom_model.specs.declared.kept.Kept.{Kept}
 use Rattle.rom_model.specs.declared.record.Fate.{Fate}
 use Rattle.rom_model.specs.declared.record.Fate.TheVariants.{Published, Failed, Doubt}
 use Rattle.rom_model.specs.declared.record.PassRecord.{PassRecord}
@@ -28,7 +29,15 @@ ArePassesOf [] [] = Unit {0}
 ArePassesOf (r ∷ rs) (x ∷ xs) = (r.found ≡ x.0 ∷ []) × TellsUpdate r.fate x.1 × ArePassesOf rs xs
 ArePassesOf rs xs = ⊥
 
--- The session of a follower that had done nothing, and took these messages with these answers: its history and its passes are those of what the follower did.
+-- The follower's session had one caller. It keeps that it has seen the follower's history, and what became of each update that was tried.
+pub record KeepsWhole (f : Followed) (callers : List Kept) : Type 0 where
+  pub own : Kept
+  pub only : callers ≡ own ∷ []
+  pub number : own.number ≡ 1
+  pub seen : own.seen ≡ f.history
+  pub told : own.told ≡ f.tried
+
+-- The session of a follower that had done nothing, and took these messages with these answers: its history and its passes are those of what the follower did, which its one caller keeps whole.
 pub record HasTakenMessages (messages : List (Vec ℕ)) (answers : List MessageTaken) (session : SessionSeen) : Type 0 where
   pub begun : Followed
   pub ended : Followed
@@ -37,3 +46,4 @@ pub record HasTakenMessages (messages : List (Vec ℕ)) (answers : List MessageT
   pub taken : AreTaken messages begun answers ended
   pub history : session.history ≡ ended.history
   pub passes : ArePassesOf session.records ended.tried
+  pub kept : KeepsWhole ended session.callers

@@ -1,5 +1,6 @@
 //! A heap that is opened for messages, and closed behind them.
 ghost use Rattle.std.specs.Prelude.{◌≡◌, ℕ, ◌+◌, ◌≤◌, All, IsTrue, List, length};
+ghost use Rattle.std.specs.List.{AllByRecursion};
 ghost use Rattle.rom_model.specs.History.{IsLegal};
 ghost use Rattle.rom_model.specs.Machine.{on_words};
 ghost use Rattle.rom_model.specs.Region.{Contents};
@@ -9,6 +10,8 @@ ghost use Rattle.rom_model.specs.declared.entry.Entry.{Entry};
 ghost use Rattle.rom_rule.specs.Views.{base_of};
 ghost use Rattle.rom_store.specs.Callers.{IsNewCaller};
 ghost use Rattle.rom_store.specs.Indexed.{Indexed};
+ghost use Rattle.rom_store.specs.Moments.{LastsFor};
+ghost use Rattle.rom_store.specs.Sessions.{EachStory};
 ghost use Rattle.rom_store.specs.Start.{device_start};
 ghost use Rattle.rom_follow.specs.Closing.{HasTakenMessages};
 ghost use Rattle.rom_follow.specs.Following.{HasFollowed, HasWords, MayArrive, state_after_first};
@@ -40,6 +43,8 @@ fn follow_as<D: Device, N: Label, R: Wait, G: Gate>(
     requires formed { (s : State) × (k : ℕ) × Contents N.base.order N.base.image s k }
     requires as_many { length answers.old ≡ length messages.now }
     ensures taken { HasTakenMessages messages.now answers.new result.session }
+    ensures told_lasts { EachStory trio Contents result.session (λ story. AllByRecursion
+        (LastsFor D.shown Contents (on_words trio) story result.device) result.session.callers) }
     ensures follows { (s0 : State) (n0 : ℕ) (history : List Entry) (first : ℕ) →
         IsLegal (on_words trio) N.base.order s0 n0 history → HasWords n0 history →
         first ≤ length history → Contents N.base.order N.base.image
@@ -70,6 +75,11 @@ pub fn follow_all<D: Device, R: Wait, G: Gate>(
 
     // Each message did to the follower what `take` says, and the session is that of what it did.
     ensures taken { HasTakenMessages messages.now answers.new result.session }
+
+    // All that was done was committed at the moments that the one caller knows, and each image that a stop has
+    // left since the moment of an entry holds the history up to this entry.
+    ensures told_lasts { EachStory trio Contents result.session (λ story. AllByRecursion
+        (LastsFor D.shown Contents (on_words trio) story result.device) result.session.callers) }
 
     // Of a legal history, where the heap holds the state and the count after a prefix of it, and each
     // message is a frame of that history, one that was torn, or no frame: what became of the heap, of

@@ -1,5 +1,6 @@
 //! A heap that follows another heap's history by its frames.
 ghost use Rattle.std.specs.Prelude.{◌≡◌, ◌≢◌, ◌⊎◌, ℕ, ◌+◌, ◌<◌, ◌≤◌, ◌++◌, ◌∷◌, [], All, List, length, None, IfSome, IsTrue, slice_get, Some};
+ghost use Rattle.std.specs.List.{AllByRecursion};
 ghost use Rattle.rom_model.specs.Codes as codes;
 ghost use Rattle.rom_model.specs.History.{IsLegal};
 ghost use Rattle.rom_model.specs.Leaving.{IsClosed};
@@ -13,10 +14,11 @@ ghost use Rattle.rom_rule.specs.Views.{Told, base_of};
 ghost use Rattle.rom_store.specs.Callers.{IsNewCaller};
 ghost use Rattle.rom_store.specs.Closing.{HasLeftSince, IsClosedFrom};
 ghost use Rattle.rom_store.specs.Indexed.{Indexed};
+ghost use Rattle.rom_store.specs.Moments.{LastsFor};
 ghost use Rattle.rom_store.specs.Sessions.{EachStory};
 ghost use Rattle.rom_store.specs.Start.{device_start};
 ghost use Rattle.rom_frame.specs.declared.frame.Frame.{Frame};
-ghost use Rattle.rom_follow.specs.Closing.{ArePassesOf};
+ghost use Rattle.rom_follow.specs.Closing.{ArePassesOf, KeepsWhole};
 ghost use Rattle.rom_follow.specs.Followed.{HasDoneUpdates};
 ghost use Rattle.rom_follow.specs.Following.{AgreesBelow, FollowsHistory, HasWords, HoldsPrefix, MayArrive, state_after_first};
 ghost use Rattle.rom_follow.specs.Taking.{AreTaken, IsFrame, IsNoFrame, TakesFrame, TakesNextFrame};
@@ -241,6 +243,12 @@ impl<D: Device, N: Label> Follower<D, N> {
         ensures passes { ArePassesOf result.session.records self.tried }
         // The session's history is that of its passes, and each update that they found is of caller 1.
         ensures closed { EachStory trio Contents result.session (λ story. IsClosed trio story 1) }
+        // The one caller keeps all of that history, and each update with what it was told.
+        ensures kept { KeepsWhole self result.session.callers }
+        // All of it was committed at the moments that the caller knows, and each image that a stop has left since
+        // the moment of an entry holds the history up to this entry.
+        ensures told_lasts { EachStory trio Contents result.session (λ story. AllByRecursion
+            (LastsFor D.shown Contents (on_words trio) story result.device) result.session.callers) }
 
         // Where images are told, what a stop leaves now holds a prefix of each history that is followed. That
         // prefix is no shorter than the one at the start.

@@ -17,7 +17,7 @@ module _ {S : Type 0} (Contents : ℕ → List ℕ → S → ℕ → Type 0) (st
   CanSwitch b p Main before now = CanSwitchToMain Contents step b p before now
   CanSwitch b p Back before now = CanSwitchToBack Contents step b p before now
 
-  -- Main: the batch of the calls that were found is published, and where there are any the pass has its record. Back: the record's count of faults is that of now. No indicator counts as loaded any more.
-  abbrev pub HasSwitched : WriterSeat → WriterSeat → Side → ℕ → ℕ → Type 0
-  HasSwitched s t Main before now = let p = plan s in (k : ℕ) × (more : List Entry) × IsBatch Contents step (writer_view s).base p k more × TellsEach Published k more p × SetsPlan s t (switched 0 (making Published before now k more p))
-  HasSwitched s t Back before now = let p = plan s in SetsPlan s t (switched 1 (raising now p))
+  -- Main: the batch of the calls that were found is published, and where there are any the pass has its record, with this moment. Back: the record's count of faults is that of now. No indicator counts as loaded any more.
+  abbrev pub HasSwitched : WriterSeat → WriterSeat → Side → ℕ → ℕ → ℕ → Type 0
+  HasSwitched s t Main before now moment = let p = plan s in (k : ℕ) × (more : List Entry) × IsBatch Contents step (writer_view s).base p k more × TellsEach Published k more p × SetsPlan s t (switched 0 (making Published before now moment k more p))
+  HasSwitched s t Back before now moment = let p = plan s in SetsPlan s t (switched 1 (raising now p))

@@ -1,5 +1,6 @@
 //! Notes, by which one caller tells another what it has seen.
 ghost use Rattle.std.specs.Prelude.{◌≡◌, ℕ, ◌+◌};
+ghost use Rattle.rom_model.specs.Machine.{on_words};
 ghost use Rattle.rom_lr.specs.Notes.{HasLearnt};
 ghost use Rattle.rom_lr.specs.Seats.{IsNoteOf, IsSameSeat, IsSeatOf, noted, view};
 ghost use Rattle.rom_rule.specs.Kinds.{note_of, noting};
@@ -34,8 +35,10 @@ impl<O: Object> Shared<O> {
         requires out { (view seat.old).position ≡ Out }
         requires note { IsNoteOf self.now note }
         ensures same { IsSameSeat seat.old seat.new }
-        // What the seat has now seen begins with what it had seen, and with what the note's caller had.
-        ensures learnt { HasLearnt (view seat.old) (noted note) (view seat.new) }
+        // What the seat has now seen begins with what it had seen, and with what the note's caller had. Its
+        // moments are those of this, and those that it and the note knew stay.
+        ensures learnt { HasLearnt O.Contents (on_words O.machine) (view seat.old) (noted note)
+            (view seat.new) }
     {
         self.learn_as::<Brand>(seat, note);
     }
@@ -47,11 +50,12 @@ impl<O: Object> Shared<O> {
         requires out { (view seat.old).position ≡ Out }
         requires note { IsNoteOf self.now note }
         ensures same { IsSameSeat seat.old seat.new }
-        ensures learnt { HasLearnt (view seat.old) (noted note) (view seat.new) }
+        ensures learnt { HasLearnt O.Contents (on_words O.machine) (view seat.old) (noted note)
+            (view seat.new) }
     {
         let Note { token } = note;
         let table = &self.table.shared;
         table.join_seat::<JoinsViews<N>>(&mut seat.token, token);
-        table.load::<CatchesUp>(&mut seat.token, self.layout.side() as usize);
+        table.load::<CatchesUp<O>>(&mut seat.token, self.layout.side() as usize);
     }
 }

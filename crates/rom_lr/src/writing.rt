@@ -4,7 +4,8 @@ ghost use Rattle.rom_model.specs.Machine.{on_words};
 ghost use Rattle.rom_lr.specs.Seats.{IsWriterOf, plan, steps_of, writer_view};
 ghost use Rattle.rom_lr.specs.Switch.{CanSwitch, HasSwitched};
 ghost use Rattle.rom_lr.specs.Writing.{HasWaited, SetsPlan, plan_after_both_waits, plan_after_wait};
-ghost use Rattle.rom_rule.specs.Kinds.{observed};
+ghost use Rattle.rom_lr.specs.declared.side.Side.TheVariants.{Back, Main};
+ghost use Rattle.rom_rule.specs.Kinds.{CanSwitchToBack, CanSwitchToMain, observed};
 ghost use Rattle.rom_rule.specs.Places.{indicator_of};
 ghost use Rattle.rom_rule.specs.Readers.{Settled};
 
@@ -28,33 +29,62 @@ impl<O: Object> Shared<O> {
         requires can { CanSwitch O.Contents (on_words O.machine) (writer_view seat.old).base
             (plan seat.old) side before after }
         // To main: the batch is published, and the pass has its record where calls were found. To back: where
-        // it has one, the count after it is the one of now. No indicator counts as loaded any more.
+        // it has one, the count after it is the one of now. No indicator counts as loaded any more. The record
+        // has the moment 0.
         ensures switched { HasSwitched O.Contents (on_words O.machine) seat.old seat.new side before
-            after }
+            after 0 }
         ensures step { steps_of seat.new ≡ steps_of seat.old + 1 }
     {
         self.switch_as::<Brand>(seat, side, before, after);
     }
 
-    // The two numbers are here since the call picks the counts of `N` from what it is given.
-    fn switch_as<N: PassEnd>(&self, seat: &mut WriterSeat, side: Side, before: u64, after: u64)
+    /// As [`Shared::switch`], for who knows the device's moment at which the batch was committed: `N` has it, and
+    /// the record that the pass gets by a switch to main has it too.
+    pub fn switch_as<N: PassEnd>(&self, seat: &mut WriterSeat, side: Side, before: u64, after: u64)
+        requires picked { (N.before ≡ before) × (N.after ≡ after) }
         requires of { IsWriterOf self.now seat.old }
+        // As for `switch`.
         requires can { CanSwitch O.Contents (on_words O.machine) (writer_view seat.old).base
-            (plan seat.old) side N.before N.after }
-        ensures switched { HasSwitched O.Contents (on_words O.machine) seat.old seat.new side
-            N.before N.after }
+            (plan seat.old) side before after }
+        // As by `switch`, with that moment.
+        ensures switched { HasSwitched O.Contents (on_words O.machine) seat.old seat.new side before
+            after N.moment }
         ensures step { steps_of seat.new ≡ steps_of seat.old + 1 }
     {
-        let table = &self.table.shared;
-        let word = self.layout.side() as usize;
         match side {
-            Side::Main => {
-                table.store::<SwitchesToMain<O, N>>(&mut seat.token, word, Side::Main.number());
-            }
-            Side::Back => {
-                table.store::<SwitchesToBack<N>>(&mut seat.token, word, Side::Back.number());
-            }
+            Side::Main => self.switch_to_main::<N>(seat, before, after),
+            Side::Back => self.switch_to_back::<N>(seat, before, after),
         }
+    }
+
+    fn switch_to_main<N: PassEnd>(&self, seat: &mut WriterSeat, before: u64, after: u64)
+        requires picked { (N.before ≡ before) × (N.after ≡ after) }
+        requires of { IsWriterOf self.now seat.old }
+        requires can { CanSwitchToMain O.Contents (on_words O.machine) (writer_view seat.old).base
+            (plan seat.old) before after }
+        ensures switched { HasSwitched O.Contents (on_words O.machine) seat.old seat.new Main before
+            after N.moment }
+        ensures step { steps_of seat.new ≡ steps_of seat.old + 1 }
+    {
+        let word = self.layout.side() as usize;
+        self.table
+            .shared
+            .store::<SwitchesToMain<O, N>>(&mut seat.token, word, Side::Main.number());
+    }
+
+    fn switch_to_back<N: PassEnd>(&self, seat: &mut WriterSeat, before: u64, after: u64)
+        requires picked { (N.before ≡ before) × (N.after ≡ after) }
+        requires of { IsWriterOf self.now seat.old }
+        requires can { CanSwitchToBack O.Contents (on_words O.machine) (writer_view seat.old).base
+            (plan seat.old) before after }
+        ensures switched { HasSwitched O.Contents (on_words O.machine) seat.old seat.new Back before
+            after N.moment }
+        ensures step { steps_of seat.new ≡ steps_of seat.old + 1 }
+    {
+        let word = self.layout.side() as usize;
+        self.table
+            .shared
+            .store::<SwitchesToBack<N>>(&mut seat.token, word, Side::Back.number());
     }
 
     /// Waits until nobody reads the side that readers were sent from. It returns only after it has

@@ -14,6 +14,8 @@ pub struct Kept {
     pub number: u32,
     /// The history, as far as it has seen it.
     pub seen: LinkedList<Entry>,
+    /// The moments at which its entries were committed, one for each.
+    pub moments: LinkedList<u64>,
     /// The fronts that its reads had.
     pub fronts: LinkedList<u64>,
     /// The updates that it posted, as passes find them, with what each was told.

@@ -17,7 +17,7 @@ abbrev pub told_by : {T : Type 0} → Result T Why → Result (Unit {0}) Why
 told_by (Ok done) = Ok tt
 told_by (Err why) = Err why
 
--- The header is read and the heap recovered, and no more is written. It may be stopped at any moment and run again.
+-- The header is read, and where it is accepted the heap is recovered; no more is written. It may be stopped at any moment and run again.
 pub record Opens {D : Type 0} (shown : ShownDevice D) (was now : D) (answer : Result (Unit {0}) Why) : Type 0 where
   -- A device of fewer than eight words, which a header takes, is refused as `TooSmall`, whatever its words are.
   pub too_small : shown.size was < 8 → answer ≡ Err (TooSmall 8 (shown.size was))

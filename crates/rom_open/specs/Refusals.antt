@@ -36,7 +36,7 @@ of_inspection unfit.OutOfMemory = OutOfMemory
 abbrev pub named_order : List ℕ → ℕ
 named_order words = slice_index words 2
 
--- Before the region that counts is looked at, the words are refused by the header, or else by the first difference of the regions under IDLE. A device that fails may answer so in place of either.
+-- Before the region that counts is looked at, the words are refused by the header, or else by the first difference of the regions under IDLE. `Device` may stand in place of either.
 abbrev pub IsUnready : List ℕ → Why → Type 0
 IsUnready words NotAHeap = IsHeaderAnswer words (Err header.NotAHeap)
 IsUnready words (BadVersion version) = IsHeaderAnswer words (Err (header.BadVersion version))
@@ -84,15 +84,15 @@ IsUnfit Contents Rejects order region (TooSmall need have) = ⊥
 IsUnfit Contents Rejects order region (Twins offset main back) = ⊥
 IsUnfit Contents Rejects order region Device = ⊥
 
--- The refusal of these words, of which `Unfit` says why the region that counts is refused in a heap of this order. Header and regions are refused; or else they are accepted, and that region is refused. A device that fails may answer so in place of either.
+-- The refusal of these words, of which `Unfit` says why the region that counts is refused in a heap of this order. Header and regions are refused; or else they are accepted, and that region is refused. `Device` may stand in place of either.
 abbrev pub IsRefusedBy : (ℕ → List ℕ → Why → Type 0) → List ℕ → Why → Type 0
 IsRefusedBy Unfit words why =
     IsUnready words why ⊎ ((region : List ℕ) × IsCurrentRegion (named_order words) words region × Unfit (named_order words) region why)
 
--- no region is refused, but there was no memory for it
+-- The region itself is not refused: there was no memory for it.
 abbrev pub IsUnkept : ℕ → List ℕ → Why → Type 0
 IsUnkept order region why = why ≡ OutOfMemory
 
--- So where the object says what a region stands for and why one stands for nothing.
+-- The refusal of these words, where the object says what a region stands for, and why one stands for nothing.
 abbrev pub IsRefusal : {S : Type 0} → (ℕ → List ℕ → S → ℕ → Type 0) → (ℕ → List ℕ → Unfit → Type 0) → List ℕ → Why → Type 0
 IsRefusal Contents Rejects words why = IsRefusedBy (IsUnfit Contents Rejects) words why

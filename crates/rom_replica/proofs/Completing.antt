@@ -14,6 +14,7 @@ use Rattle.rom_model.specs.declared.entry.Entry.{Entry}
 use Rattle.rom_model.specs.declared.record.Fate.{Fate}
 use Rattle.rom_model.specs.declared.record.Found.{Found}
 use Rattle.rom_model.specs.declared.record.Fate.TheVariants.{Published, Failed, Doubt}
+use Rattle.rom_model.specs.declared.kept.Kept.{Kept}
 use Rattle.rom_model.specs.declared.record.PassRecord.{PassRecord}
 use Rattle.rom_heap.specs.Answers.{Rejects, earlier}
 use Rattle.rom_device.specs.Device.{ShownDevice}
@@ -79,9 +80,9 @@ module _ {X : Type 0} (source : ShownSource X) (taken : ℕ) (part : List ℕ) (
   stop_seven stop.Diverged is stopped = let no : 9 ≡ 7 = is in absurd (omega (arith, no))
   stop_seven stop.Spent is stopped = let no : 10 ≡ 7 = is in absurd (omega (arith, no))
 
-module _ {X K : Type 0} (source : ShownSource X) (sink : ShownSink K) (old new : K) (status : ℕ) (story : Story State) where
+module _ {X K : Type 0} (source : ShownSource X) (sink : ShownSink K) (old new : K) (status : ℕ) (callers : List Kept) (story : Story State) where
   abbrev pub IsFollowedBy : X → X → Type 0
-  IsFollowedBy x y = IsToldOfStream source sink x y old new status story
+  IsFollowedBy x y = IsToldOfStream source sink x y old new status callers story
 
   -- the stop has the status as its number, where that isn't 5
   numbered : (x y : X) (f : IsFollowedBy x y) (n : ℕ) → status ≡ n → (n ≡ 5 → ⊥) → stop_number f.stop ≡ n
@@ -126,7 +127,7 @@ module _ {X K : Type 0} (source : ShownSource X) (sink : ShownSink K) (old new :
 
 module _ {D X K : Type 0} (shown : ShownDevice D) (source : ShownSource X) (sink : ShownSink K) (was now : D) (inputs left : List X) (old new : K) (status : ℕ) where
   abbrev pub IsStoryTold : SessionSeen → Type 0
-  IsStoryTold session = HasSession trio Contents shown Standing was now (λ story. OfOne inputs left (IsFollowedBy source sink old new status story)) session
+  IsStoryTold session = HasSession trio Contents shown Standing was now (λ callers story. OfOne inputs left (IsFollowedBy source sink old new status callers story)) session
 
   abbrev pub HasNoSession : Type 0
   HasNoSession = HasNone trio Contents shown sink Rejects earlier Standing was now old new status
@@ -139,7 +140,7 @@ module _ {D X K : Type 0} (shown : ShownDevice D) (source : ShownSource X) (sink
       let of = told.story.1 in
       let counts = (told.each story of).faults in
       let first : story.opening_faults ≡ shown.faults was = counts.before in
-      let passes = seven source sink old new status story inputs left (told.told story of) is in
+      let passes = seven source sink old new status z.callers story inputs left (told.told story of) is in
       subst (λ (n : ℕ). Rose n (shown.faults now)) first (let last = counts.after in omega (arith, passes, last))
 
   module _ (session : Option SessionSeen) (story : IfSome session IsStoryTold) (none : IsNone session → HasNoSession) (tells : IsTrue shown.tells_words) where
@@ -165,7 +166,7 @@ module _ {D X K : Type 0} (shown : ShownDevice D) (source : ShownSource X) (sink
             of_session None told some = let no : ⊥ = cc in no
             of_session (Some z) told some =
                 let s = told.story.0 in
-                let f = four source sink old new status s inputs left (told.told s told.story.1) is in
+                let f = four source sink old new status z.callers s inputs left (told.told s told.story.1) is in
                 unfailed.of_sources 0 f.0 f.1 (ap (λ (xs : List X). slice_get xs 0) f.2) (ap (λ (xs : List X). slice_get xs 0) f.3) (let once = f.4.once in omega (arith, once))
 
         by : IsFollowedStatus status ⊎ IsUnfollowedStatus status ⊎ (status ≡ 7) → EndsUnfailed status

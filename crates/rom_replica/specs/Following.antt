@@ -1,5 +1,5 @@
 -- What `follow` does, and what it prints.
-use Rattle.std.specs.Prelude.{◌≡◌, ◌⊎◌, ℕ, ◌+◌, ◌≤◌, List, ◌++◌, length, codes, decimal}
+use Rattle.std.specs.Prelude.{◌≡◌, ◌⊎◌, ℕ, ◌+◌, ◌≤◌, List, [], ◌∷◌, ◌++◌, length, codes, decimal}
 use Rattle.std.specs.List.{AllByRecursion}
 use Rattle.std.specs.Io.KnownBytes.{Consumes}
 use Rattle.rom_model.specs.History.{IsLegal, LAST_COUNT}
@@ -10,6 +10,7 @@ use Rattle.rom_model.specs.State.{State}
 use Rattle.rom_model.specs.Story.{Story, count}
 use Rattle.rom_model.specs.Trio.{trio}
 use Rattle.rom_model.specs.declared.entry.Entry.{Entry}
+use Rattle.rom_model.specs.declared.kept.Kept.{Kept}
 use Rattle.rom_rule.specs.Views.{Told}
 use Rattle.rom_store.specs.Sessions.{SessionSeen}
 use Rattle.rom_text.specs.Runs.{IsCutShort, IsWhollyWritten}
@@ -17,7 +18,7 @@ use Rattle.rom_text.specs.Streams.{ShownSink, ShownSource}
 use Rattle.rom_text.specs.Text.{line_text}
 use Rattle.rom_frame.specs.Frames.{IsOfWords}
 use Rattle.rom_frame.specs.declared.frame.Frame.{Frame}
-use Rattle.rom_follow.specs.Closing.{ArePassesOf}
+use Rattle.rom_follow.specs.Closing.{ArePassesOf, KeepsWhole}
 use Rattle.rom_follow.specs.Followed.{Followed, HasDoneUpdates}
 use Rattle.rom_replica.specs.Stops.{HasStopped, stop_number}
 use Rattle.rom_replica.specs.Tallied.{IsTallyOfFrames, WasFollowed}
@@ -39,7 +40,7 @@ IsFollowText sink tally stop count old new status =
 
 module _ {X : Type 0} (source : ShownSource X) where
   -- What comes of a stream that was followed up to its first stop.
-  pub record IsStreamFollowed (was now : X) (tally : Tally) (stop : Stop) (story : Story State) : Type 0 where
+  pub record IsStreamFollowed (was now : X) (tally : Tally) (stop : Stop) (callers : List Kept) (story : Story State) : Type 0 where
     -- the frames before the stop, and what was read behind them
     pub frames : List Frame
     pub part : List ℕ
@@ -58,15 +59,21 @@ module _ {X : Type 0} (source : ShownSource X) where
     -- the passes: one for each update that was tried, in their order, and no other
     pub recorded : IsRecorded trio story
     pub passes : ArePassesOf story.records (tries_from 0 (applied story.opening_count frames) ++ tries)
+    -- the one caller: it keeps that it has seen all of the history, and what became of each try
+    pub own : Kept
+    pub only : callers ≡ own ∷ []
+    pub number : own.number ≡ 1
+    pub seen : own.seen ≡ story.history
+    pub told : own.told ≡ tries_from 0 (applied story.opening_count frames) ++ tries
 
   -- And the two lines tell of it.
-  pub record IsToldOfStream {K : Type 0} (sink : ShownSink K) (was now : X) (old new : K) (status : ℕ) (story : Story State) : Type 0 where
+  pub record IsToldOfStream {K : Type 0} (sink : ShownSink K) (was now : X) (old new : K) (status : ℕ) (callers : List Kept) (story : Story State) : Type 0 where
     pub tally : Tally
     pub stop : Stop
-    pub followed : IsStreamFollowed was now tally stop story
+    pub followed : IsStreamFollowed was now tally stop callers story
     pub printed : IsFollowText sink tally stop (count story) old new status
 
-  -- As the follower knows it, whose history and tries are those of its session.
+  -- As the follower knows it, whose history and tries are those of its session, and what its one caller keeps.
   pub record HasClosed (was now : X) (tally : Tally) (stop : Stop) (session : SessionSeen) : Type 0 where
     pub opened : ℕ
     pub follower : Followed
@@ -74,3 +81,4 @@ module _ {X : Type 0} (source : ShownSource X) where
     pub done : (s : State) (k : ℕ) → Contents session.order session.image s k → (opened ≡ k) × HasDoneUpdates session.order s k follower
     pub history : session.history ≡ follower.history
     pub passes : ArePassesOf session.records follower.tried
+    pub kept : KeepsWhole follower session.callers

@@ -1,6 +1,7 @@
 -- What the program promises of a command.
 use Rattle.std.specs.Prelude.{◌≡◌, ◌⊎◌, ℕ, List, [], ◌∷◌, length, IsTrue, IsSome, IsNone, IfSome, Option, Some, None}
 use Rattle.std.specs.Global.{Vec}
+use Rattle.std.specs.List.{AllByRecursion}
 use Rattle.rom_heap.specs.Answers.{Rejects, earlier}
 use Rattle.rom_model.specs.Machine.{on_words}
 use Rattle.rom_model.specs.Region.{Contents}
@@ -11,6 +12,7 @@ use Rattle.rom_text.specs.Lines.{AreScripts}
 use Rattle.rom_text.specs.Runs.{AreAskedOnce}
 use Rattle.rom_text.specs.Streams.{ShownSink, ShownSource, StopsWriting, WriteFailed}
 use Rattle.rom_store.specs.Lasting.{HasLasted}
+use Rattle.rom_store.specs.Moments.{LastsFor}
 use Rattle.rom_store.specs.Sessions.{EachStory, SessionSeen}
 use Rattle.rom_script.specs.Lines.{ReadsTrio}
 use Rattle.rom_run.specs.Complete.{IsAtHand, IsRefusedByName, NoneFailed}
@@ -55,9 +57,11 @@ module _ {D X K : Type 0} (shown : ShownDevice D) (source : ShownSource X) (sink
     pub refused_so : IsTrue shown.tells_words → status ≡ 3 → IsRefusedByName Contents Rejects earlier Standing (shown.words was)
     pub refused : IsTrue shown.tells_words → IsRefusedByName Contents Rejects earlier Standing (shown.words was) → IsUnfailed shown was now → (status ≡ 3) ⊎ (status ≡ 6)
     -- where the heap was opened, the stream was followed, and what a stop of the device leaves is told by the history
-    pub story : IfSome session (HasSession trio Contents shown Standing was now (λ story. OfOne inputs.items left.items (λ x y. IsToldOfStream source sink x y old new status story)))
+    pub story : IfSome session (HasSession trio Contents shown Standing was now (λ callers story. OfOne inputs.items left.items (λ x y. IsToldOfStream source sink x y old new status callers story)))
     -- and each pass that added to it was certain at its commit: no stop since then has left less of it
     pub lasting : IfSome session (λ s. EachStory trio Contents s (λ story. HasLasted shown Contents (on_words trio) story now))
+    -- What its one caller was told is all of the history, and it keeps the moments at which that was committed: no stop since the moment of an entry has left less of the history than up to this entry.
+    pub told_lasts : IfSome session (λ s. EachStory trio Contents s (λ story. AllByRecursion (LastsFor shown Contents (on_words trio) story now) s.callers))
     -- else what a stop may leave, and why it was not opened; and the stream was not read
     pub none : IsNone session → HasNone trio Contents shown sink Rejects earlier Standing was now old new status
     pub unread : IsNone session → left.items ≡ inputs.items

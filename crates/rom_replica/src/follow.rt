@@ -1,6 +1,8 @@
 //! The command `follow`: the heap is opened, takes the frames of a stream, and is closed.
 ghost use Rattle.std.specs.Prelude.{◌≡◌, ◌⊎◌, ℕ, List, length, IfErr, IfOk, IfSome, IsNone, IsSome, IsTrue, OnErr, OnOk, Some};
+ghost use Rattle.std.specs.List.{AllByRecursion};
 ghost use Rattle.rom_model.specs.Leaving.{IsClosed};
+ghost use Rattle.rom_model.specs.Machine.{on_words};
 ghost use Rattle.rom_model.specs.Region.{Contents};
 ghost use Rattle.rom_model.specs.State.{State};
 ghost use Rattle.rom_model.specs.Story.{count};
@@ -10,6 +12,7 @@ ghost use Rattle.rom_rule.specs.Views.{base_of};
 ghost use Rattle.rom_store.specs.Callers.{IsNewCaller};
 ghost use Rattle.rom_store.specs.Closing.{IsClosedFrom};
 ghost use Rattle.rom_store.specs.Indexed.{Indexed};
+ghost use Rattle.rom_store.specs.Moments.{LastsFor};
 ghost use Rattle.rom_store.specs.Sessions.{EachStory};
 ghost use Rattle.rom_store.specs.Start.{device_start};
 ghost use Rattle.rom_run.specs.Working.{HasNoHeap, HasNone, HasSession, IsDeviceKept};
@@ -62,6 +65,9 @@ fn follow_as<D: Device + Send, N: Label, S: Source, R: Wait, G: Gate>(
         result.closed.session }
     ensures closed { EachStory trio Contents result.closed.session (λ story.
         IsClosed trio story 1) }
+    ensures told_lasts { EachStory trio Contents result.closed.session (λ story. AllByRecursion
+        (LastsFor D.shown Contents (on_words trio) story result.closed.device)
+        result.closed.session.callers) }
     ensures asked_once { IsAskedOnce S.shown stream.old stream.new }
 {
     let mut follower = Follower::<D, N>::start(opening);
@@ -91,6 +97,9 @@ fn follow_on<D: Device + Send, S: Source, R: Wait, G: Gate>(
         result.closed.session }
     ensures closed { EachStory trio Contents result.closed.session (λ story.
         IsClosed trio story 1) }
+    ensures told_lasts { EachStory trio Contents result.closed.session (λ story. AllByRecursion
+        (LastsFor D.shown Contents (on_words trio) story result.closed.device)
+        result.closed.session.callers) }
     ensures asked_once { IsAskedOnce S.shown stream.old stream.new }
 {
     follow_as::<D, Brand, S, R, G>(rt, opening, stream, gate)
@@ -135,8 +144,8 @@ fn follow_only<D: Device + Send, S: Source, O: Sink, R: Wait, G: Gate>(
 ) -> Result<Outcome<D>, Worked<D>>
     requires one { length inputs.old ≡ 1 }
     ensures session { IfOk result (λ f. HasSession trio Contents D.shown Standing device
-        f.closed.device (λ story. OfOne inputs.old inputs.new (λ was now.
-        IsStreamFollowed S.shown was now f.tally f.stop story)) f.closed.session) }
+        f.closed.device (λ callers story. OfOne inputs.old inputs.new (λ was now.
+        IsStreamFollowed S.shown was now f.tally f.stop callers story)) f.closed.session) }
     ensures kept { IfOk result (λ f. IsDeviceKept D.shown Standing device f.closed.device) }
     ensures unprinted { OnOk result (out.new ≡ out.old) }
     ensures none { IfErr result (HasNoHeap trio Contents D.shown O.shown Rejects earlier Standing
@@ -211,8 +220,8 @@ pub(crate) fn follow<D: Device + Send, S: Source, O: Sink, R: Wait, G: Gate>(
     ensures taken { IsFollowedStatus result.status → IsSome result.session }
     ensures not_taken { IsUnfollowedStatus result.status → IsNone result.session }
     ensures story { IfSome result.session (HasSession trio Contents D.shown Standing device
-        result.device (λ story. OfOne inputs.items result.scripts.items (λ was now. IsToldOfStream
-        S.shown O.shown was now out.old out.new result.status story))) }
+        result.device (λ callers story. OfOne inputs.items result.scripts.items (λ was now.
+        IsToldOfStream S.shown O.shown was now out.old out.new result.status callers story))) }
     ensures none { IsNone result.session → HasNone trio Contents D.shown O.shown Rejects earlier
         Standing device result.device out.old out.new result.status }
     ensures unread { IsNone result.session → result.scripts.items ≡ inputs.items }

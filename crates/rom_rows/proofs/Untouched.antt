@@ -51,13 +51,13 @@ module _ (b : Base) (p : Plan) (u : IsUntouched b p) where
     stands = subst (λ (z : List Entry × List ℕ). Held Contents go b empty 0 z.1 z.0) (λ i. (sym u.history i, sym u.back i)) u.opening;
   }
 
-  pub after_main : (k : ℕ) (more : List Entry) → IsBatch Contents go b p k more → IsUntouched b (switched 0 (making Published 0 0 k more p))
+  pub after_main : (k : ℕ) (more : List Entry) → IsBatch Contents go b p k more → IsUntouched b (switched 0 (making Published 0 0 0 k more p))
   after_main k more batch_is = let e : more ≡ [] = (batch_is empty 0 u.opening).1 ∙ ap (none_done k p.history) u.requests in record {
     opening = u.opening;
     faults = u.faults;
     history = (λ i. u.history i ++ e i);
     records = u.records;
-    mine = (λ i. record_list (map found_of (u.requests i)) record { found = map found_of (u.requests i); fate = Published; faults_before = 0; faults_after = 0; len = length p.history + length more });
+    mine = (λ i. record_list (map found_of (u.requests i)) record { found = map found_of (u.requests i); fate = Published; faults_before = 0; faults_after = 0; len = length p.history + length more; committed = 0 });
     requests = u.requests;
     main = u.main;
     back = u.back;
@@ -74,7 +74,7 @@ pub rests_on : (v w : View) (q : Plan) (n : ℕ) → w ≡ record v { plan = Som
 rests_on v w q n e h = subst AtRest (sym e) h
 
 -- It sends readers to main, waits, and sends them to back.
-pub at_main : (v w : View) (n k : ℕ) (more : List Entry) → AtRest v → IsBatch Contents go v.base (plan_of v) k more → w ≡ record v { plan = Some (switched 0 (making Published 0 0 k more (plan_of v))); steps = n } → AtRest w
+pub at_main : (v w : View) (n k : ℕ) (more : List Entry) → AtRest v → IsBatch Contents go v.base (plan_of v) k more → w ≡ record v { plan = Some (switched 0 (making Published 0 0 0 k more (plan_of v))); steps = n } → AtRest w
 at_main v w n k more u batch_is e = rests_on v w _ n e (after_main v.base (plan_of v) u k more batch_is)
 
 pub has_waited : (v w : View) (version : ℕ) (clear : List (ℕ × ℕ)) (n : ℕ) → AtRest v → w ≡ record v { plan = Some (record (plan_of v) { version = version; clear = clear }); steps = n } → AtRest w

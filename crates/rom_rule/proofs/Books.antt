@@ -23,11 +23,11 @@ use Rattle.rom_model.proofs.Recorded.{after_append, history_more, told_more, ord
 use Rattle.rom_rule.specs.CallKinds.{longer}
 use Rattle.rom_rule.specs.Calls.{AreScanned, caller_in, found_of, told_to_caller}
 use Rattle.rom_rule.specs.Kinds.{with_faults_after}
-use Rattle.rom_rule.specs.Records.{IsCall, IsKeptInBook, IsRecordedFront, Recorded, Remembers}
+use Rattle.rom_rule.specs.Records.{IsCall, IsDated, IsKeptInBook, IsRecordedFront, Recorded, Remembers}
 use Rattle.rom_rule.specs.Views.{Book, Remembered, Told}
 use Rattle.rom_rule.specs.declared.views.Base.{Base}
 use Rattle.rom_rule.specs.declared.views.Request.{Request}
-use Rattle.rom_rule.proofs.Told.{all_map, all_append}
+use Rattle.rom_rule.proofs.Told.{all_map, all_append, starts_shorter}
 
 -- a fact about each of some records, at one of them
 pub all_inside : (P : PassRecord → Type 0) (xs : List PassRecord) (r : PassRecord) (rest : List PassRecord) → AllByRecursion P (xs ++ r ∷ rest) → P r
@@ -73,19 +73,9 @@ no_done u (suc i) (g ∷ fs) f reply place ne e = no_done u i fs f reply place n
 pub longer_begins : (whole xs ys : List Entry) → StartsWith whole xs → StartsWith whole ys → StartsWith whole (longer xs ys) × StartsWith (longer xs ys) xs × StartsWith (longer xs ys) ys
 longer_begins whole xs ys h g = by_test (nat_lt (length ys) (length xs)) refl
   where
-    shorter : (zs us vs : List Entry) → StartsWith zs us → StartsWith zs vs → length us ≤ length vs → StartsWith vs us
-    shorter zs [] vs a c le = (vs, refl)
-    shorter zs (u ∷ us) [] a c le = absurd (omega arith)
-    shorter [] (u ∷ us) (v ∷ vs) a c le = absurd (let n = ap length a.1 in omega arith)
-    shorter (z ∷ zs) (u ∷ us) (v ∷ vs) a c le = let same : u ≡ v = first_of z u a.1 ∙ sym (first_of z v c.1) in let rest = shorter zs us vs (a.0, ap (drop 1) a.1) (c.0, ap (drop 1) c.1) (omega arith) in
-        (rest.0, λ i. sym same i ∷ rest.1 i)
-      where
-        first_of : (p q : Entry) {ps qs : List Entry} → (p ∷ ps) ≡ (q ∷ qs) → q ≡ p
-        first_of p q e = cc
-
     by_test : (t : Bool) → nat_lt (length ys) (length xs) ≡ t → StartsWith whole (cond t xs ys) × StartsWith (cond t xs ys) xs × StartsWith (cond t xs ys) ys
-    by_test true e = let lt = ltb→lt (length ys) (length xs) (subst lib.Dec.T (sym e) tt) in (h, ([], sym (append-nil xs)), shorter whole ys xs g h (omega arith))
-    by_test false e = (g, shorter whole xs ys h g (ge_of e), ([], sym (append-nil ys)))
+    by_test true e = let lt = ltb→lt (length ys) (length xs) (subst lib.Dec.T (sym e) tt) in (h, ([], sym (append-nil xs)), starts_shorter whole ys xs g h (omega arith))
+    by_test false e = (g, starts_shorter whole xs ys h g (ge_of e), ([], sym (append-nil ys)))
       where
         ge_of : nat_lt (length ys) (length xs) ≡ false → length xs ≤ length ys
         ge_of e' = elim (cases_lt (length ys) (length xs)) [ inl lt ↦ absurd (let z = lt-ltb (length ys) (length xs) lt in let clash : true ≡ false = sym z ∙ e' in cc) | inr ge ↦ omega arith ]
@@ -209,34 +199,36 @@ front_longer count rs more f h = let le = h.1 in (h.0, omega (arith, length-appe
 pub front_raised : (count n : ℕ) (rs : List PassRecord) (r : PassRecord) (f : ℕ) → IsRecordedFront count (rs ++ r ∷ []) f → IsRecordedFront count (rs ++ with_faults_after n r ∷ []) f
 front_raised count n rs r f h = let le = h.1 in (h.0, omega (arith, length-append rs (r ∷ []), length-append rs (with_faults_after n r ∷ [])), h.2 ∙ ap (λ (m : ℕ). count + m) (sym (len_raised h.0 0 n rs r)))
 
-module _ (count : ℕ) (book book' : Book) (log : (l : List Entry) → StartsWith book.history l → StartsWith book'.history l) (front : (f : ℕ) → IsRecordedFront count book.records f → IsRecordedFront count book'.records f) where
+module _ (count : ℕ) (book book' : Book) (log : (l : List Entry) → StartsWith book.history l → StartsWith book'.history l) (front : (f : ℕ) → IsRecordedFront count book.records f → IsRecordedFront count book'.records f)
+    (dated : (len : ℕ) (moments : List ℕ) → IsDated book.records len moments → IsDated book'.records len moments) where
   kept_on : (k : Kept) → IsKeptInBook count book k → IsKeptInBook count book' k
-  kept_on k h = (log k.seen h.0, all_map (IsRecordedFront count book.records) (IsRecordedFront count book'.records) k.fronts front h.1)
+  kept_on k h = (log k.seen h.0, all_map (IsRecordedFront count book.records) (IsRecordedFront count book'.records) k.fronts front h.1, dated (length k.seen) k.moments h.2)
 
   pub remembers_on : (m : Remembered) → Remembers count book m → Remembers count book' m
   remembers_on m h = record {
     seen = log m.seen h.seen;
+    dated = dated (length m.seen) m.moments h.dated;
     fronts = all_map (IsRecordedFront count book.records) (IsRecordedFront count book'.records) m.fronts front h.fronts;
     joined = all_map (IsKeptInBook count book) (IsKeptInBook count book') m.joined kept_on h.joined;
   }
 
 module _ {S : Type 0} (Contents : ℕ → List ℕ → S → ℕ → Type 0) (step : ℕ → S → ℕ → List ℕ → Option (S × List ℕ)) (b : Base) (start : S) (count : ℕ) where
-  -- the count of the published list is a front
+  -- the length of the published list is that after all records
+  pub len_now : (book : Book) → Recorded step b start count book → length book.history ≡ len_after 0 (take (length book.records) book.records)
+  len_now book r = ap length r.made ∙ ((let z : length (history_of step b.order start count book.records) ≡ 0 + length (history_of step b.order start count book.records) = omega arith in z)
+      ∙ (sym (len_is step b.order start count 0 b.faults book.records r.in_order) ∙ ap (len_after 0) (sym (take_all (length book.records) book.records (omega arith)))))
+
+  -- and its count is a front
   pub front_now : (book : Book) → Recorded step b start count book → IsRecordedFront count book.records (count + length book.history)
-  front_now book r = (
-    length book.records,
-    omega arith,
-    ap (λ (n : ℕ). count + n) (ap length r.made ∙ ((let z : length (history_of step b.order start count book.records) ≡ 0 + length (history_of step b.order start count book.records) = omega arith in z)
-        ∙ (sym (len_is step b.order start count 0 b.faults book.records r.in_order) ∙ ap (len_after 0) (sym (take_all (length book.records) book.records (omega arith)))))),
-  )
+  front_now book r = (length book.records, omega arith, ap (λ (n : ℕ). count + n) (len_now book r))
 
   -- one record more
-  pub book_more : (log : List Entry) (rs : List PassRecord) (told : List Told) (fate : Fate) (found : List Found) (before now k : ℕ) (more : List Entry) → k ≡ count + length log → more ≡ batch step b.order (after step b.order start count log) k found
+  pub book_more : (log : List Entry) (rs : List PassRecord) (told : List Told) (fate : Fate) (found : List Found) (before now moment k : ℕ) (more : List Entry) → k ≡ count + length log → more ≡ batch step b.order (after step b.order start count log) k found
       → 0 < length found → AreRising 0 found → AllByRecursion (λ f. IsCall step b f.args) found → faults_after b.faults rs ≤ before → before ≤ now → HasFault fate before now
       → Recorded step b start count record { history = log; records = rs; told = told }
-      → Recorded step b start count record { history = log ++ published fate more; records = rs ++ record { found = found; fate = fate; faults_before = before; faults_after = now; len = length log + length (published fate more) } ∷ []; told = told ++ fate_told fate k found more }
-  book_more log rs told fate found before now k more k_is more_is some_found rise calls later on fault r = let h : List Entry = history_of step b.order start count rs in
-      let last : PassRecord = record { found = found; fate = fate; faults_before = before; faults_after = now; len = length log + length (published fate more) } in
+      → Recorded step b start count record { history = log ++ published fate more; records = rs ++ record { found = found; fate = fate; faults_before = before; faults_after = now; len = length log + length (published fate more); committed = moment } ∷ []; told = told ++ fate_told fate k found more }
+  book_more log rs told fate found before now moment k more k_is more_is some_found rise calls later on fault r = let h : List Entry = history_of step b.order start count rs in
+      let last : PassRecord = record { found = found; fate = fate; faults_before = before; faults_after = now; len = length log + length (published fate more); committed = moment } in
       let same_k : k ≡ count + length h = k_is ∙ ap (λ (l : List Entry). count + length l) r.made in
       let same_batch : more ≡ batch step b.order (after step b.order start count h) (count + length h) found = more_is ∙ (λ i. batch step b.order (after step b.order start count (r.made i)) (same_k i) found) in record {
         made = (λ i. r.made i ++ published fate (same_batch i)) ∙ sym (history_more step b.order start count rs last);

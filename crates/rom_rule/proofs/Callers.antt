@@ -1,5 +1,6 @@
 -- A caller's steps on its slot keep the rule
-use Rattle.std.proofs.Common.{◌≡◌, ◌≢◌, ℕ, ◌+◌, ◌-◌, ◌*◌, ◌%◌, ◌<◌, ◌≤◌, List, [], ◌∷◌, ◌++◌, map, take, drop, length, get_or, set, sym, refl, ap, ◌∙◌, subst, arith, Option, append_assoc, length-set}
+use Rattle.std.proofs.Common.{◌≡◌, ◌≢◌, ℕ, ◌+◌, ◌-◌, ◌*◌, ◌%◌, ◌<◌, ◌≤◌, List, [], ◌∷◌, ◌++◌, map, take, drop, length, get_or, set, sym, refl, ap, ◌∙◌, subst, arith, Bool, true, false, cond, Option, append_assoc, length-set}
+use Rattle.std.specs.Prelude.{nat_lt}
 use mathlib.Core.Logic.{dite}
 use mathlib.Core.Option.{some, none}
 use native.Mathlib.Decide.{ℕ_discrete}
@@ -10,6 +11,7 @@ use Rattle.rom_model.specs.declared.entry.Entry.{Entry}
 use Rattle.rom_model.specs.declared.record.Found.{Found}
 use Rattle.rom_model.specs.declared.record.PassRecord.{PassRecord}
 use Rattle.rom_model.specs.declared.call.Updated.{Updated}
+use Rattle.rom_model.specs.Moments.{moments_of}
 use Rattle.rom_model.specs.Seen.{StartsWith}
 use Rattle.rom_model.specs.History.{after, batch}
 use Rattle.rom_model.specs.Passes.{all_told, published, fate_told, history_of}
@@ -18,7 +20,7 @@ use Rattle.rom_rule.specs.CallKinds.{CanPost, CanStoreArgument, HasNonePosted, H
 use Rattle.rom_rule.specs.Calls.{Announced, IsLater, slot_word_at, told_to_caller}
 use Rattle.rom_rule.specs.Places.{Shown, shown, slot_at, slots_at}
 use Rattle.rom_rule.specs.Readers.{ShowsArrivals, IsWritten, KeepsImage, ReadsNamedSide, stands}
-use Rattle.rom_rule.specs.Records.{IsCall, Remembers}
+use Rattle.rom_rule.specs.Records.{IsCall, IsDated, KnowsMoments, Remembers}
 use Rattle.rom_rule.specs.Rule.{IsRuled}
 use Rattle.rom_rule.specs.Views.{Told, book_in, calls_in, number_in, plan_calls, position_in, reading_in, records_of, remembered_in}
 use Rattle.rom_rule.specs.declared.views.Base.{Base}
@@ -35,6 +37,7 @@ use Rattle.rom_rule.proofs.Posting.{lays, posts}
 use Rattle.rom_model.specs.Passes.{AreInOrder}
 use Rattle.std.specs.List.{AllByRecursion}
 use Rattle.rom_rule.proofs.Books.{all_inside, fault_inside, source, told_at, history_starts, longer_begins, fate_entry, entry_of, told_by}
+use Rattle.rom_rule.proofs.Dated.{dated_first, dated_later, moments_known}
 use Rattle.rom_rule.proofs.Own.{GoesTo, knows_next, knows_told}
 use Rattle.rom_rule.proofs.Standing.{own_on}
 use Rattle.rom_rule.proofs.Readers.{caller_step, still, remembered_of, announced_on, reload}
@@ -119,10 +122,10 @@ module _ {S : Type 0} (Contents : ℕ → List ℕ → S → ℕ → Type 0) (go
   )
 
   -- what the records told of a call
-  told_of : (s : St) (r : R s) (v : View) (x : Told) (i : ℕ) → get_elem? (told_to_caller r.plan.told v.number) i ≡ some x → IsLater r.count v.since x → StartsWith r.plan.history v.seen
+  told_of : (s : St) (r : R s) (v : View) (x : Told) (i : ℕ) → get_elem? (told_to_caller r.plan.told v.number) i ≡ some x → IsLater r.count v.since x → Remembers r.count (book_in r.plan) (remembered_in v)
       → (seen : List Entry) × StartsWith r.plan.history seen × IsToldByPass Contents go b x v.since v.seen seen
-      × GoesTo Contents go b s r x seen
-  told_of s r v x i here late begins = let p : Plan = r.plan in let j = told_at p.told v.number i x here in let f = source go b.order r.start r.count (records_of p) j.0 x (subst (λ (l : List Told). get_elem? l j.0 ≡ some x) r.recorded.told j.1) in
+      × GoesTo Contents go b s r x seen × ((moments : List ℕ) × IsDated (records_of r.plan) (length seen) moments)
+  told_of s r v x i here late m = let begins = m.seen in let p : Plan = r.plan in let j = told_at p.told v.number i x here in let f = source go b.order r.start r.count (records_of p) j.0 x (subst (λ (l : List Told). get_elem? l j.0 ≡ some x) r.recorded.told j.1) in
       let first : List PassRecord = f.earlier ++ f.pass ∷ [] in let hist : List Entry = history_of go b.order r.start r.count first in let h : List Entry = history_of go b.order r.start r.count f.earlier in let told : List Told = all_told go b.order r.start r.count f.earlier in
       let whole : StartsWith p.history hist = subst (λ (l : List Entry). StartsWith l hist) (sym (r.recorded.made ∙ ap (history_of go b.order r.start r.count) (f.split ∙ sym (append_assoc f.earlier (f.pass ∷ []) f.rest)))) (history_starts go b.order r.start r.count first f.rest) in
       let both = longer_begins p.history v.seen hist begins whole in (
@@ -155,7 +158,15 @@ module _ {S : Type 0} (Contents : ℕ → List ℕ → S → ℕ → Type 0) (go
           at = length told + f.at;
           told = subst (λ (l : List Told). get_elem? l (length told + f.at) ≡ some x) (sym (told_more go b.order r.start r.count f.earlier f.pass)) (at_longer_of told (told_by go b.order r.start r.count f.earlier f.pass) f.at x f.told);
         },
+        longer_dated v.seen hist (nat_lt (length hist) (length v.seen)) (v.moments, m.dated) (moments_of 0 first, dated_first Contents go b r.start r.count (book_in p) r.recorded first f.rest (f.split ∙ sym (append_assoc f.earlier (f.pass ∷ []) f.rest))),
       )
+    where
+      Dated : List Entry → Type 0
+      Dated seen = (moments : List ℕ) × IsDated (records_of r.plan) (length seen) moments
+
+      longer_dated : (xs ys : List Entry) (t : Bool) → Dated xs → Dated ys → Dated (cond t xs ys)
+      longer_dated xs ys true h g = h
+      longer_dated xs ys false h g = g
 
   even_or_odd : (n : ℕ) → n % 2 ≢ 0 → n % 2 ≡ 1
   even_or_odd n ne = omega arith
@@ -166,13 +177,13 @@ module _ {S : Type 0} (Contents : ℕ → List ℕ → S → ℕ → Type 0) (go
     loads_turn slots id me can s r _ at _ = let pos = can.0 in let open_now = can.1 in let v = me.0 in let low = number_low s r id v at in let i : ℕ = slot_at b.callers v.number 0 in let turn : ℕ = get_or s.words i 0 in let m = remembered_of Contents go b s r id v at in
         let word = slot_word s r v.number 0 pos low.0 (omega arith) in let base = base_is Contents go b s r id v at in dite (ℕ_discrete (turn % 2) 0)
         (λ even. let l = learns (IsCall go b) b.callers r.count (shown b s.words).slots (plan_calls r.plan) s.views r.announced id v at pos low.0 open_now (ap (λ (n : ℕ). n % 2) (sym word) ∙ even) in let y : Told = l.0 in
-        let t = told_of s r v y (length v.outcomes) l.1 l.3 m.seen in let w : View = record v { outcomes = v.outcomes ++ y ∷ []; seen = t.0; steps = v.steps + 1 } in (
+        let t = told_of s r v y (length v.outcomes) l.1 l.3 m in let moments : List ℕ = t.4.0 in let w : View = record v { outcomes = v.outcomes ++ y ∷ []; seen = t.0; moments = moments; steps = v.steps + 1 } in (
           w,
           keeps,
           tt,
           reload Contents go b s i id w (caller_step Contents go b s r id v w s.words at refl refl refl refl (still Contents go b s r id v w at (λ _. refl)) (on_from v.position v.seen t.0 t.2.begins (r.images id (reading_in v) (at_map reading_in s.views id v at))) r.written (r.named id v.position (at_map position_in s.views id v at))
-              record { seen = t.1; fronts = m.fronts; joined = m.joined } (l.4 w refl) (λ _. pos) (λ h. h) (λ _ none. absurd (omega arith))),
-          (ap (λ (z : Base). slot_at z.callers v.number 0) (sym base), (λ odd. absurd (omega arith)), λ _. record { told = y; seen = t.0; found = l.2; is_told = subst (λ (z : Base). IsToldByPass Contents go z y v.since v.seen t.0) (sym base) t.2; view = refl; own = knows_told Contents go b s r one v.base w base (knows_next Contents go b s r id v y t.0 at pos open_now l.1 (ap (λ (f : Found). f.caller) l.2) (ap (λ (f : Found). f.seq) l.2) t.1 t.3) }),
+              record { seen = t.1; dated = t.4.1; fronts = m.fronts; joined = m.joined } (l.4 w refl) (λ _. pos) (λ h. h) (λ _ none. absurd (omega arith))),
+          (ap (λ (z : Base). slot_at z.callers v.number 0) (sym base), (λ odd. absurd (omega arith)), λ _. record { told = y; seen = t.0; moments = moments; found = l.2; is_told = subst (λ (z : Base). IsToldByPass Contents go z y v.since v.seen t.0) (sym base) t.2; view = refl; moments_begin = dated_later Contents go b r.start r.count (book_in r.plan) r.recorded (length v.seen) v.moments (length t.0) moments m.dated t.4.1 (starts_le t.0 v.seen t.2.begins); dated = subst (λ (z : Base). KnowsMoments Contents go z t.0 moments) (sym base) (moments_known Contents go b r.start r.count (book_in r.plan) r.recorded r.opening t.0 moments t.1 t.4.1); own = knows_told Contents go b s r one v.base w base (knows_next Contents go b s r id v y t.0 moments at pos open_now l.1 (ap (λ (f : Found). f.caller) l.2) (ap (λ (f : Found). f.seq) l.2) t.1 t.3) }),
         ))
         (λ odd. let w : View = record v { steps = v.steps + 1 } in (
           w,

@@ -89,7 +89,7 @@ module _ (P : List ℕ → Type 0) (callers count : ℕ) (slots : List ℕ) (sp 
 
     -- a view is joined into another and spent
     pub merges : (id other : ℕ) (v w v' w' : View) → get_elem? views id ≡ some v → get_elem? views other ≡ some w → other ≢ id → Differ (map number_in views) → w.number ≤ callers → w.number ≤ sp.dealt → length w.calls ≡ length w.outcomes
-        → calls_in v' ≡ record (calls_in v) { joined = v.joined ++ record { number = w.number; seen = w.seen; fronts = w.fronts; told = w.outcomes } ∷ w.joined }
+        → calls_in v' ≡ record (calls_in v) { joined = v.joined ++ record { number = w.number; seen = w.seen; moments = w.moments; fronts = w.fronts; told = w.outcomes } ∷ w.joined }
         → calls_in w' ≡ record { number = 0; calls = []; outcomes = []; laid = []; since = 0; joined = [] } → Announced P callers slots count sp (map calls_in (set (set views id v') other w'))
     merges id other v w v' w' at there apart differ low dealt none_open is is' = let kv = r.views id (calls_in v) (at_map calls_in views id v at) in let kw = r.views other (calls_in w) (at_map calls_in views other w there) in let closed' : ℕ → Bool = put r.closed w.number true in
         let still : (k : Kept) → IsClosedCaller callers r.calls r.closed sp.told k → IsClosedCaller callers r.calls closed' sp.told k = λ k h pos. let g = h pos in (g.0, dite (ℕ_discrete k.number w.number) (λ e. ap closed' e ∙ put_here r.closed w.number true) (λ ne. put_else r.closed w.number true k.number ne ∙ g.1), g.2, g.3) in

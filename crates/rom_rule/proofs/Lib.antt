@@ -12,6 +12,7 @@ pub mod Recording
 pub mod Joining
 pub mod Learning
 pub mod Books
+pub mod Dated
 pub mod Own
 pub mod Readers
 pub mod Writes

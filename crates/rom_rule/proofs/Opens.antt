@@ -11,6 +11,7 @@ use Rattle.rom_rule.specs.Rule.{IsRuled}
 use Rattle.rom_rule.specs.Views.{Each, opening_plan, opening_view}
 use Rattle.rom_rule.specs.declared.views.Base.{Base}
 use Rattle.rom_rule.specs.declared.views.Position.TheVariants.{Out}
+use Rattle.rom_rule.proofs.Dated.{dated_nothing}
 use Rattle.rom_rule.proofs.Standing.{own_nowhere}
 use Rattle.rom_rule.proofs.Parts.{part_before}
 use mathlib.Core.Option.{some, some-injective, some-ne-none}
@@ -49,7 +50,7 @@ module _ {S : Type 0} (Contents : ℕ → List ℕ → S → ℕ → Type 0) (go
       published = subst (Contents b.order b.image start) (let e : count ≡ count + 0 = omega arith in e) formed;
     };
     named = each_one _ _ tt;
-    remembered = each_one _ _ record { seen = ([], refl); fronts = tt; joined = tt };
+    remembered = each_one _ _ record { seen = ([], refl); dated = dated_nothing []; fronts = tt; joined = tt };
     recorded = record { made = refl; told = refl; in_order = tt; calls = tt };
     announced = record {
       calls = λ _. [];

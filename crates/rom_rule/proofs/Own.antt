@@ -176,10 +176,10 @@ module _ {S : Type 0} (Contents : ℕ → List ℕ → S → ℕ → Type 0) (go
     pub told : get_elem? (all_told go b.order r.start r.count first) at ≡ some x
 
   -- the same of a view that learns what its last call was told
-  pub knows_next : (id : ℕ) (v : View) (y : Told) (seen : List Entry) → get_elem? s.views id ≡ some v → 0 < v.number → length v.calls ≡ length v.outcomes + 1 → get_elem? (told_to_caller r.plan.told v.number) (length v.outcomes) ≡ some y
-      → y.0.caller ≡ v.number → y.0.seq ≡ length v.outcomes → StartsWith r.plan.history seen → GoesTo y seen → KnowsEntries b.callers r.count (record v { outcomes = v.outcomes ++ y ∷ []; seen = seen; steps = v.steps + 1 })
-  knows_next id v y seen at pos open_now here whose seq whole goes = let told_is = told_next id v y at pos open_now here in
-      knows_on (record v { outcomes = v.outcomes ++ y ∷ []; seen = seen; steps = v.steps + 1 }) r.count (history_of go b.order r.start r.count goes.first) whole goes.begins
+  pub knows_next : (id : ℕ) (v : View) (y : Told) (seen : List Entry) (moments : List ℕ) → get_elem? s.views id ≡ some v → 0 < v.number → length v.calls ≡ length v.outcomes + 1 → get_elem? (told_to_caller r.plan.told v.number) (length v.outcomes) ≡ some y
+      → y.0.caller ≡ v.number → y.0.seq ≡ length v.outcomes → StartsWith r.plan.history seen → GoesTo y seen → KnowsEntries b.callers r.count (record v { outcomes = v.outcomes ++ y ∷ []; seen = seen; moments = moments; steps = v.steps + 1 })
+  knows_next id v y seen moments at pos open_now here whose seq whole goes = let told_is = told_next id v y at pos open_now here in
+      knows_on (record v { outcomes = v.outcomes ++ y ∷ []; seen = seen; moments = moments; steps = v.steps + 1 }) r.count (history_of go b.order r.start r.count goes.first) whole goes.begins
       (own_of go b.order r.start r.count v.number goes.first ∙ ap done_in (told_first id v y goes.first goes.rest goes.at at pos open_now whose seq goes.split goes.told ∙ told_is)) told_is
 
   module _ (one : (order : ℕ) (words : List ℕ) (s t : S) (j k : ℕ) → Contents order words s j → Contents order words t k → (s ≡ t) × (j ≡ k)) where

@@ -9,12 +9,14 @@ use lib.Seq.{set-get_or}
 use Rattle.atomic_table.specs.Table.{State, Me, step, keeps, Allows}
 use mathlib.Core.Option.{none}
 use Rattle.atomic_table.proofs.Lists.{at_set}
+use Rattle.rom_model.specs.Moments.{moments_of}
+use Rattle.rom_model.specs.Seen.{StartsWith}
 use Rattle.rom_model.specs.declared.entry.Entry.{Entry}
 use Rattle.rom_rule.specs.Calls.{Announced}
 use Rattle.rom_rule.specs.Kinds.{HasArrived, HoldsVersion, IsOut, IsReading, StandsAt, arrived, departed, entering, loaded_image, loaded_side, loaded_version, moved}
 use Rattle.rom_rule.specs.Places.{Shown, back_word_at, indicator_at, indicator_count, indicator_of, main_word_at, offset_of_indicator, shown, side_at, side_word_at, slots_at, version_at}
 use Rattle.rom_rule.specs.Readers.{ShowsArrivals, Differ, HoldsNothing, IsNumbered, IsWritten, KeepsImage, ReadsNamedSide, IsHeldSinceOpening, StandsAtOwn, any_stands, stands}
-use Rattle.rom_rule.specs.Records.{IsCall, IsRecordedFront, Remembers}
+use Rattle.rom_rule.specs.Records.{IsCall, IsDated, IsRecordedFront, KnowsMoments, Remembers}
 use Rattle.rom_rule.specs.Rule.{IsOnlyPlan, IsRuled}
 use Rattle.rom_rule.specs.Views.{CallerCalls, Each, base_in, book_in, calls_in, image_of, indicator_in, is_reading, number_in, plan_calls, plan_in, position_in, reading_in, records_of, remembered_in, side_of, side_read, version_of}
 use Rattle.rom_rule.specs.declared.views.Base.{Base}
@@ -24,9 +26,10 @@ use Rattle.rom_rule.specs.declared.views.View.{View}
 use Rattle.rom_rule.proofs.Frames.{frame, each_set, each_at}
 use Rattle.rom_rule.proofs.Parts.{part_get, part_long, shown_indicators}
 use Rattle.rom_rule.proofs.Standing.{any_left, any_now, any_same, elsewhere, own_here, own_nowhere, stands_here, stands_one, stands_only}
-use Rattle.rom_rule.proofs.Told.{all_append}
+use Rattle.rom_rule.proofs.Told.{all_append, starts_le}
 use Rattle.rom_rule.proofs.Joining.{same_calls}
 use Rattle.rom_rule.proofs.Books.{front_now}
+use Rattle.rom_rule.proofs.Dated.{dated_later, dated_now, moments_known}
 use Rattle.rom_rule.proofs.Own.{knows_told, knows_whole, told_all}
 
 module _ {S : Type 0} (Contents : ℕ → List ℕ → S → ℕ → Type 0) (go : ℕ → S → ℕ → List ℕ → Option (S × List ℕ)) (b : Base) where
@@ -151,14 +154,16 @@ module _ {S : Type 0} (Contents : ℕ → List ℕ → S → ℕ → Type 0) (go
     pub loads_side : (slots id : ℕ) (me : M) (v : ℕ) → HasArrived me.0 v → Allows R slots id me side_at (λ n. n) (loaded_side Contents go (step slots side_at 0 0 none) me)
     unfolding shown
     loads_side slots id me v can s r _ at _ = let arrived_at = can.0 in let mark = can.2 in let u = me.0 in let k = r.written in let found : ℕ = get_or s.words 0 0 in let p = r.plan in let is : found ≡ p.side = k.side in let low = k.side_low in let image : List ℕ = side_of p.side p.main p.back in
-        let f : ℕ = r.count + length p.history in let w : View = entering u v found f image p.history in let same : u.base ≡ b = each_at (λ _ c. c ≡ b) base_in s.views id u at r.bases in let v_low : v < indicator_count b.callers = subst (λ (z : Base). v < indicator_count z.callers) same can.1 in let m = remembered_of s r id u at in
-        let whole : IsHeldSinceOpening Contents go b image p.history f = record { start = r.start; count = r.count; opening = r.opening; front_is = refl; held = k.published } in (
+        let f : ℕ = r.count + length p.history in let moments : List ℕ = moments_of 0 (records_of p) in let w : View = entering u v found f image p.history moments in let same : u.base ≡ b = each_at (λ _ c. c ≡ b) base_in s.views id u at r.bases in let v_low : v < indicator_count b.callers = subst (λ (z : Base). v < indicator_count z.callers) same can.1 in let m = remembered_of s r id u at in
+        let whole : IsHeldSinceOpening Contents go b image p.history f = record { start = r.start; count = r.count; opening = r.opening; front_is = refl; held = k.published } in
+        let all : StartsWith p.history p.history = ([], sym (mathlib.Core.List.append-nil p.history)) in let dated : IsDated (records_of p) (length p.history) moments = dated_now Contents go b r.start r.count (book_in p) r.recorded in (
           w,
           keeps,
           tt,
-          reload s 0 id w (caller_step s r id u w s.words at refl refl refl refl (still s r id u w at (λ i. ap (λ (q : Position). stands i q) arrived_at)) (ap (λ (z : ℕ). side_of z p.main p.back) (sym is), omega arith, p.history, ([], sym (mathlib.Core.List.append-nil p.history)), whole) r.written (v_low, λ _. is)
+          reload s 0 id w (caller_step s r id u w s.words at refl refl refl refl (still s r id u w at (λ i. ap (λ (q : Position). stands i q) arrived_at)) (ap (λ (z : ℕ). side_of z p.main p.back) (sym is), omega arith, p.history, all, whole) r.written (v_low, λ _. is)
               record {
-                seen = ([], sym (mathlib.Core.List.append-nil p.history));
+                seen = all;
+                dated = dated;
                 fronts = all_append (IsRecordedFront r.count (records_of p)) u.fronts (f ∷ []) m.fronts (front_now Contents go b r.start r.count (book_in p) r.recorded, tt);
                 joined = m.joined;
               }
@@ -168,10 +173,13 @@ module _ {S : Type 0} (Contents : ℕ → List ℕ → S → ℕ → Type 0) (go
             f,
             image,
             p.history,
+            moments,
             omega arith,
             m.seen,
             subst (λ (z : Base). IsHeldSinceOpening Contents go z image p.history f) (sym same) whole,
-            ap (λ (q : Position). let z : M = (entering u (indicator_in q) found f image p.history, me.1) in z) (sym arrived_at),
+            dated_later Contents go b r.start r.count (book_in p) r.recorded (length u.seen) u.moments (length p.history) moments m.dated dated (starts_le p.history u.seen m.seen),
+            subst (λ (z : Base). KnowsMoments Contents go z p.history moments) (sym same) (moments_known Contents go b r.start r.count (book_in p) r.recorded r.opening p.history moments all dated),
+            ap (λ (q : Position). let z : M = (entering u (indicator_in q) found f image p.history moments, me.1) in z) (sym arrived_at),
             λ none_open. knows_told Contents go b s r one u.base w same (knows_whole Contents go b s r w refl (told_all Contents go b s r id u at none_open)),
           ),
         )

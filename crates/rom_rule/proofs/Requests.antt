@@ -202,9 +202,9 @@ module _ {S : Type 0} (Contents : ℕ → List ℕ → S → ℕ → Type 0) (go
 
     -- the pass has its record, before any word is stored
     pub made_first : (s : St) (r : R s) (id : ℕ) (v : View) (fate : Fate) (before now : ℕ) → get_elem? s.views id ≡ some v → id ≡ r.writer → CanMakeRecord Contents go b r.plan fate before now
-        → let k = r.count + length r.plan.history in let more = batch go b.order (after go b.order r.start r.count r.plan.history) k (map found_of r.plan.requests) in R (after_step s s.words id (record v { plan = Some (making fate before now k more r.plan) }))
-    made_first s r id v fate before now at writes can = let p : Plan = r.plan in let k : ℕ = r.count + length p.history in let more : List Entry = batch go b.order (after go b.order r.start r.count p.history) k (map found_of p.requests) in let q : Plan = making fate before now k more p in
-        let w : View = record v { plan = Some q } in let m = makes_record Contents go b s r fate before now k more can.unmade can.whole can.from can.on can.fault refl refl in let e = one b.order b.image can.start r.start can.count r.count can.opening r.opening in let l = r.limits.1 in
+        → let k = r.count + length r.plan.history in let more = batch go b.order (after go b.order r.start r.count r.plan.history) k (map found_of r.plan.requests) in R (after_step s s.words id (record v { plan = Some (making fate before now 0 k more r.plan) }))
+    made_first s r id v fate before now at writes can = let p : Plan = r.plan in let k : ℕ = r.count + length p.history in let more : List Entry = batch go b.order (after go b.order r.start r.count p.history) k (map found_of p.requests) in let q : Plan = making fate before now 0 k more p in
+        let w : View = record v { plan = Some q } in let m = makes_record Contents go b s r fate before now 0 k more can.unmade can.whole can.from can.on can.fault refl refl in let e = one b.order b.image can.start r.start can.count r.count can.opening r.opening in let l = r.limits.1 in
         let same : q.history ≡ p.history = ap (λ (z : List Entry). p.history ++ z) (nothing_added fate k (after go b.order r.start r.count p.history) (map found_of p.requests) (λ is. ap (λ (n : ℕ). n + length p.history) (sym e.1) ∙ can.full is)) ∙ append-nil p.history in
         writer_step Contents go b s r id v w q s.words at writes refl refl refl refl refl (λ h. h) refl (omega arith, omega arith) refl (λ _ _ _ h. h)
         record { side = r.written.side; version = r.written.version; main = r.written.main; back = r.written.back; side_low = r.written.side_low; version_low = r.written.version_low; published = subst (Held Contents go b r.start r.count (side_of p.side p.main p.back)) (sym same) r.written.published }
@@ -222,7 +222,7 @@ module _ {S : Type 0} (Contents : ℕ → List ℕ → S → ℕ → Type 0) (go
     unfolding made_first writer_step
     makes_record_known fate before now slots id i me f x writes can free s r _ at _ = let pending = free.0 in let le = free.1 in let few = free.2 in let v = me.0 in let is = plan_is Contents go b s r id v at writes in let base = base_is Contents go b s r id v at in let p : Plan = r.plan in let c : ℕ = f.caller in
         let can' : CanMakeRecord Contents go b p fate before now = subst (λ (z : Base × Plan). CanMakeRecord Contents go z.0 z.1 fate before now) (λ i. (base i, is.0 i)) can in let here : IsPending p c f = subst (λ (z : Plan). IsPending z c f) is.0 pending in
-        let k : ℕ = r.count + length p.history in let more : List Entry = batch go b.order (after go b.order r.start r.count p.history) k (map found_of p.requests) in let q : Plan = making fate before now k more p in let w : View = record v { plan = Some q } in
+        let k : ℕ = r.count + length p.history in let more : List Entry = batch go b.order (after go b.order r.start r.count p.history) k (map found_of p.requests) in let q : Plan = making fate before now 0 k more p in let w : View = record v { plan = Some q } in
         let t = made_first s r id v fate before now at is.1 can' in let s' : St = after_step s s.words id w in let at' : get_elem? s'.views id ≡ some w = at_set_self s.views id v w at in
         let o = open_at (IsCall go b) b.callers r.count (shown b s.words).slots (plan_calls p) (map calls_in s.views) r.announced here.0 f here.1 here.3 in let j : ℕ = 43 + i in
         let last : R (after_step s' (set s.words (slot_at b.callers c j) x) id (planned w (altered c (laying i x) q)))
@@ -236,7 +236,7 @@ module _ {S : Type 0} (Contents : ℕ → List ℕ → S → ℕ → Type 0) (go
             more,
             the_batch Contents go b one s r v (plan_of v) k more base is.0 refl refl,
             subst (TellsEach fate k more) (sym is.0) (tells_each (IsCall go b) b.callers r.count (shown b s.words).slots (plan_calls p) (map calls_in s.views) r.announced fate k more (ap is_made can'.unmade)),
-            λ c' j' pos lj same. let pos' = o.0 in let many = callers_are Contents go b s r id v at in let e : c ≡ c' = omega arith in let e' : i ≡ j' = omega arith in ap (λ (z : ℕ × ℕ × Plan). let y : M = (planned v (altered z.0 (laying z.1 x) (making fate before now k more z.2)), me.1) in y) (λ h. (e h, e' h, sym is.0 h)),
+            λ c' j' pos lj same. let pos' = o.0 in let many = callers_are Contents go b s r id v at in let e : c ≡ c' = omega arith in let e' : i ≡ j' = omega arith in ap (λ (z : ℕ × ℕ × Plan). let y : M = (planned v (altered z.0 (laying z.1 x) (making fate before now 0 k more z.2)), me.1) in y) (λ h. (e h, e' h, sym is.0 h)),
           ),
         )
 

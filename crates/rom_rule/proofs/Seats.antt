@@ -7,14 +7,16 @@ use lib.Seq.{map-set}
 use Rattle.atomic_table.specs.Table.{State, Me, step, keeps, Allows, Splits, Joins}
 use Rattle.atomic_table.proofs.Lists.{at_set, at_map, at_snoc, set_else}
 use Rattle.std.specs.List.{AllByRecursion}
+use Rattle.rom_model.specs.Moments.{moments_of}
 use Rattle.rom_model.specs.Seen.{StartsWith}
+use Rattle.rom_model.specs.declared.entry.Entry.{Entry}
 use Rattle.rom_rule.specs.Calls.{Announced, told_to_caller}
 use Rattle.rom_rule.specs.Kinds.{CanDeal, CanJoin, caught_up, dealing, informed, newcomer, note_of, noting, planned, reviewed, spent_as}
 use Rattle.rom_rule.specs.Places.{shown}
 use Rattle.rom_rule.specs.Readers.{ShowsArrivals, Differ, HoldsNothing, IsNumbered, IsWritten, KeepsImage, ReadsNamedSide, StandsAtOwn, any_stands, stands}
-use Rattle.rom_rule.specs.Records.{IsCall, IsKeptInBook, KnowsEntries, Recorded, Remembers}
+use Rattle.rom_rule.specs.Records.{IsCall, IsDated, IsKeptInBook, KnowsEntries, KnowsMoments, Recorded, Remembers}
 use Rattle.rom_rule.specs.Rule.{IsOnlyPlan, IsRuled}
-use Rattle.rom_rule.specs.Views.{Book, CallerCalls, Each, IsWriter, base_in, book_in, calls_in, kept_of, number_in, plan_calls, plan_in, plan_of, position_in, reading_in, remembered_in}
+use Rattle.rom_rule.specs.Views.{Book, CallerCalls, Each, IsWriter, base_in, book_in, calls_in, kept_of, number_in, plan_calls, plan_in, plan_of, position_in, reading_in, records_of, remembered_in}
 use Rattle.rom_rule.specs.declared.views.Base.{Base}
 use Rattle.rom_rule.specs.declared.views.Plan.{Plan}
 use Rattle.rom_rule.specs.declared.views.Position.{Position}
@@ -23,7 +25,8 @@ use Rattle.rom_rule.specs.declared.views.View.{View}
 use Rattle.rom_rule.proofs.Frames.{each_set, frame, unseen}
 use Rattle.rom_rule.proofs.Readers.{caller_step, still, remembered_of, announced_on, reload}
 use Rattle.rom_rule.proofs.Standing.{any_more, own_nowhere}
-use Rattle.rom_rule.proofs.Told.{all_append, all_map}
+use Rattle.rom_rule.proofs.Dated.{dated_later, dated_nothing, dated_now, moments_known}
+use Rattle.rom_rule.proofs.Told.{all_append, all_map, starts_le}
 use Rattle.rom_rule.proofs.Own.{knows_on, told_all}
 use Rattle.rom_rule.proofs.Joining.{notes, deals, merges, all_told_whole}
 use Rattle.rom_rule.proofs.Writes.{plan_is, base_is, writer_step, announced_with}
@@ -111,7 +114,7 @@ module _ {S : Type 0} (Contents : ℕ → List ℕ → S → ℕ → Type 0) (go
   pub takes_note : (id : ℕ) (v : View) → v.position ≡ Out → Splits R id v (noting v) (note_of v)
   unfolding steps_out caller_step
   takes_note id v out s r at = let m = remembered_of Contents go b s r id v at in let t = steps_out s r id v (noting v) at out out refl refl refl m refl (λ h. h) in
-      joined _ t (note_of v) (base_is Contents go b s r id v at) refl refl record { seen = m.seen; fronts = tt; joined = tt } (omega arith) (λ z. absurd (omega arith))
+      joined _ t (note_of v) (base_is Contents go b s r id v at) refl refl record { seen = m.seen; dated = m.dated; fronts = tt; joined = tt } (omega arith) (λ z. absurd (omega arith))
       (notes (IsCall go b) b.callers r.count (shown b s.words).slots (plan_calls r.plan) _ t.announced (calls_in (note_of v)) refl refl refl refl) (λ _. (refl, refl, refl, refl))
 
   -- the writer gives the next number to a new seat
@@ -135,7 +138,7 @@ module _ {S : Type 0} (Contents : ℕ → List ℕ → S → ℕ → Type 0) (go
       (λ j x _ h. subst (λ (z : Plan). ReadsNamedSide b.callers (record z { dealt = z.dealt + 1 }) x) (sym all) (behind r.plan x h))
       (λ m h. subst (λ (z : Book). Remembers r.count z m) (sym books) h) (subst (Recorded go b r.start r.count) (sym books) r.recorded)
       (announced_with Contents go b s r id v (dealing v) q (shown b s.words).slots at refl first) in
-      joined _ t (newcomer v) (base_is Contents go b s r id v at) refl refl record { seen = (q.history, refl); fronts = tt; joined = tt } (omega arith)
+      joined _ t (newcomer v) (base_is Contents go b s r id v at) refl refl record { seen = (q.history, refl); dated = dated_nothing (records_of q); fronts = tt; joined = tt } (omega arith)
       (λ _. subst (λ (l : List ℕ). Each (λ _ k. k < (plan_of v).dealt + 1) l) (sym (unseen number_in s.views id v (dealing v) at refl)) (λ j k e. let n = r.seats.given j k e in omega arith))
       (subst (λ (z : List CallerCalls × Plan). Announced (IsCall go b) b.callers (shown b s.words).slots r.count (plan_calls (record z.1 { dealt = z.1.dealt + 1 })) (z.0 ++ calls_in (newcomer v) ∷ [])) (λ i. (sym (unseen calls_in s.views id v (dealing v) at refl) i, sym all i)) more) (λ _. (refl, refl, refl, refl))
     where
@@ -175,11 +178,12 @@ module _ {S : Type 0} (Contents : ℕ → List ℕ → S → ℕ → Type 0) (go
         images = each_set (λ _ c. KeepsImage Contents go b r.plan.main r.plan.back c.0 c.1) (λ _ c. KeepsImage Contents go b r.plan.main r.plan.back c.0 c.1) reading_in views' other w' (λ _ _ _ h. h) tt (frame reading_in (Each (λ _ c. KeepsImage Contents go b r.plan.main r.plan.back c.0 c.1)) s.views id v v' at refl r.images);
         written = r.written;
         named = frame position_in (Each (λ _. ReadsNamedSide b.callers r.plan)) views' other w w' there (sym idle.0) (frame position_in (Each (λ _. ReadsNamedSide b.callers r.plan)) s.views id v v' at refl r.named);
-        remembered = each_set (λ _. Remembers r.count (book_in r.plan)) (λ _. Remembers r.count (book_in r.plan)) remembered_in views' other w' (λ _ _ _ h. h) record { seen = (r.plan.history, refl); fronts = tt; joined = tt }
+        remembered = each_set (λ _. Remembers r.count (book_in r.plan)) (λ _. Remembers r.count (book_in r.plan)) remembered_in views' other w' (λ _ _ _ h. h) record { seen = (r.plan.history, refl); dated = dated_nothing (records_of r.plan); fronts = tt; joined = tt }
             (each_set (λ _. Remembers r.count (book_in r.plan)) (λ _. Remembers r.count (book_in r.plan)) remembered_in s.views id v' (λ _ _ _ h. h) record {
               seen = m.seen;
+              dated = m.dated;
               fronts = m.fronts;
-              joined = all_append (IsKeptInBook r.count (book_in r.plan)) v.joined (kept_of w ∷ w.joined) m.joined ((n.seen, n.fronts), n.joined);
+              joined = all_append (IsKeptInBook r.count (book_in r.plan)) v.joined (kept_of w ∷ w.joined) m.joined ((n.seen, n.fronts, n.dated), n.joined);
             } r.remembered);
         recorded = r.recorded;
         announced = merges (IsCall go b) b.callers r.count (shown b s.words).slots (plan_calls r.plan) s.views r.announced id other v w v' w' at had apart r.seats.differ (omega arith) dealt idle.1 refl refl;
@@ -196,21 +200,26 @@ module _ {S : Type 0} (Contents : ℕ → List ℕ → S → ℕ → Type 0) (go
       }
 
   -- a caller sees as much as the views had that it keeps
-  pub catches_up : (slots id : ℕ) (me : M) → me.0.position ≡ Out → Allows R slots id me 0 (λ n. n) (caught_up (step slots 0 0 0 none) me)
-  catches_up slots id me out s r _ at _ = let v = me.0 in let m = remembered_of Contents go b s r id v at in let w : View = record v { seen = r.plan.history; steps = v.steps + 1 } in (
-    w,
-    keeps,
-    tt,
-    reload Contents go b s 0 id w (steps_out s r id v w at out out refl refl refl record { seen = ([], sym (mathlib.Core.List.append-nil r.plan.history)); fronts = m.fronts; joined = m.joined } refl (λ h. h)),
-    (
-      r.plan.history,
-      m.seen,
-      all_map (IsKeptInBook r.count (book_in r.plan)) (λ k. StartsWith r.plan.history k.seen) v.joined (λ k h. h.0) m.joined,
-      refl,
-      λ n none_open knew. subst (λ (z : Base). KnowsEntries z.callers n w) (sym (base_is Contents go b s r id v at))
-          (knows_on Contents go b s r w n v.seen ([], sym (mathlib.Core.List.append-nil r.plan.history)) m.seen knew.own (told_all Contents go b s r id v at none_open)),
-    ),
-  )
+  pub catches_up : (slots id : ℕ) (me : M) → me.0.position ≡ Out → Allows R slots id me 0 (λ n. n) (caught_up Contents go (step slots 0 0 0 none) me)
+  catches_up slots id me out s r _ at _ = let v = me.0 in let m = remembered_of Contents go b s r id v at in let p = r.plan in let moments : List ℕ = moments_of 0 (records_of p) in let w : View = record v { seen = p.history; moments = moments; steps = v.steps + 1 } in
+      let all : StartsWith p.history p.history = ([], sym (mathlib.Core.List.append-nil p.history)) in let dated : IsDated (records_of p) (length p.history) moments = dated_now Contents go b r.start r.count (book_in p) r.recorded in
+      let later = (λ (seen : List Entry) (had : List ℕ) (begins : StartsWith p.history seen) (h : IsDated (records_of p) (length seen) had). dated_later Contents go b r.start r.count (book_in p) r.recorded (length seen) had (length p.history) moments h dated (starts_le p.history seen begins)) in (
+        w,
+        keeps,
+        tt,
+        reload Contents go b s 0 id w (steps_out s r id v w at out out refl refl refl record { seen = all; dated = dated; fronts = m.fronts; joined = m.joined } refl (λ h. h)),
+        (
+          p.history,
+          moments,
+          m.seen,
+          all_map (IsKeptInBook r.count (book_in p)) (λ k. StartsWith p.history k.seen × StartsWith moments k.moments) v.joined (λ k h. (h.0, later k.seen k.moments h.0 h.2)) m.joined,
+          later v.seen v.moments m.seen m.dated,
+          subst (λ (z : Base). KnowsMoments Contents go z p.history moments) (sym (base_is Contents go b s r id v at)) (moments_known Contents go b r.start r.count (book_in p) r.recorded r.opening p.history moments all dated),
+          refl,
+          λ n none_open knew. subst (λ (z : Base). KnowsEntries z.callers n w) (sym (base_is Contents go b s r id v at))
+              (knows_on Contents go b s r w n v.seen all m.seen knew.own (told_all Contents go b s r id v at none_open)),
+        ),
+      )
 
   module _ (one : (order : ℕ) (words : List ℕ) (s t : S) (j k : ℕ) → Contents order words s j → Contents order words t k → (s ≡ t) × (j ≡ k)) where
     -- the writer sees that what it keeps agrees with the records

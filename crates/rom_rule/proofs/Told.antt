@@ -1,7 +1,7 @@
 -- Lists of calls, and of what was told of them
 use Rattle.std.proofs.Common.{◌≡◌, ◌≢◌, ℕ, zero, suc, ◌+◌, ◌<◌, ◌≤◌, ◌⊎◌, List, [], ◌∷◌, ◌++◌, map, length, get_or, sym, refl, ap, ◌∙◌, subst, inl, inr, ⊎_elim, arith, Bool, true, false, cond, eqb, eq-eqb, ne_eqb, append_assoc, length-append}
 use Rattle.std.specs.Prelude.{filter, take, drop, ◌==◌, ◌&&◌, not}
-use Rattle.std.proofs.lemmas.List.{take-append-drop}
+use Rattle.std.proofs.lemmas.List.{take-append-drop, take-append-le, take_at}
 use Rattle.std.specs.List.{AllByRecursion}
 use mathlib.Core.Logic.{dite}
 use mathlib.Core.Option.{some, some-injective, some-ne-none}
@@ -27,6 +27,13 @@ module _ {A : Type 0} where
 
   pub starts_le : (ys xs : List A) → StartsWith ys xs → length xs ≤ length ys
   starts_le ys xs h = omega (arith, ap length h.1, length-append xs h.0)
+
+  -- of two beginnings of a list the longer one begins with the other
+  pub starts_shorter : (whole us vs : List A) → StartsWith whole us → StartsWith whole vs → length us ≤ length vs → StartsWith vs us
+  starts_shorter whole us vs h g le = (
+    drop (length us) vs,
+    sym (take-append-drop (length us) vs) ∙ ap (λ (l : List A). l ++ drop (length us) vs) (sym (take-append-le (length us) vs g.0 le) ∙ (ap (take (length us)) (sym g.1 ∙ h.1) ∙ take_at us h.0 (length us) refl)),
+  )
 
   pub starts_at : (ys xs : List A) (i : ℕ) (a : A) → StartsWith ys xs → get_elem? xs i ≡ some a → get_elem? ys i ≡ some a
   starts_at ys xs i a h at = subst (λ (l : List A). get_elem? l i ≡ some a) (sym h.1) (at_longer xs h.0 i a at)

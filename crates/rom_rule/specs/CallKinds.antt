@@ -17,7 +17,7 @@ use Rattle.rom_model.specs.declared.record.PassRecord.{PassRecord}
 use Rattle.rom_rule.specs.Calls.{IsLater, IsWhole, answer_words, found_of, packed, told_to_caller}
 use Rattle.rom_rule.specs.Kinds.{IsBatch, Seated, TellsEach, making, planned}
 use Rattle.rom_rule.specs.Places.{CALL, PLACE, REPLY, TURN, slot_at}
-use Rattle.rom_rule.specs.Records.{IsCall, KnowsEntries}
+use Rattle.rom_rule.specs.Records.{IsCall, KnowsEntries, KnowsMoments}
 use Rattle.rom_rule.specs.Views.{Each, Told, is_made, plan_of}
 use Rattle.rom_rule.specs.declared.views.Base.{Base}
 use Rattle.rom_rule.specs.declared.views.Plan.{Plan}
@@ -144,10 +144,10 @@ module _ {S : Type 0} (Contents : ℕ → List ℕ → S → ℕ → Type 0) (st
     pub full : fate ≡ Published → count + length p.history ≡ LAST_COUNT
 
   -- What the store that makes the record tells: a pass that found calls has a record of this fate, and the
-  -- request has the word.
+  -- request has the word. The pass adds nothing, so its record has 0 for a moment.
   abbrev pub made_record : Fate → ℕ → ℕ → Step ℕ → Seated → ℕ → Seated → Type 0
   made_record fate before after st m found m' = (k : ℕ) × (more : List Entry) × IsBatch Contents step m.0.base (plan_of m.0) k more × TellsEach fate k more (plan_of m.0)
-      × ((c j : ℕ) → 0 < c → j < 21 → st.word ≡ slot_at m.0.base.callers c (REPLY + j) → m' ≡ (planned m.0 (altered c (laying j st.first) (making fate before after k more (plan_of m.0))), m.1))
+      × ((c j : ℕ) → 0 < c → j < 21 → st.word ≡ slot_at m.0.base.callers c (REPLY + j) → m' ≡ (planned m.0 (altered c (laying j st.first) (making fate before after 0 k more (plan_of m.0))), m.1))
 
   -- The first word of an answer, whether the pass has its record or not.
   abbrev pub begun_answer : Fate → ℕ → ℕ → Step ℕ → Seated → ℕ → Seated → Type 0
@@ -200,14 +200,17 @@ module _ {S : Type 0} (Contents : ℕ → List ℕ → S → ℕ → Type 0) (st
     pub since_is : IsLater count since x
     pub entry : (reply : List ℕ) (place : ℕ) → x.1 ≡ Done reply place → HasEntry count seen' x.0 reply place
 
-  -- A caller loads its turn. Even tells what its call was told, and then it knows which entries that it has seen are its own; odd tells nothing.
+  -- A caller loads its turn. Even tells what its call was told, and then it knows which entries that it has seen are its own, and its moments become those of what it has seen, behind the ones that it knew; odd tells nothing.
   -- When: it has a call posted.
   pub record Learnt (m : Seated) (m' : Seated) : Type 0 where
     pub told : Told
     pub seen : List Entry
+    pub moments : List ℕ
     pub found : told.0 ≡ record { caller = m.0.number; seq = length m.0.outcomes; args = slice_index_or m.0.calls (length m.0.outcomes) [] }
     pub is_told : IsToldByPass m.0.base told m.0.since m.0.seen seen
-    pub view : m' ≡ (record m.0 { outcomes = m.0.outcomes ++ told ∷ []; seen = seen; steps = m.0.steps + 1 }, m.1)
+    pub view : m' ≡ (record m.0 { outcomes = m.0.outcomes ++ told ∷ []; seen = seen; moments = moments; steps = m.0.steps + 1 }, m.1)
+    pub moments_begin : StartsWith moments m.0.moments
+    pub dated : KnowsMoments Contents step m.0.base seen moments
     pub own : (s : S) (n : ℕ) → Contents m.0.base.order m.0.base.image s n → KnowsEntries m.0.base.callers n m'.0
 
   -- What a load of its turn tells a caller: an odd turn tells nothing, and an even one what its call was

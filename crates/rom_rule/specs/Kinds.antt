@@ -16,7 +16,7 @@ use Rattle.rom_model.specs.declared.record.PassRecord.{PassRecord}
 use Rattle.rom_rule.specs.Calls.{IsWhole, found_of, told_to_caller}
 use Rattle.rom_rule.specs.Places.{back_word_at, indicator_at, indicator_count, indicator_of, main_word_at, side_at, side_word_at, version_at, version_of_indicator}
 use Rattle.rom_rule.specs.Readers.{Held, IsHeldSinceOpening, Settled, stands}
-use Rattle.rom_rule.specs.Records.{IsKeptInBook, KnowsEntries, Recorded}
+use Rattle.rom_rule.specs.Records.{IsKeptInBook, KnowsEntries, KnowsMoments, Recorded}
 use Rattle.rom_rule.specs.Views.{Each, IsWriter, Told, book_in, fresh_view, image_of, indicator_in, is_reading, kept_of, plan_of, side_of, side_read, version_of}
 use Rattle.rom_rule.specs.declared.views.Base.{Base}
 use Rattle.rom_rule.specs.declared.views.Plan.{Plan}
@@ -52,21 +52,21 @@ HoldsVersion v version = (v.position ≡ Holds version) × (version < 2) × (0 <
 abbrev pub arrived : Step ℕ → Seated → ℕ → Seated → Type 0
 arrived st m found m' = (st.word ≡ indicator_at (indicator_of m.0.number (version_of m.0.position))) × (m' ≡ (moved m.0 (Arrived (indicator_of m.0.number (version_of m.0.position))), m.1))
 
--- A caller loads `side`. What it has seen becomes a published history that begins with what it had seen, and its front is that history's count, which it keeps among its fronts. With no call posted, it knows which entries of that history are its own.
+-- A caller loads `side`. What it has seen becomes a published history that begins with what it had seen, and its front is that history's count, which it keeps among its fronts. Its moments become those of this history. With no call posted, it knows which entries of that history are its own.
 -- When: it has arrived.
 abbrev pub HasArrived : View → ℕ → Type 0
 HasArrived v k = (v.position ≡ Arrived k) × (k < indicator_count v.base.callers) × (0 < v.number)
 
--- the view as it begins to read a side: it has seen this history, and has one front more
-abbrev pub entering : View → ℕ → ℕ → ℕ → List ℕ → List Entry → View
-entering v k side front image seen = record v { position = Reads k side front image; seen = seen; fronts = v.fronts ++ front ∷ []; steps = v.steps + 1 }
+-- the view as it begins to read a side: it has seen this history, committed at these moments, and has one front more
+abbrev pub entering : View → ℕ → ℕ → ℕ → List ℕ → List Entry → List ℕ → View
+entering v k side front image seen moments = record v { position = Reads k side front image; seen = seen; moments = moments; fronts = v.fronts ++ front ∷ []; steps = v.steps + 1 }
 
 module _ {S : Type 0} (Contents : ℕ → List ℕ → S → ℕ → Type 0) (step : ℕ → S → ℕ → List ℕ → Option (S × List ℕ)) where
   -- What a load of `side` tells: the caller reads that side, whose words stand for the state after the
-  -- history that it has seen now.
+  -- history that it has seen now. Its moments begin with those that it knew.
   abbrev pub loaded_side : Step ℕ → Seated → ℕ → Seated → Type 0
-  loaded_side st m found m' = (st.word ≡ side_at) × (front : ℕ) × (image : List ℕ) × (seen : List Entry) × (found < 2) × StartsWith seen m.0.seen × IsHeldSinceOpening Contents step m.0.base image seen front
-      × (m' ≡ (entering m.0 (indicator_in m.0.position) found front image seen, m.1))
+  loaded_side st m found m' = (st.word ≡ side_at) × (front : ℕ) × (image : List ℕ) × (seen : List Entry) × (moments : List ℕ) × (found < 2) × StartsWith seen m.0.seen × IsHeldSinceOpening Contents step m.0.base image seen front
+      × StartsWith moments m.0.moments × KnowsMoments Contents step m.0.base seen moments × (m' ≡ (entering m.0 (indicator_in m.0.position) found front image seen moments, m.1))
       × (length m.0.calls ≡ length m.0.outcomes → (s : S) (n : ℕ) → Contents m.0.base.order m.0.base.image s n → KnowsEntries m.0.base.callers n m'.0)
 
 -- A caller loads a word of the side that it reads: it is the word of its image.
@@ -101,12 +101,12 @@ abbrev pub record_list : List Found → PassRecord → List PassRecord
 record_list [] r = []
 record_list (f ∷ fs) r = r ∷ []
 
--- The plan after this pass has its record: its batch from the count k is `more`.
-abbrev pub making : Fate → ℕ → ℕ → ℕ → List Entry → Plan → Plan
-making fate before after k more p = record p {
+-- The plan after this pass has its record: its batch from the count k is `more`, which was committed at this moment.
+abbrev pub making : Fate → ℕ → ℕ → ℕ → ℕ → List Entry → Plan → Plan
+making fate before after moment k more p = record p {
   history = p.history ++ published fate more;
   told = p.told ++ fate_told fate k (map found_of p.requests) more;
-  mine = record_list (map found_of p.requests) record { found = map found_of p.requests; fate = fate; faults_before = before; faults_after = after; len = length p.history + length (published fate more) };
+  mine = record_list (map found_of p.requests) record { found = map found_of p.requests; fate = fate; faults_before = before; faults_after = after; len = length p.history + length (published fate more); committed = moment };
 }
 
 -- what the record told each request is what its caller was told of it
@@ -147,9 +147,9 @@ module _ {S : Type 0} (Contents : ℕ → List ℕ → S → ℕ → Type 0) (st
 
   -- What a store of `side` as main tells: the history ends with the batch, and a pass that found calls has
   -- its record.
-  abbrev pub switched_to_main : ℕ → ℕ → Step ℕ → Seated → ℕ → Seated → Type 0
-  switched_to_main before after st m found m' = (k : ℕ) × (more : List Entry) × IsBatch m.0.base (plan_of m.0) k more × TellsEach Published k more (plan_of m.0)
-      × (m' ≡ (planned m.0 (switched 0 (making Published before after k more (plan_of m.0))), m.1))
+  abbrev pub switched_to_main : ℕ → ℕ → ℕ → Step ℕ → Seated → ℕ → Seated → Type 0
+  switched_to_main before after moment st m found m' = (k : ℕ) × (more : List Entry) × IsBatch m.0.base (plan_of m.0) k more × TellsEach Published k more (plan_of m.0)
+      × (m' ≡ (planned m.0 (switched 0 (making Published before after moment k more (plan_of m.0))), m.1))
 
   -- The writer stores `side` as back, and where the pass has a record, its count after becomes the one of now.
   -- When: back stands for the history, and that count isn't lowered.
@@ -220,14 +220,14 @@ dealing v = planned v (record (plan_of v) { dealt = (plan_of v).dealt + 1 })
 abbrev pub newcomer : View → View
 newcomer v = record (fresh_view v.base) { number = (plan_of v).dealt + 1 }
 
--- A caller's seat is cut in two: the new one, a note, has seen as much and nothing else.
+-- A caller's seat is cut in two: the new one, a note, has seen as much, committed at the same moments, and nothing else.
 -- When: it is out.
 abbrev pub noting : View → View
 noting v = record v { steps = v.steps + 1 }
 
 -- the view of a note: it has seen as much as the caller, has no number, and has done nothing
 abbrev pub note_of : View → View
-note_of v = record (fresh_view v.base) { seen = v.seen }
+note_of v = record (fresh_view v.base) { seen = v.seen; moments = v.moments }
 
 -- A seat keeps what another knew, which is spent.
 -- When: both are out, and the spent one has no call posted and isn't the writer's.
@@ -246,13 +246,14 @@ informed v w = record v { joined = v.joined ++ kept_of w ∷ w.joined; steps = v
 abbrev pub spent_as : Base → View
 spent_as b = fresh_view b
 
--- A caller loads word 0, and has seen from then on what it had seen and what each view had that it keeps. With no call posted, it knows its own entries in it, where it knew them before.
--- When: it is out.
-abbrev pub caught_up : Step ℕ → Seated → ℕ → Seated → Type 0
-caught_up st m found m' = (seen : List Entry) × StartsWith seen m.0.seen × AllByRecursion (λ k. StartsWith seen k.seen) m.0.joined × (m' ≡ (record m.0 { seen = seen; steps = m.0.steps + 1 }, m.1))
-    × ((n : ℕ) → length m.0.calls ≡ length m.0.outcomes → KnowsEntries m.0.base.callers n m.0 → KnowsEntries m.0.base.callers n m'.0)
-
 module _ {S : Type 0} (Contents : ℕ → List ℕ → S → ℕ → Type 0) (step : ℕ → S → ℕ → List ℕ → Option (S × List ℕ)) where
+  -- A caller loads word 0, and has seen from then on what it had seen and what each view had that it keeps. Its moments become those of this history, and begin with the ones that it knew and with those of each of these views. With no call posted, it knows its own entries in it, where it knew them before.
+  -- When: it is out.
+  abbrev pub caught_up : Step ℕ → Seated → ℕ → Seated → Type 0
+  caught_up st m found m' = (seen : List Entry) × (moments : List ℕ) × StartsWith seen m.0.seen × AllByRecursion (λ k. StartsWith seen k.seen × StartsWith moments k.moments) m.0.joined
+      × StartsWith moments m.0.moments × KnowsMoments Contents step m.0.base seen moments × (m' ≡ (record m.0 { seen = seen; moments = moments; steps = m.0.steps + 1 }, m.1))
+      × ((n : ℕ) → length m.0.calls ≡ length m.0.outcomes → KnowsEntries m.0.base.callers n m.0 → KnowsEntries m.0.base.callers n m'.0)
+
   -- The writer loads word 0, and what it keeps of joined views agrees with the records: each of them was told what the records told it, and what it had seen begins the history. Nobody else's calls are in the records, and the history is theirs.
   -- When: it is out.
   abbrev pub reviewed : Step ℕ → Seated → ℕ → Seated → Type 0

@@ -28,6 +28,7 @@ Told = Found × Updated (List ℕ)
 -- what a view knows of the published history
 pub record Remembered : Type 0 where
   pub seen : List Entry
+  pub moments : List ℕ
   pub fronts : List ℕ
   pub joined : List Kept
 
@@ -59,7 +60,7 @@ reading_in v = (v.position, v.seen)
 
 -- what it knows of the published history
 abbrev pub remembered_in : View → Remembered
-remembered_in v = record { seen = v.seen; fronts = v.fronts; joined = v.joined }
+remembered_in v = record { seen = v.seen; moments = v.moments; fronts = v.fronts; joined = v.joined }
 
 -- what it knows of its calls
 abbrev pub calls_in : View → CallerCalls
@@ -71,7 +72,7 @@ plan_in v = v.plan
 
 -- what a caller keeps of its session
 abbrev pub kept_of : View → Kept
-kept_of v = record { number = v.number; seen = v.seen; fronts = v.fronts; told = v.outcomes }
+kept_of v = record { number = v.number; seen = v.seen; moments = v.moments; fronts = v.fronts; told = v.outcomes }
 
 -- whether a reader at this position reads a side
 abbrev pub is_reading : Position → Bool
@@ -179,7 +180,7 @@ opening_plan b = record {
 
 -- a view that has seen nothing and done nothing
 abbrev pub fresh_view : Base → View
-fresh_view b = record { base = b; number = 0; seen = []; fronts = []; joined = []; position = Out; calls = []; outcomes = []; laid = []; since = 0; plan = None; steps = 0 }
+fresh_view b = record { base = b; number = 0; seen = []; moments = []; fronts = []; joined = []; position = Out; calls = []; outcomes = []; laid = []; since = 0; plan = None; steps = 0 }
 
 -- the writer's, which is the first
 abbrev pub opening_view : Base → View

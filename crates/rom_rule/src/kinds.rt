@@ -54,8 +54,8 @@ impl Play<u8, View> for Departs {
     ghost then = { departed };
 }
 
-/// How a pass ends: the device's counts of faults at its start and now, and its fate. A call that
-/// makes the pass's record, or raises its count, picks them.
+/// How a pass ends: the device's counts of faults at its start and now, its fate, and the device's moment at
+/// which its batch was committed. A call that makes the pass's record, or raises its count, picks them.
 pub trait PassEnd {
     ghost use Rattle.rom_model.specs.declared.record.Fate.{Fate};
 
@@ -64,6 +64,8 @@ pub trait PassEnd {
     ghost after: { ℕ };
 
     ghost fate: { Fate };
+
+    ghost moment: { ℕ };
 }
 
 impl PassEnd for Brand {
@@ -74,6 +76,8 @@ impl PassEnd for Brand {
     ghost after = { 0 };
 
     ghost fate = { Published };
+
+    ghost moment = { 0 };
 }
 
 /// The writer stores `side` as main, which publishes the batch of the calls that it found.
@@ -85,7 +89,7 @@ pub struct SwitchesToMain<O, N> {
 impl<O: Object, N: PassEnd> Play<u8, View> for SwitchesToMain<O, N> {
     ghost use Rattle.rom_model.specs.Machine.{on_words};
 
-    ghost then = { switched_to_main O.Contents (on_words O.machine) N.before N.after };
+    ghost then = { switched_to_main O.Contents (on_words O.machine) N.before N.after N.moment };
 }
 
 /// The writer stores `side` as back.
@@ -179,10 +183,14 @@ impl<N: Origin> Join<View> for JoinsViews<N> {
 }
 
 /// A caller sees as much as the views had that it keeps.
-pub struct CatchesUp;
+pub struct CatchesUp<O> {
+    object: PhantomData<O>,
+}
 
-impl Play<u8, View> for CatchesUp {
-    ghost then = { caught_up };
+impl<O: Object> Play<u8, View> for CatchesUp<O> {
+    ghost use Rattle.rom_model.specs.Machine.{on_words};
+
+    ghost then = { caught_up O.Contents (on_words O.machine) };
 }
 
 /// The writer sees that what it keeps agrees with the records.

@@ -81,6 +81,8 @@ pub struct View {
     /// The published history, as far as it has seen it: what it reads is the state after some first part of
     /// that history.
     pub seen: LinkedList<Entry>,
+    /// The moments at which its entries were committed, one for each. They stay as it sees more.
+    pub moments: LinkedList<u64>,
     /// The fronts that its reads had: each must be a boundary of passes when the session is closed.
     pub fronts: LinkedList<u64>,
     /// What the views knew that were joined into it.

@@ -9,6 +9,7 @@ use Rattle.rom_model.specs.Lawful.{AreServed, Answers, IsLawful, Tells}
 use Rattle.rom_model.specs.Machine.{Machine}
 use Rattle.rom_model.specs.Story.{Story}
 use Rattle.rom_model.specs.declared.call.Updated.TheVariants as told
+use Rattle.rom_model.specs.declared.kept.Kept.{Kept}
 use Rattle.rom_model.specs.declared.line.Step.{Step}
 use Rattle.rom_model.specs.declared.line.Step.TheVariants as line
 use Rattle.rom_model.specs.declared.line.LineResult.{LineResult}
@@ -115,7 +116,7 @@ module _ {S C Q R A D : Type 0} (machine : Machine S C Q R A) (Contents : ℕ �
   faulted_rose heap story counts scripts results lawful is = some_rose _ _ results (few heap story counts scripts results lawful) is
 
   -- so of each session that a command leaves
-  pub few_faults : (P : Story S → Type 0) (asked : Option Use) (status : ℕ) (session : Option SessionSeen) → (HasNotRun asked status → IsNone session) → IfSome asked (λ does. IfSome session (HasSession machine Contents shown (heap_of does) was now P)) →
+  pub few_faults : (P : List Kept → Story S → Type 0) (asked : Option Use) (status : ℕ) (session : Option SessionSeen) → (HasNotRun asked status → IsNone session) → IfSome asked (λ does. IfSome session (HasSession machine Contents shown (heap_of does) was now P)) →
       IfSome session (λ z. EachStory machine Contents z (HasFewFaults machine shown was now))
   few_faults P asked status None left told = tt
   few_faults P (Some does) status (Some z) left told = λ story of. few (heap_of does) story (told.each story of).faults

@@ -27,6 +27,7 @@ replies_of machine Contents shown Prints AreRun heap was now sources scripts old
 replies_of machine Contents shown Prints AreRun heap was now sources scripts old new status (Some z) read played = record {
   story = played.story;
   each = played.each;
+  certain = played.certain;
   told = λ story of. let p = played.told story of in record { scripts = scripts; results = p.results; read = read; answered = p.answered; printed = p.printed };
 }
 

@@ -3,11 +3,12 @@ use Rattle.std.specs.Prelude.{◌≡◌, ◌≤◌, ℕ, List, map, IsTrue, Ok}
 use Rattle.rom_lines.specs.Replies.{Reserved}
 use Rattle.rom_lines.specs.Steps.{Items}
 use Rattle.std.proofs.Common.{ap, arith, inl, inr, subst, sym, ◌∙◌}
-use Rattle.rom_model.specs.Lawful.{IsLawful}
+use Rattle.rom_model.specs.History.{LAST_COUNT}
 use Rattle.rom_model.specs.Machine.{Machine, on_words}
 use Rattle.rom_model.specs.Passes.{faults_after}
 use Rattle.rom_model.specs.Space.{ChangesOnly}
 use Rattle.rom_model.specs.Story.{Story}
+use Rattle.rom_model.specs.declared.kept.Kept.{Kept}
 use Rattle.rom_model.specs.declared.line.LineResult.{LineResult}
 use Rattle.rom_model.specs.declared.line.Step.{Step}
 use Rattle.rom_device.specs.Device.{Does, Leaves, ShownDevice, Stays}
@@ -19,7 +20,10 @@ use Rattle.rom_combine.specs.Session.{SessionImage}
 use Rattle.rom_store.specs.Closing.{ClosedSeen}
 use Rattle.rom_store.specs.Playing.{IsSession}
 use Rattle.rom_store.specs.Sessions.{EachStory, IsStoryOf}
+use Rattle.rom_run.proofs.Lasting.{lasts_certain}
+use Rattle.rom_run.proofs.Lawful.{lawful_answers}
 use Rattle.rom_run.proofs.Told.{if_told}
+use Rattle.rom_run.specs.Played.{AreAnswered}
 use Rattle.rom_run.specs.Working.{HasSession, IsDeviceKept}
 use Rattle.rom_run.specs.declared.heap.Heap.TheVariants.{New, Standing}
 
@@ -33,9 +37,9 @@ pub kept_made : {D : Type 0} (shown : ShownDevice D) (order : ℕ) (was now : D)
     → (IsTrue shown.tells_words → IsFormatRefused order (shown.words was) → Does shown Stays was now) → IsDeviceKept shown (New order) was now
 kept_made shown order was now size outside spared = record { size = size; outside = outside; spared = spared }
 
-module _ {D S C Q R A : Type 0} (shown : ShownDevice D) (machine : Machine S C Q R A) (Contents : ℕ → List ℕ → S → ℕ → Type 0) (scripts : List (Items (Step C Q))) (results : List (Reserved (LineResult R A))) (was : D) (closed : ClosedSeen D) (faults : closed.session.faults ≡ shown.faults was) where
-  abbrev Lawful : Story S → Type 0
-  Lawful story = IsLawful machine story (map (λ v. v.items) scripts) (map (λ v. v.items) results)
+module _ {D S C Q R A : Type 0} (shown : ShownDevice D) (machine : Machine S C Q R A) (Contents : ℕ → List ℕ → S → ℕ → Type 0) (scripts : List (Items (Step C Q))) (results : List (Reserved (LineResult R A))) (was : D) (closed : ClosedSeen D) (few : (order : ℕ) (words : List ℕ) (s : S) (k : ℕ) → Contents order words s k → k ≤ LAST_COUNT) (faults : closed.session.faults ≡ shown.faults was) where
+  abbrev Answered : List Kept → Story S → Type 0
+  Answered callers story = AreAnswered machine (map (λ v. v.items) scripts) (map (λ v. v.items) results) callers story
 
   -- the records' counts are not above the device's
   counted : (story : Story S) → IsStoryOf machine Contents closed.session story → faults_after closed.session.faults closed.session.records ≤ shown.faults closed.device → faults_after story.opening_faults story.records ≤ shown.faults closed.device
@@ -47,7 +51,7 @@ module _ {D S C Q R A : Type 0} (shown : ShownDevice D) (machine : Machine S C Q
   -- on a heap that was made
   pub made_session : (order : ℕ) → IsSession shown machine Contents scripts results (HasMadeHeap shown Contents order machine.empty was) closed → closed.session.order ≡ order
       → EachStory machine Contents closed.session (λ story. (story.opening ≡ machine.empty) × (story.opening_count ≡ 0)) → (IsTrue shown.tells_words → IsFormatAnswer order (shown.words was) (Ok tt)) → words_needed order ≤ shown.size was
-      → HasSession machine Contents shown (New order) was closed.device Lawful closed.session
+      → HasSession machine Contents shown (New order) was closed.device Answered closed.session
   made_session order of order_is empty accepted fits = record {
     story = of.story;
     each = λ story is. record {
@@ -57,13 +61,14 @@ module _ {D S C Q R A : Type 0} (shown : ShownDevice D) (machine : Machine S C Q
       since = λ told. of.since told story is;
       at_end = λ told. of.now told story is;
     };
-    told = of.lawful;
+    told = λ story is. lawful_answers machine story (map (λ v. v.items) scripts) (map (λ v. v.items) results) closed.session.callers (few closed.session.order closed.session.image story.opening story.opening_count is.opening) (of.lawful story is) (of.lasts story is).left;
+    certain = λ story is. lasts_certain shown Contents (on_words machine) story closed.device closed.session.callers (of.lasts story is).lasts;
   }
 
   -- and on one that stands
   pub standing_session : IsSession shown machine Contents scripts results (HasOpened shown closed.session.order was) closed → (IsTrue shown.tells_words → EachStory machine Contents closed.session (λ story. Holds Contents story.order (shown.words was) story.opening story.opening_count))
       → words_needed closed.session.order ≤ shown.size was → (IsTrue shown.tells_images → EachStory machine Contents closed.session (λ story. Leaves shown (SessionImage Contents (on_words machine) story) was closed.device))
-      → HasSession machine Contents shown Standing was closed.device Lawful closed.session
+      → HasSession machine Contents shown Standing was closed.device Answered closed.session
   standing_session of held fits since = record {
     story = of.story;
     each = λ story is. record {
@@ -77,5 +82,6 @@ module _ {D S C Q R A : Type 0} (shown : ShownDevice D) (machine : Machine S C Q
       since = λ told. since told story is;
       at_end = λ told. of.now told story is;
     };
-    told = of.lawful;
+    told = λ story is. lawful_answers machine story (map (λ v. v.items) scripts) (map (λ v. v.items) results) closed.session.callers (few closed.session.order closed.session.image story.opening story.opening_count is.opening) (of.lawful story is) (of.lasts story is).left;
+    certain = λ story is. lasts_certain shown Contents (on_words machine) story closed.device closed.session.callers (of.lasts story is).lasts;
   }

@@ -2,9 +2,11 @@
 use Rattle.std.specs.Prelude.{◌≡◌, ◌+◌, ◌≤◌, ◌⊎◌, ℕ, List, length}
 use Rattle.rom_model.specs.History.{LAST_COUNT}
 use Rattle.rom_model.specs.Lawful.{IsLawful}
+use Rattle.rom_model.specs.Leaving.{HaveLeft}
 use Rattle.rom_model.specs.Machine.{Machine}
 use Rattle.rom_model.specs.Story.{Story, count}
 use Rattle.rom_model.specs.declared.entry.Entry.{Entry}
+use Rattle.rom_model.specs.declared.kept.Kept.{Kept}
 use Rattle.rom_model.specs.declared.line.LineResult.{LineResult}
 use Rattle.rom_model.specs.declared.line.Step.{Step}
 use Rattle.rom_text.specs.Runs.{IsCutShort, IsWhollyWritten}
@@ -34,22 +36,23 @@ abbrev pub IsText : {S K R A : Type 0} → ShownSink K → Texts R A → Story S
 IsText sink texts story results old new status = IsOutput sink (text_output texts) story results old new status
 
 module _ {S C Q R A : Type 0} (machine : Machine S C Q R A) where
-  -- The results of these scripts are those of one history, which is the story's.
-  pub record AreAnswered (story : Story S) (scripts : List (List (Step C Q))) (results : List (List (LineResult R A))) : Type 0 where
+  -- The results of these scripts are those of one history, which is the story's; and they are what these callers keep.
+  pub record AreAnswered (scripts : List (List (Step C Q))) (results : List (List (LineResult R A))) (callers : List Kept) (story : Story S) : Type 0 where
     pub lawful : IsLawful machine story scripts results
+    pub kept : HaveLeft machine story 1 callers scripts results
     pub within : count story ≤ LAST_COUNT
 
   module _ {K : Type 0} (Prints : Story S → List (List (LineResult R A)) → K → K → ℕ → Type 0) where
     -- And so much is printed of them.
-    pub record HavePlayed (scripts : List (List (Step C Q))) (old new : K) (status : ℕ) (story : Story S) : Type 0 where
+    pub record HavePlayed (scripts : List (List (Step C Q))) (old new : K) (status : ℕ) (callers : List Kept) (story : Story S) : Type 0 where
       pub results : List (List (LineResult R A))
-      pub answered : AreAnswered story scripts results
+      pub answered : AreAnswered scripts results callers story
       pub printed : Prints story results old new status
 
-  -- What was printed are the results of one history, which is the story's, of the scripts that were run.
-  pub record HasReplies {X K : Type 0} (AreRun : List X → List (List (Step C Q)) → Type 0) (Prints : Story S → List (List (LineResult R A)) → K → K → ℕ → Type 0) (sources : List X) (old new : K) (status : ℕ) (story : Story S) : Type 0 where
+  -- What was printed are the results of one history, which is the story's, of the scripts that were run; and they are what these callers keep.
+  pub record HasReplies {X K : Type 0} (AreRun : List X → List (List (Step C Q)) → Type 0) (Prints : Story S → List (List (LineResult R A)) → K → K → ℕ → Type 0) (sources : List X) (old new : K) (status : ℕ) (callers : List Kept) (story : Story S) : Type 0 where
     pub scripts : List (List (Step C Q))
     pub results : List (List (LineResult R A))
     pub read : AreRun sources scripts
-    pub answered : AreAnswered story scripts results
+    pub answered : AreAnswered scripts results callers story
     pub printed : Prints story results old new status

@@ -1,6 +1,7 @@
 -- What a program promises of a command.
 use Rattle.std.specs.Prelude.{◌≡◌, ◌≢◌, ◌⊎◌, ℕ, List, map, IsSome, IsNone, IfSome, codes, Option}
 use Rattle.std.specs.Global.{Vec}
+use Rattle.std.specs.List.{AllByRecursion}
 use Rattle.rom_model.specs.Earlier.{Earlier}
 use Rattle.rom_model.specs.Machine.{Machine, on_words}
 use Rattle.rom_model.specs.Story.{Story}
@@ -11,6 +12,7 @@ use Rattle.rom_device.specs.Device.{ShownDevice}
 use Rattle.rom_text.specs.Runs.{AreAskedOnce, AreAtEnd, AreNotTooLong, IsLineWrittenOrCutShort, SourceFailed, SourceTooLong}
 use Rattle.rom_text.specs.Streams.{ShownSink, ShownSource, StopsWriting, WriteFailed}
 use Rattle.rom_store.specs.Lasting.{HasLasted}
+use Rattle.rom_store.specs.Moments.{LastsFor}
 use Rattle.rom_store.specs.Sessions.{EachStory, SessionSeen}
 use Rattle.rom_run.specs.Complete.{HasFewFaults, IsComplete, IsRefusedExactly}
 use Rattle.rom_run.specs.Played.{HasReplies}
@@ -74,5 +76,7 @@ module _ {S C Q R A D X K : Type 0} (machine : Machine S C Q R A) (Contents : �
     pub ended : HasEnded asked was now sources left old new status session
     -- each pass that added to the history was certain at its commit: no stop since then has left less of it
     pub lasting : IfSome session (λ s. EachStory machine Contents s (λ story. HasLasted shown Contents (on_words machine) story now))
+    -- What each caller was told is among what it had seen, and it keeps the moments at which all that was committed: no stop since the moment of an entry has left less of the history than up to this entry. `dated` of each update and each read says that the moments were known as it was told.
+    pub told_lasts : IfSome session (λ s. EachStory machine Contents s (λ story. AllByRecursion (LastsFor shown Contents (on_words machine) story now) s.callers))
     -- and what follows from all this
     pub corollaries : Corollaries asked was now sources left old new status session

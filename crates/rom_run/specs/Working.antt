@@ -1,8 +1,10 @@
 -- What is promised of a heap that a command works on.
-use Rattle.std.specs.Prelude.{◌≡◌, ◌≤◌, ◌⊎◌, ℕ, List, [], IsNone, IsTrue, codes, Option, Some, None}
+use Rattle.std.specs.Prelude.{◌≡◌, ◌≤◌, ◌⊎◌, ℕ, List, [], length, IsNone, IsTrue, codes, Option, Some, None}
+use Rattle.std.specs.List.{AllByRecursion}
 use Rattle.rom_model.specs.Earlier.{Earlier}
 use Rattle.rom_model.specs.Machine.{Machine}
 use Rattle.rom_model.specs.Story.{Story}
+use Rattle.rom_model.specs.declared.kept.Kept.{Kept}
 use Rattle.rom_model.specs.declared.unfit.Unfit.{Unfit}
 use Rattle.rom_device.specs.Device.{Leaves, ShownDevice, told_words}
 use Rattle.rom_header.specs.Held.{Holds}
@@ -12,6 +14,7 @@ use Rattle.rom_text.specs.Runs.{IsLineWrittenOrCutShort}
 use Rattle.rom_text.specs.Streams.{ShownSink}
 use Rattle.rom_open.specs.Refusals.{named_order}
 use Rattle.rom_open.specs.Within.{WithinOpening}
+use Rattle.rom_store.specs.Moments.{IsCommittedAt}
 use Rattle.rom_store.specs.Sessions.{EachStory, HasStory, SessionSeen}
 use Rattle.rom_run.specs.Keeping.{AreWordsKept, CountsFaults, HasDeviceFailed, IsCalledWithin, IsHeapRefused, IsHeldNow, IsLeft, IsLeftBySession, IsMade, IsSpared, IsStoryOpening, IsUncalled, IsUpgraded}
 use Rattle.rom_run.specs.Statuses.{exit_number}
@@ -37,11 +40,12 @@ module _ {S C Q R A : Type 0} (machine : Machine S C Q R A) (Contents : ℕ → 
     pub since : IsTrue shown.tells_images → IsLeftBySession machine Contents shown heap was faults.went.first now story
     pub at_end : IsTrue shown.tells_images → IsHeldNow machine Contents shown now story
 
-  -- It has a story, and each of its stories is such a session and has P.
-  pub record HasSession (heap : Heap) (was now : D) (P : Story S → Type 0) (session : SessionSeen) : Type 0 where
+  -- It has a story, and each of its stories is such a session and has P with what its callers keep; and all that a caller has seen was committed at the moments that it knows.
+  pub record HasSession (heap : Heap) (was now : D) (P : List Kept → Story S → Type 0) (session : SessionSeen) : Type 0 where
     pub story : HasStory machine Contents session
     pub each : EachStory machine Contents session (IsSessionOn heap was now)
-    pub told : EachStory machine Contents session P
+    pub told : EachStory machine Contents session (P session.callers)
+    pub certain : EachStory machine Contents session (λ story. AllByRecursion (λ v. IsCommittedAt story v.moments (length v.seen)) session.callers)
 
   module _ {K : Type 0} (sink : ShownSink K) (Rejects : ℕ → List ℕ → Unfit → Type 0) (earlier : Earlier S) where
     -- There is no session: what a stop may leave, how often the device was called at most, and by the status why.

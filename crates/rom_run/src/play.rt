@@ -1,10 +1,9 @@
 //! Scripts on a heap, whichever it is.
 ghost use Rattle.std.specs.Prelude.{◌≡◌, ◌⊎◌, ◌<◌, ◌≤◌, All, length, map, codes, IfErr, IfOk, IfSome, IsNone, IsSome, OnOk, None, Some};
 ghost use Rattle.rom_model.specs.History.{LAST_COUNT};
-ghost use Rattle.rom_model.specs.Lawful.{IsLawful};
 ghost use Rattle.rom_text.specs.Runs.{IsLineWrittenOrCutShort};
 ghost use Rattle.rom_text.specs.Streams.{StopsWriting, WriteFailed};
-ghost use Rattle.rom_run.specs.Played.{HavePlayed, IsOutput};
+ghost use Rattle.rom_run.specs.Played.{AreAnswered, HavePlayed, IsOutput};
 ghost use Rattle.rom_run.specs.Refusing.{refusal_line, unmade_line};
 ghost use Rattle.rom_run.specs.Refusing as refusing;
 ghost use Rattle.rom_run.specs.Statuses.{exit_number};
@@ -33,7 +32,7 @@ use std::thread::Threads;
 /// Prints that there is no memory, where the device was not called for it.
 pub fn end_without_memory<O: Object, D: Device, K: Sink>(device: D, out: &mut K) -> Worked<D>
     ensures worked { result ≡ without_session device Status.NoMemory }
-    // Whichever heap was asked for, there is none.
+    // Whichever heap was asked for, there is none to work on.
     ensures none { (heap : Heap) → HasNoHeap O.machine O.Contents D.shown K.shown O.Rejects
         O.earlier heap device out.old out.new result }
     ensures told { IsLineWrittenOrCutShort K.shown out.old out.new (codes "no memory") }
@@ -92,12 +91,13 @@ pub fn end_of<O: Object, T: Output<O>, D: Device, K: Sink>(
     // Done (0), a line unread (1), the sink failed (5), or the device under an update (7).
     ensures statuses { (result.status ≡ Status.Done) ⊎ (result.status ≡ Status.Unread)
         ⊎ (result.status ≡ Status.SinkFailed) ⊎ (result.status ≡ Status.DeviceFailed) }
-    // In each story in which the results are lawful, the output of lawful results of the scripts is printed,
+    // In each story in which the results are answers, the output of such answers to the scripts is printed,
     // with their status; or it is cut short, with 5.
-    ensures played { EachStory O.machine O.Contents played.closed.session (λ story.
-        IsLawful O.machine story (map (λ v. v.items) scripts.now)
-        (map (λ v. v.items) played.results.items) → HavePlayed O.machine (IsOutput K.shown T.shown)
-        (map (λ v. v.items) scripts.now) out.old out.new (exit_number result.status) story) }
+    ensures played { let session = played.closed.session in EachStory O.machine O.Contents session
+        (λ story. AreAnswered O.machine (map (λ v. v.items) scripts.now)
+        (map (λ v. v.items) played.results.items) session.callers story →
+        HavePlayed O.machine (IsOutput K.shown T.shown) (map (λ v. v.items) scripts.now)
+        out.old out.new (exit_number result.status) session.callers story) }
     // With 5 the sink's last write failed, and no other.
     ensures sink_failed { result.status ≡ Status.SinkFailed → WriteFailed K.shown out.old out.new }
     ensures writing { StopsWriting K.shown out.old out.new }
@@ -139,16 +139,17 @@ where
     requires order { IsPlayable heap }
     requires callers { (0 < length scripts.now) × (length scripts.now ≤ 16) }
     requires few { All (λ v. length v.items ≤ LAST_COUNT) scripts.now }
-    // After `Ok` there is a session on this heap, and in each of its stories the results are lawful.
+    // After `Ok` there is a session on this heap, and in each of its stories the results are answers.
     ensures session { IfOk result (λ played. HasSession O.machine O.Contents D.shown heap device
-        played.closed.device (λ story. IsLawful O.machine story (map (λ v. v.items) scripts.now)
+        played.closed.device (AreAnswered O.machine (map (λ v. v.items) scripts.now)
         (map (λ v. v.items) played.results.items)) played.closed.session) }
     // After `Ok` the device has kept its length and, where it tells its words, those outside of the heap.
     ensures kept { IfOk result (λ played.
         IsDeviceKept D.shown heap device played.closed.device) }
     // After `Ok` nothing is printed yet.
     ensures unprinted { OnOk result (out.new ≡ out.old) }
-    // After an error there is no heap: it is refused by name (3), memory was short (6), or the device failed (7).
+    // After an error there is no heap to work on: it is refused by name (3), memory was short (6), or the device
+    // failed (7).
     ensures none { IfErr result (HasNoHeap O.machine O.Contents D.shown K.shown O.Rejects O.earlier
         heap device out.old out.new) }
     ensures writing { StopsWriting K.shown out.old out.new }

@@ -16,7 +16,7 @@ use rom_text::Sink;
 /// Prints why the heap of a device was not opened for callers, and hands the device on. Who opened it by
 /// `open_store` knows on which device it was.
 pub fn end_refused<O: Object, D: Device, K: Sink>(refused: Refused<D>, out: &mut K) -> Worked<D>
-    // If it was refused on the device `was`, there is no heap on that one.
+    // If it was refused on the device `was`, there is no heap to work on there.
     ensures none { (was : D) →
         HasBeenRefused D.shown O.Contents O.Rejects was refused.device refused.why →
         HasNoHeap O.machine O.Contents D.shown K.shown O.Rejects O.earlier Standing was out.old out.new result }

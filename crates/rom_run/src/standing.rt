@@ -44,7 +44,7 @@ pub fn open_heap<O: Object, D: Device, K: Sink>(
         × O.Contents heap.order (words_of_space heap.space) story.opening story.opening_count)) }
     // After `Ok` there is a session on the heap that stands. It has no callers.
     ensures session { IfOk result (λ heap. HasSession O.machine O.Contents D.shown Standing device
-        heap.device (λ story. AreAnswered O.machine story [] []) heap.session) }
+        heap.device (AreAnswered O.machine [] []) heap.session) }
     // After `Ok` no pass was made. As far as the device tells, it and whatever a stop leaves hold what the
     // story begins with.
     ensures still { IfOk result (λ heap. EachStory O.machine O.Contents heap.session
@@ -54,7 +54,8 @@ pub fn open_heap<O: Object, D: Device, K: Sink>(
     // After `Ok` the device's count of faults is what it was.
     ensures unfailed { IfOk result (λ heap. D.shown.faults heap.device ≡ D.shown.faults device) }
     ensures unprinted { OnOk result (out.new ≡ out.old) }
-    // After an error there is no heap: it is refused by name (3), memory was short (6), or the device failed (7).
+    // After an error there is no heap to work on: it is refused by name (3), memory was short (6), or the device
+    // failed (7).
     ensures none { IfErr result (HasNoHeap O.machine O.Contents D.shown K.shown O.Rejects O.earlier
         Standing device out.old out.new) }
     ensures writing { StopsWriting K.shown out.old out.new }

@@ -35,6 +35,7 @@ module _ {D S O : Type 0} (shown : ShownDevice D) (source : ShownSource S) (sink
   shown_session file zero (Some z) left is = record {
     story = is.story;
     each = is.each;
+    certain = is.certain;
     told = λ story of. let p = is.told story of in record { scripts = []; results = []; read = (none, refl); answered = p.answered; printed = (refl, refl, p.printed) };
   }
   shown_session file (suc n) (Some z) left is = let some : IsNone (Some z) = left (λ is. absurd (omega (arith, is))) in absurd (let no : ⊥ = cc in no)
@@ -46,5 +47,6 @@ module _ {D S O : Type 0} (shown : ShownDevice D) (source : ShownSource S) (sink
   drilled_session start callers calls status (Some z) is = record {
     story = is.story;
     each = is.each;
+    certain = is.certain;
     told = λ story of. let p = is.told story of in record { scripts = drill_scripts start callers calls; results = p.results; read = (none, refl); answered = p.answered; printed = p.printed };
   }

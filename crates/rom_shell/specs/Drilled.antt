@@ -9,6 +9,7 @@ use Rattle.rom_model.specs.declared.call.Reply.TheVariants.{Queued, Head}
 use Rattle.rom_model.specs.declared.entry.Entry.{Entry}
 use Rattle.rom_model.specs.Codes.{words_call, words_reply}
 use Rattle.rom_model.specs.declared.call.Answer.{Answer}
+use Rattle.rom_model.specs.declared.kept.Kept.{Kept}
 use Rattle.rom_model.specs.declared.line.LineResult.{LineResult}
 use Rattle.rom_model.specs.History.{after}
 use Rattle.rom_model.specs.Machine.{on_words}
@@ -63,8 +64,8 @@ drill_status results = if list_any (λ rs. list_any is_faulted rs) results then 
 abbrev pub IsDrillText : {O : Type 0} → ShownSink O → List ℕ → List (List (LineResult Reply Answer)) → O → O → ℕ → Type 0
 IsDrillText sink text results old new status = ((status ≡ drill_status results) × IsWhollyWritten sink old new text) ⊎ ((status ≡ 5) × IsCutShort sink old new text)
 
--- Results of a drill's scripts are those of one history, which is the story's, and what is told of them is printed.
-pub record HaveDrilled {O : Type 0} (sink : ShownSink O) (start callers calls : ℕ) (old new : O) (status : ℕ) (story : Story State) : Type 0 where
+-- Results of a drill's scripts are those of one history, which is the story's, and are what its callers keep; and what is told of them is printed.
+pub record HaveDrilled {O : Type 0} (sink : ShownSink O) (start callers calls : ℕ) (old new : O) (status : ℕ) (kept : List Kept) (story : Story State) : Type 0 where
   pub results : List (List (LineResult Reply Answer))
-  pub answered : AreAnswered trio story (drill_scripts start callers calls) results
+  pub answered : AreAnswered trio (drill_scripts start callers calls) results kept story
   pub printed : IsDrillText sink (drill_told start callers calls story) results old new status

@@ -3,9 +3,9 @@
 //! lawful, these sums are the history's, which is proved (`proofs/Summing.antt`).
 ghost use Rattle.std.specs.Prelude.{◌≡◌, ◌⊎◌, ◌≤◌, ◌^◌, All, length, map, IfSome, IsNone, IsSome, Some};
 ghost use Rattle.rom_heap.specs.Answers.{Rejects, earlier};
-ghost use Rattle.rom_model.specs.Lawful.{IsLawful};
 ghost use Rattle.rom_model.specs.Region.{Contents};
 ghost use Rattle.rom_model.specs.Trio.{trio};
+ghost use Rattle.rom_run.specs.Played.{AreAnswered};
 ghost use Rattle.rom_run.specs.Statuses.{exit_number};
 ghost use Rattle.rom_run.specs.Working.{HasNone, HasSession, IsDeviceKept};
 ghost use Rattle.rom_run.specs.declared.heap.Heap.TheVariants.{New};
@@ -75,10 +75,11 @@ fn end_of<D: Device, O: Sink>(
     ensures session { result.session ≡ Some played.closed.session }
     ensures statuses { (result.status ≡ Status.Done) ⊎ (result.status ≡ Status.SinkFailed)
         ⊎ (result.status ≡ Status.DeviceFailed) }
-    ensures drilled { EachStory trio Contents played.closed.session (λ story.
-        IsLawful trio story (drilled.drill_scripts start callers calls)
-        (map (λ v. v.items) played.results.items)
-        → HaveDrilled O.shown start callers calls out.old out.new (exit_number result.status) story) }
+    ensures drilled { let session = played.closed.session in EachStory trio Contents session (λ story.
+        AreAnswered trio (drilled.drill_scripts start callers calls)
+        (map (λ v. v.items) played.results.items) session.callers story
+        → HaveDrilled O.shown start callers calls out.old out.new (exit_number result.status)
+        session.callers story) }
     ensures sink_failed { result.status ≡ Status.SinkFailed → WriteFailed O.shown out.old out.new }
     ensures writing { StopsWriting O.shown out.old out.new }
     ensures rest { O.shown.rest out.new ≡ O.shown.rest out.old }

@@ -1,5 +1,5 @@
 -- What the closing of a store knows, and what that says of each story of its session.
-use Rattle.std.proofs.Common.{◌≡◌, ⊎_elim, inl, inr, ℕ, ◌+◌, ◌<◌, ◌≤◌, IsTrue, List, ◌++◌, length, map, slice_index, Option, Some, sym, ap, ◌∙◌, subst, arith}
+use Rattle.std.proofs.Common.{◌≡◌, ⊎_elim, inl, inr, ℕ, ◌+◌, ◌<◌, ◌≤◌, IsTrue, List, [], ◌++◌, length, map, slice_index, Option, Some, sym, ap, ◌∙◌, subst, arith}
 use Rattle.std.specs.Prelude.{slice_get}
 use Rattle.std.specs.List.{AllByRecursion}
 use Rattle.atomic_table.specs.Seated.{TableId}
@@ -32,17 +32,24 @@ use Rattle.rom_store.specs.Callers.{Caller, IsNumberedCaller}
 use Rattle.rom_store.specs.Closing.{HasLeftSince, joined_of, kept_in}
 use Rattle.rom_store.specs.Held.{IsBehindLock, story_at}
 use Rattle.rom_store.specs.Indexed.{Indexed}
+use Rattle.rom_store.specs.Moments.{IsCommittedAt, LastsFor}
 use Rattle.rom_store.specs.Sessions.{EachStory, HasStory, SessionSeen}
 use Rattle.rom_store.specs.Start.{HasStarted, Start}
 use Rattle.rom_store.specs.Traced.{WentThrough}
-use Rattle.rom_store.proofs.Ending.{image_now, image_of_story, is_closed, is_kept, joined_at}
+use Rattle.rom_store.proofs.Ending.{all_by, image_now, image_of_story, is_certain, is_closed, is_kept, joined_at}
+use Rattle.rom_store.proofs.Lasting.{has_lasted}
+use Rattle.rom_store.proofs.Moments.{lasts_since}
 use Rattle.rom_store.proofs.Places.{map_at}
 use Rattle.rom_store.proofs.Stories.{each_story, has_story, session_of, story_of}
 use Rattle.rom_store.proofs.Tracing.{went_doubt}
 
 -- a session by its parts
-pub session_is : (base : Base) (p : Plan) (ph : Phase) (session : SessionSeen) → session.order ≡ base.order → session.image ≡ base.image → session.faults ≡ base.faults → session.history ≡ p.history → session.records ≡ records_of p → session.phase ≡ ph → session ≡ session_of base p ph
-session_is base p ph session order image faults history records phase = λ i. record { order = order i; image = image i; faults = faults i; history = history i; records = records i; phase = phase i }
+pub session_is : (base : Base) (p : Plan) (ph : Phase) (session : SessionSeen) → session.order ≡ base.order → session.image ≡ base.image → session.faults ≡ base.faults → session.history ≡ p.history → session.records ≡ records_of p → session.phase ≡ ph → session ≡ session_of base p ph session.callers
+session_is base p ph session order image faults history records phase = λ i. record { order = order i; image = image i; faults = faults i; history = history i; records = records i; phase = phase i; callers = session.callers }
+
+-- What the writer keeps of callers is what these keep, once it has taken them in and has looked at the records.
+pub joined_at_end : (x v v' w : View) (ps : List Caller) → v ≡ x → v' ≡ record v { joined = v.joined ++ joined_of ps; steps = v'.steps } → w ≡ planned v' (plan_of v') → x.joined ≡ [] → w.joined ≡ joined_of ps
+joined_at_end x v v' w ps same joined still alone = ap (λ (z : View). z.joined) still ∙ ap (λ (z : View). z.joined) joined ∙ ap (λ (z : List Kept). z ++ joined_of ps) (ap (λ (z : View). z.joined) same ∙ alone)
 
 module _ {S C Q R A D : Type 0} (m : Machine S C Q R A) (Contents : ℕ → List ℕ → S → ℕ → Type 0) (shown : ShownDevice D) where
   -- The published plan and the device, once the writer has taken in these callers and has looked at the records.
@@ -71,7 +78,7 @@ module _ {S C Q R A D : Type 0} (m : Machine S C Q R A) (Contents : ℕ → List
       let plan_held : plan_of w ≡ plan_of c.view = plan_is ∙ ap plan_of view_is in
       let base_is : v.base ≡ base = ap (λ (z : View). z.base) view_is ∙ held.base_is in
       let base_now : w.base ≡ base = ap (λ (z : View). z.base) still ∙ ap (λ (z : View). z.base) joined ∙ base_is in
-      let joined_is : w.joined ≡ joined_of ps = ap (λ (z : View). z.joined) still ∙ ap (λ (z : View). z.joined) joined ∙ ap (λ (z : List Kept). z ++ joined_of ps) (ap (λ (z : View). z.joined) view_is ∙ held.alone) in
+      let joined_is : w.joined ≡ joined_of ps = joined_at_end c.view v v' w ps view_is joined still held.alone in
       let opening : Contents base.order base.image rest.start rest.count = subst (λ (z : Base). Contents z.order z.image rest.start rest.count) base_is rest.opening in
       record {
         start = rest.start;
@@ -89,8 +96,8 @@ module _ {S C Q R A D : Type 0} (m : Machine S C Q R A) (Contents : ℕ → List
             (subst (λ (z : Base). Recorded (on_words m) z s k (book_in (plan_of w))) base_now x.0, subst (AllByRecursion (rule.IsKeptInBook k (book_in (plan_of w)))) joined_is x.1);
       }
 
-  module _ (base : Base) (p : Plan) (t : Seen D) (ps : List Caller) (e : Ended base p t ps) (session : SessionSeen) (is : session ≡ session_of base p t.phase) where
-    on_session : (P : Story S → Type 0) → EachStory m Contents (session_of base p t.phase) P → EachStory m Contents session P
+  module _ (base : Base) (p : Plan) (t : Seen D) (ps : List Caller) (e : Ended base p t ps) (session : SessionSeen) (is : session ≡ session_of base p t.phase session.callers) where
+    on_session : (P : Story S → Type 0) → EachStory m Contents (session_of base p t.phase session.callers) P → EachStory m Contents session P
     on_session P each = subst (λ (z : SessionSeen). EachStory m Contents z P) (sym is) each
 
     pub ended_story : HasStory m Contents session
@@ -108,6 +115,20 @@ module _ {S C Q R A D : Type 0} (m : Machine S C Q R A) (Contents : ℕ → List
         kept s k doubt op i q at numbered = let x = e.recorded s k op in let number = numbered.number in
             is_kept m Contents base p s k doubt (kept_in q) x.0 (joined_at (rule.IsKeptInBook k (book_in p)) ps i q at x.1)
             (joined_at (λ v. 0 < v.number → told_to_caller p.told v.number ≡ v.told) ps i q at e.told (omega (arith, number)))
+
+    ended_certain : session.callers ≡ joined_of ps → EachStory m Contents session (λ story. AllByRecursion (λ v. IsCommittedAt story v.moments (length v.seen)) session.callers)
+    ended_certain callers = subst (λ (vs : List Kept). EachStory m Contents session (λ story. AllByRecursion (λ v. IsCommittedAt story v.moments (length v.seen)) vs)) (sym callers)
+        (on_session (λ story. AllByRecursion (λ v. IsCommittedAt story v.moments (length v.seen)) (joined_of ps)) (each_story m Contents base p t.phase (λ story. AllByRecursion (λ v. IsCommittedAt story v.moments (length v.seen)) (joined_of ps))
+        (λ s k doubt op in_doubt. all_by (rule.IsKeptInBook k (book_in p)) (λ v. IsCommittedAt (story_of base p s k doubt) v.moments (length v.seen)) (joined_of ps) (λ v kept. is_certain m Contents base p s k doubt v (e.recorded s k op).0 kept) (e.recorded s k op).1)))
+
+    pub ended_lasts : session.callers ≡ joined_of ps → ((d : D) (i : List ℕ) → IsTrue shown.tells_images → shown.left_since d (shown.clock d) i → shown.leaves d i) → (First : D → Type 0) →
+        EachStory m Contents session (λ story. WentThrough shown Contents (on_words m) story First t.device) → EachStory m Contents session (λ story. AllByRecursion (LastsFor shown Contents (on_words m) story t.device) session.callers)
+    ended_lasts callers only_now First went story of =
+        let w = went story of in
+        all_by (λ v. IsCommittedAt story v.moments (length v.seen)) (LastsFor shown Contents (on_words m) story t.device) session.callers (λ v certain. record {
+          certain = certain;
+          lasts = λ told. lasts_since shown Contents (on_words m) story w.first t.device (has_lasted shown Contents (on_words m) story only_now t.device) w.passes told v.moments (length v.seen) certain;
+        }) (ended_certain callers story of)
 
     pub ended_now : IsTrue shown.tells_images → EachStory m Contents session (λ story. (i : List ℕ) → shown.leaves t.device i → ImageNow Contents (on_words m) story i)
     ended_now tells = on_session (λ story. (i : List ℕ) → shown.leaves t.device i → ImageNow Contents (on_words m) story i) (each_story m Contents base p t.phase (λ story. (i : List ℕ) → shown.leaves t.device i → ImageNow Contents (on_words m) story i)

@@ -28,6 +28,7 @@ module _ {S : Type 0} (Contents : ℕ → List ℕ → S → ℕ → Type 0) (ta
           from_one = omega arith;
           known = omega arith;
           first = first_of base i pass new.bare;
+          alone = ap (λ v. v.joined) new.bare;
           none = is.none;
           fits = subst (λ n. HasRoomFor call_words (script_of scripts n) results) at is.fits;
         };

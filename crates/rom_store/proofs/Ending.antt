@@ -30,12 +30,14 @@ use Rattle.rom_rule.specs.Views.{Told, book_in, kept_of, records_of}
 use Rattle.rom_rule.specs.declared.views.Base.{Base}
 use Rattle.rom_rule.specs.declared.views.Plan.{Plan}
 use Rattle.rom_rule.specs.declared.views.View.{View}
+use Rattle.rom_rule.proofs.Dated.{dated_long}
 use Rattle.rom_twin.specs.declared.phase.Phase.{Phase}
 use Rattle.rom_twin.specs.declared.phase.Phase.TheVariants as phase
 use Rattle.rom_store.specs.Callers.{Caller}
 use Rattle.rom_store.specs.Closing.{joined_of, kept_in}
 use Rattle.rom_store.specs.Held.{story_at}
 use Rattle.rom_store.specs.Indexed.{Indexed}
+use Rattle.rom_store.specs.Moments.{IsCommittedAt}
 use Rattle.rom_store.specs.Sessions.{IsDoubtOf}
 use Rattle.rom_store.proofs.Stories.{doubt_is, state_whole, story_of}
 
@@ -151,6 +153,19 @@ module _ {S C Q R A : Type 0} (m : Machine S C Q R A) (Contents : ℕ → List �
     fronts = all_by _ _ v.fronts is_front is.1;
     told = ap (λ (z : List Told). told_to_caller z v.number) (sym r.told) ∙ told;
   }
+
+  -- All that it has seen was committed at its moments.
+  pub is_certain : (v : Kept) → Recorded (on_words m) base s k (book_in p) → rule.IsKeptInBook k (book_in p) v → IsCommittedAt (story_of base p s k doubt) v.moments (length v.seen)
+  is_certain v r is =
+      let rs = records_of p in let x = is.2 in
+      record {
+        first = take x.0 rs;
+        rest = drop x.0 rs;
+        stands = sym (take-append-drop x.0 rs);
+        reaches = x.2;
+        moments_are = x.3;
+        one_each = dated_long Contents (on_words m) base s k (book_in p) r (length v.seen) v.moments x;
+      }
 
   -- Each image that a stop may leave now is one of the story now.
   pub image_now : (ph : Phase) → IsDoubtOf (on_words m) ph (story_of base p s k doubt) → (i : List ℕ) → ImageAt Contents (on_words m) base s k ph p i → ImageNow Contents (on_words m) (story_of base p s k doubt) i

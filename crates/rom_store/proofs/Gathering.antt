@@ -1,11 +1,12 @@
 -- From what each caller has, in the order of the scripts, to all callers.
-use Rattle.std.proofs.Common.{◌≡◌, ℕ, suc, ◌+◌, ◌-◌, ◌<◌, List, [], ◌∷◌, map, length, refl, sym, ap, ◌∙◌, subst, arith, Some, option_map, get_or}
+use Rattle.std.proofs.Common.{◌≡◌, ℕ, suc, ◌+◌, ◌-◌, ◌<◌, List, [], ◌∷◌, ◌++◌, map, length, refl, sym, ap, ◌∙◌, subst, arith, Some, option_map, get_or}
 use Rattle.std.specs.Prelude.{slice_get, unwrap_or}
 use Rattle.std.proofs.lemmas.Option.{slice_get_within, slice_get-map, slice_get-get_or}
 use Rattle.atomic_table.specs.Seated.{TableId}
 use Rattle.rom_model.specs.declared.line.Step.{Step}
 use Rattle.rom_model.specs.declared.line.LineResult.{LineResult}
 use Rattle.rom_model.specs.Machine.{Machine}
+use Rattle.rom_model.specs.declared.kept.Kept.{Kept}
 use Rattle.rom_model.specs.Story.{Story}
 use Rattle.rom_model.specs.Heard.{HasHeard}
 use Rattle.rom_model.specs.Leaving.{IsKept, HasLeft, HaveLeft}
@@ -13,7 +14,7 @@ use Rattle.rom_lines.specs.Replies.{Reserved}
 use Rattle.rom_rule.specs.declared.views.Base.{Base}
 use Rattle.rom_store.specs.Indexed.{Indexed, Both}
 use Rattle.rom_store.specs.Callers.{Caller, IsCallerOf, IsNumberedCaller}
-use Rattle.rom_store.specs.Closing.{kept_in}
+use Rattle.rom_store.specs.Closing.{joined_of, kept_in}
 use Rattle.rom_store.specs.Working.{IsNext, IsPast, HasDoneLines, script_of}
 
 module _ {S C Q R A : Type 0} (m : Machine S C Q R A) (Contents : ℕ → List ℕ → S → ℕ → Type 0) (table : TableId) (base : Base) (scripts : List (List (Step C Q))) where
@@ -58,3 +59,12 @@ module _ {S C Q R A : Type 0} (m : Machine S C Q R A) (Contents : ℕ → List �
       heard = subst (λ (z : ℕ × List (Step C Q)). HasHeard m z.0 story.opening story.opening_count (kept_in p) z.1 (told_by t)) (λ j. (sym order j, script_at i l there j)) ((done.at i p t here then).heard story.opening story.opening_count at);
       kept = kept.at i (kept_in p) (slice_get-map kept_in ps i ∙ ap (option_map kept_in) here);
     })
+
+-- what the writer takes in of callers who have learnt of nobody is what they keep
+pub joined_alone : {T : Type 0} (P : ℕ → Caller → T → Type 0) → ((i : ℕ) (p : Caller) (t : T) → P i p t → p.view.joined ≡ []) → (ps : List Caller) (ts : List T) → length ts ≡ length ps → Both P ps ts → joined_of ps ≡ map kept_in ps
+joined_alone P alone [] ts many all = refl
+joined_alone P alone (p ∷ ps) [] many all = absurd (omega arith)
+joined_alone P alone (p ∷ ps) (t ∷ ts) many all =
+    let none : p.view.joined ≡ [] = alone 0 p t (all.at 0 p t refl refl) in
+    let rest : joined_of ps ≡ map kept_in ps = joined_alone (λ i. P (suc i)) (λ i q u is. alone (suc i) q u is) ps ts (omega arith) (record { at = λ i q u here there. all.at (suc i) q u here there }) in
+    ap (λ (zs : List Kept). kept_in p ∷ zs ++ joined_of ps) none ∙ ap (λ (zs : List Kept). kept_in p ∷ zs) rest

@@ -169,7 +169,7 @@ module _ {S : Type 0} (Contents : ℕ → List ℕ → S → ℕ → Type 0) (st
   founds = map found_of x.scanned.requests
 
   abbrev mine : PassRecord
-  mine = record { found = founds; fate = fate_of r.outcome; faults_before = before; faults_after = now; len = length q.history }
+  mine = record { found = founds; fate = fate_of r.outcome; faults_before = before; faults_after = now; len = length q.history; committed = x.moment }
 
   -- the batch goes on where the history ends
   batch_now : (s : S) (k : ℕ) → Contents b.order b.image s k → x.more ≡ batch step b.order (after step b.order s k p.history) (k + length p.history) founds
@@ -306,9 +306,13 @@ module _ {S : Type 0} (Contents : ℕ → List ℕ → S → ℕ → Type 0) (st
   made_whole outcome.Failed e some i holds = let none : r.done ≡ 0 = x.done ∙ ap (λ (o : Outcome). length (published (fate_of o) x.more)) e in absurd (omega (arith, some, none))
   made_whole outcome.Doubt e some i holds = let none : r.done ≡ 0 = x.done ∙ ap (λ (o : Outcome). length (published (fate_of o) x.more)) e in absurd (omega (arith, some, none))
 
+  -- the last record has the moment of that device
+  abbrev HasLast : D → Type 0
+  HasLast mid = (rs : List PassRecord) (last : PassRecord) → records_of q ≡ rs ++ last ∷ [] → last.committed ≡ shown.clock mid
+
   -- the device at its commit
   abbrev Commits : Type 0
-  Commits = (mid : D) × SpendsAtMost shown (writes_before_commit t.phase b.order (region_len b.order) + 1) (syncs_before_commit t.phase + 1) t.device mid × (IsTrue shown.tells_images → IsCertainSince Contents step b s k shown p.history q.history t.device mid u.device)
+  Commits = (mid : D) × HasLast mid × SpendsAtMost shown (writes_before_commit t.phase b.order (region_len b.order) + 1) (syncs_before_commit t.phase + 1) t.device mid × (IsTrue shown.tells_images → IsCertainSince Contents step b s k shown p.history q.history t.device mid u.device)
 
   -- where it was certain, and what it made before and after that
   abbrev Split : Type 0
@@ -316,6 +320,7 @@ module _ {S : Type 0} (Contents : ℕ → List ℕ → S → ℕ → Type 0) (st
       × (IsTrue shown.tells_images → Runs shown (Becomes (HoldsAfter Contents step Story' (length q.history) [])) mid u.device)
       × (IsTrue shown.tells_images → len_after 0 (records_of p) < length q.history → (i : List ℕ) → shown.leaves mid i → HoldsAfter Contents step Story' (length q.history) [] i)
       × (len_after 0 (records_of p) < length q.history → SpendsAtMost shown (writes_before_commit t.phase b.order (region_len b.order) + 1) (syncs_before_commit t.phase + 1) t.device mid)
+      × (len_after 0 (records_of p) < length q.history → HasLast mid)
 
   split : len_after 0 (records_of p) ≡ length p.history → (0 < r.done → Commits)
       → (IsTrue shown.tells_images → Runs shown (Becomes (PassMakes Contents step b s k (fate_of r.outcome) p.history x.more)) t.device u.device) → (n : ℕ) → r.done ≡ n → Split
@@ -327,26 +332,28 @@ module _ {S : Type 0} (Contents : ℕ → List ℕ → S → ℕ → Type 0) (st
     λ told. runs_none shown (Becomes (HoldsAfter Contents step Story' (length q.history) [])) (λ i. inl refl) u.device,
     λ told grew. absurd (omega (arith, ends, grown, none, grew)),
     λ grew. absurd (omega (arith, ends, grown, none, grew)),
+    λ grew. absurd (omega (arith, ends, grown, none, grew)),
   )
   split ends certain runs (suc n) some =
       let c : Commits = certain (omega (arith, some)) in (
         c.0,
         λ told. becomes_by shown (λ i. HoldsHistory Contents step b s k p.history i ⊎ HoldsHistory Contents step b s k q.history i) (PassImage shown Contents step Story' (len_after 0 (records_of p)) Record) (λ i made. ⊎_elim
             (λ holds. inl (was_held ends i holds))
-            (λ holds. inr (made_whole r.outcome refl (omega (arith, some)) i holds)) made) t.device c.0 (c.2 told).until,
-        λ told. becomes_by shown (HoldsHistory Contents step b s k q.history) (HoldsAfter Contents step Story' (length q.history) []) (holds_whole Contents step b s k q) c.0 u.device (c.2 told).since,
-        λ told grew i left. holds_whole Contents step b s k q i ((c.2 told).certain i left),
+            (λ holds. inr (made_whole r.outcome refl (omega (arith, some)) i holds)) made) t.device c.0 (c.3 told).until,
+        λ told. becomes_by shown (HoldsHistory Contents step b s k q.history) (HoldsAfter Contents step Story' (length q.history) []) (holds_whole Contents step b s k q) c.0 u.device (c.3 told).since,
+        λ told grew i left. holds_whole Contents step b s k q i ((c.3 told).certain i left),
+        λ grew. c.2,
         λ grew. c.1,
       )
 
   -- The pass is one that the device went through.
-  pass_on : len_after 0 (records_of p) ≡ length p.history
+  pass_on : len_after 0 (records_of p) ≡ length p.history → records_of q ≡ records_of p ++ Record ∷ []
       → shown.reads u.device ≡ shown.reads t.device → BeginsIn shown t.phase b.order p.main t.device → (NeedsRepair t.phase → Rose b.faults (shown.faults t.device)) → SpendsAtMost shown (batch_writes t.phase b.order (region_len b.order)) (batch_syncs t.phase) t.device u.device
       → (r.outcome ≡ outcome.Failed → FailsEarly shown b.order p.main t u) → (r.outcome ≡ outcome.Doubt → FailsAtCommit shown t.phase b.order p.main t.device u.device)
       → (IsTrue shown.tells_images → Runs shown (Becomes (PassMakes Contents step b s k (fate_of r.outcome) p.history x.more)) t.device u.device)
       → (0 < r.done → Commits)
       → IsPassOn shown Contents step Story' (len_after 0 (records_of p)) Record t.device u.device
-  pass_on ends unread began needed most failed doubt runs certain =
+  pass_on ends records unread began needed most failed doubt runs certain =
       let parts : Split = split ends certain runs r.done refl in
       record {
         before = refl;
@@ -365,6 +372,7 @@ module _ {S : Type 0} (Contents : ℕ → List ℕ → S → ℕ → Type 0) (st
         since = parts.2;
         certain = parts.3;
         soon = parts.4;
+        dated = λ grew. parts.5 grew (records_of p) Record records;
       }
 
   -- So the device went through one pass more, or through none where no call was found.
@@ -394,7 +402,7 @@ module _ {S : Type 0} (Contents : ℕ → List ℕ → S → ℕ → Type 0) (st
       by (f ∷ fs) e =
           let records : records_of p ++ Record ∷ [] ≡ records_of q = sym (x.records ∙ ap (λ (l : List Found). records_of p ++ record_list l Record) e) in
           subst (λ (l : List PassRecord). ArePassesOn shown Contents step Story' 0 l was.first u.device) records
-          (passes_on shown Contents step Story' 0 (records_of p) Record was.first t.device u.device stayed (pass_on ends unread began needed most failed doubt runs certain))
+          (passes_on shown Contents step Story' 0 (records_of p) Record was.first t.device u.device stayed (pass_on ends (sym records) unread began needed most failed doubt runs certain))
 
 -- in `Clean` no repair is needed
 clean_needs_none : (ph : Phase) → ph ≡ phase.Clean → NeedsRepair ph → ⊥
@@ -410,7 +418,7 @@ module _ {S : Type 0} (Contents : ℕ → List ℕ → S → ℕ → Type 0) (st
       → d.view ≡ record c.view { plan = Some (plan_of d.view); steps = d.view.steps }
       → (x : IsPass Contents step c.view.base (plan_of c.view) (plan_of d.view) callers (shown.faults c.twin.device) (shown.faults d.twin.device) r)
       → (let b = c.view.base in IsTrue shown.tells_images → (s : S) (n : ℕ) → Contents b.order b.image s n → Runs shown (Becomes (PassMakes Contents step b s n (fate_of r.outcome) (plan_of c.view).history x.more)) c.twin.device d.twin.device)
-      → (let b = c.view.base in 0 < r.done → (mid : D) × SpendsAtMost shown (writes_before_commit c.twin.phase c.twin.order (region_len c.twin.order) + 1) (syncs_before_commit c.twin.phase + 1) c.twin.device mid × (IsTrue shown.tells_images → (s : S) (n : ℕ) → Contents b.order b.image s n → IsCertainSince Contents step b s n shown (plan_of c.view).history (plan_of d.view).history c.twin.device mid d.twin.device))
+      → (let b = c.view.base in 0 < r.done → (mid : D) × ((rs : List PassRecord) (last : PassRecord) → records_of (plan_of d.view) ≡ rs ++ last ∷ [] → last.committed ≡ shown.clock mid) × SpendsAtMost shown (writes_before_commit c.twin.phase c.twin.order (region_len c.twin.order) + 1) (syncs_before_commit c.twin.phase + 1) c.twin.device mid × (IsTrue shown.tells_images → (s : S) (n : ℕ) → Contents b.order b.image s n → IsCertainSince Contents step b s n shown (plan_of c.view).history (plan_of d.view).history c.twin.device mid d.twin.device))
       → (r.outcome ≡ outcome.Published → r.done ≡ 0 → d.twin ≡ c.twin) → (r.outcome ≡ outcome.Nothing → d.twin ≡ c.twin) → (0 < r.done → (d.twin.phase ≡ phase.Clean) ⊎ (d.twin.phase ≡ phase.Redo))
       → (r.outcome ≡ outcome.Failed → (d.twin.phase ≡ phase.Undo) ⊎ ((d.twin.phase ≡ c.twin.phase) × NeedsRepair c.twin.phase))
       → (let b = c.view.base in IsTrue shown.tells_images → (s : S) (n : ℕ) → Contents b.order b.image s n → (i : List ℕ) → shown.leaves d.twin.device i → ImageAt Contents step b s n d.twin.phase (plan_of d.view) i)
@@ -443,8 +451,9 @@ module _ {S : Type 0} (Contents : ℕ → List ℕ → S → ℕ → Type 0) (st
         (subst (λ (n : ℕ). SpendsAtMost shown (batch_writes c.twin.phase n (region_len n)) (batch_syncs c.twin.phase) c.twin.device d.twin.device) h.order_is most)
         (λ e. subst (λ (n : ℕ). FailsEarly shown n p.main c.twin d.twin) h.order_is (failed_by e))
         (λ e. subst (λ (n : ℕ). FailsAtCommit shown c.twin.phase n p.main c.twin.device d.twin.device) h.order_is (doubt_by e))
-        (λ told. runs told s k op) untouched (λ some. let (mid, spent_by, by) = certain some in (
+        (λ told. runs told s k op) untouched (λ some. let (mid, dated, spent_by, by) = certain some in (
           mid,
+          dated,
           subst (λ (n : ℕ). SpendsAtMost shown (writes_before_commit c.twin.phase n (region_len n) + 1) (syncs_before_commit c.twin.phase + 1) c.twin.device mid) h.order_is spent_by,
           λ told. by told s k op,
         )) (h.went s k op);

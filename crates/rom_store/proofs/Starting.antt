@@ -64,6 +64,7 @@ pub session_since : {D S C Q R A : Type 0} (shown : ShownDevice D) (machine : Ma
 session_since shown machine Contents scripts results First Second closed weaker of = record {
   story = of.story;
   lawful = of.lawful;
+  lasts = of.lasts;
   now = of.now;
   went = λ story is. let w = of.went story is in record { first = w.first; begun = weaker w.first w.begun; passes = w.passes };
   since = of.since;

@@ -5,6 +5,7 @@ use Rattle.rom_model.specs.History.{after, batch}
 use Rattle.rom_model.specs.Machine.{Machine, on_words}
 use Rattle.rom_model.specs.Story.{Story, IsInDoubt, state_at}
 use Rattle.rom_model.specs.declared.entry.Entry.{Entry}
+use Rattle.rom_model.specs.declared.kept.Kept.{Kept}
 use Rattle.rom_model.proofs.InDoubt.{one_in_doubt}
 use Rattle.rom_twin.specs.declared.phase.Phase.{Phase}
 use Rattle.rom_twin.specs.declared.phase.Phase.TheVariants as phase
@@ -16,8 +17,8 @@ use Rattle.rom_store.specs.Held.{story_at}
 use Rattle.rom_store.specs.Sessions.{EachStory, HasStory, IsDoubtOf, SessionSeen}
 
 -- the session of this base and this plan, in this phase
-abbrev pub session_of : Base → Plan → Phase → SessionSeen
-session_of base p ph = record { order = base.order; image = base.image; faults = base.faults; history = p.history; records = records_of p; phase = ph }
+abbrev pub session_of : Base → Plan → Phase → List Kept → SessionSeen
+session_of base p ph callers = record { order = base.order; image = base.image; faults = base.faults; history = p.history; records = records_of p; phase = ph; callers = callers }
 
 -- the story of that session from this state and count, with this batch in doubt
 abbrev pub story_of : {S : Type 0} → Base → Plan → S → ℕ → Option (List Entry) → Story S
@@ -31,8 +32,8 @@ state_whole step story len long =
 
 module _ {S C Q R A : Type 0} (m : Machine S C Q R A) (Contents : ℕ → List ℕ → S → ℕ → Type 0) (base : Base) (p : Plan) where
   -- what holds from each state and count at the opening holds of each story
-  pub each_story : (ph : Phase) (P : Story S → Type 0) → ((s : S) (k : ℕ) (doubt : Option (List Entry)) → Contents base.order base.image s k → IsDoubtOf (on_words m) ph (story_of base p s k doubt) → P (story_of base p s k doubt)) →
-      EachStory m Contents (session_of base p ph) P
+  pub each_story : {callers : List Kept} (ph : Phase) (P : Story S → Type 0) → ((s : S) (k : ℕ) (doubt : Option (List Entry)) → Contents base.order base.image s k → IsDoubtOf (on_words m) ph (story_of base p s k doubt) → P (story_of base p s k doubt)) →
+      EachStory m Contents (session_of base p ph callers) P
   each_story ph P each story is =
       let told : Story S = story_of base p story.opening story.opening_count story.in_doubt in
       let same : story ≡ told = λ i. record { order = is.order_is i; opening = story.opening; opening_count = story.opening_count; opening_faults = is.faults_is i; history = is.history i; records = is.records i; in_doubt = story.in_doubt } in
@@ -55,7 +56,7 @@ module _ {S C Q R A : Type 0} (m : Machine S C Q R A) (Contents : ℕ → List �
       }
 
   -- a session has a story, where in doubt there is a batch in doubt
-  pub has_story : (ph : Phase) (s : S) (k : ℕ) → Contents base.order base.image s k → (ph ≡ phase.Doubt → (d : List Entry) × Doubted Contents (on_words m) base s k p d) → HasStory m Contents (session_of base p ph)
+  pub has_story : {callers : List Kept} (ph : Phase) (s : S) (k : ℕ) → Contents base.order base.image s k → (ph ≡ phase.Doubt → (d : List Entry) × Doubted Contents (on_words m) base s k p d) → HasStory m Contents (session_of base p ph callers)
   has_story ph s k opening doubted = let doubt = some_doubt ph doubted in
       (story_of base p s k doubt.0, record { order_is = refl; opening = opening; faults_is = refl; history = refl; records = refl; in_doubt = doubt.1 })
     where

@@ -15,16 +15,16 @@ use Rattle.rom_model.specs.History.{IsLegal, LAST_COUNT, after, batch, batch_of,
 use Rattle.rom_model.specs.Lawful.{as_words}
 use Rattle.rom_model.specs.Machine.{Machine, on_words}
 use Rattle.rom_model.specs.Passes.{batch_told, fate_told, history_of, published}
-use Rattle.rom_model.specs.Seen.{next_call}
+use Rattle.rom_model.specs.Seen.{StartsWith, next_call}
 use Rattle.rom_model.proofs.Recorded.{history_legal, history_more}
 use Rattle.rom_rule.specs.CallKinds.{IsLast, IsToldByPass, longer}
 use Rattle.rom_rule.specs.Calls.{answer_words}
-use Rattle.rom_rule.specs.Records.{KnowsEntries}
+use Rattle.rom_rule.specs.Records.{KnowsEntries, KnowsMoments}
 use Rattle.rom_rule.specs.Views.{Told, kept_of}
 use Rattle.rom_rule.specs.declared.views.Base.{Base}
 use Rattle.rom_rule.specs.declared.views.View.{View}
 use Rattle.rom_rule.proofs.Told.{at_low}
-use Rattle.rom_store.specs.Callers.{Caller, IsCallerOf}
+use Rattle.rom_store.specs.Callers.{Caller, IsCallerOf, IsDatedBy}
 use Rattle.rom_store.specs.Updating.{HasBeenTold, HasUpdated, IsDoneIn}
 use Rattle.rom_store.proofs.Becoming.{IsReadBack, IsWithinPlaces, legal_few}
 
@@ -264,6 +264,16 @@ module _ {S C Q R A : Type 0} (m : Machine S C Q R A) (Contents : ℕ → List �
         let seen : w.seen ≡ new.seen = sym (ap (λ (z : View). z.seen) h.takes) in
         subst (λ (z : Base × Told × View × List Entry). IsToldByPass Contents (on_words m) z.0 z.1 z.2.since z.2.seen z.3) (λ i. (base i, told_is i, h.posts i, seen i)) h.told_of.is_told
 
+    -- and the caller's moments are those of what it has seen
+    pub told_dated : IsDatedBy Contents (on_words m) b old new
+    told_dated =
+        let base : v.base ≡ b = ap (λ (z : View). z.base) h.posts ∙ h.base_is in
+        let seen : w.seen ≡ new.seen = sym (ap (λ (z : View). z.seen) h.takes) in
+        let moments : w.moments ≡ new.moments = sym (ap (λ (z : View). z.moments) h.takes) in (
+          subst (λ (z : List ℕ × List ℕ). StartsWith z.1 z.0) (λ i. (ap (λ (z : View). z.moments) h.posts i, moments i)) h.told_of.moments_begin,
+          subst (λ (z : Base × List Entry × List ℕ). KnowsMoments Contents (on_words m) z.0 z.1 z.2) (λ i. (base i, seen i, moments i)) h.told_of.dated,
+        )
+
     -- and where it is done, what its caller has seen ends with the batch of that pass
     pub told_done : ((s t : S) (j k : ℕ) → Contents b.order b.image s j → Contents b.order b.image t k → (s ≡ t) × (j ≡ k)) → (s : S) (k : ℕ) → Contents b.order b.image s k → (reply : R) (place : ℕ) → u ≡ told.Done reply place
         → IsDoneIn (on_words m) b.order s k (next_call (kept_of old) args) (m.reply_words reply) place old.seen new.seen
@@ -277,8 +287,8 @@ module _ {S C Q R A : Type 0} (m : Machine S C Q R A) (Contents : ℕ → List �
         legal_few m few b.order once.start once.count new.seen (place - once.count) _ is.legal is.entry
 
     -- all of the view afterwards, by the one before
-    pub new_is : new ≡ record old { calls = old.calls ++ args ∷ []; laid = h.laid; since = length old.seen; outcomes = old.outcomes ++ told_call ∷ []; seen = w.seen; steps = h.more }
-    new_is = h.takes ∙ ((λ i. record (h.told_of.view i) { steps = h.more }) ∙ (λ i. record (h.posts i) { outcomes = (h.posts i).outcomes ++ told_is i ∷ []; seen = w.seen; steps = h.more }))
+    pub new_is : new ≡ record old { calls = old.calls ++ args ∷ []; laid = h.laid; since = length old.seen; outcomes = old.outcomes ++ told_call ∷ []; seen = w.seen; moments = w.moments; steps = h.more }
+    new_is = h.takes ∙ ((λ i. record (h.told_of.view i) { steps = h.more }) ∙ (λ i. record (h.posts i) { outcomes = (h.posts i).outcomes ++ told_is i ∷ []; seen = w.seen; moments = w.moments; steps = h.more }))
 
     -- and what it has seen is still known
     pub new_knows : (s : S) (k : ℕ) → Contents b.order b.image s k → KnowsEntries b.callers k new
@@ -304,6 +314,7 @@ module _ {S C Q R A : Type 0} (m : Machine S C Q R A) (Contents : ℕ → List �
         posted = λ _. ap (λ (z : View). z.calls) is;
         told = λ _. told_next b p.view v w q.view args u h;
         taken = λ _. once;
+        dated = λ _. told_dated b p.view v w q.view args u h;
         done = told_done b p.view v w q.view args u h (λ s t j k. one b.order b.image s t j k);
       }
 
@@ -319,5 +330,6 @@ module _ {S C Q R A : Type 0} (m : Machine S C Q R A) (Contents : ℕ → List �
     posted = λ few. absurd (omega (arith, many, few));
     told = λ few. absurd (omega (arith, many, few));
     taken = λ few. absurd (omega (arith, many, few));
+    dated = λ few. absurd (omega (arith, many, few));
     done = λ s k held reply place never. absurd (cc never);
   }

@@ -61,6 +61,7 @@ module _ {D S : Type 0} (shown : ShownDevice D) (Contents : ℕ → List ℕ →
             (λ i made. ⊎_elim (λ holds. inl (held_stays len of.reached.0 i holds)) (λ by. inr (made_stays r.fate r of.reached.1 i by)) made) was of.mid (of.images told);
         since = λ told. becomes_by shown (HoldsAfter Contents step x r.len []) (HoldsAfter Contents step On r.len []) (held_stays r.len of.reached.1) of.mid now (of.since told);
         soon = of.soon;
+        dated = of.dated;
         certain = λ told grew i left. held_stays r.len of.reached.1 i (of.certain told grew i left);
       }
 

@@ -1,10 +1,11 @@
 -- What contracts see of a caller: of its pass, and of what it reads between two calls of a reading.
 use Rattle.std.specs.Prelude.{◌≡◌, ℕ, ◌+◌, List, Option, IsTrue}
 use Rattle.atomic_table.specs.Seated.{TableId}
+use Rattle.rom_model.specs.Seen.{StartsWith}
 use Rattle.rom_lr.specs.Seats.{view}
 use Rattle.rom_lr.specs.declared.seats.Seat.{Seat}
 use Rattle.rom_rule.specs.Readers.{IsHeldSinceOpening}
-use Rattle.rom_rule.specs.Records.{KnowsEntries}
+use Rattle.rom_rule.specs.Records.{KnowsEntries, KnowsMoments}
 use Rattle.rom_rule.specs.Views.{fresh_view, front_of, image_of, is_reading}
 use Rattle.rom_rule.specs.declared.views.Base.{Base}
 use Rattle.rom_rule.specs.declared.views.View.{View}
@@ -43,6 +44,10 @@ module _ {S : Type 0} (Contents : ℕ → List ℕ → S → ℕ → Type 0) whe
     pub bare : p.view ≡ record (fresh_view base) { number = i + 1 }
 
   module _ (step : ℕ → S → ℕ → List ℕ → Option (S × List ℕ)) where
+    -- A caller that was p is now q: it knows the moments at which some passes that make what it has now seen were committed, one for each entry; and those that it knew stay as they were. The closing ties them to the session's passes.
+    abbrev pub IsDatedBy : Base → View → View → Type 0
+    IsDatedBy base p q = StartsWith q.moments p.moments × KnowsMoments Contents step base q.seen q.moments
+
     -- Such a caller reads one committed image, which stands for the state and the count after the history that it has seen; its front is that count.
     pub record IsReaderOf (table : TableId) (base : Base) (p : Caller) : Type 0 where
       pub of : IsCallerOf table base p

@@ -11,15 +11,15 @@ module _ {D S : Type 0} (shown : ShownDevice D) (Contents : ℕ → List ℕ →
   abbrev pub HoldsAtLeast : ℕ → List ℕ → Type 0
   HoldsAtLeast len i = ((at : AtBoundary Contents step story i) × (len ≤ at.len)) ⊎ ((at : AtDoubt Contents step story i) × (len ≤ at.pass.len))
 
-  -- At that device, or before it, the history was certain up to this length: so much is held by each image that a stop has left since.
-  pub record Lasts (len : ℕ) (at now : D) : Type 0 where
-    pub passed : shown.clock at ≤ shown.clock now
-    pub since : (i : List ℕ) → shown.left_since now (shown.clock at) i → HoldsAtLeast len i
+  -- By this moment the history was certain up to this length: so much is held by each image that a stop has left since.
+  pub record Lasts (len moment : ℕ) (now : D) : Type 0 where
+    pub passed : moment ≤ shown.clock now
+    pub since : (i : List ℕ) → shown.left_since now moment i → HoldsAtLeast len i
 
   -- So it is with each of these passes that added to the history, from its commit on, up to the last device.
   abbrev pub AreLasting : D → (len : ℕ) (rs : List PassRecord) (was now : D) → ArePassesOn shown Contents step story len rs was now → Type 0
   AreLasting last len [] was now same = Unit {0}
-  AreLasting last len (r ∷ rs) was now on = (len < r.len → Lasts r.len on.1.mid last) × AreLasting last r.len rs on.0 now on.2
+  AreLasting last len (r ∷ rs) was now on = (len < r.len → Lasts r.len (shown.clock on.1.mid) last) × AreLasting last r.len rs on.0 now on.2
 
   -- and with all passes of the story, from wherever and by whichever way the device went through them
   abbrev pub HasLasted : D → Type 0

@@ -1,13 +1,16 @@
 -- Scripts that are played on a heap: what they ask for, and what their session is.
 use Rattle.std.specs.Prelude.{◌≡◌, ℕ, ◌≤◌, List, [], All, IsTrue, Ok, Err, length, map, vec_capacity, vec_len}
 use Rattle.std.specs.Global.{Vec}
+use Rattle.std.specs.List.{AllByRecursion}
 use Rattle.atomic_table.specs.Seated.{TableId}
 use Rattle.rom_model.specs.History.{LAST_COUNT}
 use Rattle.rom_model.specs.Lawful.{IsLawful}
+use Rattle.rom_model.specs.Leaving.{HaveLeft}
 use Rattle.rom_model.specs.Machine.{Machine, on_words}
 use Rattle.rom_model.specs.Passes.{faults_after}
 use Rattle.rom_model.specs.Space.{ChangesOnly}
 use Rattle.rom_model.specs.Story.{Story}
+use Rattle.rom_model.specs.declared.kept.Kept.{Kept}
 use Rattle.rom_model.specs.declared.line.LineResult.{LineResult}
 use Rattle.rom_model.specs.declared.unfit.Unfit.{Unfit}
 use Rattle.rom_model.specs.declared.line.Step.{Step}
@@ -29,6 +32,7 @@ use Rattle.rom_rule.specs.declared.views.Base.{Base}
 use Rattle.rom_store.specs.Callers.{Caller, IsNewCaller}
 use Rattle.rom_store.specs.Closing.{ClosedSeen}
 use Rattle.rom_store.specs.Indexed.{Indexed}
+use Rattle.rom_store.specs.Moments.{LastsFor}
 use Rattle.rom_store.specs.Openings.{HasBeenRefused}
 use Rattle.rom_store.specs.Sessions.{EachStory, HasStory, IsStoryOf}
 use Rattle.rom_store.specs.Start.{HasStarted, device_start}
@@ -78,10 +82,16 @@ pub record HasMadeNone {D S : Type 0} (shown : ShownDevice D) (Contents : ℕ �
   pub within : WithinMaking shown order was now
 
 module _ {D S C Q R A : Type 0} (shown : ShownDevice D) (machine : Machine S C Q R A) (Contents : ℕ → List ℕ → S → ℕ → Type 0) (scripts : List (Items (Step C Q))) (results : List (Reserved (LineResult R A))) where
-  -- What every session of scripts is. It has a story, and of each: what the lines were told is lawful; each image that a stop leaves now holds the published history, or that with the batch in doubt; the device went through the passes of the records, from one on of which First holds, since which each image is one of the session; and the passes have no more faults than it counts.
+  -- What each of these callers keeps is what its lines were told, and what the session has of it. All that it has seen was committed at the moments that it knows, and each image that a stop has left since the moment of an entry holds the history up to this entry.
+  pub record IsForGood (callers : List Kept) (story : Story S) (now : D) : Type 0 where
+    pub left : HaveLeft machine story 1 callers (map (λ v. v.items) scripts) (map (λ v. v.items) results)
+    pub lasts : AllByRecursion (LastsFor shown Contents (on_words machine) story now) callers
+
+  -- What every session of scripts is. It has a story, and of each: what the lines were told is lawful, and is for good; each image that a stop leaves now holds the published history, or that with the batch in doubt; the device went through the passes of the records, from one on of which First holds, since which each image is one of the session; and the passes have no more faults than it counts.
   pub record IsSession (First : D → Type 0) (closed : ClosedSeen D) : Type 0 where
     pub story : HasStory machine Contents closed.session
     pub lawful : EachStory machine Contents closed.session (λ story. IsLawful machine story (map (λ v. v.items) scripts) (map (λ v. v.items) results))
+    pub lasts : EachStory machine Contents closed.session (λ story. IsForGood closed.session.callers story closed.device)
     pub now : IsTrue shown.tells_images → EachStory machine Contents closed.session (λ story. (i : List ℕ) → shown.leaves closed.device i → ImageNow Contents (on_words machine) story i)
     pub went : EachStory machine Contents closed.session (λ story. WentThrough shown Contents (on_words machine) story First closed.device)
     pub since : IsTrue shown.tells_images → (story : Story S) (is : IsStoryOf machine Contents closed.session story) → Leaves shown (SessionImage Contents (on_words machine) story) (went story is).first closed.device

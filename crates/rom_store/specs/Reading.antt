@@ -7,7 +7,7 @@ use Rattle.rom_model.specs.Seen.{StartsWith}
 use Rattle.rom_model.specs.declared.entry.Entry.{Entry}
 use Rattle.rom_rule.specs.declared.views.Base.{Base}
 use Rattle.rom_rule.specs.declared.views.View.{View}
-use Rattle.rom_store.specs.Callers.{Caller, IsCallerOf, IsSameCaller}
+use Rattle.rom_store.specs.Callers.{Caller, IsCallerOf, IsDatedBy, IsSameCaller}
 
 -- of what a caller knows only the number of its steps changes
 abbrev pub OnlySteps : View → View → Type 0
@@ -41,5 +41,7 @@ module _ {S C Q R A : Type 0} (m : Machine S C Q R A) (Contents : ℕ → List �
     pub answer : IsAnswer now.view.seen query told.0
     -- it keeps the front, behind those that it was told before
     pub fronts : now.view.fronts ≡ was.view.fronts ++ told.1 ∷ []
-    -- of what it knows only what it has seen, its fronts and the number of its steps change
-    pub still : now.view ≡ record was.view { seen = now.view.seen; fronts = now.view.fronts; steps = now.view.steps }
+    -- it knows the moments at which what it has now seen was committed, and those that it knew stay as they were
+    pub dated : IsDatedBy Contents (on_words m) base was.view now.view
+    -- of what it knows only what it has seen, its moments, its fronts and the number of its steps change
+    pub still : now.view ≡ record was.view { seen = now.view.seen; moments = now.view.moments; fronts = now.view.fronts; steps = now.view.steps }

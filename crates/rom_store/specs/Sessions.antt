@@ -3,13 +3,14 @@ use Rattle.std.specs.Prelude.{◌≡◌, ℕ, List, [], ◌∷◌, None, Option,
 use Rattle.rom_model.specs.Machine.{Machine, on_words}
 use Rattle.rom_model.specs.Story.{Story, IsInDoubt}
 use Rattle.rom_model.specs.declared.entry.Entry.{Entry}
+use Rattle.rom_model.specs.declared.kept.Kept.{Kept}
 use Rattle.rom_model.specs.declared.record.PassRecord.{PassRecord}
 use Rattle.rom_rule.specs.Views.{plan_of, records_of}
 use Rattle.rom_rule.specs.declared.views.View.{View}
 use Rattle.rom_twin.specs.declared.phase.Phase.{Phase}
 use Rattle.rom_twin.specs.declared.phase.Phase.TheVariants.{Clean, Doubt}
 
--- the heap's order, its words and its device's count of faults at the opening, the published history and the records of passes at the closing, and what the device needs then
+-- the heap's order, its words and its device's count of faults at the opening, the published history and the records of passes at the closing, what the device needs then, and what each caller kept, in the order of their numbers
 pub record SessionSeen : Type 0 where
   pub order : ℕ
   pub image : List ℕ
@@ -17,6 +18,7 @@ pub record SessionSeen : Type 0 where
   pub history : List Entry
   pub records : List PassRecord
   pub phase : Phase
+  pub callers : List Kept
 
 -- the history that the writer knew, which is empty where there was no writer
 abbrev pub history_in : List View → List Entry
@@ -28,9 +30,14 @@ abbrev pub records_in : List View → List PassRecord
 records_in [] = []
 records_in (v ∷ vs) = records_of (plan_of v)
 
+-- what the writer kept of callers once it had taken them in, which is nothing where there was no writer
+abbrev pub callers_in : List View → List Kept
+callers_in [] = []
+callers_in (v ∷ vs) = v.joined
+
 -- a session in which nothing was done
 abbrev pub unchanged : ℕ → List ℕ → ℕ → SessionSeen
-unchanged order image faults = record { order = order; image = image; faults = faults; history = []; records = []; phase = Clean }
+unchanged order image faults = record { order = order; image = image; faults = faults; history = []; records = []; phase = Clean; callers = [] }
 
 -- On a device in doubt a batch is in doubt, that of the last pass that was; on any other there is none.
 abbrev pub IsDoubtOf : {S : Type 0} → (ℕ → S → ℕ → List ℕ → Option (S × List ℕ)) → Phase → Story S → Type 0

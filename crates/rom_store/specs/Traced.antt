@@ -1,8 +1,9 @@
 -- The passes of a session, one after another, as its device went through them.
 -- Each record has the devices before and after its pass: by counts of faults alone, a fault could be told to
 -- the callers of another pass. A pass reads nothing and makes no more syncs than one batch and one repair, so
--- it can hold neither an opening nor two whole batches. No clause says at which moment a caller was told its
--- reply.
+-- it can hold neither an opening nor two whole batches. The record of a pass that added to the history has the
+-- moment of its commit. Who is told of that pass knows this moment by then (`IsDatedBy`). A body that
+-- is generic in the device cannot name a moment that is still to come: so each reply comes behind the commit.
 use Rattle.std.specs.Prelude.{◌≡◌, ◌⊎◌, ℕ, ◌+◌, ◌<◌, ◌≤◌, List, [], ◌∷◌, length, Option, IsTrue}
 use Rattle.rom_model.specs.Blocks.{region_len}
 use Rattle.rom_model.specs.Faults.{Rose}
@@ -56,6 +57,8 @@ module _ {D S : Type 0} (shown : ShownDevice D) (Contents : ℕ → List ℕ →
     pub mid : D
     pub images : IsTrue shown.tells_images → Runs shown (Becomes (PassImage len r)) was mid
     pub since : IsTrue shown.tells_images → Runs shown (Becomes (HoldsAfter Contents step story r.len [])) mid now
+    -- Of a pass that added to the history the record has that device's moment.
+    pub dated : len < r.len → r.committed ≡ shown.clock mid
     -- What it published is certain from then on: a stop leaves it.
     -- Replies go out between the commit and the copy.
     pub certain : IsTrue shown.tells_images → len < r.len → (i : List ℕ) → shown.leaves mid i → HoldsAfter Contents step story r.len [] i

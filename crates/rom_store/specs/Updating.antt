@@ -17,11 +17,11 @@ use Rattle.rom_lines.specs.declared.results.Undone.TheVariants as undone
 use Rattle.rom_lr.specs.Seats.{IsSameSeat, view}
 use Rattle.rom_lr.specs.declared.seats.Seat.{Seat}
 use Rattle.rom_rule.specs.CallKinds.{IsToldByPass}
-use Rattle.rom_rule.specs.Records.{KnowsEntries}
+use Rattle.rom_rule.specs.Records.{KnowsEntries, KnowsMoments}
 use Rattle.rom_rule.specs.Views.{Told, kept_of}
 use Rattle.rom_rule.specs.declared.views.Base.{Base}
 use Rattle.rom_rule.specs.declared.views.View.{View}
-use Rattle.rom_store.specs.Callers.{Caller, IsCallerOf, IsSameCaller}
+use Rattle.rom_store.specs.Callers.{Caller, IsCallerOf, IsDatedBy, IsSameCaller}
 use Rattle.rom_store.specs.Reading.{OnlySteps}
 
 -- what became of an update, and the word that it is told by: its place, which is none of the codes, or the code
@@ -31,13 +31,15 @@ Says (became.Undone undone.Spent) word = word ≡ SPENT
 Says (became.Undone undone.Failed) word = word ≡ FAILED
 Says (became.Undone undone.Doubt) word = word ≡ DOUBT
 
--- After some steps the caller was told what became of the call that it has posted, and nothing else of its view has changed but what it has seen.
+-- After some steps the caller was told what became of the call that it has posted, and nothing else of its view has changed but what it has seen, and its moments, which are those of what it has seen and begin with those that it knew.
 pub record HasBeenTold {S : Type 0} (Contents : ℕ → List ℕ → S → ℕ → Type 0) (step : ℕ → S → ℕ → List ℕ → Option (S × List ℕ)) (v w : View) : Type 0 where
   pub told : Told
   pub found : told.0 ≡ record { caller = v.number; seq = length v.outcomes; args = slice_index_or v.calls (length v.outcomes) [] }
   pub is_told : IsToldByPass Contents step v.base told v.since v.seen w.seen
   pub knows : (s : S) (k : ℕ) → Contents v.base.order v.base.image s k → KnowsEntries v.base.callers k w
-  pub view : w ≡ record v { outcomes = v.outcomes ++ told ∷ []; seen = w.seen; steps = w.steps }
+  pub view : w ≡ record v { outcomes = v.outcomes ++ told ∷ []; seen = w.seen; moments = w.moments; steps = w.steps }
+  pub moments_begin : StartsWith w.moments v.moments
+  pub dated : KnowsMoments Contents step v.base w.seen w.moments
 
 -- What a caller has seen once its update is done: a legal history, which ends with the batch of a pass that found the update and has the update's entry at its place, past all that the caller had seen before.
 pub record IsDoneIn {S : Type 0} (step : ℕ → S → ℕ → List ℕ → Option (S × List ℕ)) (order : ℕ) (s : S) (k : ℕ) (update : Found) (reply : List ℕ) (place : ℕ) (before seen : List Entry) : Type 0 where
@@ -72,6 +74,8 @@ pub record HasUpdated {S C Q R A : Type 0} (m : Machine S C Q R A) (Contents : �
   -- what one pass told of it, in whose record the device's counts of faults stand
   pub taken : length was.view.outcomes < LAST_COUNT →
       IsToldByPass Contents (on_words m) base (next_call (kept_of was.view) words, as_words m answer) (length was.view.seen) was.view.seen now.view.seen
+  -- then it knows the moments at which what it has seen was committed, the place of this call among it where it is done; and those that it knew stay as they were
+  pub dated : length was.view.outcomes < LAST_COUNT → IsDatedBy Contents (on_words m) base was.view now.view
   -- where it is done, the caller has seen a legal history that ends with the batch of that pass and has the update's entry at its place
   pub done : (s : S) (k : ℕ) → Contents base.order base.image s k → (reply : R) (place : ℕ) → answer ≡ updated.Done reply place →
       IsDoneIn (on_words m) base.order s k (next_call (kept_of was.view) words) (m.reply_words reply) place was.view.seen now.view.seen

@@ -23,12 +23,13 @@ pub record HasSeenNothing (v : Kept) : Type 0 where
   pub fronts : v.fronts ≡ []
   pub told : v.told ≡ []
 
--- A caller that has done nothing may take these lines: it may post a call for each, there is room for a result of each, and the opening image stands for some state and count.
+-- A caller that has done nothing, and has learnt of nobody, may take these lines: it may post a call for each, there is room for a result of each, and the opening image stands for some state and count.
 pub record MayTakeLines {S C Q T : Type 0} (Contents : ℕ → List ℕ → S → ℕ → Type 0) (call_words : C → List ℕ) (table : TableId) (base : Base) (lines : List (Step C Q)) (pass : Caller) (results : Reserved T) : Type 0 where
   pub of : IsCallerOf Contents table base pass
   pub opened : (s : S) × (k : ℕ) × Contents base.order base.image s k
   pub few : length lines ≤ LAST_COUNT
   pub first : HasSeenNothing (kept_in pass)
+  pub alone : pass.view.joined ≡ []
   pub none : results.items ≡ []
   pub fits : HasRoomFor call_words lines results
 
@@ -37,12 +38,13 @@ pub record HasReservedRoom {C Q T : Type 0} (call_words : C → List ℕ) (scrip
   pub none : results.items ≡ []
   pub fits : HasRoomFor call_words (script_of scripts (i + 1)) results
 
--- A pass and results are those of a caller that hasn't begun, and there is room for a result of each of its lines.
+-- A pass and results are those of a caller that hasn't begun and has learnt of nobody, and there is room for a result of each of its lines.
 pub record HasNotBegun {S C Q T : Type 0} (Contents : ℕ → List ℕ → S → ℕ → Type 0) (call_words : C → List ℕ) (table : TableId) (base : Base) (scripts : List (List (Step C Q))) (pass : Caller) (results : Reserved T) : Type 0 where
   pub of : IsCallerOf Contents table base pass
   pub from_one : 0 < pass.view.number
   pub known : pass.view.number ≤ length scripts
   pub first : HasSeenNothing (kept_in pass)
+  pub alone : pass.view.joined ≡ []
   pub none : results.items ≡ []
   pub fits : HasRoomFor call_words (script_of scripts pass.view.number) results
 
@@ -53,8 +55,9 @@ pub record IsNext {S C Q T : Type 0} (Contents : ℕ → List ℕ → S → ℕ 
 
 -- Of an object, and of a heap's order and image at opening:
 module _ {S C Q R A : Type 0} (m : Machine S C Q R A) (Contents : ℕ → List ℕ → S → ℕ → Type 0) (base : Base) where
-  -- what the caller of this pass was told of these lines is what it keeps
+  -- what the caller of this pass was told of these lines is what it keeps, and it has learnt of nobody
   pub record HasDoneLines (pass : Caller) (lines : List (Step C Q)) (results : List (LineResult R A)) : Type 0 where
+    pub alone : pass.view.joined ≡ []
     pub heard : (s : S) (k : ℕ) → Contents base.order base.image s k → HasHeard m base.order s k (kept_in pass) lines results
 
   -- The caller has taken these lines, and its results stand for them.

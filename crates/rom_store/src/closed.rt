@@ -26,7 +26,7 @@ pub struct Closed<D: Device, O: Object> {
 impl<D: Device, O: Object> Model for Closed<D, O> {
     ghost use Rattle.rom_model.specs.VecSpace.{words_of_space};
     ghost use Rattle.rom_model.specs.Machine.{on_words};
-    ghost use Rattle.rom_lr.specs.Seats.{plan};
+    ghost use Rattle.rom_lr.specs.Seats.{plan, writer_view};
     ghost use Rattle.rom_rule.specs.Views.{records_of};
     ghost use Rattle.rom_store.specs.Closing.{ClosedSeen, IsClosedStore};
 
@@ -41,6 +41,7 @@ impl<D: Device, O: Object> Model for Closed<D, O> {
         history = (plan c.seat).history;
         records = records_of (plan c.seat);
         phase = c.twin.phase;
+        callers = (writer_view c.seat).joined;
       };
     } };
 

@@ -1,10 +1,13 @@
 //! How a store is closed.
 ghost use Rattle.std.specs.Prelude.{◌≡◌, ◌++◌, length, map};
+ghost use Rattle.std.specs.List.{AllByRecursion};
 ghost use Rattle.rom_model.specs.Leaving.{IsClosed, IsKept};
+ghost use Rattle.rom_model.specs.Machine.{on_words};
 ghost use Rattle.rom_lr.specs.Seats.{IsSameWriter, IsWriterOf, opened_with, steps_of, writer_view};
 ghost use Rattle.rom_store.specs.Callers.{IsCallerOf, IsNumberedCaller};
 ghost use Rattle.rom_store.specs.Closing.{IsClosedFrom, joined_of, kept_in};
 ghost use Rattle.rom_store.specs.Indexed.{Indexed};
+ghost use Rattle.rom_store.specs.Moments.{LastsFor};
 ghost use Rattle.rom_store.specs.Sessions.{EachStory};
 
 use crate::closed::Closed;
@@ -44,10 +47,17 @@ impl<D: Device, O: Object, N: Label> Store<D, O, N> {
         // The history is the one that the records make, and they have no updates but those of the callers.
         ensures closed { EachStory O.machine O.Contents result.session (λ story.
             IsClosed O.machine story (length passes.items)) }
+        // The session has what each of these callers keeps, and what it had learnt of others.
+        ensures callers { result.session.callers ≡ joined_of passes.items }
         // Of each caller: what it has seen begins the history, each of its fronts is the count at the opening
         // or after a pass, and it was told of its updates what the records tell.
         ensures kept { EachStory O.machine O.Contents result.session (λ story.
             Indexed (λ _ v. IsKept O.machine story v) (map kept_in passes.items)) }
+        // All that a caller has seen was committed at the moments that it knows, and each image that a stop has
+        // left since the moment of an entry holds the history up to this entry.
+        ensures lasts { EachStory O.machine O.Contents result.session (λ story. AllByRecursion
+            (LastsFor D.shown O.Contents (on_words O.machine) story result.device)
+            result.session.callers) }
     {
         let Store {
             shared,

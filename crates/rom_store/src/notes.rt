@@ -1,8 +1,9 @@
 //! Notes, by which one caller tells another what it has seen.
-ghost use Rattle.std.specs.Prelude.{◌≡◌, ◌+◌};
+ghost use Rattle.std.specs.Prelude.{◌≡◌, ◌+◌, ◌≤◌};
+ghost use Rattle.rom_model.specs.Machine.{on_words};
 ghost use Rattle.rom_model.specs.Seen.{StartsWith};
 ghost use Rattle.rom_lr.specs.Seats.{noted};
-ghost use Rattle.rom_store.specs.Callers.{IsCallerOf, IsSameCaller};
+ghost use Rattle.rom_store.specs.Callers.{IsCallerOf, IsDatedBy, IsSameCaller};
 
 use crate::label::Label;
 use crate::pass::Pass;
@@ -19,8 +20,9 @@ impl<D: Device, O: Object, N: Label> Store<D, O, N> {
         ensures same { IsSameCaller pass.old pass.new }
         ensures still { pass.new.view ≡ record pass.old.view { steps = pass.new.view.steps } }
         ensures note { result.token.table_id ≡ N.table }
-        // The note has what the caller has seen.
+        // The note has what the caller has seen, and the moments of that.
         ensures seen { (noted result).seen ≡ pass.old.view.seen }
+        ensures moments { (noted result).moments ≡ pass.old.view.moments }
     {
         self.shared.note(&mut pass.seat)
     }
@@ -36,10 +38,16 @@ impl<D: Device, O: Object, N: Label> Store<D, O, N> {
         ensures later { StartsWith pass.new.view.seen pass.old.view.seen }
         // What the caller has now seen begins with all that the note's caller had seen, too.
         ensures learnt { StartsWith pass.new.view.seen (noted note).seen }
-        // Of what the caller knows only what it has seen, what it keeps of others and the number of its steps
-        // change.
+        // It knows the moments at which what it has now seen was committed, and those that it knew stay.
+        ensures dated { IsDatedBy O.Contents (on_words O.machine) N.base
+            pass.old.view pass.new.view }
+        // Those that the note's caller knew are among them.
+        ensures moments { StartsWith pass.new.view.moments (noted note).moments }
+        // Of what the caller knows only what it has seen, its moments, what it keeps of others and the number of
+        // its steps change.
         ensures still { pass.new.view ≡ record pass.old.view {
           seen = pass.new.view.seen;
+          moments = pass.new.view.moments;
           joined = pass.new.view.joined;
           steps = pass.new.view.steps;
         } }

@@ -10,7 +10,7 @@ ghost use Rattle.rom_lr.specs.Seats.{IsSameSeat, IsSeatOf, view};
 ghost use Rattle.rom_rule.specs.Readers.{IsHeldSinceOpening};
 ghost use Rattle.rom_rule.specs.Views.{front_of, image_of, is_reading};
 ghost use Rattle.rom_rule.specs.declared.views.Position.TheVariants.{Out};
-ghost use Rattle.rom_store.specs.Callers.{IsCallerOf, IsReaderOf, IsSameCaller};
+ghost use Rattle.rom_store.specs.Callers.{IsCallerOf, IsDatedBy, IsReaderOf, IsSameCaller};
 ghost use Rattle.rom_store.specs.Reading.{HasAnswered, HasCost, IsAnswer, OnlySteps};
 
 use crate::label::Label;
@@ -111,11 +111,14 @@ impl<D: Device, O: Object, N: Label> Store<D, O, N> {
         // The caller keeps the front, behind those that it was told before.
         ensures fronts { result.view.fronts
             ≡ pass.view.fronts ++ front_of result.view.position ∷ [] }
-        // Of what the caller knows only its position, what it has seen, its fronts and the number of its
-        // steps change.
+        // It knows the moments at which what it has now seen was committed, and those that it knew stay.
+        ensures dated { IsDatedBy O.Contents (on_words O.machine) N.base pass.view result.view }
+        // Of what the caller knows only its position, what it has seen, its moments, its fronts and the number
+        // of its steps change.
         ensures still { result.view ≡ record pass.view {
           position = result.view.position;
           seen = result.view.seen;
+          moments = result.view.moments;
           fronts = result.view.fronts;
           steps = pass.view.steps + 3;
         } }

@@ -3,7 +3,7 @@ ghost use Rattle.std.specs.Prelude.{◌≡◌, ℕ, List, map, IsTrue};
 ghost use Rattle.rom_model.specs.Lawful.{IsLawful};
 ghost use Rattle.rom_rule.specs.Views.{base_of};
 ghost use Rattle.rom_store.specs.Closing.{IsClosedFrom};
-ghost use Rattle.rom_store.specs.Playing.{CanPlay, IsPlayed};
+ghost use Rattle.rom_store.specs.Playing.{CanPlay, IsForGood, IsPlayed};
 ghost use Rattle.rom_store.specs.Sessions.{EachStory};
 ghost use Rattle.rom_store.specs.Start.{device_start};
 
@@ -52,6 +52,9 @@ where
     ensures lawful { EachStory O.machine O.Contents result.closed.session (λ story.
         IsLawful O.machine story (map (λ v. v.items) scripts.now)
         (map (λ v. v.items) result.results.items)) }
+    ensures lasts { EachStory O.machine O.Contents result.closed.session (λ story.
+        IsForGood D.shown O.machine O.Contents scripts.now result.results.items
+        result.closed.session.callers story result.closed.device) }
 {
     let Rooms {
         mut results,

@@ -1,7 +1,7 @@
 //! What a session was.
 ghost use Rattle.std.specs.Prelude.{◌≡◌};
 ghost use Rattle.rom_model.specs.VecSpace.{words_of_space};
-ghost use Rattle.rom_store.specs.Sessions.{history_in, records_in, unchanged};
+ghost use Rattle.rom_store.specs.Sessions.{callers_in, history_in, records_in, unchanged};
 
 use crate::begun::Begun;
 use atomic_table::Badge;
@@ -23,7 +23,7 @@ pub struct Session {
 
 impl Model for Session {
     ghost use Rattle.rom_model.specs.VecSpace.{words_of_space};
-    ghost use Rattle.rom_store.specs.Sessions.{SessionSeen, history_in, records_in};
+    ghost use Rattle.rom_store.specs.Sessions.{SessionSeen, callers_in, history_in, records_in};
 
     ghost Value = { SessionSeen };
 
@@ -34,6 +34,7 @@ impl Model for Session {
       history = history_in s.writer.views;
       records = records_in s.writer.views;
       phase = s.phase;
+      callers = callers_in s.writer.views;
     } };
 }
 
@@ -62,6 +63,7 @@ impl Session {
         ensures history { result.history ≡ history_in writer.views }
         ensures records { result.records ≡ records_in writer.views }
         ensures phase { result.phase ≡ phase }
+        ensures callers { result.callers ≡ callers_in writer.views }
     {
         Session {
             begun,

@@ -68,7 +68,7 @@ impl<D: Device, O: Object, N: Label> Store<D, O, N> {
         gate: &G,
     ) -> Updated<O::Reply>
         requires of { IsCallerOf O.Contents N.table N.base pass.old }
-        // This became of a call with the words of the call, and this the caller has then seen and keeps.
+        // What became of a call with these words, and what the caller has then seen and keeps.
         ensures { HasUpdated O.machine O.Contents N.table N.base (O.machine.call_words call.now)
             result pass.old pass.new }
     {
@@ -93,7 +93,7 @@ impl<D: Device, O: Object, N: Label> Store<D, O, N> {
         requires of { IsCallerOf O.Contents N.table N.base pass.old }
         requires call { IsSome (O.machine.words_call words.now) }
         requires few { length words.now ≤ CALL_WORDS }
-        // So of a call with these words; the reply is read from the words that are left.
+        // The same of a call with these words, where the reply is read from the words that are left.
         ensures updated { HasUpdated O.machine O.Contents N.table N.base words.now
             (updated_as O.machine.words_reply result told.new) pass.old pass.new }
         // The words that are left are those of a reply, where it is done.

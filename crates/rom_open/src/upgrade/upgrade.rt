@@ -67,8 +67,7 @@ pub fn upgrade_device<D: Device, O: Renew>(alloc: Global, device: D) -> Result<(
     // The size stays. Where the device tells its words, none differs but the state and the two regions.
     ensures within { Alters D.shown WithinNamed device (upgraded_device result) }
 
-    // After each refusal but `Device`, of the device became what becomes of it at an opening that is refused
-    // so.
+    // After each refusal but `Device`, the device was left as an opening leaves it that is refused so.
     ensures opens { IfErr result (λ refused.
         refused.why ≢ Why.Device → Opens D.shown device refused.device (Err refused.why)) }
 

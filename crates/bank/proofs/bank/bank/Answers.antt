@@ -1,6 +1,8 @@
 use Rattle.std.proofs.Common.{◌≡◌, ℕ, ◌+◌, List, [], ◌∷◌, map, ap, sym, subst, ◌∙◌, refl, length, Some, arith}
 use Rattle.std.specs.Prelude.{slice_get}
+use Rattle.std.specs.List.{AllByRecursion}
 use Rattle.rom_model.specs.Leaving.{IsClosed, IsKept}
+use Rattle.rom_model.specs.Machine.{on_words}
 use Rattle.rom_model.specs.Region.{Contents}
 use Rattle.rom_model.specs.State.{State}
 use Rattle.rom_model.specs.Story.{Story}
@@ -8,8 +10,9 @@ use Rattle.rom_model.specs.Trio.{trio}
 use Rattle.rom_model.specs.declared.entry.Entry.{Entry}
 use Rattle.rom_rule.specs.declared.views.View.{View}
 use Rattle.rom_store.specs.Callers.{Caller, IsCallerOf, IsNewCaller, IsNumberedCaller}
-use Rattle.rom_store.specs.Closing.{ClosedSeen, kept_in}
+use Rattle.rom_store.specs.Closing.{ClosedSeen, joined_of, kept_in}
 use Rattle.rom_store.specs.Indexed.{Indexed}
+use Rattle.rom_store.specs.Moments.{LastsFor}
 use Rattle.rom_store.specs.Sessions.{EachStory, HasStory, SessionSeen}
 use Rattle.bank.specs.Promise.{IsTallyOf, KeepsTotal, total_after}
 use Rattle.bank.specs.Tellers.{IsTeller}
@@ -155,6 +158,7 @@ ended g c =
       image = closed.ended.image;
       closed = λ story is. subst (λ (zs : List Caller). IsClosed trio story (length zs)) all (closed.closed story is);
       kept = λ story is. subst (λ (zs : List Caller). Indexed (λ _ v. IsKept trio story v) (map kept_in zs)) all (closed.kept story is);
+      callers = closed.callers ∙ ap joined_of all;
       manager = (c.note-4.ensures.of, last, knows);
       one = (is0, number0);
       two = (is1, number1);
@@ -175,7 +179,8 @@ returns g c =
       story = subst (λ (z : SessionSeen). HasStory trio Contents z) same c.close-closed.ensures.ended.story;
       closed = each (λ story. IsClosed trio story 5) e.closed;
       balanced = each (KeepsTotal put_in) (balance table base session put_in seen m a b c' d e);
-      tallies = each (λ story. Indexed (λ i tally. IsTallyOf story (i + 1) tally) (a.tally ∷ b.tally ∷ c'.tally ∷ d.tally ∷ [])) (tallies table base session put_in seen m a b c' d e);
+      tallies = subst (λ (z : SessionSeen). EachStory trio Contents z (λ story. Indexed (λ i tally. IsTallyOf story z.callers (i + 1) tally) (a.tally ∷ b.tally ∷ c'.tally ∷ d.tally ∷ []))) same (tallies table base session put_in seen m a b c' d e);
+      told_lasts = subst (λ (z : ClosedSeen g.row.D.Denot). EachStory trio Contents z.session (λ story. AllByRecursion (LastsFor g.D.Device.shown Contents (on_words trio) story z.device) z.session.callers)) (sym c.ask.ensures.still) c.close-closed.ensures.lasts;
       reads = all_reads table base session put_in seen m a b c' d e some of;
       total = each (λ story. c.total_in.result ≡ total_after story.order story.opening story.opening_count story.history)
           (λ story is. told_total table base session put_in seen m a b c' d e story is c.ask.result c.total_in.result c.ask.ensures.told c.total_in.ensures);

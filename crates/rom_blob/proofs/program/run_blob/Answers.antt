@@ -6,7 +6,7 @@ use Rattle.rom_blob.proofs.program.run_blob.Goals as goal
 pub returns-clause-crowded : goal.returns-clause-crowded
 returns-clause-crowded g c =
     let p = c.run_plain.ensures.promise.ended in
-    sessions_crowded g.D.Device.shown c.args.device c.run_plain.result.device _ (λ story has. has.answered.lawful.legal) (plain_use (plain_command c.args.words.now)) c.run_plain.result.status c.run_plain.result.session p.story p.not_run
+    sessions_crowded g.D.Device.shown c.args.device c.run_plain.result.device _ (λ callers story has. has.answered.lawful.legal) (plain_use (plain_command c.args.words.now)) c.run_plain.result.status c.run_plain.result.session p.story p.not_run
 
 pub returns-clause-determined : goal.returns-clause-determined
 returns-clause-determined g c = text_determines

@@ -105,7 +105,7 @@ since_committed g u {v₁} {v₂} {v₃} {found} {items} it f t t₁ t₂ place 
     list_committed g.O.Object.Contents (on_words g.O.Object.machine) b s n g.D.Device.shown f t₂.phase p.history (batch_found g.O.Object.Contents (on_words g.O.Object.machine) b s n p) t.order p.main m₂ t.device t₁.device t₂.device order_is may here done one two
 
 -- how the plan stands at the three ends behind the commit, and the device's phase at two of them
-took_ok : (g : Over) (c : goal.After-switch g) → Taken g c.args.seat.now.token.me.0 c.begin_on.new.seat.token.me.0 c.apply_all.new.seat.token.me.0 c.commit_on.new.seat.token.me.0 c.args.found.now c.apply_all.new.answers.items
+took_ok : (g : Over) (c : goal.After-send_to_main g) → Taken g c.args.seat.now.token.me.0 c.begin_on.new.seat.token.me.0 c.apply_all.new.seat.token.me.0 c.commit_on.new.seat.token.me.0 c.args.found.now c.apply_all.new.answers.items
 took_ok g c = taken g c.args.seat.now.token.me.0 c.begin_on.new.seat.token.me.0 c.apply_all.new.seat.token.me.0 c.commit_on.new.seat.token.me.0 c.args.found.now c.apply_all.new.answers.items c.begin_on.ensures.same.2 c.apply_all.ensures.kept.2 c.commit_on.ensures.same.2 c.requires.found c.apply_all.ensures.applied
 
 took_doubt : (g : Over) (c : goal.After-refuse-then-eq g) → Taken g c.args.seat.now.token.me.0 c.begin_on.new.seat.token.me.0 c.apply_all.new.seat.token.me.0 c.commit_on.new.seat.token.me.0 c.args.found.now c.apply_all.new.answers.items
@@ -156,8 +156,8 @@ apply_all-requires-clause-fresh g c = let u : View = c.args.seat.now.token.me.0 
     let v₁ : View = c.begin_on.new.seat.token.me.0 in let one : plan_of v₁ ≡ p = ap plan_of c.begin_on.ensures.same.2 in let base₁ : v₁.base ≡ b = ap (λ (z : View). z.base) c.begin_on.ensures.same.2 in
     subst (λ (z : Base × Plan). Each (λ _ f. IsUnanswered (IsCall (on_words g.O.Object.machine) z.0) f) z.1.requests) (λ j. (sym base₁ j, sym one j)) c.requires.ready.fresh
 
-pub switch-requires-clause-can : goal.switch-requires-clause-can
-switch-requires-clause-can g c = let u : View = c.args.seat.now.token.me.0 in let b : Base = u.base in let p : Plan = plan_of u in let h = c.requires.ready.held in
+pub send_to_main-requires-clause-can : goal.send_to_main-requires-clause-can
+send_to_main-requires-clause-can g c = let u : View = c.args.seat.now.token.me.0 in let b : Base = u.base in let p : Plan = plan_of u in let h = c.requires.ready.held in
     let m₂ : List ℕ = (plan_of c.apply_all.new.seat.token.me.0).main in
     let it = taken g u c.begin_on.new.seat.token.me.0 c.apply_all.new.seat.token.me.0 c.commit_on.new.seat.token.me.0 c.args.found.now c.apply_all.new.answers.items c.begin_on.ensures.same.2 c.apply_all.ensures.kept.2 c.commit_on.ensures.same.2 c.requires.found c.apply_all.ensures.applied in
     let now : ℕ = g.D.Device.shown.faults c.commit_on.new.twin.device in
@@ -168,11 +168,11 @@ pub returns-then-is_ok-clause-left : goal.returns-then-is_ok-clause-left
 returns-then-is_ok-clause-left g c = let u : View = c.args.seat.now.token.me.0 in let b : Base = u.base in let p : Plan = plan_of u in let h = c.requires.ready.held in
     let m₂ : List ℕ = (plan_of c.apply_all.new.seat.token.me.0).main in
     let it = took_ok g c in
-    let now : ℕ = g.D.Device.shown.faults c.commit_on.new.twin.device in let now_is : c.fault_count-now.result ≡ now = c.fault_count-now.ensures in let sw = c.switch.ensures.switched in let v₄ : View = c.switch.new.seat.token.me.0 in
+    let now : ℕ = g.D.Device.shown.faults c.commit_on.new.twin.device in let moment : ℕ = g.D.Device.shown.clock c.commit_on.new.twin.device in let now_is : c.fault_count-now.result ≡ now = c.fault_count-now.ensures in let sw = c.send_to_main.ensures.switched in let v₄ : View = c.send_to_main.new.seat.token.me.0 in
     let same = g.met.O.Object.one_contents b.order b.image h.0 it.start h.1 it.count h.2 it.opened in let counts = same.1 in let place = h.4 in let below = c.requires.ready.below in
-    let four : plan_of v₄ ≡ switched 0 (making fate.Published c.args.before now sw.0 sw.1 (record p { main = m₂ })) = ap plan_of sw.4.2 ∙ (λ j. switched 0 (making fate.Published c.args.before (now_is j) sw.0 sw.1 (it.three j))) in
+    let four : plan_of v₄ ≡ switched 0 (making fate.Published c.args.before now moment sw.0 sw.1 (record p { main = m₂ })) = ap plan_of sw.4.2 ∙ (λ j. switched 0 (making fate.Published c.args.before (now_is j) moment sw.0 sw.1 (it.three j))) in
     subst (λ (z : Plan). HasGiven g.O.Object.Contents (on_words g.O.Object.machine) b fate.Published c.args.before now z 0 c.apply_all.new.answers.items) (sym four)
-    (is_left g.O.Object.Contents (on_words g.O.Object.machine) b it.start it.count p m₂ (length c.args.found.now) c.args.before now sw.0 sw.1 c.apply_all.new.answers.items it.long it.opened c.requires.ready.rising c.requires.ready.fresh it.applied
+    (is_left g.O.Object.Contents (on_words g.O.Object.machine) b it.start it.count p m₂ (length c.args.found.now) c.args.before now moment sw.0 sw.1 c.apply_all.new.answers.items it.long it.opened c.requires.ready.rising c.requires.ready.fresh it.applied
     (batch_fits (on_words g.O.Object.machine) b.order (after (on_words g.O.Object.machine) b.order it.start it.count p.history) (it.count + length p.history) (take (length c.args.found.now) (map found_of p.requests)) (omega (arith, counts, place, below)))
     (subst (λ (z : Base × Plan). IsBatch g.O.Object.Contents (on_words g.O.Object.machine) z.0 z.1 sw.0 sw.1) (λ j. (it.base₃ j, it.three j)) sw.2) (subst (TellsEach fate.Published sw.0 sw.1) it.three sw.3))
 
@@ -247,8 +247,8 @@ pub returns-then-is_ok-clause-calls : goal.returns-then-is_ok-clause-calls
 returns-then-is_ok-clause-calls g c = let u : View = c.args.seat.now.token.me.0 in let p : Plan = plan_of u in let v₁ : View = c.begin_on.new.seat.token.me.0 in let one : plan_of v₁ ≡ p = ap plan_of c.begin_on.ensures.same.2 in
     let v₂ : View = c.apply_all.new.seat.token.me.0 in let m₂ : List ℕ = (plan_of v₂).main in let kept = c.apply_all.ensures.kept in let v₃ : View = c.commit_on.new.seat.token.me.0 in
     let two : plan_of v₂ ≡ record p { main = m₂ } = ap plan_of kept.2 ∙ ap (λ (z : Plan). record z { main = m₂ }) one in let three : plan_of v₃ ≡ record p { main = m₂ } = ap plan_of c.commit_on.ensures.same.2 ∙ two in
-    let now : ℕ = g.D.Device.shown.faults c.commit_on.new.twin.device in let now_is : c.fault_count-now.result ≡ now = c.fault_count-now.ensures in let sw = c.switch.ensures.switched in let v₄ : View = c.switch.new.seat.token.me.0 in
-    let four : plan_of v₄ ≡ switched 0 (making fate.Published c.args.before now sw.0 sw.1 (record p { main = m₂ })) = ap plan_of sw.4.2 ∙ (λ j. switched 0 (making fate.Published c.args.before (now_is j) sw.0 sw.1 (three j))) in
+    let now : ℕ = g.D.Device.shown.faults c.commit_on.new.twin.device in let moment : ℕ = g.D.Device.shown.clock c.commit_on.new.twin.device in let now_is : c.fault_count-now.result ≡ now = c.fault_count-now.ensures in let sw = c.send_to_main.ensures.switched in let v₄ : View = c.send_to_main.new.seat.token.me.0 in
+    let four : plan_of v₄ ≡ switched 0 (making fate.Published c.args.before now moment sw.0 sw.1 (record p { main = m₂ })) = ap plan_of sw.4.2 ∙ (λ j. switched 0 (making fate.Published c.args.before (now_is j) moment sw.0 sw.1 (three j))) in
     (ap (λ (z : Plan). z.scanned) four, ap (λ (z : Plan). map found_of z.requests) four)
 
 -- and at it
@@ -304,10 +304,10 @@ returns-then-is_ok-clause-published g c is =
     let step : ℕ → g.O.Object.State → ℕ → List ℕ → Option (g.O.Object.State × List ℕ) = on_words g.O.Object.machine in let weight : List ℕ → ℕ = weight_on_words g.O.Object.machine in
     let m₂ : List ℕ = (plan_of c.apply_all.new.seat.token.me.0).main in let calls : List (List ℕ) = map (λ (one : Posted). one.args) c.args.found.now in
     let it = took_ok g c in
-    let sw = c.switch.ensures.switched in let v₄ : View = c.switch.new.seat.token.me.0 in
-    let now_is : c.fault_count-now.result ≡ g.D.Device.shown.faults c.commit_on.new.twin.device = c.fault_count-now.ensures in
-    let plan_is : plan_of v₄ ≡ switched 0 (making fate.Published c.args.before (g.D.Device.shown.faults c.commit_on.new.twin.device) sw.0 sw.1 (record p { main = m₂ }))
-    = ap plan_of sw.4.2 ∙ (λ j. switched 0 (making fate.Published c.args.before (now_is j) sw.0 sw.1 (it.three j))) in
+    let sw = c.send_to_main.ensures.switched in let v₄ : View = c.send_to_main.new.seat.token.me.0 in
+    let moment : ℕ = g.D.Device.shown.clock c.commit_on.new.twin.device in let now_is : c.fault_count-now.result ≡ g.D.Device.shown.faults c.commit_on.new.twin.device = c.fault_count-now.ensures in
+    let plan_is : plan_of v₄ ≡ switched 0 (making fate.Published c.args.before (g.D.Device.shown.faults c.commit_on.new.twin.device) moment sw.0 sw.1 (record p { main = m₂ }))
+    = ap plan_of sw.4.2 ∙ (λ j. switched 0 (making fate.Published c.args.before (now_is j) moment sw.0 sw.1 (it.three j))) in
     let four : (plan_of v₄).history ≡ p.history ++ sw.1 = ap (λ (z : Plan). z.history) plan_is in
     let one = g.met.O.Object.one_contents b.order b.image h.0 it.start h.1 it.count h.2 it.opened in let counts = one.1 in let place = h.4 in
     let batch_is : IsBatch g.O.Object.Contents step b p sw.0 sw.1 = subst (λ (z : Base × Plan). IsBatch g.O.Object.Contents step z.0 z.1 sw.0 sw.1) (λ j. (it.base₃ j, it.three j)) sw.2 in
@@ -331,6 +331,7 @@ returns-then-is_ok-clause-published g c is =
       published = record {
         front = sw.0;
         more = sw.1;
+        moment = moment;
         batch = batch_is;
         history = four;
         records = ap (λ (z : Plan). z.records) plan_is;
@@ -340,6 +341,7 @@ returns-then-is_ok-clause-published g c is =
         passes = ap (λ (z : Plan). z.passes) plan_is;
         dealt = ap (λ (z : Plan). z.dealt) plan_is;
       };
+      dated = refl;
       held = (it.start, it.count, it.opened, subst (λ (z : List ℕ × List Entry). Held g.O.Object.Contents step b it.start it.count z.0 z.1) (λ j. (sym main_is j, sym history_is j)) done);
       logged = search rules;
       few = subst (λ (n : ℕ). held_count c.apply_all.new.log.ranges ≤ g.O.Object.STORES * n) (sym sum) (omega (arith, held, c.apply_all.ensures.few));
@@ -432,7 +434,7 @@ pub returns-then-is_ok-clause-same : goal.returns-then-is_ok-clause-same
 returns-then-is_ok-clause-same g c =
     let s = c.args.seat.now in let s₁ = c.begin_on.new.seat in let s₂ = c.apply_all.new.seat in let s₃ = c.commit_on.new.seat in
     let three = seat_then s s₁ s₃ (seat_by s s₁ _ c.begin_on.ensures.same) (seat_then s₁ s₂ s₃ (seat_by s₁ s₂ _ c.apply_all.ensures.kept) (seat_by s₂ s₃ _ c.commit_on.ensures.same)) in
-    seat_then s s₃ c.switch.new.seat three (seat_by s₃ c.switch.new.seat _ c.switch.ensures.switched.4)
+    seat_then s s₃ c.send_to_main.new.seat three (seat_by s₃ c.send_to_main.new.seat _ c.send_to_main.ensures.switched.4)
 
 pub returns-then-is_ok-clause-order : goal.returns-then-is_ok-clause-order
 returns-then-is_ok-clause-order g c = c.commit_on.ensures.kept.order ∙ c.begin_on.ensures.kept.order

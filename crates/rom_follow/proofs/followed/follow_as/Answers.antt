@@ -24,6 +24,7 @@ returns-clause-taken g c =
       taken = c.take_all.ensures.taken;
       history = c.close.ensures.history;
       passes = c.close.ensures.passes;
+      kept = c.close.ensures.kept;
     }
 
 pub returns-clause-follows : goal.returns-clause-follows

@@ -6,9 +6,16 @@ use Rattle.rom_model.specs.Machine.{on_words}
 use Rattle.rom_model.specs.Region.{Contents}
 use Rattle.rom_model.specs.Trio.{trio}
 use Rattle.rom_rule.specs.CallKinds.{IsToldByPass}
-use Rattle.rom_follow.specs.Alone.{IsAlone}
 use Rattle.rom_follow.proofs.Alone.{outcome_is}
 use Rattle.rom_follow.proofs.update.update_alone.Goals as goal
+
+pub returns-clause-alone : goal.returns-clause-alone
+returns-clause-alone g c = record {
+  one = c.requires.alone.one;
+  formed = c.requires.alone.formed;
+  numbered = record { of = c.update.ensures.of; number = c.update.ensures.same.2 ∙ c.requires.alone.numbered.number };
+  nobody = c.update.ensures.joined ∙ c.requires.alone.nobody;
+}
 
 pub returns-clause-told : goal.returns-clause-told
 returns-clause-told g c few =
@@ -18,9 +25,4 @@ returns-clause-told g c few =
 
 pub returns-clause-outcome : goal.returns-clause-outcome
 returns-clause-outcome g c few s k held =
-    let alone : IsAlone g.N.Label.table g.N.Label.base c.update.new.pass = record {
-      one = c.requires.alone.one;
-      formed = c.requires.alone.formed;
-      numbered = record { of = c.update.ensures.of; number = c.update.ensures.same.2 ∙ c.requires.alone.numbered.number };
-    } in
-    outcome_is laws.one_contents-law g.N.Label.table g.N.Label.base c.args.pass.now c.update.new.pass c.args.call.now c.update.result s k c.requires.alone alone held (search rules) (returns-clause-told g c few) (λ reply place is. (c.update.ensures.done s k held reply place is).legal)
+    outcome_is laws.one_contents-law g.N.Label.table g.N.Label.base c.args.pass.now c.update.new.pass c.args.call.now c.update.result s k c.requires.alone (returns-clause-alone g c) held (search rules) (returns-clause-told g c few) (λ reply place is. (c.update.ensures.done s k held reply place is).legal)

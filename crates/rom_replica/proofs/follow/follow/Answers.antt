@@ -31,10 +31,10 @@ returns-in-Ok-clause-story g c =
     let left_is : scripts ≡ left = ap (λ v. v.items) ended.inputs ∙ with_items_is c.args.inputs left (c.follow_only.ensures.many ∙ c.deref_mut.ensures.len) in
     rw (ended.session, ended.device)
     (told_by g.D.Device.shown c.args.device f.closed.device f.closed.session
-    (λ story. OfOne inputs left (λ was now. IsStreamFollowed source was now f.tally f.stop story))
-    (λ story. OfOne inputs scripts (λ was now. IsToldOfStream source sink was now c.args.out.now c.end_followed.new.out status story))
-    (λ story of is. subst (λ xs. OfOne inputs xs (λ was now. IsToldOfStream source sink was now c.args.out.now c.end_followed.new.out status story)) (sym left_is)
-    (of_one (λ was now. IsStreamFollowed source was now f.tally f.stop story) (λ was now. IsToldOfStream source sink was now c.args.out.now c.end_followed.new.out status story) inputs left
+    (λ callers story. OfOne inputs left (λ was now. IsStreamFollowed source was now f.tally f.stop callers story))
+    (λ callers story. OfOne inputs scripts (λ was now. IsToldOfStream source sink was now c.args.out.now c.end_followed.new.out status callers story))
+    (λ story of is. subst (λ xs. OfOne inputs xs (λ was now. IsToldOfStream source sink was now c.args.out.now c.end_followed.new.out status f.closed.session.callers story)) (sym left_is)
+    (of_one (λ was now. IsStreamFollowed source was now f.tally f.stop f.closed.session.callers story) (λ was now. IsToldOfStream source sink was now c.args.out.now c.end_followed.new.out status f.closed.session.callers story) inputs left
     (λ was now told. record {
       tally = f.tally;
       stop = f.stop;

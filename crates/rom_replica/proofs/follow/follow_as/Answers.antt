@@ -18,4 +18,5 @@ returns-clause-left g c =
           (omega (arith, begun.count_is, none), subst (λ (n : ℕ). HasDoneUpdates n s k c.take_frames-stop.new.follower) (sym close.ended.order) (close.done s k there));
       history = close.history;
       passes = close.passes;
+      kept = close.kept;
     }

@@ -14,6 +14,7 @@ use Rattle.rom_open.specs.AtRest.{IsHeapAtRest}
 use Rattle.rom_open.specs.Within.{CallsOfOrder, HasOpened}
 use Rattle.rom_rule.specs.Views.{base_of}
 use Rattle.rom_rule.specs.declared.views.Base.{Base}
+use Rattle.rom_run.proofs.Lasting.{lasts_certain}
 use Rattle.rom_run.proofs.Told.{if_told}
 use Rattle.rom_store.specs.Sessions.{IsStoryOf}
 use Rattle.rom_store.specs.Start.{HasStarted, device_start}
@@ -59,6 +60,7 @@ returns-in-Ok-clause-session g c =
               (after.went story of);
         };
       };
+      certain = λ story of. lasts_certain shown Contents (on_words trio) story closed.device closed.session.callers (c.follow_on.ensures.told_lasts story of);
       told = λ story of. followed_by g.S.Source.shown c.args.stream.now c.follow_on.new.stream c.follow_on.result.tally c.follow_on.result.stop closed.session story c.follow_on.ensures.left of (c.follow_on.ensures.closed story of);
     }
 

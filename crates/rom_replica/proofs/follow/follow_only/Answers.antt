@@ -6,5 +6,5 @@ pub returns-clause-session : goal.returns-clause-session
 returns-clause-session g c =
     if_ok _ _ c.follow_heap.result
     (λ f session. told_by g.D.Device.shown c.args.device f.closed.device f.closed.session _ _
-    (λ story of is. only_one (λ was now. IsStreamFollowed g.S.Source.shown was now f.tally f.stop story) c.args.inputs.now c.index-inputs-0.result c.follow_heap.new.stream c.requires.one is) session)
+    (λ story of is. only_one (λ was now. IsStreamFollowed g.S.Source.shown was now f.tally f.stop f.closed.session.callers story) c.args.inputs.now c.index-inputs-0.result c.follow_heap.new.stream c.requires.one is) session)
     c.follow_heap.ensures.session

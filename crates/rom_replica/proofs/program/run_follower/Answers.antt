@@ -2,10 +2,11 @@ use Rattle.std.proofs.Common.{inl}
 use Rattle.rom_model.specs.Region.{Contents}
 use Rattle.rom_model.specs.Trio.{trio}
 use Rattle.rom_run.proofs.Lasting.{lasting}
+use Rattle.rom_replica.proofs.Closed.{follower_lasts}
 use Rattle.rom_replica.proofs.Completing.{completes, named, refuses}
 use Rattle.rom_replica.proofs.program.run_follower.Goals as goal
 
--- four of the promises follow from the others
+-- five of the promises follow from the others
 pub returns : goal.returns
 returns g c =
     let is = c.follow.ensures in
@@ -26,6 +27,7 @@ returns g c =
         refused = λ tells. refuses shown source sink was ended.device c.args.inputs.items ended.scripts.items c.args.out.now c.follow.new.out ended.status ended.session is.story is.none tells is.statuses is.taken;
         story = is.story;
         lasting = lasting trio Contents shown ended.device only_now ended.session;
+        told_lasts = follower_lasts shown ended.device only_now was _ ended.session is.story;
         none = is.none;
         unread = is.unread;
         kept = is.kept;

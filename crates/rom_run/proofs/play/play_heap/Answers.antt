@@ -7,10 +7,12 @@ use Rattle.rom_run.proofs.play.play_heap.Goals as goal
 pub returns-in-Ok-clause-session : goal.returns-in-Ok-clause-session
 returns-in-Ok-clause-session g c =
     let o = g.O.Object in
+    let w = g.world in
+    let laws = g.met.O.Object w.𝓛 w.𝓜 w.𝓡 ((λ s x. x), (λ x. x), (λ x. x), λ x. x) in
     let played = c.in-Ok.played in
     let is = c.in-Ok.ensures.played in
     rw c.in-New.is
-    (made_session g.D.Device.shown o.machine o.Contents c.args.scripts.now played.results.items c.args.device played.closed is.faults c.in-New.order is.session is.order is.empty is.accepted is.fits)
+    (made_session g.D.Device.shown o.machine o.Contents c.args.scripts.now played.results.items c.args.device played.closed (λ order words s k held. (laws.contents_within order words s k held).2) is.faults c.in-New.order is.session is.order is.empty is.accepted is.fits)
 
 pub returns-in-Ok-clause-kept : goal.returns-in-Ok-clause-kept
 returns-in-Ok-clause-kept g c =
@@ -21,10 +23,12 @@ returns-in-Ok-clause-kept g c =
 pub returns-in-Ok-play-clause-session : goal.returns-in-Ok-play-clause-session
 returns-in-Ok-play-clause-session g c =
     let o = g.O.Object in
+    let w = g.world in
+    let laws = g.met.O.Object w.𝓛 w.𝓜 w.𝓡 ((λ s x. x), (λ x. x), (λ x. x), λ x. x) in
     let played = c.in-Ok-play.played in
     let is = c.in-Ok-play.ensures.played in
     rw c.in-Standing.is
-    (standing_session g.D.Device.shown o.machine o.Contents c.args.scripts.now played.results.items c.args.device played.closed is.faults is.session is.held is.fits is.since)
+    (standing_session g.D.Device.shown o.machine o.Contents c.args.scripts.now played.results.items c.args.device played.closed (λ order words s k held. (laws.contents_within order words s k held).2) is.faults is.session is.held is.fits is.since)
 
 pub returns-in-Err-clause-none : goal.returns-in-Err-clause-none
 returns-in-Err-clause-none g c =

@@ -9,5 +9,6 @@ returns-in-Ok-clause-session g c =
     rw (c.end_of.ensures.session, c.end_of.ensures.device) record {
       story = session.story;
       each = session.each;
+      certain = session.certain;
       told = λ story of. printed story of (session.told story of);
     }

@@ -8,7 +8,7 @@ use Rattle.rom_run.specs.declared.program.Asked.{Asked}
 use Rattle.rom_run.specs.declared.program.Asked.TheVariants.{Play, Make}
 use Rattle.rom_run.proofs.Accepted.{AreApart, apart_played}
 use Rattle.rom_run.proofs.Completing.{ends, few_faults, output_faulted, output_unread}
-use Rattle.rom_run.proofs.Lasting.{lasting}
+use Rattle.rom_run.proofs.Lasting.{lasting, told_lasts}
 use Rattle.rom_run.proofs.program.run_asked.Goals as goal
 
 -- no command of these upgrades a heap
@@ -17,7 +17,7 @@ apart_asked earlier (Some (Play heap)) order = apart_played earlier heap order
 apart_asked earlier (Some (Make order)) is = tt
 apart_asked earlier None order = tt
 
--- four of the promises follow from the others
+-- five of the promises follow from the others
 pub returns : goal.returns
 returns g c =
     let o = g.O.Object in
@@ -47,6 +47,7 @@ returns g c =
       promise = record {
         ended = is;
         lasting = lasting o.machine o.Contents g.D.Device.shown ended.device only_now ended.session;
+        told_lasts = told_lasts o.machine o.Contents g.D.Device.shown ended.device only_now c.args.device _ (asked_use c.args.asked) ended.status ended.session is.not_run is.story;
         corollaries = record {
           complete = both.0;
           refused = both.1;

@@ -64,6 +64,7 @@ returns-in-Ok-clause-session g c =
                   (record { calls = c.in-Ok.ensures.opens.within.calls; by_order = subst (λ (n : ℕ). CallsOfOrder shown n was heap.device) (sym of.order_is) c.in-Ok.ensures.by_order; faults = same; rest = rests });
             };
       };
+      certain = λ story of. tt;
       told = λ story of. nothing_done o.machine story of.history of.records of.in_doubt
           (omega (arith, g.met.O.Object.contents_within heap.geometry heap.image.items story.opening story.opening_count of.opening));
     }

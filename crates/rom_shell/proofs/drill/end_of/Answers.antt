@@ -1,6 +1,5 @@
-use Rattle.std.proofs.Common.{◌≡◌, ◌+◌, ◌≤◌, map, length, ap, sym, subst, ◌∙◌}
-use Rattle.rom_heap.specs.Laws.{contents_within}
-use Rattle.rom_model.specs.History.{LAST_COUNT, after}
+use Rattle.std.proofs.Common.{◌≡◌, ◌+◌, map, length, ap, sym, subst, ◌∙◌}
+use Rattle.rom_model.specs.History.{after}
 use Rattle.rom_model.specs.Machine.{on_words}
 use Rattle.rom_model.specs.Region.{Contents}
 use Rattle.rom_model.specs.State.{tell}
@@ -9,16 +8,15 @@ use Rattle.rom_model.specs.declared.call.Query.TheVariants.{Len, Total}
 use Rattle.rom_script.specs.Drill.{dequeued, drill_lines, drill_scripts, enqueued}
 use Rattle.rom_shell.specs.Drilled.{IsDrillText, drill_told}
 use Rattle.rom_run.specs.Statuses.{exit_number}
-use Rattle.rom_run.proofs.Lawful.{lawful_answers}
 use Rattle.rom_shell.proofs.Summing.{lawful_put, lawful_taken}
 use Rattle.rom_shell.proofs.drill.end_of.Goals as goal
 
 pub returns-clause-drilled : goal.returns-clause-drilled
-returns-clause-drilled g c = λ story of lawful.
+returns-clause-drilled g c = λ story of answered.
     let start = c.args.start in
     let callers = c.args.callers in
     let calls = c.args.calls in
-    let session = c.args.played.closed.session in
+    let lawful = answered.lawful in
     let results = map (λ v. v.items) c.args.played.results.items in
     let first : c.ask.new.self ≡ c.args.played.closed = c.ask.ensures.still in
     let second : c.ask-2.new.self ≡ c.args.played.closed = c.ask-2.ensures.still ∙ first in
@@ -33,10 +31,9 @@ returns-clause-drilled g c = λ story of lawful.
     ∙ (λ i. story.opening_count + length (second i).session.history) ∙ ap (λ h. story.opening_count + length h) (sym of.history) in
     let text : drill_lines start callers calls c.sum_enqueued.result c.sum_dequeued.result c.ask.result c.ask-2.result c.count.result ≡ drill_told start callers calls story = λ i. drill_lines start callers calls (into i) (out_of i) (sizes i) (total i) (count_is i) in
     let same = ap (map (λ v. v.items)) c.deref-3.ensures.value in
-    let few : story.opening_count ≤ LAST_COUNT = (contents_within session.order session.image story.opening story.opening_count of.opening).2 in
     record {
       results = results;
-      answered = lawful_answers trio story (drill_scripts start callers calls) results few lawful;
+      answered = answered;
       printed = subst (λ t. IsDrillText g.O.Sink.shown t results c.args.out.now c.tell_drill-status.new.out (exit_number c.tell_drill-status.result)) text
           (subst (λ rs. IsDrillText g.O.Sink.shown (drill_lines start callers calls c.sum_enqueued.result c.sum_dequeued.result c.ask.result c.ask-2.result c.count.result) rs c.args.out.now c.tell_drill-status.new.out (exit_number c.tell_drill-status.result)) same
           c.tell_drill-status.ensures.printed);

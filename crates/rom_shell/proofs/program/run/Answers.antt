@@ -3,14 +3,14 @@ use Rattle.rom_model.specs.Region.{Contents}
 use Rattle.rom_model.specs.Trio.{trio}
 use Rattle.rom_script.proofs.Determined.{text_determines}
 use Rattle.rom_run.proofs.Completing.{ends, few_faults}
-use Rattle.rom_run.proofs.Lasting.{lasting}
+use Rattle.rom_run.proofs.Lasting.{lasting, told_lasts}
 use Rattle.rom_shell.specs.Run.{AreRun, IsPrinted, use_of}
 use Rattle.rom_words.specs.Words.{command}
 use Rattle.rom_shell.proofs.Apart.{apart_asked}
 use Rattle.rom_shell.proofs.Printed.{printed_faulted, printed_unread}
 use Rattle.rom_shell.proofs.program.run.Goals as goal
 
--- four of the promises follow from the others
+-- five of the promises follow from the others
 pub returns-clause-promise : goal.returns-clause-promise
 returns-clause-promise g c =
     let shown = g.D.Device.shown in
@@ -60,6 +60,7 @@ returns-clause-promise g c =
         rest = is.rest;
       };
       lasting = lasting trio Contents shown ended.device only_now ended.session;
+      told_lasts = told_lasts trio Contents shown ended.device only_now c.args.device _ (use_of asked) ended.status ended.session is.not_run is.story;
       corollaries = record {
         complete = both.0;
         refused = both.1;

@@ -7,6 +7,7 @@ returns-in-Ok-clause-session g c =
     record {
       story = opened.story;
       each = opened.each;
+      certain = opened.certain;
       told = λ story of.
           let stands = c.in-Ok.ensures.story story of in
           let printed = c.print_sizes.ensures.printed story.opening story.opening_count stands.1 in

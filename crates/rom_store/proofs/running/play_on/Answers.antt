@@ -18,6 +18,7 @@ returns g c =
         session = record {
           story = closed.story;
           lawful = c.play_as.ensures.lawful;
+          lasts = c.play_as.ensures.lasts;
           now = closed.now;
           went = closed.went;
           since = λ told story is.

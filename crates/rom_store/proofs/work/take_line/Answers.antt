@@ -34,7 +34,7 @@ returns-in-Update-clause-done g c = λ asks says.
     let words = c.in-Update.words.now in
     let u = updated_as m.words_reply c.update_words-became.result c.update_words-became.new.told in
     took_update m g.O.Object.Contents g.N.Label.base asks c.args.pass.now c.update_words-became.new.pass c.args.results.now c.push_update.new.self is.0 words c.update_words-became.new.told u is.1 (g.met.O.Object.call_only words is.0 is.2) c.update_words-became.ensures.room
-    c.push_update.ensures.added c.push_update.ensures.room told.same.2 told.later told.fronts (told.told few)
+    c.push_update.ensures.added c.push_update.ensures.room told.joined told.same.2 told.later told.fronts (told.told few)
     (λ s k at. is_placed g.O.Object.Contents g.met.O.Object.one_contents (on_words m) g.N.Label.base (next_call v words) (as_words m u) v.seen w.seen s k at (told.taken few))
 
 pub returns-in-Ask-clause-done : goal.returns-in-Ask-clause-done
@@ -43,7 +43,7 @@ returns-in-Ask-clause-done g c = λ asks says.
     let is = subst (IsLine m.words_call asks) c.in-Ask.is says in
     let told = c.read-answer.ensures.answered in
     took_read m g.O.Object.Contents g.N.Label.base asks c.args.pass.now c.read-answer.new.pass c.args.results.now c.push_read.new.self c.in-Ask.query _ _ is c.push_read.ensures.added c.push_read.ensures.room
-    told.same.2 told.later told.fronts (λ j. (told.still j).outcomes) told.front told.answer
+    (λ j. (told.still j).joined) told.same.2 told.later told.fronts (λ j. (told.still j).outcomes) told.front told.answer
 
 pub returns-in-Unread-clause-done : goal.returns-in-Unread-clause-done
 returns-in-Unread-clause-done g c = λ asks says.

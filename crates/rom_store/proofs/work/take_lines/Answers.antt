@@ -12,7 +12,7 @@ pub loop-i-init : goal.loop-i-init
 loop-i-init g c = let v = kept_in c.args.pass.now in let first = c.requires.first in record {
   of = c.requires.of;
   number = refl;
-  done = record { heard = λ s k at. subst (λ rs. HasHeard g.O.Object.machine g.N.Label.base.order s k v [] rs) (sym c.requires.none) (begun g.O.Object.machine g.N.Label.base.order s k v first.fronts first.told) };
+  done = record { alone = c.requires.alone; heard = λ s k at. subst (λ rs. HasHeard g.O.Object.machine g.N.Label.base.order s k v [] rs) (sym c.requires.none) (begun g.O.Object.machine g.N.Label.base.order s k v first.fronts first.told) };
   room = c.requires.fits;
 }
 

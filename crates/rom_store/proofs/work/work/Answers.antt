@@ -17,6 +17,7 @@ take_counted-requires-clause-ready g c =
       opened = c.requires.opened;
       few = search rules;
       first = ready.first;
+      alone = ready.alone;
       none = ready.none;
       fits = subst (λ ls. HasRoomFor g.O.Object.machine.call_words ls c.args.job.now.results) (script_is (λ v. v.items) scripts number (c.number.result - 1) c.index-room-number.result place lt) ready.fits;
     }

@@ -23,7 +23,7 @@ use Rattle.atomic_table.proofs.Lists.{at_map}
 use Rattle.rom_rule.proofs.Told.{length_map, at_some}
 use Rattle.rom_combine.specs.Resting.{rested}
 use Rattle.rom_combine.proofs.Limits.{batch_short}
-use Rattle.rom_combine.proofs.Rested.{may_raise, faults_rested}
+use Rattle.rom_combine.proofs.Rested.{may_raise, faults_rested, last_moment}
 use Rattle.rom_model.specs.declared.entry.Entry.{Entry}
 use Rattle.rom_model.specs.declared.record.Fate.TheVariants as fate
 use Rattle.rom_model.specs.declared.record.PassRecord.{PassRecord}
@@ -331,7 +331,7 @@ pub settle-requires-clause-raises : goal.settle-requires-clause-raises
 settle-requires-clause-raises g c = let x : Plan = plan_of c.load_main-place.new.seat.token.me.0 in let pb = (c.publish-outcome.ensures.published (settles_published g c)).published in
     let after : ℕ = g.D.Device.shown.faults c.publish-outcome.new.twin.device in let founds = map found_of x.requests in
     subst (λ (r : List PassRecord). MayRaise c.fault_count-before.result after r) (sym (ap (λ (r : Plan). r.mine) (settles_given g c).1 ∙ pb.mine))
-    (may_raise founds (record { found = founds; fate = fate.Published; faults_before = c.fault_count-before.result; faults_after = after; len = length x.history + length pb.more }))
+    (may_raise founds (record { found = founds; fate = fate.Published; faults_before = c.fault_count-before.result; faults_after = after; len = length x.history + length pb.more; committed = pb.moment }))
 
 pub settle-requires-clause-held : goal.settle-requires-clause-held
 settle-requires-clause-held g c = let ph = (c.publish-outcome.ensures.published (settles_published g c)).held in let given = (settles_given g c).1 in
@@ -487,6 +487,8 @@ returns-clause-done g c some_done = let v : View = c.self.inside.seat.token.me.0
     let new : (plan_of z).history ≡ (plan_of x).history ++ pb.more = ap (λ (r : Plan). r.history) kept ∙ pb.history in
     let order : m.order ≡ x.base.order = c.publish-outcome.ensures.order ∙ (inv.order_is ∙ ap (λ (r : Base). r.order) (sym base_x)) in record {
       mid = m.device;
+      dated = λ rs r last. last_moment end (map found_of (plan_of x).requests) _ (plan_of y).records rs r (sym (ap is_made pb.mine) ∙ made) (sym (ap records_of kept ∙ ap (λ (l : List PassRecord). (plan_of y).records ++ map (with_faults_after end) l) pb.mine) ∙ last)
+          ∙ (c.publish-outcome.ensures.published is_pub).dated;
       soon = subst (λ (r : Locked g.row.D.Denot). SpendsAtMost g.D.Device.shown (writes_before_commit r.twin.phase r.twin.order (region_len r.twin.order) + 1) (syncs_before_commit r.twin.phase + 1) r.twin.device m.device) c.self.view_is c.publish-outcome.ensures.whole;
       certain = λ told.
           subst (λ (r : Base × Locked g.row.D.Denot). (s : g.O.Object.State) (n : ℕ) → g.O.Object.Contents r.0.order r.0.image s n → IsCertainSince g.O.Object.Contents (on_words g.O.Object.machine) r.0 s n g.D.Device.shown (plan_of r.1.view).history (plan_of z).history r.1.twin.device m.device d)

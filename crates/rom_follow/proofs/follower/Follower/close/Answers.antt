@@ -1,13 +1,14 @@
-use Rattle.std.proofs.Common.{◌≡◌, ℕ, List, [], ◌∷◌, ap, ◌∙◌, inl, inr, length, refl, subst, sym}
+use Rattle.std.proofs.Common.{◌≡◌, ℕ, List, [], ◌∷◌, ◌++◌, ap, ◌∙◌, inl, inr, length, refl, subst, sym}
 use Rattle.std.specs.Prelude.{map}
 use Rattle.rom_heap.specs.contracts.trio.TrioObject.TheImpl.Laws as laws
 use Rattle.rom_model.specs.Leaving.{IsClosed, IsKept}
 use Rattle.rom_model.specs.Region.{Contents}
 use Rattle.rom_model.specs.Trio.{trio}
+use Rattle.rom_model.specs.declared.kept.Kept.{Kept}
 use Rattle.rom_store.specs.Callers.{Caller}
-use Rattle.rom_store.specs.Closing.{kept_in}
+use Rattle.rom_store.specs.Closing.{joined_of, kept_in}
 use Rattle.rom_store.specs.Indexed.{Indexed}
-use Rattle.rom_follow.specs.Alone.{tried_by}
+use Rattle.rom_follow.specs.Alone.{seen_by, tried_by}
 use Rattle.rom_follow.specs.Closing.{ArePassesOf}
 use Rattle.rom_follow.specs.Followed.{HasDoneUpdates}
 use Rattle.rom_follow.proofs.Ended.{Agrees, agree, now_prefix, session_prefix}
@@ -38,6 +39,17 @@ returns-clause-history g c = sym c.close.ensures.ended.story.1.history ∙ (agre
 
 pub returns-clause-passes : goal.returns-clause-passes
 returns-clause-passes g c = subst (λ rs. ArePassesOf rs c.args.self.tried) c.close.ensures.ended.story.1.records (agreeing g c).passes
+
+pub returns-clause-kept : goal.returns-clause-kept
+returns-clause-kept g c =
+    let only = c.self.invariant.only in
+    record {
+      own = kept_in only.0;
+      only = c.close.ensures.callers ∙ ap joined_of only.1 ∙ ap (λ (vs : List Kept). kept_in only.0 ∷ vs ++ []) only.2.nobody;
+      number = only.2.numbered.number;
+      seen = sym (ap seen_by only.1) ∙ ap (λ f. f.history) c.self.view_is;
+      told = sym (ap tried_by only.1) ∙ ap (λ f. f.tried) c.self.view_is;
+    }
 
 pub returns-clause-follows_now : goal.returns-clause-follows_now
 returns-clause-follows_now g c told s0 n0 history first follows i left =

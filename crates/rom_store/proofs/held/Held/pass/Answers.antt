@@ -18,5 +18,5 @@ invariant_of-self g c =
     let here = subst (λ (z : TableId × Base). IsBehindLock shown g.O.Object.Contents step z.0 z.1 start g.N.Label.since old) (λ j. (sym h.table_is j, sym h.base_is j)) h in
     subst (λ (z : TableId × Base). IsBehindLock shown g.O.Object.Contents step z.0 z.1 start g.N.Label.since new) (λ j. (h.table_is j, h.base_is j))
     (held_on g.O.Object.Contents step shown start g.N.Label.since old new c.args.shared.now.layout.callers c.pass.result
-    here e.same e.kept e.passed.is e.passed.since (λ some. let by = e.done some in (by.mid, by.soon, by.certain)) e.spent e.untouched (λ some. (e.done some).repaired) (λ f. (e.failed f).phase) e.passed.now e.device e.began (λ some. (e.done some).undone) e.whole
+    here e.same e.kept e.passed.is e.passed.since (λ some. let by = e.done some in (by.mid, by.dated, by.soon, by.certain)) e.spent e.untouched (λ some. (e.done some).repaired) (λ f. (e.failed f).phase) e.passed.now e.device e.began (λ some. (e.done some).undone) e.whole
     (λ f. let by = e.failed f in (by.cause, by.whole)) (λ d. (e.doubt d).cause))

@@ -11,7 +11,8 @@ use Rattle.rom_rule.specs.declared.views.Plan.{Plan}
 use Rattle.rom_rule.specs.declared.views.View.{View}
 use Rattle.rom_store.specs.Callers.{IsCallerOf}
 use Rattle.rom_store.specs.Sessions.{SessionSeen}
-use Rattle.rom_store.proofs.Closings.{Ended, count_held, ended, ended_closed, ended_kept, ended_now, ended_since, ended_story, ended_went, plan_at_end, session_is, writer_at_end}
+use Rattle.rom_store.specs.Start.{HasStarted}
+use Rattle.rom_store.proofs.Closings.{Ended, count_held, ended, ended_closed, ended_kept, ended_lasts, ended_now, ended_since, ended_story, ended_went, joined_at_end, plan_at_end, session_is, writer_at_end}
 use Rattle.rom_store.proofs.Stories.{session_of}
 use Rattle.rom_store.proofs.store.Store.close.Given as given
 use Rattle.rom_store.proofs.store.Store.close.Goals as goal
@@ -34,9 +35,10 @@ session_at g c = record {
   history = (plan_of c.load_main-count.new.seat.token.me.0).history;
   records = records_of (plan_of c.load_main-count.new.seat.token.me.0);
   phase = c.into_parts-twin.result.0.phase;
+  callers = c.load_main-count.new.seat.token.me.0.joined;
 }
 
-is_session : (g : given.Over) (c : goal.After-load_main-count g) → session_at g c ≡ session_of g.N.Label.base (plan_of c.review.new.writer.token.me.0) c.into_parts-twin.result.0.phase
+is_session : (g : given.Over) (c : goal.After-load_main-count g) → session_at g c ≡ session_of g.N.Label.base (plan_of c.review.new.writer.token.me.0) c.into_parts-twin.result.0.phase (session_at g c).callers
 is_session g c = let same = last_plan g c in
     session_is g.N.Label.base (plan_of c.review.new.writer.token.me.0) c.into_parts-twin.result.0.phase (session_at g c) c.args.self.ordered c.args.self.imaged c.args.self.counted
     (ap (λ (p : Plan). p.history) same) (ap records_of same) refl
@@ -86,10 +88,21 @@ returns-clause-closed g c =
     ended_closed g.O.Object.machine g.O.Object.Contents g.D.Device.shown g.N.Label.base (plan_of c.review.new.writer.token.me.0) c.into_parts-twin.result.0 c.args.passes.items (at_end g c) (session_at g c) (is_session g c)
     (length c.args.passes.items) c.requires.all
 
+pub returns-clause-callers : goal.returns-clause-callers
+returns-clause-callers g c =
+    ap (λ (v : View). v.joined) c.load_main-count.ensures.still.2
+    ∙ joined_at_end c.into_core.result.view c.into_parts-twin.result.1.token.me.0 c.take_in_all.new.writer.token.me.0 c.review.new.writer.token.me.0 c.args.passes.items
+    c.into_parts-twin.ensures.seat.2 c.take_in_all.ensures.joined c.review.ensures.still c.into_core.ensures.held.alone
+
 pub returns-clause-kept : goal.returns-clause-kept
 returns-clause-kept g c =
     ended_kept g.O.Object.machine g.O.Object.Contents g.D.Device.shown g.N.Label.base (plan_of c.review.new.writer.token.me.0) c.into_parts-twin.result.0 c.args.passes.items (at_end g c) (session_at g c) (is_session g c)
     g.N.Label.table c.requires.passes
+
+pub returns-clause-lasts : goal.returns-clause-lasts
+returns-clause-lasts g c =
+    ended_lasts g.O.Object.machine g.O.Object.Contents g.D.Device.shown g.N.Label.base (plan_of c.review.new.writer.token.me.0) c.into_parts-twin.result.0 c.args.passes.items (at_end g c) (session_at g c) (is_session g c)
+    (returns-clause-callers g c) g.met.D.Device.only_now (HasStarted g.D.Device.shown g.N.Label.base.faults g.N.Label.start g.N.Label.since) (returns-clause-ended g c).went
 
 pub invariant_of-result : goal.invariant_of-result
 invariant_of-result g c =
