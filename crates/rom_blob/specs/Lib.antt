@@ -5,4 +5,5 @@ pub mod Blobs
 pub mod Crowded
 pub mod Laws
 pub mod Lines
+pub mod Longest
 pub mod Texts

@@ -2,13 +2,14 @@
 ghost use Rattle.std.specs.Prelude.{◌≡◌, ◌≢◌, ◌^◌, ◌<◌, ℕ, [], ◌∷◌, codes, decimal, IfSome, IfNone};
 ghost use Rattle.rom_text.specs.Phrases.{line_words};
 ghost use Rattle.rom_blob.specs.Lines.{IsBlobCall, IsNoCall, IsNoQuery, IsQuery, ReadsBlobs};
+ghost use Rattle.rom_blob.specs.Longest.{long_unread};
 
 use crate::blobs::Blobs;
 use crate::bytes::read_bytes;
 use memchr::memchr;
 use rom_blob_region::{BlobCall, BlobQuery};
 use rom_model::Step;
-use rom_text::{Lines, read_number};
+use rom_text::{Lines, ShortLines, read_number};
 
 /// What stands before the first space, and what stands behind it. `None` where there is no space.
 fn split_word(text: &[u8]) -> Option<(&[u8], &[u8])>
@@ -98,4 +99,8 @@ impl Lines<Blobs> for BlobLines {
             None => Step::Unread,
         }
     }
+}
+
+impl ShortLines<Blobs> for BlobLines {
+    ghost long_unread = { long_unread };
 }

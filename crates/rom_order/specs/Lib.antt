@@ -5,4 +5,5 @@ pub mod Index
 pub mod Laws
 pub mod Tagged
 pub mod Lines
+pub mod Longest
 pub mod Asking

@@ -4,11 +4,12 @@ ghost use Rattle.rom_order_region.specs.declared.call.OrderCall.{OrderCall};
 ghost use Rattle.rom_order_region.specs.declared.call.OrderQuery.{OrderQuery};
 ghost use Rattle.rom_order.specs.Asking.{AsksIndex, index_call_phrase, index_query_phrase};
 ghost use Rattle.rom_order.specs.Lines.{ReadsIndex};
+ghost use Rattle.rom_order.specs.Longest.{long_unread};
 
 use crate::index::Ordered;
 use rom_model::Step;
 use rom_order_region::{OrderCall, OrderQuery};
-use rom_text::{Lines, read_phrase};
+use rom_text::{Lines, ShortLines, read_phrase};
 
 /// The call that a line with this first word and these numbers behind it asks for.
 fn asked_call(name: &[u8], numbers: &[u64]) -> Option<OrderCall>
@@ -61,4 +62,8 @@ impl Lines<Ordered> for OrderLines {
             None => Step::Unread,
         }
     }
+}
+
+impl ShortLines<Ordered> for OrderLines {
+    ghost long_unread = { long_unread };
 }

@@ -1,5 +1,6 @@
 -- The language of a queue, a set and a map: its lines, its texts and its drill.
 pub mod Lines
+pub mod Longest
 pub mod Asking
 pub mod Members
 pub mod Scripts

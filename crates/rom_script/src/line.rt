@@ -7,12 +7,13 @@ ghost use Rattle.rom_model.specs.declared.line.Step.{Step};
 ghost use Rattle.rom_text.specs.Lines.{AsksFor};
 ghost use Rattle.rom_script.specs.Asking.{Asks, query_phrase};
 ghost use Rattle.rom_script.specs.Lines.{ReadsTrio};
+ghost use Rattle.rom_script.specs.Longest.{long_unread};
 
 use crate::group_line::read_members;
 use crate::update_line::asked_update;
 use rom_heap::Trio;
 use rom_model::{Args, Call, Query, Step, put_call_words, put_single_words, words_call};
-use rom_text::{Lines, Parsed, read_phrase};
+use rom_text::{Lines, Parsed, ShortLines, read_phrase};
 
 /// What a script's line asks for.
 pub type Line = Step<Call, Query>;
@@ -108,4 +109,8 @@ impl Lines<Trio> for TrioLines {
     fn read_words(line: &[u8], words: &mut Args) -> Parsed<Query> {
         read_words(line, words)
     }
+}
+
+impl ShortLines<Trio> for TrioLines {
+    ghost long_unread = { long_unread };
 }

@@ -10,3 +10,4 @@ pub mod Determines
 pub mod Trio
 pub mod Runs
 pub mod Gathered
+pub mod Told

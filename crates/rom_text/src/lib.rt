@@ -24,7 +24,9 @@ mod read;
 mod replies;
 mod report;
 mod script;
+mod short;
 mod streams;
+mod told;
 mod trio;
 mod wanted;
 
@@ -40,5 +42,7 @@ pub use read::{MAX_BYTES, ReadRefused, read_bytes};
 pub use replies::{PrintReplies, Whole};
 pub use report::print_run;
 pub use script::read_script;
+pub use short::{LONGEST, ShortLines};
 pub use streams::{IoFailed, Sink, Source};
+pub use told::ToldLine;
 pub use wanted::{DeviceWant, Wanted};

@@ -30,7 +30,7 @@ fn print_place<S: Sink>(out: &mut S, mark: &str, number: u64) -> Result<(), IoFa
 
 /// Prints the line of an update that was done at a place, and told the reply whose words these are. They
 /// may go through `room`, whatever stood there.
-fn print_reply<O: Object, P: PrintReplies<O>, S: Sink>(
+pub(crate) fn print_reply<O: Object, P: PrintReplies<O>, S: Sink>(
     out: &mut S,
     words: &[u64],
     place: u64,
@@ -48,7 +48,7 @@ fn print_reply<O: Object, P: PrintReplies<O>, S: Sink>(
 }
 
 /// Prints the line of an update that was not done.
-fn print_undone<O: Object, P: PrintReplies<O>, S: Sink>(
+pub(crate) fn print_undone<O: Object, P: PrintReplies<O>, S: Sink>(
     out: &mut S,
     why: Undone,
 ) -> Result<(), IoFailed>
@@ -63,7 +63,11 @@ fn print_undone<O: Object, P: PrintReplies<O>, S: Sink>(
 }
 
 /// Prints the line of an answer and its front.
-fn print_read<A: Print, S: Sink>(out: &mut S, answer: &A, front: u64) -> Result<(), IoFailed>
+pub(crate) fn print_read<A: Print, S: Sink>(
+    out: &mut S,
+    answer: &A,
+    front: u64,
+) -> Result<(), IoFailed>
     ensures prints { Prints S.shown out.old out.new result
         (line_text (read_text A.shown.text answer.now front)) }
     ensures fits { OnOk result (A.shown.Fits answer.now) }
