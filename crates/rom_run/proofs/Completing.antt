@@ -107,11 +107,11 @@ module _ {S C Q R A D : Type 0} (machine : Machine S C Q R A) (Contents : ℕ �
   weaker a b (rs ∷ more) from to all = (let by = all.0 in omega (arith, from, to, by), weaker a b more from to all.1)
 
   -- each caller's lines that tell of a fault are at most as many as it rose
-  few : (heap : Heap) (story : Story S) → CountsFaults machine Contents shown heap was now story → HasFewFaults machine shown was now story
+  pub few : (heap : Heap) (story : Story S) → CountsFaults machine Contents shown heap was now story → HasFewFaults machine shown was now story
   few heap story counts = λ scripts results lawful. weaker _ _ results (let same = counts.before in omega (arith, same)) counts.after (faults_bounded machine story scripts results lawful)
 
   -- so where a result tells of a fault, it rose
-  faulted_rose : (heap : Heap) (story : Story S) → CountsFaults machine Contents shown heap was now story → (scripts : List (List (Step C Q))) (results : List (List (LineResult R A))) → IsLawful machine story scripts results →
+  pub faulted_rose : (heap : Heap) (story : Story S) → CountsFaults machine Contents shown heap was now story → (scripts : List (List (Step C Q))) (results : List (List (LineResult R A))) → IsLawful machine story scripts results →
       list_any (λ rs. list_any is_faulted rs) results ≡ true → Rose (shown.faults was) (shown.faults now)
   faulted_rose heap story counts scripts results lawful is = some_rose _ _ results (few heap story counts scripts results lawful) is
 
@@ -124,7 +124,7 @@ module _ {S C Q R A D : Type 0} (machine : Machine S C Q R A) (Contents : ℕ �
 
 -- ---- each status
 
-once_rose : (before now : ℕ) → now ≡ counted before → Rose before now
+pub once_rose : (before now : ℕ) → now ≡ counted before → Rose before now
 once_rose before now is = omega (arith, is)
 
 module _ {S C Q R A D X K : Type 0} (machine : Machine S C Q R A) (Contents : ℕ → List ℕ → S → ℕ → Type 0) (Rejects : ℕ → List ℕ → Unfit → Type 0) (earlier : Earlier S) (shown : ShownDevice D) (source : ShownSource X) (sink : ShownSink K)

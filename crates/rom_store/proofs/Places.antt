@@ -25,8 +25,11 @@ module _ {X : Type 0} (P : ℕ → X → Type 0) where
   pub none_at : (xs : List X) → xs ≡ [] → Indexed P xs
   none_at xs is = subst (Indexed P) (sym is) (record { at = λ i x at. absurd (no_none x at) })
 
+  pub front_at : (xs ys : List X) → Indexed P (xs ++ ys) → Indexed P xs
+  front_at xs ys all = record { at = λ i y at. all.at i y (at_front xs ys i y at) }
+
   pub pop_at : (xs : List X) (x : X) → Indexed P (xs ++ x ∷ []) → Indexed P xs
-  pop_at xs x all = record { at = λ i y at. all.at i y (at_front xs (x ∷ []) i y at) }
+  pop_at xs x all = front_at xs (x ∷ []) all
 
   pub last_at : (xs : List X) (x : X) → Indexed P (xs ++ x ∷ []) → P (length xs) x
   last_at xs x all = all.at (length xs) x (at_end xs x)

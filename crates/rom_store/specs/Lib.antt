@@ -19,4 +19,5 @@ pub mod Seating
 pub mod Sessions
 pub mod Closing
 pub mod Working
+pub mod Taking
 pub mod Playing

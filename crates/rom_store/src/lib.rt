@@ -54,3 +54,4 @@ pub use rom_open::{
 pub use running::Played;
 pub use session::Session;
 pub use store::Store;
+pub use work::{Taken, take_one, told_of};

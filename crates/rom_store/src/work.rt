@@ -6,6 +6,8 @@ ghost use Rattle.rom_lines.specs.Steps.{IsLine, need};
 ghost use Rattle.rom_store.specs.Callers.{IsCallerOf};
 ghost use Rattle.rom_store.specs.Closing.{kept_in};
 ghost use Rattle.rom_store.specs.Indexed.{Indexed};
+ghost use Rattle.rom_lines.specs.Replies.{SaysResult};
+ghost use Rattle.rom_store.specs.Taking.{HasTakenOne, HasTakenWords, result_taken};
 ghost use Rattle.rom_store.specs.Working.{HasDoneLines, HasNotBegun, HasTaken, HasWorked, IsNext, IsPast, MayTakeLines, script_of};
 
 use crate::label::Label;
@@ -13,7 +15,7 @@ use crate::pass::Pass;
 use crate::store::Store;
 use rom_combine::Gate;
 use rom_device::Device;
-use rom_lines::{Line, Results, Script};
+use rom_lines::{Became, Line, Results, Script, Told};
 use rom_lr::Steps;
 use rom_model::{Back, MAX_CALLERS, Object};
 use std::marker::Brand;
@@ -39,6 +41,60 @@ pub(crate) struct Job<O: Object> {
     pub apart: [u64; 8],
 }
 
+/// What one line was told. The words of a reply stand elsewhere.
+#[derive(Clone, Copy, Debug)]
+pub enum Taken<A> {
+    /// The line is no command, and no call was made.
+    Unread,
+    Update(Became),
+    /// An answer and its front.
+    Read(A, u64),
+}
+
+/// What a line was told, with the words of its reply, which are these.
+pub fn told_of<'a, O: Object>(taken: &'a Taken<O::Answer>, words: &'a Back) -> Told<'a, O::Answer>
+    requires { HasTakenWords O.machine.words_reply taken.now words.now }
+    ensures { SaysResult O.machine.words_reply (result_taken O.machine.words_reply taken.now words.now)
+        result }
+{
+    match taken {
+        Taken::Unread => Told::Unread,
+        Taken::Update(became) => match became {
+            Became::Done(place) => Told::Done(words.as_slice(), *place),
+            Became::Undone(why) => Told::Undone(*why),
+        },
+        Taken::Read(answer, front) => Told::Read(answer, *front),
+    }
+}
+
+/// Does what one line asks for. It takes no memory. It makes `told` the words of the reply, whatever they were,
+/// where the line asks for an update.
+pub fn take_one<D: Device, O: Object, N: Label, R: Wait, G: Gate, L: Ledger>(
+    rt: &R,
+    store: &Store<D, O, N>,
+    pass: &mut Pass,
+    line: Line<'_, O::Query>,
+    told: &mut Back,
+    steps: &mut Steps<L>,
+    gate: &G,
+) -> Taken<O::Answer>
+    requires of { IsCallerOf O.Contents N.table N.base pass.old }
+    requires few { length (kept_in pass.old).told < LAST_COUNT }
+    requires line { (asks : Step O.Call O.Query) × IsLine O.machine.words_call asks line }
+    // Whatever the line asks for, this was told, and the caller keeps it behind what it was told before.
+    ensures taken { (asks : Step O.Call O.Query) → IsLine O.machine.words_call asks line.entry →
+        HasTakenOne O.machine O.Contents N.base N.table asks result told.new pass.old pass.new }
+{
+    match line {
+        Line::Update(words) => Taken::Update(store.update_words(rt, pass, words, told, gate)),
+        Line::Ask(query) => {
+            let (answer, front) = store.read(pass, &query, steps);
+            Taken::Read(answer, front)
+        }
+        Line::Unread => Taken::Unread,
+    }
+}
+
 // One line. It takes no memory. What stands in `told` tells nothing.
 fn take_line<D: Device, O: Object, N: Label, R: Wait, G: Gate, L: Ledger>(
     rt: &R,
@@ -60,16 +116,10 @@ fn take_line<D: Device, O: Object, N: Label, R: Wait, G: Gate, L: Ledger>(
     ensures done { (asks : Step O.Call O.Query) → IsLine O.machine.words_call asks line.entry →
         HasTaken O.machine O.Contents N.base asks pass.old pass.new results.old results.new }
 {
-    match line {
-        Line::Update(words) => {
-            let became = room.store.update_words(rt, pass, words, told, room.gate);
-            results.push_update(became, told);
-        }
-        Line::Ask(query) => {
-            let (answer, front) = room.store.read(pass, &query, steps);
-            results.push_read(answer, front);
-        }
-        Line::Unread => results.push_unread(),
+    match take_one(rt, room.store, pass, line, told, steps, room.gate) {
+        Taken::Unread => results.push_unread(),
+        Taken::Update(became) => results.push_update(became, told),
+        Taken::Read(answer, front) => results.push_read(answer, front),
     }
 }
 
