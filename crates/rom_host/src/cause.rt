@@ -27,6 +27,16 @@ impl Cause {
         Cause::from(io::Error::new(ErrorKind::InvalidInput, words))
     }
 
+    /// That a caller would talk through the heap's own file.
+    pub(crate) fn own_heap() -> Cause {
+        Cause::from(io::Error::new(ErrorKind::InvalidInput, "is the heap's own file"))
+    }
+
+    /// That a caller would read its own replies as lines.
+    pub(crate) fn own_input() -> Cause {
+        Cause::from(io::Error::new(ErrorKind::InvalidInput, "is its own input"))
+    }
+
     /// That a file without a heap keeps its blocks of the disk, since it has bytes behind the new heap. It is no
     /// error.
     pub(crate) fn longer() -> Cause {

@@ -191,6 +191,12 @@ pub fn reader_of(program: &Program<'_>, name: &str) -> Result<FileDevice, AllocE
     or_missing(program, name, open_to_read(program, name))
 }
 
+/// A device over a heap's file, locked for this program alone. It fails where there is no file or another program
+/// has locked it, and standard error tells why. `AllocError` is told where the system has no memory to open it.
+pub fn heap_of(program: &Program<'_>, name: &str) -> Result<FileDevice, AllocError> {
+    or_missing(program, name, open_old(program, name))
+}
+
 /// The words of a file, locked for this program alone, which is made if need be, for its owner alone, and
 /// lengthened with zeros to so many; then its name is on the disk too. No byte that stands there is lost. They
 /// fail where it cannot be opened or lengthened, or its folder cannot be synced, or another program has locked it,

@@ -12,10 +12,14 @@
 mod cause;
 mod device;
 mod opened;
+mod peer;
 mod program;
 mod streams;
+mod threads;
 
-pub use device::{HostDevice, device_of, file_of, reader_of};
-pub use opened::{Opened, open_all};
+pub use device::{HostDevice, device_of, file_of, heap_of, reader_of};
+pub use opened::{Opened, Talk, open_all, open_talk};
+pub use peer::{HostPeer, peers_of};
 pub use program::Program;
 pub use streams::{Reading, Script, hold_streams, sources_of, words_of};
+pub use threads::can_spawn;

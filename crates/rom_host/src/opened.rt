@@ -1,11 +1,17 @@
 //! All that a command line names, opened in the one order that serves.
-ghost use Rattle.std.specs.Prelude.{◌≡◌, length, IfOk};
+ghost use Rattle.std.specs.Prelude.{◌≡◌, All, length, IfOk, IfSome};
+ghost use Rattle.rom_host.specs.Peers.{IsUntried, peers_named};
 
-use crate::device::{HostDevice, device_of};
+use crate::device::{HostDevice, device_of, heap_of};
+use crate::peer::{HostPeer, peers_of};
 use crate::program::Program;
 use crate::streams::{Reading, Script, sources_of};
-use rom_text::{Adapted, DeviceWant, Wanted};
+use crate::threads::can_spawn;
+use rom_device::FileDevice;
+use rom_text::{Adapted, DeviceWant, Name, Wanted};
 use std::alloc::AllocError;
+use std::sync::Wait;
+use std::thread::Threads;
 
 /// The device and the scripts that words name.
 #[derive(Drop)]
@@ -29,4 +35,34 @@ pub fn open_all(
     let sources = sources_of(program, &wanted.scripts, reading)?;
     let device = device_of(program, &wanted.device)?;
     Ok(Opened { device, sources })
+}
+
+/// The heap's file, and the peers that talk to it.
+#[derive(Drop)]
+pub struct Talk<'a> {
+    pub device: FileDevice,
+    pub peers: Vec<HostPeer<'a>>,
+}
+
+/// Opens the heap that is talked to, and makes a peer at each pair of these names, as `peers_of` does; no peer is met.
+/// `spare` has looked at the file before. Where so many threads cannot be had at once as peers are to be served, the
+/// heap is not opened, standard error tells so, and there is `None`.
+pub fn open_talk<'a, R: Threads + Wait + Sync>(
+    rt: &R,
+    program: &Program<'a>,
+    file: &Name,
+    names: &'a [Name],
+) -> Result<Option<Talk<'a>>, AllocError>
+    ensures count { IfOk result (λ opened. IfSome opened (λ talk.
+        length talk.peers.items ≡ peers_named names.now)) }
+    ensures untried { IfOk result (λ opened. IfSome opened (λ talk. All IsUntried talk.peers.items)) }
+{
+    let peers = peers_of(program, names)?;
+    // One of them is served by the program's first thread.
+    if !can_spawn(rt, peers.len().saturating_sub(1)) {
+        program.complain("no thread can be had for each caller");
+        return Ok(None);
+    }
+    let device = heap_of(program, file.as_str())?;
+    Ok(Some(Talk { device, peers }))
 }

@@ -3,7 +3,7 @@ use crate::cause::Cause;
 use crate::streams::{hold_streams, words_of};
 use rom_text::{Adapted, Names};
 use std::alloc::AllocError;
-use std::fs::Metadata;
+use std::fs::{File, Metadata};
 use std::io::{ErrorKind, Printer};
 use std::os::unix::fs::MetadataExt;
 use std::process::ExitCode;
@@ -30,6 +30,8 @@ pub struct Program<'a> {
     tells_there: bool,
     // Why the heap's file is not to be opened at all.
     refusal: Option<Cause>,
+    // The device and the inode of the heap's own file.
+    heap: Option<(u64, u64)>,
 }
 
 impl<'a> Program<'a> {
@@ -42,6 +44,7 @@ impl<'a> Program<'a> {
             prints_there: false,
             tells_there: false,
             refusal: None,
+            heap: None,
         }
     }
 
@@ -80,6 +83,7 @@ impl<'a> Program<'a> {
     pub fn spare(&mut self, name: &str) {
         match fs::metadata(self.rt, name) {
             Ok(heap) if heap.is_file() => {
+                self.heap = Some((heap.dev(), heap.ino()));
                 self.prints_there = self.is_at("/dev/stdout", &heap);
                 self.tells_there = self.is_at("/dev/stderr", &heap);
                 if self.prints_there || self.tells_there {
@@ -106,6 +110,19 @@ impl<'a> Program<'a> {
         match self.refusal {
             Some(cause) => Err(cause),
             None => Ok(()),
+        }
+    }
+
+    // Whether lines or replies may pass through this file: it is no folder, and not the heap's own file, which
+    // replies would overwrite.
+    pub(crate) fn may_pass(&self, file: &File) -> Result<(), Cause> {
+        let found = file.metadata()?;
+        if found.is_dir() {
+            return Err(io::Error::from(ErrorKind::IsADirectory).into());
+        }
+        match self.heap {
+            Some((dev, ino)) if dev == found.dev() && ino == found.ino() => Err(Cause::own_heap()),
+            _ => Ok(()),
         }
     }
 

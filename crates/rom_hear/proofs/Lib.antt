@@ -1,0 +1,9 @@
+pub mod Marks
+pub mod Clients
+pub mod Logs
+pub mod Saying
+pub mod Pieces
+pub mod Hearing
+pub mod Fronts
+pub mod Talking
+pub mod Examples

@@ -1,0 +1,2 @@
+-- What a contract sees of peers at real files.
+pub mod Peers

@@ -1,0 +1,26 @@
+//! A heap that converses: peers say lines and are told what becomes of each, one caller each, in threads.
+//!
+//! It knows callers and their peers, and one heap on a device; it knows no object, no language and no file.
+//!
+//! A line is done as a line of a script is, and its reply is said before the next line of that caller is looked
+//! at, an update's once it is certain. The contract of `talk` is one record, `TalkPromise`: the replies of all
+//! callers are those of one history, as for a run; each peer that tells its log was answered at once and told
+//! nothing else; what was said lasts, whatever stops the device afterwards; and the status tells what failed.
+#![tactic(auto)]
+
+mod converse;
+mod ended;
+mod ending;
+mod peers;
+mod running;
+mod seats;
+mod talker;
+mod words;
+
+pub use ended::Ended;
+pub use ending::Ending;
+pub use peers::talk;
+pub use rom_run::{Status, tell};
+pub use rom_store::NoGate;
+pub use rom_text::Whole;
+pub use words::{Callers, read_callers, read_talk};
