@@ -24,7 +24,7 @@ const UPDATES: Row = Row {
 };
 
 /// What is shown of the heap before them and after each.
-const STATES: [&str; 4] = [
+pub const STATES: [&str; 4] = [
     "order 4\ncount 0\nqueue 0 set 0 map 0\nfree 15\ntotal 0\n",
     "order 4\ncount 1\nqueue 0 set 0 map 1\nfree 14\ntotal 1\n",
     "order 4\ncount 2\nqueue 1 set 0 map 1\nfree 13\ntotal 1\n",
@@ -109,7 +109,7 @@ fn is_as_told(shown: &str, told: &str) -> bool {
 
 /// Whether a run that was stopped left one of these states, and that which was told where the heap was
 /// opened at all.
-fn leaves_a_state<R: Threads + Wait + Sync + AllocGlobal>(
+pub fn leaves_a_state<R: Threads + Wait + Sync + AllocGlobal>(
     rt: &R,
     found: Found,
     choice: u64,

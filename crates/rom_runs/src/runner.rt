@@ -123,7 +123,7 @@ fn has_run(whole: &str) -> bool {
 }
 
 /// The count of a heap that is shown so.
-fn count_shown(shown: &str) -> Option<u64> {
+pub fn count_shown(shown: &str) -> Option<u64> {
     let line = shown.lines().nth(1)?;
     line.strip_prefix("count ")?.parse::<u64>().ok()
 }
