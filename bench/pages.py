@@ -15,7 +15,7 @@ from pathlib import Path
 
 TOP = Path(__file__).resolve().parent.parent
 PAGES = ["README.md", "docs/USE.md", "docs/OPERATING.md"]
-PROGRAMS = ["romulus", "romulus_dump", "romulus_replica"]
+PROGRAMS = ["romulus", "romulus_dump", "romulus_replica", "romulus_talk"]
 
 
 def sessions(lines):
