@@ -193,7 +193,7 @@ pub fn reader_of(program: &Program<'_>, name: &str) -> Result<FileDevice, AllocE
 
 /// A device over a heap's file, locked for this program alone. It fails where there is no file or another program
 /// has locked it, and standard error tells why. `AllocError` is told where the system has no memory to open it.
-pub fn heap_of(program: &Program<'_>, name: &str) -> Result<FileDevice, AllocError> {
+pub(crate) fn heap_of(program: &Program<'_>, name: &str) -> Result<FileDevice, AllocError> {
     or_missing(program, name, open_old(program, name))
 }
 

@@ -259,7 +259,7 @@ fn peer_of<'a>(program: &Program<'a>, names: &'a [Name], i: usize) -> HostPeer<'
 
 /// A peer at each pair of these names, an input and an output, in their order; or one at standard input and
 /// output, where there is no pair.
-pub fn peers_of<'a>(
+pub(crate) fn peers_of<'a>(
     program: &Program<'a>,
     names: &'a [Name],
 ) -> Result<Vec<HostPeer<'a>>, AllocError>

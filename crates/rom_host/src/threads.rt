@@ -5,7 +5,7 @@ use std::thread::Threads;
 
 /// Whether so many threads can be had at once beside this one. They are made, each waits until all are, and they
 /// end.
-pub fn can_spawn<R: Threads + Wait + Sync>(rt: &R, many: usize) -> bool {
+pub(crate) fn can_spawn<R: Threads + Wait + Sync>(rt: &R, many: usize) -> bool {
     let gate = Mutex::new(());
     let shared = &gate;
     thread::scope(thread::scope_env(), rt, |scope| {

@@ -24,7 +24,7 @@ use Rattle.rom_talk.specs.Talks.{HaveTalked, KeepToIt}
 abbrev pub IsTalkStatus : ℕ → Type 0
 IsTalkStatus status = (status ≡ 0) ⊎ (status ≡ 1) ⊎ (status ≡ 3) ⊎ (status ≡ 4) ⊎ (status ≡ 5) ⊎ (status ≡ 6) ⊎ (status ≡ 7)
 
--- With these the heap was opened and the peers were met, and a session is left. With 7 it may have been so.
+-- With these the heap was opened, and a session is left. With 7 it may have been so.
 abbrev pub HasMet : ℕ → Type 0
 HasMet status = (status ≡ 0) ⊎ (status ≡ 1) ⊎ (status ≡ 4) ⊎ (status ≡ 5)
 

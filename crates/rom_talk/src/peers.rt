@@ -49,7 +49,8 @@ fn end_without<D: Device, P, K: Sink>(
 }
 
 /// Opens the heap on a device and has each peer talk to it, one caller each, in threads; there are 1 to 16.
-/// Where there is no heap it says why on `out`, and no peer is met. All memory is taken before a peer is met.
+/// Where there is no heap it says why on `out`, and no peer is met. All memory but that of
+/// threads is taken before a peer is met.
 #[inline(never)]
 pub fn talk<
     O: Object + Send + Sync,
