@@ -37,6 +37,7 @@ use Rattle.rom_hear.proofs.Talking.{founded_told, handed_known, is_talk, on_firs
 use Rattle.rom_run.specs.Statuses.{is_faulted, is_unread}
 use Rattle.rom_rule.specs.declared.views.Base.{Base}
 use Rattle.rom_rule.proofs.Told.{all_append}
+use Rattle.rom_store.proofs.Earlier.{starts_further}
 use Rattle.rom_store.specs.Callers.{Caller, IsCallerOf}
 use Rattle.rom_store.specs.Closing.{kept_in}
 use Rattle.rom_store.specs.Taking.{HasTakenOne, IsSeen, result_taken}
@@ -51,9 +52,6 @@ use Rattle.rom_talk.specs.declared.ending.Ending.TheVariants as ending
 
 starts_same : {X : Type 0} (xs : List X) → StartsWith xs xs
 starts_same xs = ([], sym (append-nil xs))
-
-starts_with_all : {X : Type 0} (xs ys zs : List X) → StartsWith xs ys → StartsWith ys zs → StartsWith xs zs
-starts_with_all xs ys zs first second = (second.0 ++ first.0, first.1 ∙ ap (λ l. l ++ first.0) second.1 ∙ append_assoc zs second.0 first.0)
 
 starts_longer : {X : Type 0} (xs ys : List X) → StartsWith xs ys → length ys ≤ length xs
 starts_longer xs ys first = omega (arith, ap length first.1, length-append ys first.0)
@@ -425,8 +423,8 @@ module _ {S C Q R A P : Type 0} (m : Machine S C Q R A) (Contents : ℕ → List
     knew_later : (knowing : Caller) (rs : List (LineResult R A)) → Knows was knowing rs → Knows pass knowing rs
     knew_later knowing rs h = record {
       told = h.told;
-      seen = starts_with_all (kept_in pass).seen (kept_in was).seen (kept_in knowing).seen took.later h.seen;
-      moments = starts_with_all (kept_in pass).moments (kept_in was).moments (kept_in knowing).moments moments_later h.moments;
+      seen = starts_further (kept_in pass).seen (kept_in was).seen (kept_in knowing).seen took.later h.seen;
+      moments = starts_further (kept_in pass).moments (kept_in was).moments (kept_in knowing).moments moments_later h.moments;
       dated = h.dated;
     }
 

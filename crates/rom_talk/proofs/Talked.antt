@@ -1,5 +1,5 @@
 -- From what each talk was to all talks, and to what of them lasts.
-use Rattle.std.proofs.Common.{◌≡◌, ℕ, zero, suc, ◌+◌, Bool, ◌||◌, if◌then◌else◌, List, [], ◌∷◌, ◌++◌, map, length, reverse, refl, sym, ap, ◌∙◌, subst, arith, Some, None, IfSome, IsTrue, append_assoc}
+use Rattle.std.proofs.Common.{◌≡◌, ℕ, zero, suc, ◌+◌, Bool, ◌||◌, if◌then◌else◌, List, [], ◌∷◌, ◌++◌, map, length, reverse, refl, sym, ap, ◌∙◌, subst, arith, Some, None, IfSome, IsTrue}
 use Rattle.std.specs.Prelude.{All, slice_get}
 use Rattle.std.specs.List.{AllByRecursion, list_any}
 use Rattle.std.proofs.lemmas.List.{length-map}
@@ -9,7 +9,6 @@ use Rattle.atomic_table.specs.Seated.{TableId}
 use Rattle.rom_model.specs.Heard.{HasHeard}
 use Rattle.rom_model.specs.Leaving.{HaveLeft, IsClosed, IsKept}
 use Rattle.rom_model.specs.Machine.{Machine, on_words}
-use Rattle.rom_model.specs.Seen.{StartsWith}
 use Rattle.rom_model.specs.Story.{Story}
 use Rattle.rom_model.specs.declared.kept.Kept.{Kept}
 use Rattle.rom_model.specs.declared.line.Step.{Step}
@@ -25,10 +24,10 @@ use Rattle.rom_run.specs.Statuses.{is_faulted, is_unread}
 use Rattle.rom_store.specs.Callers.{Caller, IsCallerOf, IsNewCaller, IsNumberedCaller}
 use Rattle.rom_store.specs.Closing.{ClosedSeen, joined_of, kept_in}
 use Rattle.rom_store.specs.Indexed.{Indexed}
-use Rattle.rom_store.specs.Lasting.{Lasts}
 use Rattle.rom_store.specs.Moments.{LastsFor}
 use Rattle.rom_store.specs.Sessions.{EachStory}
 use Rattle.rom_store.specs.Working.{HasDoneLines, HasSeenNothing}
+use Rattle.rom_store.proofs.Earlier.{earlier_lasts, earlier_seen}
 use Rattle.rom_text.specs.Text.{Texts}
 use Rattle.rom_talk.specs.Seated.{IsSeatedReady, IsUnnoted, number_found}
 use Rattle.rom_talk.specs.Serving.{IsFresh, IsReady, IsServed, Knew}
@@ -43,19 +42,6 @@ no_none x is = cc
 
 some_one : {X : Type 0} (x y : X) → Some x ≡ Some y → x ≡ y
 some_one x y is = cc
-
-at_front : {X : Type 0} (xs ys : List X) (i : ℕ) (x : X) → slice_get xs i ≡ Some x → slice_get (xs ++ ys) i ≡ Some x
-at_front [] ys i x at = absurd (no_none x at)
-at_front (y ∷ xs) ys zero x at = at
-at_front (y ∷ xs) ys (suc i) x at = at_front xs ys i x at
-
--- a beginning of a beginning
-begins : {X : Type 0} (whole first part : List X) → StartsWith whole first → StartsWith first part → StartsWith whole part
-begins whole first part h g = (g.0 ++ h.0, h.1 ∙ (ap (λ zs. zs ++ h.0) g.1 ∙ append_assoc part g.0 h.0))
-
--- what holds at the places of a list holds at those of a beginning of it
-front_indexed : {X : Type 0} (P : ℕ → X → Type 0) (whole first : List X) → StartsWith whole first → Indexed P whole → Indexed P first
-front_indexed P whole first h all = record { at = λ i x at. all.at i x (subst (λ zs. slice_get zs i ≡ Some x) (sym h.1) (at_front first h.0 i x at)) }
 
 -- whoever knew so much knew what follows from it
 founded_by : {R A K : Type 0} (texts : Texts R A) (F G : K → List (LineResult R A) → Type 0) (results : List (LineResult R A)) (log : List (Event K)) → ((knowing : K) (rs : List (LineResult R A)) → F knowing rs → G knowing rs) → IsFounded texts F results log → IsFounded texts G results log
@@ -205,9 +191,9 @@ module _ {S C Q R A P : Type 0} (machine : Machine S C Q R A) (Contents : ℕ �
         Knew machine Contents table base peer texts Reads pass knowing results → Covers machine Contents shown peer texts Reads story device knowing results
     covers pass kept lasts knowing results knew = record {
       told = knew.told story.opening story.opening_count at;
-      of = begins story.history (kept_in pass).seen (kept_in knowing).seen kept.seen knew.seen;
+      of = earlier_seen story.history (kept_in pass) (kept_in knowing) kept.seen knew.seen;
       dated = knew.dated;
-      lasts = λ tells. front_indexed (λ i moment. Lasts shown Contents (on_words machine) story (i + 1) moment device) (kept_in pass).moments (kept_in knowing).moments knew.moments (lasts.lasts tells);
+      lasts = earlier_lasts shown Contents (on_words machine) story device (kept_in pass) (kept_in knowing) lasts knew.moments;
     }
 
     has_talked : (a b : Talker P) (s : Served a b) → IsKept machine story (kept_in b.pass) → LastsFor shown Contents (on_words machine) story device (kept_in b.pass) → HasTalked machine Contents shown peer texts Reads story device a.peer b.peer b.ending s.steps s.results
