@@ -1,5 +1,5 @@
 -- From what each talk was to all talks, and to what of them lasts.
-use Rattle.std.proofs.Common.{◌≡◌, ℕ, zero, suc, ◌+◌, Bool, ◌||◌, if◌then◌else◌, List, [], ◌∷◌, ◌++◌, map, length, reverse, refl, sym, ap, ◌∙◌, subst, arith, Some, None, IfSome, IsTrue}
+use Rattle.std.proofs.Common.{◌≡◌, ℕ, zero, suc, ◌+◌, ◌||◌, if◌then◌else◌, List, [], ◌∷◌, ◌++◌, map, length, reverse, refl, sym, ap, ◌∙◌, subst, arith, Some, None}
 use Rattle.std.specs.Prelude.{All, slice_get}
 use Rattle.std.specs.List.{AllByRecursion, list_any}
 use Rattle.std.proofs.lemmas.List.{length-map}
@@ -33,9 +33,8 @@ use Rattle.rom_talk.specs.Seated.{IsSeatedReady, IsUnnoted, number_found}
 use Rattle.rom_talk.specs.Serving.{IsFresh, IsReady, IsServed, Knew}
 use Rattle.rom_talk.specs.Sessions.{AreTalks}
 use Rattle.rom_talk.specs.Talks.{AllHaveTalked, Covers, HasTalked, IsSaidInTurn, KeepToIt, is_unheard, is_unsaid, talk_status}
-use Rattle.rom_talk.specs.declared.ending.Ending.{Ending}
 use Rattle.rom_talk.specs.declared.talker.Talker.{Talker}
-use Rattle.rom_talk.proofs.Pairing.{Pairs, any_mapped, any_turned, each_back, each_indexed, each_of_two, each_unmapped, pairs_many}
+use Rattle.rom_talk.proofs.Pairing.{Pairs, any_mapped, any_turned, each_back, each_indexed, each_of_two, each_unmapped}
 
 no_none : {X : Type 0} (x : X) → None ≡ Some x → ⊥
 no_none x is = cc

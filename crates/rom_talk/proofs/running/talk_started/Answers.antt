@@ -1,4 +1,4 @@
-use Rattle.std.proofs.Common.{◌≡◌, ◌∙◌, sym, subst}
+use Rattle.std.proofs.Common.{◌∙◌, sym, subst}
 use Rattle.rom_run.specs.Statuses.{exit_number}
 use Rattle.rom_store.specs.Callers.{IsNewCaller}
 use Rattle.rom_store.specs.Indexed.{Indexed}
