@@ -137,7 +137,7 @@ fn shift<M: Space>(
 
 /// Does an update of one structure that is counted already. What it writes of the map has this
 /// stamp.
-fn update<M: Space>(space: &mut M, order: u32, call: &Single, stamp: u64) -> SingleReply
+pub fn update<M: Space>(space: &mut M, order: u32, call: &Single, stamp: u64) -> SingleReply
     requires order { IsOrder order }
     requires region { HasStamp order (M.shown.image space.old) stamp }
     requires room { HasRoom M.shown 31 space.old }

@@ -8,7 +8,8 @@
 //! they give, that each update is counted, that one is refused for want of room exactly where the heap
 //! is full, and how many loads and stores there are at most. A group of updates is one update: whether
 //! one of its members would be refused is found out by loads alone (`fits`), and then nothing but the
-//! count is stored. `free_elements` says how much room is left.
+//! count is stored. `update_single` is an update of one structure that is counted already, for objects that
+//! do several as one. `free_elements` says how much room is left.
 //!
 //! An update first stores the raised count, which is then the stamp of each value of the map that it
 //! writes; the members of a group have one place in the history, and so one stamp. By the stamps
@@ -27,5 +28,6 @@ mod inspect;
 mod renew;
 mod trio;
 
+pub use apply::update as update_single;
 pub use free::free_elements;
 pub use trio::Trio;

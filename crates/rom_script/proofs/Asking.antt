@@ -24,7 +24,7 @@ use Rattle.rom_script.specs.Asking.{Asks, AsksUpdate, single_phrase, query_phras
 use Rattle.rom_script.specs.Lines.{CallKindFits, QueryFits, ReadsTrio, SingleCallFits, kind_line, members_line, query_line, single_line}
 
 -- the line of an update of one structure is its name and its numbers with spaces between
-single_joined : (c : Single) → single_line c ≡ join_with_byte 32 (phrase_words (single_phrase c).0 (single_phrase c).1)
+pub single_joined : (c : Single) → single_line c ≡ join_with_byte 32 (phrase_words (single_phrase c).0 (single_phrase c).1)
 single_joined (single.Enq v) = refl
 single_joined single.Deq = refl
 single_joined (single.Add k) = refl
@@ -43,7 +43,7 @@ query_joined query.Total = refl
 query_joined (query.Fresh place) = refl
 
 -- the name of an update is a word
-single_named : (c : Single) → is_word (single_phrase c).0 ≡ true
+pub single_named : (c : Single) → is_word (single_phrase c).0 ≡ true
 single_named (single.Enq v) = refl
 single_named single.Deq = refl
 single_named (single.Add k) = refl
@@ -61,16 +61,8 @@ query_named query.Len = refl
 query_named query.Total = refl
 query_named (query.Fresh place) = refl
 
--- the words of an update's line
-single_words : (c : Single) → line_words (single_line c) ≡ phrase_words (single_phrase c).0 (single_phrase c).1
-single_words c = ap line_words (single_joined c) ∙ phrase_read (single_phrase c).0 (single_phrase c).1 (single_named c)
-
--- the words of a query's line
-query_words : (q : Query) → line_words (query_line q) ≡ phrase_words (query_phrase q).0 (query_phrase q).1
-query_words q = ap line_words (query_joined q) ∙ phrase_read (query_phrase q).0 (query_phrase q).1 (query_named q)
-
 -- an update fits where its numbers do
-single_fits : (c : Single) → SingleCallFits c → NumbersFit (single_phrase c).1
+pub single_fits : (c : Single) → SingleCallFits c → NumbersFit (single_phrase c).1
 single_fits (single.Enq v) fits = (fits, tt)
 single_fits single.Deq fits = tt
 single_fits (single.Add k) fits = (fits, tt)
@@ -79,7 +71,7 @@ single_fits (single.Put k v) fits = (fits.0, (fits.1, tt))
 single_fits (single.Del k) fits = (fits, tt)
 single_fits (single.Move a b d) fits = (fits.0, (fits.1, (fits.2, tt)))
 
-fits_single : (c : Single) → NumbersFit (single_phrase c).1 → SingleCallFits c
+pub fits_single : (c : Single) → NumbersFit (single_phrase c).1 → SingleCallFits c
 fits_single (single.Enq v) fit = fit.0
 fits_single single.Deq fit = tt
 fits_single (single.Add k) fit = fit.0
@@ -106,7 +98,7 @@ fits_query query.Total fit = tt
 fits_query (query.Fresh place) fit = fit.0
 
 -- no update of one structure and no query has more than three numbers
-single_is_short : (c : Single) → length (single_phrase c).1 ≤ 3
+pub single_is_short : (c : Single) → length (single_phrase c).1 ≤ 3
 single_is_short (single.Enq v) = omega arith
 single_is_short single.Deq = omega arith
 single_is_short (single.Add k) = omega arith
@@ -123,12 +115,24 @@ query_is_short query.Len = omega arith
 query_is_short query.Total = omega arith
 query_is_short (query.Fresh place) = omega arith
 
--- such an update is asked for by its words alone
-pub update_reads : (line name numbers : List ℕ) (c : Single) → line_words line ≡ phrase_words name numbers → NumbersFit numbers → (name, numbers) ≡ single_phrase c → SingleCallFits c × (line ≡ single_line c)
-update_reads line name numbers c words fit asks = (
-  fits_single c (subst NumbersFit (ap (λ p. p.1) asks) fit),
-  sym (join_with_byte-slice_split 32 line) ∙ ap (join_with_byte 32) words ∙ ap (λ p. join_with_byte 32 (phrase_words p.0 p.1)) asks ∙ sym (single_joined c),
-)
+-- How commands of one kind are written: a word, and at most three numbers behind it, which the line has with spaces between.
+pub record Phrased (X : Type 0) : Type 1 where
+  pub phrase : X → List ℕ × List ℕ
+  pub line : X → List ℕ
+  pub Fits : X → Type 0
+  pub joined : (x : X) → line x ≡ join_with_byte 32 (phrase_words (phrase x).0 (phrase x).1)
+  pub named : (x : X) → is_word (phrase x).0 ≡ true
+  pub numbers_fit : (x : X) → Fits x → NumbersFit (phrase x).1
+  pub fits : (x : X) → NumbersFit (phrase x).1 → Fits x
+  pub short : (x : X) → length (phrase x).1 ≤ 3
+
+-- the updates of a queue, a set and a map
+abbrev pub phrased_updates : Phrased Single
+phrased_updates = record { phrase = single_phrase; line = single_line; Fits = SingleCallFits; joined = single_joined; named = single_named; numbers_fit = single_fits; fits = fits_single; short = single_is_short }
+
+-- the queries
+abbrev phrased_queries : Phrased Query
+phrased_queries = record { phrase = query_phrase; line = query_line; Fits = QueryFits; joined = query_joined; named = query_named; numbers_fit = query_fits; fits = fits_query; short = query_is_short }
 
 -- a name and numbers are those of the words
 phrase_is : (name numbers : List ℕ) (p : List ℕ × List ℕ) → NumbersFit numbers → NumbersFit p.1 → phrase_words name numbers ≡ phrase_words p.0 p.1 → (name, numbers) ≡ p
@@ -137,29 +141,42 @@ phrase_is name numbers (w, ns) fit fit_ns same = λ i. (first_of same i, numbers
     first_of : name ∷ map decimal numbers ≡ w ∷ map decimal ns → name ≡ w
     first_of is = search rules
 
--- words that ask for no update are those of no update's line
-pub no_update_reads : (line name numbers : List ℕ) → line_words line ≡ phrase_words name numbers → NumbersFit numbers → ((c : Single) → (name, numbers) ≢ single_phrase c) → (c : Single) → SingleCallFits c → line ≢ single_line c
-no_update_reads line name numbers words fit none c fits is = none c (phrase_is name numbers (single_phrase c) fit (single_fits c fits) (sym words ∙ ap line_words is ∙ single_words c))
+module _ {X : Type 0} (phrased : Phrased X) where
+  -- the words of a command's line
+  words_of : (x : X) → line_words (phrased.line x) ≡ phrase_words (phrased.phrase x).0 (phrased.phrase x).1
+  words_of x = ap line_words (phrased.joined x) ∙ phrase_read (phrased.phrase x).0 (phrased.phrase x).1 (phrased.named x)
+
+  -- it is asked for by its words alone
+  pub phrase_reads : (line name numbers : List ℕ) (x : X) → line_words line ≡ phrase_words name numbers → NumbersFit numbers → (name, numbers) ≡ phrased.phrase x → phrased.Fits x × (line ≡ phrased.line x)
+  phrase_reads line name numbers x words fit asks = (
+    phrased.fits x (subst NumbersFit (ap (λ p. p.1) asks) fit),
+    sym (join_with_byte-slice_split 32 line) ∙ ap (join_with_byte 32) words ∙ ap (λ p. join_with_byte 32 (phrase_words p.0 p.1)) asks ∙ sym (phrased.joined x),
+  )
+
+  -- words that ask for no command are those of no command's line
+  pub no_phrase_of : (line name numbers : List ℕ) → line_words line ≡ phrase_words name numbers → NumbersFit numbers → ((x : X) → (name, numbers) ≢ phrased.phrase x) → (x : X) → phrased.Fits x → line ≢ phrased.line x
+  no_phrase_of line name numbers words fit none x fits is =
+      none x (phrase_is name numbers (phrased.phrase x) fit (phrased.numbers_fit x fits) (sym words ∙ ap line_words is ∙ words_of x))
+
+  -- a line that is no word with numbers behind it is no command's
+  pub no_phrase : (line : List ℕ) → ((name numbers : List ℕ) → length numbers ≤ 3 → NumbersFit numbers → line_words line ≢ phrase_words name numbers) → (x : X) → phrased.Fits x → line ≢ phrased.line x
+  no_phrase line none x fits is = none (phrased.phrase x).0 (phrased.phrase x).1 (phrased.short x) (phrased.numbers_fit x fits) (ap line_words is ∙ words_of x)
 
 -- the same of what is found for the numbers of the words
-module _ (line name numbers asked : List ℕ) (o : Option Single) (words : line_words line ≡ phrase_words name numbers) (fit : NumbersFit numbers) (same : asked ≡ numbers) where
-  pub update_of : IfSome o (λ c. (name, asked) ≡ single_phrase c) → IfSome o (λ c. SingleCallFits c × (line ≡ single_line c))
-  update_of some = by_option o some
+module _ {X : Type 0} (phrased : Phrased X) (line name numbers asked : List ℕ) (o : Option X) (words : line_words line ≡ phrase_words name numbers) (fit : NumbersFit numbers) (same : asked ≡ numbers) where
+  pub command_of : IfSome o (λ x. (name, asked) ≡ phrased.phrase x) → IfSome o (λ x. phrased.Fits x × (line ≡ phrased.line x))
+  command_of some = by_option o some
     where
-      by_option : (o : Option Single) → IfSome o (λ c. (name, asked) ≡ single_phrase c) → IfSome o (λ c. SingleCallFits c × (line ≡ single_line c))
+      by_option : (o : Option X) → IfSome o (λ x. (name, asked) ≡ phrased.phrase x) → IfSome o (λ x. phrased.Fits x × (line ≡ phrased.line x))
       by_option None some = some
-      by_option (Some c) some = update_reads line name numbers c words fit (subst (λ ns. (name, ns) ≡ single_phrase c) same some)
+      by_option (Some x) some = phrase_reads phrased line name numbers x words fit (subst (λ ns. (name, ns) ≡ phrased.phrase x) same some)
 
-  pub no_update_of : IfNone o ((c : Single) → (name, asked) ≢ single_phrase c) → IfNone o ((c : Single) → SingleCallFits c → line ≢ single_line c)
-  no_update_of none = by_option o none
+  pub no_command_of : IfNone o ((x : X) → (name, asked) ≢ phrased.phrase x) → IfNone o ((x : X) → phrased.Fits x → line ≢ phrased.line x)
+  no_command_of none = by_option o none
     where
-      by_option : (o : Option Single) → IfNone o ((c : Single) → (name, asked) ≢ single_phrase c) → IfNone o ((c : Single) → SingleCallFits c → line ≢ single_line c)
-      by_option None none = no_update_reads line name numbers words fit (subst (λ ns. (c : Single) → (name, ns) ≢ single_phrase c) same none)
-      by_option (Some c) none = none
-
--- and so is a line that is no word with numbers behind it
-pub no_phrase_updates : (line : List ℕ) → ((name numbers : List ℕ) → length numbers ≤ 3 → NumbersFit numbers → line_words line ≢ phrase_words name numbers) → (c : Single) → SingleCallFits c → line ≢ single_line c
-no_phrase_updates line none c fits is = none (single_phrase c).0 (single_phrase c).1 (single_is_short c) (single_fits c fits) (ap line_words is ∙ single_words c)
+      by_option : (o : Option X) → IfNone o ((x : X) → (name, asked) ≢ phrased.phrase x) → IfNone o ((x : X) → phrased.Fits x → line ≢ phrased.line x)
+      by_option None none = no_phrase_of phrased line name numbers words fit (subst (λ ns. (x : X) → (name, ns) ≢ phrased.phrase x) same none)
+      by_option (Some x) none = none
 
 -- no line of a group is such
 abbrev pub NoGroup : List ℕ → Type 0
@@ -175,23 +192,17 @@ pub asked_reads : (line name numbers : List ℕ) (step : Step Call Query) → No
 asked_reads line name numbers (Update call) other words fit asks = by_kind (kind_of call) asks
   where
     by_kind : (k : Kind Single (List Single)) → AsksUpdate name numbers k → CallKindFits k × (line ≡ kind_line k)
-    by_kind (kind.Single c) is = update_reads line name numbers c words fit is
+    by_kind (kind.Single c) is = phrase_reads phrased_updates line name numbers c words fit is
     by_kind (kind.Several calls) is = absurd is
-asked_reads line name numbers (Ask q) other words fit asks = (
-  fits_query q (subst NumbersFit (ap (λ p. p.1) asks) fit),
-  sym (join_with_byte-slice_split 32 line) ∙ ap (join_with_byte 32) words ∙ ap (λ p. join_with_byte 32 (phrase_words p.0 p.1)) asks ∙ sym (query_joined q),
-)
+asked_reads line name numbers (Ask q) other words fit asks = phrase_reads phrased_queries line name numbers q words fit asks
 asked_reads line name numbers Unread other words fit asks = (
-  (λ call. no_call line other (no_update_reads line name numbers words fit asks.0) (kind_of call)),
-  (λ q fits is. asks.1 q (phrase_is name numbers (query_phrase q) fit (query_fits q fits) (sym words ∙ ap line_words is ∙ query_words q))),
+  (λ call. no_call line other (no_phrase_of phrased_updates line name numbers words fit asks.0) (kind_of call)),
+  no_phrase_of phrased_queries line name numbers words fit asks.1,
 )
 
 -- a line that is no group's and no word with numbers behind it is unread
 pub no_phrase_reads : (line : List ℕ) → NoGroup line → ((name numbers : List ℕ) → length numbers ≤ 3 → NumbersFit numbers → line_words line ≢ phrase_words name numbers) → ReadsTrio line Unread
-no_phrase_reads line other none = (
-  (λ call. no_call line other (no_phrase_updates line none) (kind_of call)),
-  (λ q fits is. none (query_phrase q).0 (query_phrase q).1 (query_is_short q) (query_fits q fits) (ap line_words is ∙ query_words q)),
-)
+no_phrase_reads line other none = ((λ call. no_call line other (no_phrase phrased_updates line none) (kind_of call)), no_phrase phrased_queries line none)
 
 -- the call of an update of one structure is asked for by the update's words
 pub asks_single : (name numbers : List ℕ) (c : Single) → (name, numbers) ≡ single_phrase c → Asks name numbers (Update (call_of c))

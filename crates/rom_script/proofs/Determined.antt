@@ -44,7 +44,7 @@ number_answer w v =
     (if bytes_eq w (codes "total") then answer.Total v else answer.Fresh v))
 
 -- the answer that words name, by how many they are
-abbrev answer_of : List ℕ → List (List ℕ) → Answer
+abbrev pub answer_of : List ℕ → List (List ℕ) → Answer
 answer_of w [] = plain_answer w
 answer_of w (q ∷ a ∷ s ∷ b ∷ m ∷ more) = answer.Sizes (digits_value 10 q) (digits_value 10 s) (digits_value 10 m)
 answer_of w (v ∷ more) = number_answer w (digits_value 10 v)
@@ -85,7 +85,7 @@ sizes_named q s m fits = record {
 }
 
 -- an answer's text is words that name it
-answer_named : (a : Answer) → AnswerFits a → IsNamed answer_of (answer_text a) a
+pub answer_named : (a : Answer) → AnswerFits a → IsNamed answer_of (answer_text a) a
 answer_named answer.Yes fits = by_word answer_of (codes "yes") answer.Yes refl refl
 answer_named answer.No fits = by_word answer_of (codes "no") answer.No refl refl
 answer_named (answer.Value v) fits = by_two answer_of (codes "value") (decimal v) (answer.Value v) refl (decimal_is_a_word v) (ap answer.Value (decimal_read v (wide v fits)))

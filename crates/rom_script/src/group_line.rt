@@ -11,9 +11,11 @@ use rom_model::{Group, MAX_MEMBERS, Single};
 /// What stands between two members.
 const SEPARATOR: &[u8] = b" ; ";
 
-/// What stands before the first separator, and what stands behind it where there is one.
-fn split_first(text: &[u8]) -> (&[u8], Option<&[u8]>)
+/// What stands before the first semicolon between two spaces, and what stands behind it where there is one: the
+/// first of the members that a group's text has, and those to come.
+pub fn split_first(text: &[u8]) -> (&[u8], Option<&[u8]>)
     ensures parts { text.now ≡ result.0.now ++ behind_line (option_map (λ b. b.now) result.1) }
+    // No separator begins earlier than the first part ends.
     ensures first { (front back : List ℕ) → text.now ≡ front ++ behind_line (Some back)
         → length result.0.now ≤ length front }
     ensures less { IfSome result.1 (λ b. length b.now < length text.now) }

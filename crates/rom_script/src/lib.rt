@@ -21,6 +21,7 @@ mod summary;
 mod update_line;
 
 pub use drill::{drill_script, drill_scripts};
+pub use group_line::split_first;
 pub use line::{Line, TrioLines, read_line};
 pub use rom_text::{
     Adapted, Bytes, Collect, IoFailed, Name, Names, Print, ReadRefused, Sink, Source, line_end,
@@ -30,3 +31,4 @@ pub use rom_text::{
 pub use script::{Script, read_script};
 pub use stat::print_stat;
 pub use summary::{Summary, print_drill, sum_dequeued, sum_enqueued};
+pub use update_line::read_update;

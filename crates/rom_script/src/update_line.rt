@@ -25,8 +25,9 @@ pub(crate) fn asked_update(name: &[u8], numbers: &[u64]) -> Option<Single>
     }
 }
 
-/// Reads a line, or a group's member.
-pub(crate) fn read_update(line: &[u8]) -> Option<Single>
+/// The update of one structure that a line asks for, or a group's member. It is `None` exactly where there is
+/// none.
+pub fn read_update(line: &[u8]) -> Option<Single>
     ensures some { IfSome result (λ c. SingleCallFits c × (line.now ≡ single_line c)) }
     ensures none { IfNone result ((c : Single) → SingleCallFits c → line.now ≢ single_line c) }
 {

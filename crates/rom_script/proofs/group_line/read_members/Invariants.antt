@@ -1,13 +1,13 @@
 use Rattle.std.proofs.Common.{◌≡◌, ◌≤◌, length, take}
 use Rattle.std.specs.Prelude.{option_map}
-use Rattle.rom_script.proofs.Members.{AreSoFar, many_left}
+use Rattle.rom_script.proofs.Members.{AreSoFar, many_left, update_lines}
 use Rattle.rom_script.proofs.group_line.read_members.Given as goal
 
 abbrev pub invariant-loop-rest : goal.invariant-loop-rest
 invariant-loop-rest l = record {
   few : l.len ≤ 8;
   cells : length l.calls ≡ 8;
-  all : AreSoFar l.text (option_map (λ b. b.now) l.rest) (take l.len l.calls);
+  all : AreSoFar update_lines l.text (option_map (λ b. b.now) l.rest) (take l.len l.calls);
 }
 
 abbrev pub decreases-loop-rest : goal.decreases-loop-rest
