@@ -1,0 +1,2 @@
+-- Words that are stored over and put back.
+pub mod Noting
