@@ -35,7 +35,19 @@ told 0 "" "$program" script heap --part 3
 told 0 "put 0 1" "$program" script heap --from back
 told 3 "refused: malformed at 4, rule ends" "$program" script heap --from main
 told 0 "put 0 1" flock -s heap "$program" script heap
-told 7 "device failed" flock -x heap "$program" script heap
+# Another program has it: it is read as it is committed, but for one region by itself.
+told 0 "put 0 1" flock -x heap "$program" script heap
+told 0 "counts both: idle" flock -x heap "$program" check heap
+told 7 "device failed" flock -x heap "$program" check heap --from back
+told 7 "device failed" flock -x empty "$program" check empty
+told 0 "copied order 4 count 2" "$program" copy heap new
+told 7 "device failed" "$program" copy heap new
+told 0 "copied order 4 count 2" flock -x heap "$program" copy heap other
+told 3 "refused: too small, need 8, have 0" "$program" copy empty none
+told 7 "device failed" "$program" copy heap nowhere/new
+told 0 "put 0 1" "$program" script new
+cmp new other || wrong=1
+[ "$(stat -c %a new)" = 600 ] && [ ! -e none ] || { echo "WRONG: a copy that others may read, or of no heap"; wrong=1; }
 told 7 "device failed" "$program" check nothing
 told 7 "device failed" "$program" check .
 told 3 "refused: too small, need 8, have 0" "$program" check empty
@@ -47,6 +59,37 @@ told 5 "" sh -c "exec '$program' script heap >/dev/full"
 told 5 "" sh -c "exec '$program' script heap >&-"
 told 0 "" sh -c "exec '$program' check heap >&-"
 cmp heap "$kept" || wrong=1
+
+# A heap that a talk changes meanwhile: each copy is what its count of updates makes, which are enq 1, deq, enq 2, deq
+# and so on.
+talk=${program%/*/*/*}/romulus_talk/out/romulus_talk
+romulus=${program%/*/*/*}/romulus/out/romulus
+in_use() {
+    rm -f talked copy.*
+    "$romulus" format talked --order "$1" >told || wrong=1
+    awk 'BEGIN { for (k = 1; k <= 200000; k++) print "enq " k "\ndeq" }' | "$talk" talked >replies &
+    talking=$!
+    sleep 0.2
+    for copy in 1 2 3 4 5 6 7 8; do
+        text=$("$program" copy talked copy.$copy) || { echo "WRONG: order $1: $text"; wrong=1; continue; }
+        count=${text##* }
+        made=$("$program" script copy.$copy)
+        [ "$((count % 2))" = 0 ] || made=${made#"enq $((count / 2 + 1))"}
+        [ -z "$made" ] || { echo "WRONG: order $1, count $count: $made"; wrong=1; }
+        "$program" check talked >told || { echo "WRONG: order $1: $(cat told)"; wrong=1; }
+    done
+    kill -0 $talking || { echo "the talk had ended: order $1 was not read in use"; wrong=1; }
+    kill $talking
+    wait $talking
+    last=$("$program" check talked | sed -n 's/^count //p')
+    [ "$count" -le "$last" ] || { echo "WRONG: order $1: count $count behind $last"; wrong=1; }
+}
+if [ -x "$talk" ] && [ -x "$romulus" ]; then
+    for order in 4 8 12 16; do in_use $order 2>/dev/null; done
+else
+    echo "build romulus and romulus_talk first: no heap was read in use"
+    wrong=1
+fi
 
 # The calls of a command on files, but for those that make its output.
 looks() {

@@ -1,7 +1,7 @@
 #!/usr/bin/env python3
 """Types the sessions of the pages, and ends with 1 where something else comes than stands there.
 
-    bench/pages.py [PAGE..]     README.md, docs/USE.md, docs/OPERATING.md and the page of a ledger, if none is named
+    bench/pages.py [PAGE..]     README.md, docs/USE.md, docs/OPERATING.md and the pages of a ledger and a replica, if none is named
 
 Each page has a new folder, with the built programs on the path. A session is an indented block: a line that begins
 with `$ ` is given to bash, and the lines behind it, up to the next such line, are what it must print. Where none
@@ -14,7 +14,7 @@ import tempfile
 from pathlib import Path
 
 TOP = Path(__file__).resolve().parent.parent
-PAGES = ["README.md", "docs/USE.md", "docs/OPERATING.md", "crates/romulus_ledger/README.md"]
+PAGES = ["README.md", "docs/USE.md", "docs/OPERATING.md", "crates/romulus_ledger/README.md", "crates/romulus_replica/README.md"]
 PROGRAMS = ["romulus", "romulus_dump", "romulus_ledger", "romulus_replica", "romulus_talk"]
 
 

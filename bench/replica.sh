@@ -7,15 +7,19 @@
 # killed and given again. A stream that comes before an earlier one is early whole, so there are passes until
 # no frame was early: as many as streams, if they come in reverse. Then all are given once more, each frame is
 # to be known, and `stat` is to say of the second heap what it said of the first.
-# It fails where that is not so, where no frame was applied, or where no kill came among updates.
-# Usage, from any folder, once the programs are built: bench/replica.sh [TURNS [CALLERS]], of 1 to 16 callers
+# It fails where that is not so, where no frame was applied, or where no kill came among updates. Then replica.py
+# looks at talks that ship, at their followers, at copies and at a failover.
+# Usage, from any folder, once the programs are built: bench/replica.sh [TURNS [CALLERS]], of 1 to 16 callers, or
+# bench/replica.sh --short, for replica.py alone
+talks=$(cd "$(dirname "$0")" && pwd)/replica.py
+[ "${1:-}" != --short ] || exec "$talks" --short
 turns=${1:-40}
 callers=${2:-4}
 built=crates/romulus/out/romulus
 build="./romulus try examples/queue.txt"
 . "$(dirname "$0")/begin.sh"
 replica=$(cd "$(dirname "$0")/.." && pwd)/crates/romulus_replica/out/romulus_replica
-[ -x "$replica" ] || { echo "build the program first: ./romulus_replica follow heap stream" >&2; exit 1; }
+[ -x "$replica" ] || { echo "build the program first: ./romulus_replica follow --anonymous heap stream" >&2; exit 1; }
 first=$folder/first
 second=$folder/second
 "$replica" format "$first" 8 >"$folder/text" || { cat "$folder/text" >&2; exit 1; }
@@ -31,13 +35,13 @@ passes=0
 # Takes one stream, a third of the times after a `follow` of it that is killed.
 take() {
     if [ "$(draw 3)" -eq 0 ]; then
-        "$replica" follow "$second" "$1" >/dev/null &
+        "$replica" follow --anonymous "$second" "$1" >/dev/null &
         sleep "$(awk -v n="$(draw 1000)" 'BEGIN { printf "%.3f", n / 5000 }')"
         kill -9 "$!" 2>/dev/null
         wait "$!" 2>/dev/null
         [ $? -eq 137 ] && stopped=$((stopped + 1))
     fi
-    "$replica" follow "$second" "$1" >"$folder/text" || { echo "$1: STATUS $?: $(cat "$folder/text")"; exit 1; }
+    "$replica" follow --anonymous "$second" "$1" >"$folder/text" || { echo "$1: STATUS $?: $(cat "$folder/text")"; exit 1; }
     applied=$((applied + $(awk 'NR == 1 { print $2 }' "$folder/text")))
 }
 
@@ -54,7 +58,7 @@ catch_up() {
         done
     done
     for stream in $kept; do
-        "$replica" follow "$second" "$folder/frames$stream" >"$folder/text" || { echo "$stream: STATUS $?"; exit 1; }
+        "$replica" follow --anonymous "$second" "$folder/frames$stream" >"$folder/text" || { echo "$stream: STATUS $?"; exit 1; }
         case $(head -n 1 "$folder/text") in
             "applied 0 known "*" early 0") ;;
             *) echo "stream $stream: NOT KNOWN: $(cat "$folder/text")"; exit 1 ;;
@@ -105,4 +109,4 @@ for turn in $(seq "$turns"); do
 done
 catch_up
 echo "$among kills came among updates, $stopped follows were killed; $applied frames applied in $passes passes; $(sed -n 2p "$folder/state") in the end"
-[ "$applied" -gt 0 ] && [ "$among" -gt 0 ]
+[ "$applied" -gt 0 ] && [ "$among" -gt 0 ] && "$talks"

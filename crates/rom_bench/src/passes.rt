@@ -11,7 +11,7 @@ ghost use Rattle.rom_model.specs.VecSpace.{words_of_space};
 
 use crate::stores::{ORDER, WORDS};
 use rom_announce::{answered, post_words, take_into};
-use rom_combine::{Core, NoGate};
+use rom_combine::{Core, NoGate, NoShipper};
 use rom_device::Ram;
 use rom_header::{Geometry, write_new};
 use rom_heap::Trio;
@@ -107,7 +107,9 @@ fn pass_all<R: Wait>(
     let mut done = 0u64;
     for round in 0..passes {
         post_all(shared, posters, round);
-        core.pass(rt, shared, &NoGate);
+        let mut none = NoShipper;
+        core.pass(rt, shared, &NoGate, &mut none, &[]);
+        let NoShipper = none;
         done = done.wrapping_add(take_all(shared, posters));
     }
     done

@@ -9,6 +9,7 @@ pub mod Sessions
 pub mod Writing
 pub mod Scans
 pub mod Limits
+mod Wanting
 pub mod Weights
 pub mod Stores
 pub mod Spending
@@ -22,3 +23,4 @@ pub mod Rested
 pub mod Keeping
 pub mod Begins
 pub mod Failing
+pub mod Handed

@@ -6,8 +6,10 @@ pub mod Costs
 pub mod Session
 pub mod PerCaller
 pub mod Scanning
+pub mod Wanted
 pub mod Applying
 pub mod Answering
+pub mod Shipping
 pub mod Looking
 pub mod Copying
 pub mod Published

@@ -2,10 +2,13 @@
 ghost use Rattle.std.specs.Prelude.{◌≡◌, ◌≢◌, ℕ, ◌+◌, ◌*◌, ◌<◌, ◌≤◌, map, length};
 ghost use Rattle.rom_model.specs.Blocks.{region_len};
 ghost use Rattle.rom_model.specs.Machine.{on_words, weight_on_words};
+ghost use Rattle.rom_model.specs.Passes.{batch_told};
 ghost use Rattle.rom_model.specs.declared.limits.TheConstants.{MAX_CALLERS};
 ghost use Rattle.rom_combine.specs.Answering.{HasGiven, SameCalls};
+ghost use Rattle.rom_combine.specs.Applying.{laid_of, laid_told};
 ghost use Rattle.rom_combine.specs.Costs.{SpendsAtMost, WritesHeap, syncs_before_commit, weights_found, writes_before_commit};
 ghost use Rattle.rom_combine.specs.Ends.{EndsFailed, EndsInDoubt, EndsPublished, EndsUnpublished, LeavesBatch};
+ghost use Rattle.rom_combine.specs.Histories.{batch_found};
 ghost use Rattle.rom_combine.specs.Publishing.{IsReadyToPublish};
 ghost use Rattle.rom_combine.specs.Scanning.{posted_of};
 ghost use Rattle.rom_combine.specs.Told.{fate_of};
@@ -13,6 +16,7 @@ ghost use Rattle.rom_lr.specs.Seats.{IsWriterOf, plan, writer_view};
 ghost use Rattle.rom_lr.specs.Switch.{HasSwitched};
 ghost use Rattle.rom_lr.specs.Writing.{SetsPlan};
 ghost use Rattle.rom_lr.specs.declared.side.Side.TheVariants.{Main};
+ghost use Rattle.rom_rule.specs.Calls.{found_of};
 ghost use Rattle.rom_rule.specs.Kinds.{CanSwitchToMain};
 
 use crate::answering::{CallAnswer, refuse};
@@ -71,6 +75,12 @@ pub(crate) fn publish<D: Device, O: Object>(
     ensures published { result ≡ Outcome.Published → EndsPublished D.shown O.Contents O.machine
         (writer_view seat.old).base (plan seat.old) (plan seat.new) O.STORES before
         twin.old twin.new log.new }
+    // Then the answers are what a published pass tells of the found calls, in their order.
+    ensures told { result ≡ Outcome.Published → (s : O.State) (n : ℕ) →
+        let b = (writer_view seat.old).base in let p = plan seat.old in
+        O.Contents b.order b.image s n → map laid_of answers.new.items
+        ≡ map laid_told (batch_told (n + length p.history) (map found_of p.requests)
+        (batch_found O.Contents (on_words O.machine) b s n p)) }
     // Else the history, the records, the found calls and both sides are as they were.
     ensures unpublished { result ≢ Outcome.Published →
         EndsUnpublished D.shown (plan seat.old) (plan seat.new) twin.old twin.new log.new }

@@ -19,13 +19,16 @@
 mod answering;
 mod applying;
 mod committing;
+mod finding;
 mod gate;
 mod locked;
 mod looking;
 mod passed;
 mod per_caller;
+mod replies;
 mod resting;
 mod scanning;
+mod shipper;
 mod sides;
 mod steps;
 
@@ -33,3 +36,5 @@ pub use gate::{Gate, NoGate};
 pub use locked::Core;
 pub use looking::ask_main;
 pub use passed::{Outcome, Passed};
+pub use replies::Replies;
+pub use shipper::{Batch, NoShipper, Shipper};

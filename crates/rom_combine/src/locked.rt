@@ -1,6 +1,7 @@
 //! What the lock holds: the device with its heap, and the writer's seat.
-ghost use Rattle.std.specs.Prelude.{Some, ◌≡◌, ℕ, ◌*◌, ◌<◌, ◌≤◌, IsTrue};
+ghost use Rattle.std.specs.Prelude.{Some, ◌≡◌, ℕ, ◌+◌, ◌*◌, ◌<◌, ◌≤◌, IfSome, IsTrue, drop, length, map};
 ghost use Rattle.rom_model.specs.Blocks.{IsOrder, region_len};
+ghost use Rattle.rom_model.specs.History.{LAST_COUNT};
 ghost use Rattle.rom_model.specs.Machine.{on_words, weight_on_words};
 ghost use Rattle.rom_model.specs.Passes.{HasFault};
 ghost use Rattle.rom_lr.specs.Seats.{writer_view};
@@ -10,19 +11,23 @@ ghost use Rattle.rom_combine.specs.Causes.{BeginsIn};
 ghost use Rattle.rom_combine.specs.Costs.{SpendsAtMost, WritesHeap, batch_syncs, batch_writes, weights_found};
 ghost use Rattle.rom_combine.specs.Ends.{EndsFailed, EndsInDoubt};
 ghost use Rattle.rom_combine.specs.Passing.{HasDoneBatch, HasPassed};
+ghost use Rattle.rom_combine.specs.Shipping.{Ships, reply_in, text_from, update_of};
 ghost use Rattle.rom_combine.specs.Told.{fate_of};
+ghost use Rattle.rom_combine.specs.Wanted.{calls_found, posted_from};
 ghost use Rattle.rom_rule.specs.Views.{opening_plan, plan_of};
 
 use crate::answering::{CallAnswer, answer_all, refuse};
 use crate::committing::publish;
+use crate::finding::find;
 use crate::gate::Gate;
 use crate::passed::{Outcome, Passed};
 use crate::per_caller::PerCaller;
 use crate::resting::settle;
-use crate::scanning::{Posted, scan};
+use crate::scanning::Posted;
+use crate::shipper::{Shipper, hand_on};
 use rom_device::Device;
 use rom_lr::{Shared, WriterSeat};
-use rom_model::{COUNT, LAST_COUNT, Object, SPENT};
+use rom_model::{Args, COUNT, LAST_COUNT, Object, SPENT};
 use rom_ranges::RangeLog;
 use rom_twin::{Phase, Twin};
 use std::marker::{Model, PhantomData};
@@ -124,12 +129,40 @@ impl<D: Device, O: Object> Core<D, O> {
         (twin, seat)
     }
 
+    /// The count of updates in the heap. It makes one step.
+    pub fn count(&mut self, shared: &Shared<O>) -> u64
+        requires of { IsCoreOf shared.now self.old }
+        // It is that of the opening, and one more for each entry of the published history.
+        ensures count { let b = self.old.view.base in (s : O.State) (k : ℕ) →
+            O.Contents b.order b.image s k →
+            result ≡ k + length (plan_of self.old.view).history }
+        ensures within { result ≤ LAST_COUNT }
+        // Of what the writer knows only the number of its steps changes.
+        ensures still { self.new ≡ record self.old {
+          view = record self.old.view {
+            plan = Some (plan_of self.old.view);
+            steps = self.new.view.steps;
+          };
+        } }
+    {
+        shared.load_main(&mut self.seat, COUNT)
+    }
+
     /// Finds the posted calls, does them as one batch, and answers each. The device is repaired first
     /// where it needs it. Where it fails up to the commit, no call is done; later faults are told to
     /// none, and the twin's phase says what they left to do, if anything. It takes no memory. It waits
-    /// for readers alone, once each call is answered; up to then only the gate may hold it up, which is
-    /// told once `publish` has returned, when what it is told is certain.
-    pub fn pass<R: Wait, G: Gate>(&mut self, rt: &R, shared: &Shared<O>, gate: &G) -> Passed
+    /// for readers alone, once each call is answered; up to then only the gate and the shipper may hold it
+    /// up, which are told once `publish` has returned, when what they are told is certain. Who has posted just
+    /// some calls, of the first callers in their order, may want these: then it does these, and does not return
+    /// where it found others.
+    pub fn pass<R: Wait, G: Gate, W: Shipper>(
+        &mut self,
+        rt: &R,
+        shared: &Shared<O>,
+        gate: &G,
+        shipper: &mut W,
+        wanted: &[Args],
+    ) -> Passed
         requires of { IsCoreOf shared.now self.old }
         // The core keeps its table and seat, what the table was opened with, and the heap's order.
         ensures same { (self.new.table_id ≡ self.old.table_id) × (self.new.id ≡ self.old.id)
@@ -144,6 +177,19 @@ impl<D: Device, O: Object> Core<D, O> {
         // However it ends: what it did and answered, and what a stop leaves of it.
         ensures passed { HasPassed D.shown O.Contents O.machine self.old self.new
             shared.now.layout.callers result }
+        // The shipper was handed the updates by which the published history has grown, and no others.
+        ensures shipped { IsTrue W.shown.tells → (s : O.State) (n : ℕ) →
+            O.Contents self.old.view.base.order self.old.view.base.image s n →
+            let had = length (plan_of self.old.view).history in
+            Ships (W.shown.state shipper.old) (W.shown.state shipper.new) (text_from W.shown.text
+            (n + had) (map update_of (drop had (plan_of self.new.view).history))) }
+        // Where it did a call, and the shipper keeps the replies of its last batch, these are those of this pass.
+        ensures last { 0 < result.done → IfSome (W.shown.last shipper.new) (λ replies.
+            replies ≡ map reply_in (map update_of (drop (length (plan_of self.old.view).history)
+            (plan_of self.new.view).history))) }
+        // Where some calls are wanted, those that the pass found are just these, in the order of their callers.
+        ensures wanted { 0 < length wanted.now →
+            calls_found (plan_of self.new.view) ≡ posted_from 1 wanted.now }
         // Nothing is read, only the state and the two regions may differ, and no fault is taken back.
         ensures device { WritesHeap D.shown self.old.twin.order
             self.old.twin.device self.new.twin.device }
@@ -194,7 +240,7 @@ impl<D: Device, O: Object> Core<D, O> {
         let seat = &mut self.seat;
         // The functions of a pass take the core's parts, and none is a method of the core: between two of
         // these calls the core is not at rest, and its invariant does not hold.
-        scan(shared, seat, &mut self.found);
+        find(rt, shared, seat, &mut self.found, wanted);
         if self.found.is_empty() {
             return Passed::of(0, 0, Outcome::Nothing);
         }
@@ -225,6 +271,14 @@ impl<D: Device, O: Object> Core<D, O> {
         let done = (shared.load_main(seat, COUNT) - place) as u32;
         // The gate is told here and not in `publish`, since a gate may wait, and `publish` may not.
         gate.published(rt, done);
+        hand_on(
+            shipper,
+            seat,
+            place,
+            done as usize,
+            self.found.as_slice(),
+            self.answers.as_slice(),
+        );
         answer_all(shared, seat, self.answers.as_slice(), before, now);
         settle(rt, &mut self.twin, shared, seat, &mut self.log, before);
         Passed::of(many, done, outcome)

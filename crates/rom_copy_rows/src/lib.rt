@@ -21,6 +21,8 @@ mod from;
 #[cfg(test)]
 mod heaps;
 #[cfg(test)]
+mod in_use;
+#[cfg(test)]
 mod meetings;
 #[cfg(test)]
 mod messages;

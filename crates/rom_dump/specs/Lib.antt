@@ -3,3 +3,5 @@ pub mod Words
 pub mod Named
 pub mod Shown
 pub mod Promise
+pub mod Copying
+pub mod Copied

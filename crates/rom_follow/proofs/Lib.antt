@@ -1,11 +1,11 @@
 mod Alone
-mod Alike
-mod Passes
-mod Ended
+pub mod Alike
+pub mod Passes
+pub mod Ended
 mod Starting
 mod Taking
-mod Arriving
-mod Framed
-mod Histories
+pub mod Arriving
+pub mod Framed
+pub mod Histories
 mod Keeping
-mod Tried
+pub mod Tried

@@ -1,4 +1,5 @@
 pub mod Coded
+pub mod Heads
 mod Worked
 pub mod Blocks
 pub mod Hearing

@@ -89,8 +89,10 @@ fn words_of(place: u64, args: &[u64], reply: &[u64]) -> Words<MOST_WORDS>
 pub fn fill_frame(place: u64, args: &[u64], reply: &[u64], bytes: &mut [u8; MOST_BYTES]) -> usize
     requires few { (length args.now ≤ CALL_WORDS) × (length reply.now ≤ REPLY_WORDS) }
     ensures within { result ≤ 512 }
-    // The bytes are those of the frame whose call and reply the words are read as, and it is one that a
-    // program can have.
+    // The bytes are those of the words, whatever these are read as.
+    ensures bytes { take result bytes.new ≡ bytes_of (frame_words place args.now reply.now) }
+    // They are those of the frame whose call and reply the words are read as, and it is one that a program can
+    // have.
     ensures frame { (f : Frame) → f.place ≡ place → codes.words_call args.now ≡ Some f.call →
         codes.words_reply reply.now ≡ Some f.reply →
         (take result bytes.new ≡ frame f) × IsOfWords f }
@@ -99,9 +101,10 @@ pub fn fill_frame(place: u64, args: &[u64], reply: &[u64], bytes: &mut [u8; MOST
 }
 
 /// Puts the bytes of words at the start of these, and says how many they are.
-fn put(words: &[u64], bytes: &mut [u8; MOST_BYTES]) -> usize
+pub(crate) fn put(words: &[u64], bytes: &mut [u8; MOST_BYTES]) -> usize
     requires few { length words.now ≤ 64 }
     ensures within { result ≤ 512 }
+    ensures many { result ≡ 8 * length words.now }
     ensures bytes { take result bytes.new ≡ bytes_of words.now }
     ensures small { All (λ w. w < 2 ^ 64) words.now }
 {

@@ -6,11 +6,11 @@ use Rattle.rom_header.specs.Regions.{IsHeap}
 use Rattle.rom_header.specs.declared.fresh.FormatRefused.{FormatRefused}
 use Rattle.rom_header.specs.declared.fresh.FormatRefused.TheVariants.{AlreadyAHeap, TooSmall, Device}
 
--- the words of the header that nobody reads are zero
+-- the words of the header that no object reads are zero: a new heap has no name
 abbrev pub UnreadAreZero : List ℕ → Type 0
 UnreadAreZero words = (slice_index words 4 ≡ 0) × (slice_index words 5 ≡ 0) × (slice_index words 6 ≡ 0) × (slice_index words 7 ≡ 0)
 
--- The words are a heap of this order whose state is IDLE, with zeros in the words that nobody reads and this image in both regions.
+-- The words are a heap of this order whose state is IDLE, with zeros in the words that no object reads and this image in both regions.
 pub record IsNewHeap (order : ℕ) (image words : List ℕ) : Type 0 where
   pub heap : IsHeap order words
   pub idle : slice_index words STATE ≡ 0

@@ -3,7 +3,7 @@ use std::fmt::{Display, Formatter};
 use std::io::ErrorKind;
 use std::{fmt, io};
 
-/// What the system answered where a file was to be opened, locked, lengthened or read, and of what it
+/// What the system answered where a file was to be opened, locked, lengthened, read or written, and of what it
 /// speaks. It is printed in words of its own where people meet it often, and else in the system's.
 #[derive(Clone, Copy)]
 pub(crate) struct Cause {
@@ -17,6 +17,14 @@ impl Cause {
     pub(crate) fn of_folder(error: io::Error) -> Cause {
         Cause {
             of: "its folder: ",
+            error,
+        }
+    }
+
+    /// This of a write to a file that is given up.
+    pub(crate) fn of_rest(error: io::Error) -> Cause {
+        Cause {
+            of: "nothing more is shipped: ",
             error,
         }
     }
@@ -35,6 +43,18 @@ impl Cause {
     /// That a caller would read its own replies as lines.
     pub(crate) fn own_input() -> Cause {
         Cause::from(io::Error::new(ErrorKind::InvalidInput, "is its own input"))
+    }
+
+    /// That frames would stand among the lines or the replies of a caller.
+    pub(crate) fn callers_own() -> Cause {
+        let words = "is an input or an output of a caller";
+        Cause::from(io::Error::new(ErrorKind::InvalidInput, words))
+    }
+
+    /// That frames would stand behind those of another stream, of which the last may be torn.
+    pub(crate) fn begun() -> Cause {
+        let words = "has bytes already, and a stream begins a file";
+        Cause::from(io::Error::new(ErrorKind::InvalidInput, words))
     }
 
     /// That a file without a heap keeps its blocks of the disk, since it has bytes behind the new heap. It is no

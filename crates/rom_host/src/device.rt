@@ -3,13 +3,13 @@ use crate::cause::Cause;
 use crate::program::Program;
 use rom_device::{FileDevice, Ram};
 use rom_header::MAGIC;
+use rom_steady::WatchedFile;
 use rom_text::DeviceWant;
 use std::alloc::AllocError;
 use std::fs::{File, OpenOptions, TryLockError};
 use std::io::ErrorKind;
 use std::os::unix::fs::{FileExt, OpenOptionsExt};
-use std::time::Duration;
-use std::{fs, io, thread};
+use std::{fs, io};
 
 /// A device that the words of a command line name.
 #[derive(Drop)]
@@ -62,7 +62,7 @@ fn try_lock(file: &File, beside: Beside) -> Result<(), TryLockError> {
 fn lock(program: &Program<'_>, file: &File, beside: Beside) -> Result<(), Cause> {
     for _ in 0..program.naps {
         match try_lock(file, beside) {
-            Err(TryLockError::WouldBlock) => thread::sleep(program.rt, Duration::from_millis(50)),
+            Err(TryLockError::WouldBlock) => program.nap(),
             locked => return Ok(locked.map_err(io::Error::from)?),
         }
     }
@@ -84,10 +84,9 @@ fn open_old(program: &Program<'_>, name: &str) -> Result<FileDevice, Cause> {
     Ok(FileDevice::new(file, bytes))
 }
 
-/// The words of a file that is only read: it is opened for reading alone, so that each write of it would fail,
-/// and locked against those who write, while others may read it too. A folder can be opened so,
+/// A file that is opened for reading alone, so that each write of it would fail. A folder can be opened so,
 /// and has no words, whatever length the system tells of it; nor has anything else that is no file.
-fn open_to_read(program: &Program<'_>, name: &str) -> Result<FileDevice, Cause> {
+fn open_unlocked(program: &Program<'_>, name: &str) -> Result<File, Cause> {
     program.may_open()?;
     let file = File::open(program.rt, name)?;
     let metadata = file.metadata()?;
@@ -97,10 +96,29 @@ fn open_to_read(program: &Program<'_>, name: &str) -> Result<FileDevice, Cause> 
     if !metadata.is_file() {
         return Err(Cause::no_file());
     }
-    lock(program, &file, Beside::Readers)?;
+    Ok(file)
+}
+
+/// A heap's file, looked at by who only reads it.
+#[derive(Drop)]
+pub enum Looked {
+    /// Nobody writes it: it is locked against those who would, while others may read it too.
+    Still(FileDevice),
+    /// Another program has locked it to write. It is not locked here, and its words may change.
+    InUse(WatchedFile),
+}
+
+/// Looks at a file, without waiting for a lock.
+fn open_to_look(program: &Program<'_>, name: &str) -> Result<Looked, Cause> {
+    let file = open_unlocked(program, name)?;
+    let locked = try_lock(&file, Beside::Readers);
     // Asked for once it is locked: until then another program may have lengthened it.
     let bytes = file.metadata()?.len();
-    Ok(FileDevice::new(file, bytes))
+    match locked {
+        Ok(()) => Ok(Looked::Still(FileDevice::new(file, bytes))),
+        Err(TryLockError::WouldBlock) => Ok(Looked::InUse(WatchedFile::new(file, bytes))),
+        Err(error) => Err(io::Error::from(error).into()),
+    }
 }
 
 /// The folder in which a name stands.
@@ -169,6 +187,26 @@ fn open_made(
     Ok(FileDevice::new(file, bytes.max(wanted)))
 }
 
+/// The words of a file that is made for its owner alone, with a name that was free. Where another program has put
+/// bytes there meanwhile, it is an error.
+fn open_new(program: &Program<'_>, name: &str, words: u64) -> Result<FileDevice, Cause> {
+    let file = OpenOptions::new()
+        .read(true)
+        .write(true)
+        .create_new(true)
+        .mode(0o600)
+        .open(program.rt, name)?;
+    lock(program, &file, Beside::Nobody)?;
+    // Until it was locked another program may have opened it, and made a heap there.
+    if file.metadata()?.len() != 0 {
+        return Err(io::Error::from(ErrorKind::AlreadyExists).into());
+    }
+    sync_folder(program, name).map_err(Cause::of_folder)?;
+    let bytes = words.saturating_mul(8);
+    file.set_len(bytes)?;
+    Ok(FileDevice::new(file, bytes))
+}
+
 /// These words of a file, or a device that fails where there are none, and then why on standard error.
 fn or_missing(
     program: &Program<'_>,
@@ -185,15 +223,30 @@ fn or_missing(
     }
 }
 
-/// A device over a file for who only reads it. It fails where there is no file or another program has locked
-/// it to write, and standard error tells why. `AllocError` is told where the system has no memory to open it.
-pub fn reader_of(program: &Program<'_>, name: &str) -> Result<FileDevice, AllocError> {
-    or_missing(program, name, open_to_read(program, name))
+/// A heap's file for who only reads it: locked beside other readers where nobody writes it, and else not locked.
+/// Where there is no file it is a device that fails, and standard error tells why. `AllocError` is told where the
+/// system has no memory to open it.
+pub fn look_at(program: &Program<'_>, name: &str) -> Result<Looked, AllocError> {
+    match open_to_look(program, name) {
+        Ok(looked) => Ok(looked),
+        Err(cause) => Ok(Looked::Still(or_missing(program, name, Err(cause))?)),
+    }
+}
+
+/// A new file of so many words, each 0, for its owner alone, locked for this program alone; its name is on the
+/// disk. It fails where the name is taken or the file cannot be made, and standard error tells why. A copy that was
+/// stopped leaves such a file, which is to be removed.
+pub fn new_file_of(
+    program: &Program<'_>,
+    name: &str,
+    words: u64,
+) -> Result<FileDevice, AllocError> {
+    or_missing(program, name, open_new(program, name, words))
 }
 
 /// A device over a heap's file, locked for this program alone. It fails where there is no file or another program
 /// has locked it, and standard error tells why. `AllocError` is told where the system has no memory to open it.
-pub(crate) fn heap_of(program: &Program<'_>, name: &str) -> Result<FileDevice, AllocError> {
+pub fn heap_of(program: &Program<'_>, name: &str) -> Result<FileDevice, AllocError> {
     or_missing(program, name, open_old(program, name))
 }
 

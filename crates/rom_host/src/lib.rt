@@ -1,7 +1,7 @@
 //! What `main` of each `romulus` does around its one call: it holds the standard streams and takes the words
 //! of the command line (`begin`), opens the scripts and the device that these name, says why it cannot, or that
 //! there is no memory, and ends with the call's status (`end`). For a talk it tries whether each caller can have a
-//! thread, and makes the peers, which open their own files.
+//! thread, makes the peers, which open their own files, and opens the file that frames are shipped to.
 //!
 //! It knows descriptors, files and standard streams, and by which word a file is a heap; it knows nothing
 //! else of a heap, and no command by its name.
@@ -16,11 +16,15 @@ mod device;
 mod opened;
 mod peer;
 mod program;
+mod random;
+mod sink;
 mod streams;
 mod threads;
 
-pub use device::{HostDevice, device_of, file_of, reader_of};
+pub use device::{HostDevice, Looked, device_of, file_of, heap_of, look_at, new_file_of};
 pub use opened::{Opened, Talk, open_all, open_talk};
 pub use peer::HostPeer;
-pub use program::Program;
+pub use program::{NAPS, Program};
+pub use random::draw_words;
+pub use sink::{HostSink, sink_of};
 pub use streams::{Reading, Script, hold_streams, sources_of, words_of};

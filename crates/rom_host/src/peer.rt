@@ -87,37 +87,40 @@ fn read_once(ears: &mut Ears, buf: &mut [u8]) -> Option<usize>
 }
 
 /// Writes once; again where a signal interrupts the call.
-fn write_once(mouth: &mut Mouth<'_>, piece: &[u8]) -> Option<usize>
-    ensures { IfSome result (λ n. n ≤ length piece.now) }
+pub(crate) fn write_once<W: Write>(out: &mut W, piece: &[u8]) -> io::Result<usize>
+    ensures { IfOk result (λ n. n ≤ length piece.now) }
 {
     for _ in 0..u64::MAX {
-        match mouth.write(piece) {
-            Ok(count) => return Some(count),
+        match out.write(piece) {
             Err(error) if error.kind() == ErrorKind::Interrupted => {}
-            Err(_) => return None,
+            written => return written,
         }
     }
-    None
+    Err(ErrorKind::Interrupted.into())
 }
 
 fn open_input(program: &Program<'_>, name: &str) -> Result<File, Cause> {
     let file = File::open(program.rt, name)?;
-    program.may_pass(&file)?;
+    program.may_pass(&file.metadata()?)?;
     Ok(file)
 }
 
 /// It is appended to, and made if need be.
-fn open_output(program: &Program<'_>, name: &str) -> Result<File, Cause> {
+pub(crate) fn open_output(program: &Program<'_>, name: &str) -> Result<File, Cause> {
     let file = OpenOptions::new()
         .append(true)
         .create(true)
         .open(program.rt, name)?;
-    program.may_pass(&file)?;
+    program.may_pass(&file.metadata()?)?;
     Ok(file)
 }
 
 /// The file, or none where it cannot be opened, and then why on standard error.
-fn or_none(program: &Program<'_>, name: &str, opened: Result<File, Cause>) -> Option<File> {
+pub(crate) fn or_none(
+    program: &Program<'_>,
+    name: &str,
+    opened: Result<File, Cause>,
+) -> Option<File> {
     match opened {
         Ok(file) => Some(file),
         Err(cause) => {
@@ -221,7 +224,7 @@ impl<K> Peer<K> for HostPeer<'_> {
 
     fn say(&mut self, piece: &[u8], _knowing: &K) -> Result<u64, IoFailed> {
         let answer = match &mut self.mouth {
-            Some(mouth) => write_once(mouth, piece),
+            Some(mouth) => write_once(mouth, piece).ok(),
             None => None,
         };
         match answer {

@@ -2,15 +2,16 @@
 use crate::cause::Cause;
 use crate::streams::{hold_streams, words_of};
 use rom_text::{Adapted, Names};
-use std::alloc::AllocError;
-use std::fs::{File, Metadata};
+use std::alloc::{AllocError, Global};
+use std::fs::Metadata;
 use std::io::{ErrorKind, Printer};
 use std::os::unix::fs::MetadataExt;
 use std::process::ExitCode;
-use std::{fs, io};
+use std::time::Duration;
+use std::{fs, io, thread};
 
 /// How often a lock that another program has is tried again, 50 milliseconds apart: for five seconds.
-const NAPS: u64 = 100;
+pub const NAPS: u64 = 100;
 
 /// The status of words that are no command, of each `romulus`.
 const NOT_A_COMMAND: u8 = 2;
@@ -61,6 +62,21 @@ impl<'a> Program<'a> {
         }
     }
 
+    /// Sleeps for as long as it does between two tries for a lock.
+    pub fn nap(&self) {
+        thread::sleep(self.rt, Duration::from_millis(50));
+    }
+
+    /// Says on standard error that another program has locked this heap.
+    pub fn tell_locked(&self, name: &str) {
+        self.tell(name, &Cause::locked());
+    }
+
+    /// Where it takes memory.
+    pub fn alloc(&self) -> Global {
+        self.rt.alloc()
+    }
+
     // Says on standard error what is wrong, behind the program's name.
     pub(crate) fn complain(&self, what: &str) {
         if !self.tells_there {
@@ -98,7 +114,7 @@ impl<'a> Program<'a> {
     }
 
     // Whether the file of this name is that one.
-    fn is_at(&self, name: &str, there: &Metadata) -> bool {
+    pub(crate) fn is_at(&self, name: &str, there: &Metadata) -> bool {
         match fs::metadata(self.rt, name) {
             Ok(found) => found.dev() == there.dev() && found.ino() == there.ino(),
             Err(_) => false,
@@ -115,8 +131,7 @@ impl<'a> Program<'a> {
 
     // Whether lines or replies may pass through this file: it is no folder, and not the heap's own file, which
     // replies would overwrite.
-    pub(crate) fn may_pass(&self, file: &File) -> Result<(), Cause> {
-        let found = file.metadata()?;
+    pub(crate) fn may_pass(&self, found: &Metadata) -> Result<(), Cause> {
         if found.is_dir() {
             return Err(io::Error::from(ErrorKind::IsADirectory).into());
         }

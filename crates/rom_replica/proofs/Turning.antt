@@ -22,36 +22,33 @@ counted : (b : Bool) (n : ℕ) (g : Frame) (rest : List Frame) → (if b then n 
 counted true n g rest = omega arith
 counted false n g rest = refl
 
--- of frames and one more
-module _ (f : Frame) where
-  pub applied_more : (n : ℕ) (fs : List Frame) → applied n (fs ++ f ∷ []) ≡ applied n fs ++ applied (n + length (applied n fs)) (f ∷ [])
-  applied_more n [] = ap (λ (m : ℕ). applied m (f ∷ [])) (let z : n ≡ n + 0 = omega arith in z)
-  applied_more n (g ∷ fs) =
-      let m = count_behind n g in
-      let here : List Frame = if g.place == n then g ∷ [] else [] in
-      ap (λ (xs : List Frame). here ++ xs) (applied_more m fs ∙ ap (λ (k : ℕ). applied m fs ++ applied k (f ∷ [])) (counted (g.place == n) n g (applied m fs)))
-      ∙ sym (append_assoc here (applied m fs) (applied (n + length (applied n (g ∷ fs))) (f ∷ [])))
+-- of frames and others behind them
+pub applied_behind : (n : ℕ) (fs gs : List Frame) → applied n (fs ++ gs) ≡ applied n fs ++ applied (n + length (applied n fs)) gs
+applied_behind n [] gs = ap (λ (m : ℕ). applied m gs) (let z : n ≡ n + 0 = omega arith in z)
+applied_behind n (f ∷ fs) gs =
+    let m = count_behind n f in
+    let here : List Frame = if f.place == n then f ∷ [] else [] in
+    ap (λ (xs : List Frame). here ++ xs) (applied_behind m fs gs ∙ ap (λ (k : ℕ). applied m fs ++ applied k gs) (counted (f.place == n) n f (applied m fs)))
+    ∙ sym (append_assoc here (applied m fs) (applied (n + length (applied n (f ∷ fs))) gs))
 
-  pub known_more : (n : ℕ) (fs : List Frame) → known n (fs ++ f ∷ []) ≡ known n fs + known (n + length (applied n fs)) (f ∷ [])
-  known_more n [] = let z : n ≡ n + 0 = omega arith in omega (arith, ap (λ (m : ℕ). known m (f ∷ [])) z)
-  known_more n (g ∷ fs) =
-      let m = count_behind n g in
-      let here : ℕ = if nat_lt g.place n then 1 else 0 in
-      let rest : known m (fs ++ f ∷ []) ≡ known m fs + known (n + length (applied n (g ∷ fs))) (f ∷ []) =
-      known_more m fs ∙ ap (λ (k : ℕ). known m fs + known k (f ∷ [])) (counted (g.place == n) n g (applied m fs)) in
-      omega (arith, rest)
+pub known_behind : (n : ℕ) (fs gs : List Frame) → known n (fs ++ gs) ≡ known n fs + known (n + length (applied n fs)) gs
+known_behind n [] gs = let z : n ≡ n + 0 = omega arith in omega (arith, ap (λ (m : ℕ). known m gs) z)
+known_behind n (f ∷ fs) gs =
+    let m = count_behind n f in
+    let rest : known m (fs ++ gs) ≡ known m fs + known (n + length (applied n (f ∷ fs))) gs =
+    known_behind m fs gs ∙ ap (λ (k : ℕ). known m fs + known k gs) (counted (f.place == n) n f (applied m fs)) in
+    omega (arith, rest)
 
-  pub early_more : (n : ℕ) (fs : List Frame) → early n (fs ++ f ∷ []) ≡ early n fs + early (n + length (applied n fs)) (f ∷ [])
-  early_more n [] = let z : n ≡ n + 0 = omega arith in omega (arith, ap (λ (m : ℕ). early m (f ∷ [])) z)
-  early_more n (g ∷ fs) =
-      let m = count_behind n g in
-      let here : ℕ = if nat_lt n g.place then 1 else 0 in
-      let rest : early m (fs ++ f ∷ []) ≡ early m fs + early (n + length (applied n (g ∷ fs))) (f ∷ []) =
-      early_more m fs ∙ ap (λ (k : ℕ). early m fs + early k (f ∷ [])) (counted (g.place == n) n g (applied m fs)) in
-      omega (arith, rest)
+pub early_behind : (n : ℕ) (fs gs : List Frame) → early n (fs ++ gs) ≡ early n fs + early (n + length (applied n fs)) gs
+early_behind n [] gs = let z : n ≡ n + 0 = omega arith in omega (arith, ap (λ (m : ℕ). early m gs) z)
+early_behind n (f ∷ fs) gs =
+    let m = count_behind n f in
+    let rest : early m (fs ++ gs) ≡ early m fs + early (n + length (applied n (f ∷ fs))) gs =
+    early_behind m fs gs ∙ ap (λ (k : ℕ). early m fs + early k gs) (counted (f.place == n) n f (applied m fs)) in
+    omega (arith, rest)
 
-  pub bytes_more : (fs : List Frame) → bytes_of_all (fs ++ f ∷ []) ≡ bytes_of_all fs ++ frame f
-  bytes_more fs = flat_map-append frame fs (f ∷ []) ∙ ap (λ (xs : List ℕ). bytes_of_all fs ++ xs) (append-nil (frame f))
+pub bytes_behind : (fs gs : List Frame) → bytes_of_all (fs ++ gs) ≡ bytes_of_all fs ++ bytes_of_all gs
+bytes_behind fs gs = flat_map-append frame fs gs
 
 pub entries_more : (seq : ℕ) (xs ys : List Frame) → entries_from seq (xs ++ ys) ≡ entries_from seq xs ++ entries_from (seq + length xs) ys
 entries_more seq [] ys = ap (λ (k : ℕ). entries_from k ys) (let z : seq ≡ seq + 0 = omega arith in z)
@@ -101,13 +98,13 @@ module _ {X : Type 0} (source : ShownSource X) (n0 : ℕ) (was mid now : X) (fra
       let many = length (applied n0 frames) in
       let b = f.place == old.count in
       let at : applied old.count (f ∷ []) ≡ applied (n0 + many) (f ∷ []) = ap (λ (k : ℕ). applied k (f ∷ [])) so.count_is in
-      let more : applied n0 (frames ++ f ∷ []) ≡ applied n0 frames ++ applied old.count (f ∷ []) = applied_more f n0 frames ∙ ap (λ (xs : List Frame). applied n0 frames ++ xs) (sym at) in
+      let more : applied n0 (frames ++ f ∷ []) ≡ applied n0 frames ++ applied old.count (f ∷ []) = applied_behind n0 frames (f ∷ []) ∙ ap (λ (xs : List Frame). applied n0 frames ++ xs) (sym at) in
       let seq : length old.tried ≡ many = ap length so.tried ∙ length-tries 0 (applied n0 frames) in
       let behind_all : length old.tried ≡ 0 + many = omega (arith, seq) in
       let long : length (applied n0 (frames ++ f ∷ [])) ≡ many + length (applied old.count (f ∷ [])) = ap length more ∙ length-append (applied n0 frames) (applied old.count (f ∷ [])) in
       record {
         of_words = all_append IsOfWords frames (f ∷ []) so.of_words (goes.of_words, tt);
-        read = subst (λ (xs : List ℕ). Consumes (source.left was) (source.left now) xs) (sym (bytes_more f frames)) (Consumes-trans _ _ _ (bytes_of_all frames) (frame f) so.read goes.read);
+        read = subst (λ (xs : List ℕ). Consumes (source.left was) (source.left now) xs) (sym (bytes_behind frames (f ∷ []) ∙ ap (λ (xs : List ℕ). bytes_of_all frames ++ xs) (append-nil (frame f)))) (Consumes-trans _ _ _ (bytes_of_all frames) (frame f) so.read goes.read);
         gave = gave_on source was mid now so.gave goes.gave;
         count_is = ap (λ (z : Followed). z.count) goes.follower ∙ count_on old f b ∙ omega (arith, so.count_is, long);
         history = ap (λ (z : Followed). z.history) goes.follower ∙ history_on old f b
@@ -121,8 +118,8 @@ module _ {X : Type 0} (source : ShownSource X) (n0 : ℕ) (was mid now : X) (fra
         agrees = ap (λ (z : Followed). z.diverged) goes.follower ∙ agrees_on old f b ∙ so.agrees;
         tally_is = record {
           applied_is = goes.counts.applied_is ∙ ap (λ (n : ℕ). n + length (applied old.count (f ∷ []))) so.tally_is.applied_is ∙ sym long;
-          known_is = goes.counts.known_is ∙ ap (λ (n : ℕ). n + known old.count (f ∷ [])) so.tally_is.known_is ∙ ap (λ (k : ℕ). known n0 frames + known k (f ∷ [])) so.count_is ∙ sym (known_more f n0 frames);
-          early_is = goes.counts.early_is ∙ ap (λ (n : ℕ). n + early old.count (f ∷ [])) so.tally_is.early_is ∙ ap (λ (k : ℕ). early n0 frames + early k (f ∷ [])) so.count_is ∙ sym (early_more f n0 frames);
-          bytes_is = goes.counts.bytes_is ∙ ap (λ (n : ℕ). n + length (frame f)) so.tally_is.bytes_is ∙ sym (ap length (bytes_more f frames) ∙ length-append (bytes_of_all frames) (frame f));
+          known_is = goes.counts.known_is ∙ ap (λ (n : ℕ). n + known old.count (f ∷ [])) so.tally_is.known_is ∙ ap (λ (k : ℕ). known n0 frames + known k (f ∷ [])) so.count_is ∙ sym (known_behind n0 frames (f ∷ []));
+          early_is = goes.counts.early_is ∙ ap (λ (n : ℕ). n + early old.count (f ∷ [])) so.tally_is.early_is ∙ ap (λ (k : ℕ). early n0 frames + early k (f ∷ [])) so.count_is ∙ sym (early_behind n0 frames (f ∷ []));
+          bytes_is = goes.counts.bytes_is ∙ ap (λ (n : ℕ). n + length (frame f)) so.tally_is.bytes_is ∙ sym (ap length (bytes_behind frames (f ∷ []) ∙ ap (λ (xs : List ℕ). bytes_of_all frames ++ xs) (append-nil (frame f))) ∙ length-append (bytes_of_all frames) (frame f));
         };
       }

@@ -27,10 +27,14 @@ use Rattle.rom_replica.specs.declared.stop.Stop.{Stop}
 use Rattle.rom_replica.specs.declared.tally.Tally.{Tally}
 
 -- how many frames were applied, known and early, and the count of updates
-abbrev pub follow_text : Tally → ℕ → List ℕ
-follow_text tally count =
-    line_text (codes "applied " ++ decimal tally.applied ++ codes " known " ++ decimal tally.known ++ codes " early " ++ decimal tally.early)
+abbrev pub counts_text : ℕ → ℕ → ℕ → ℕ → List ℕ
+counts_text a k e count =
+    line_text (codes "applied " ++ decimal a ++ codes " known " ++ decimal k ++ codes " early " ++ decimal e)
     ++ line_text (codes "count " ++ decimal count)
+
+-- so of a tally
+abbrev pub follow_text : Tally → ℕ → List ℕ
+follow_text tally count = counts_text tally.applied tally.known tally.early count
 
 -- The two lines are printed, and the status is that of the stop; or they are cut short.
 abbrev pub IsFollowText : {K : Type 0} → ShownSink K → Tally → Stop → ℕ → K → K → ℕ → Type 0

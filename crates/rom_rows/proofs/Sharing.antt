@@ -15,6 +15,9 @@ use Rattle.rom_model.proofs.call.Answer.TheSendSync as answer
 use Rattle.rom_model.proofs.call.Call.TheSendSync as call
 use Rattle.rom_model.proofs.call.Query.TheSendSync as query
 use Rattle.rom_model.proofs.call.Reply.TheSendSync as reply
+use Rattle.rom_combine.specs.contracts.shipper.NoShipper
+use Rattle.rom_combine.specs.contracts.shipper.NoShipperShipper.TheImpl as shipper
+use Rattle.rom_combine.proofs.shipper.NoShipper.TheSendSync as unshipped
 use Rattle.rom_device.specs.declared.device.Device
 use Rattle.rom_heap.specs.contracts.trio.Trio
 use Rattle.rom_heap.specs.contracts.trio.TrioObject.TheImpl as object
@@ -32,8 +35,9 @@ abbrev copied : (T : RattleType) → Clone.Ghosts T.Denot
 copied T = record { is_clone = λ x y. x ≡ y; is_infallible = λ _. Unit {0} }
 
 pub trio_store_sync : (D N : RattleType) (g : Device.Ghosts D.Denot) (g' : Label.Ghosts N.Denot) → IsSend D → IsSend N → IsSync N →
-    IsSync (Store.the_row D Trio.the_row N Call.the_row Query.the_row Reply.the_row Answer.the_row g g' object.ghosts (copied Call.the_row) (copied Query.the_row) (copied Reply.the_row) (copied Answer.the_row))
+    IsSync (Store.the_row D Trio.the_row N NoShipper.the_row Call.the_row Query.the_row Reply.the_row Answer.the_row g g' shipper.ghosts object.ghosts (copied Call.the_row) (copied Query.the_row) (copied Reply.the_row) (copied Answer.the_row))
 trio_store_sync D N g g' d n n' = store_sync D Trio.the_row N Call.the_row Query.the_row Reply.the_row Answer.the_row
     g g' object.ghosts (copied Call.the_row) (copied Query.the_row) (copied Reply.the_row) (copied Answer.the_row)
     d trio.the_send n call.the_send query.the_send reply.the_send answer.the_send
     trio.the_sync n' call.the_sync query.the_sync reply.the_sync answer.the_sync
+    NoShipper.the_row shipper.ghosts unshipped.the_send

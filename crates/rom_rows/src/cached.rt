@@ -7,7 +7,7 @@
 use crate::callers::post_call;
 use crate::cores::{post_three, seated_on, take_three, take_told};
 use crate::heaps::{AMPLE, choice, counted, device, heap};
-use rom_combine::{NoGate, Outcome};
+use rom_combine::{NoGate, NoShipper, Outcome};
 use rom_device::{CachedDevice, CallKind, Memory, Trip, every_trip};
 use rom_heap::Trio;
 use rom_model::{Answer, Call};
@@ -133,10 +133,14 @@ fn update<R: Wait + AllocGlobal>(
 ) -> Result<(Told, Memory), Fail> {
     let (mut core, shared, (mut first, mut second, mut third)) = seated_on(rt.alloc(), device)?;
     post_three(&shared, &mut first, &mut second, &mut third);
-    let three = core.pass(rt, &shared, &NoGate).outcome;
+    let mut none = NoShipper;
+    let three = core.pass(rt, &shared, &NoGate, &mut none, &[]).outcome;
+    let NoShipper = none;
     take_three(&shared, &mut first, &mut second, &mut third)?;
     post_call(&shared, &mut first, Call::Put(3, 5));
-    let one = core.pass(rt, &shared, &NoGate).outcome;
+    let mut none = NoShipper;
+    let one = core.pass(rt, &shared, &NoGate, &mut none, &[]).outcome;
+    let NoShipper = none;
     take_told(&shared, &mut first)?;
     let (twin, _writer) = core.into_parts();
     Ok((Told::Updated(three, one), twin.into_device().into_medium()))

@@ -10,7 +10,7 @@ use crate::callers::{post_call, take_answer, told};
 use crate::cores::seated_on;
 use crate::work::Work;
 use crossbeam_utils::Backoff;
-use rom_combine::{Core, Gate, NoGate};
+use rom_combine::{Core, Gate, NoGate, NoShipper};
 use rom_device::{Device, Ram};
 use rom_heap::Trio;
 use rom_lr::{Seat, Shared};
@@ -144,7 +144,9 @@ pub(crate) fn pass_until<R: Wait, D: Device, G: Gate>(
         if done >= many {
             return done == many;
         }
-        let passed = core.pass(rt, shared, gate);
+        let mut none = NoShipper;
+        let passed = core.pass(rt, shared, gate, &mut none, &[]);
+        let NoShipper = none;
         done = done.saturating_add(passed.done);
         if passed.found == 0 {
             backoff.snooze();

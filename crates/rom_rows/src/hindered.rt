@@ -3,7 +3,7 @@
 use crate::callers::post_call;
 use crate::cores::{post_three, read_count, seated_on, take_three, take_told};
 use crate::heaps::{AMPLE, OPENING, device, left};
-use rom_combine::{NoGate, Outcome, Passed};
+use rom_combine::{NoGate, NoShipper, Outcome, Passed};
 use rom_device::{CallKind, Fuse, Trip};
 use rom_model::{Answer, Call, Reply, Updated};
 use rom_test::right;
@@ -173,7 +173,9 @@ fn run_once<R: Wait + AllocGlobal>(
     let fuse = Fuse::new(device(alloc, 0, trips)?, calls);
     let (mut core, shared, (mut first, mut second, mut third)) = seated_on(alloc, fuse)?;
     post_three(&shared, &mut first, &mut second, &mut third);
-    let passed = core.pass(rt, &shared, &NoGate);
+    let mut none = NoShipper;
+    let passed = core.pass(rt, &shared, &NoGate, &mut none, &[]);
+    let NoShipper = none;
     let told = take_three(&shared, &mut first, &mut second, &mut third)?;
     let (twin, _writer) = core.into_parts();
     let memory = twin.into_device().inner();
@@ -223,10 +225,14 @@ fn run_both<R: Wait + AllocGlobal>(rt: &R, fault: Trip, kind: u64) -> Result<Bot
         device(alloc, 0, &[fault])?,
     )?;
     post_three(&shared, &mut first, &mut second, &mut third);
-    let hindered = core.pass(rt, &shared, &NoGate);
+    let mut none = NoShipper;
+    let hindered = core.pass(rt, &shared, &NoGate, &mut none, &[]);
+    let NoShipper = none;
     take_three(&shared, &mut first, &mut second, &mut third)?;
     post_call(&shared, &mut first, Call::Enq(7));
-    let free = core.pass(rt, &shared, &NoGate);
+    let mut none = NoShipper;
+    let free = core.pass(rt, &shared, &NoGate, &mut none, &[]);
+    let NoShipper = none;
     let told = take_told(&shared, &mut first)?;
     let count = read_count(&shared, &mut second);
     let (twin, _writer) = core.into_parts();

@@ -3,7 +3,7 @@ ghost use Rattle.std.specs.Prelude.{◌≡◌, ℕ};
 
 use crate::cores::{post_three, read_count, seated_on, take_three};
 use crate::heaps::{OPENING, device};
-use rom_combine::{NoGate, Outcome, Passed};
+use rom_combine::{NoGate, NoShipper, Outcome, Passed};
 use rom_device::{CallKind, Device, every_trip};
 use rom_model::{Reply, Updated};
 use rom_test::{Holding, Roll, right};
@@ -53,11 +53,15 @@ fn a_pass_does_the_posted_calls_and_answers_each(rt: HostRuntime) -> Result<(), 
     )?;
     let gate = Roll::new(alloc, &[], Holding::Nobody)?;
     post_three(&shared, &mut first, &mut second, &mut third);
-    let passed = core.pass(&rt, &shared, &gate);
+    let mut none = NoShipper;
+    let passed = core.pass(&rt, &shared, &gate, &mut none, &[]);
+    let NoShipper = none;
     let told = take_three(&shared, &mut first, &mut second, &mut third)?;
     let count = read_count(&shared, &mut second);
     // The next one finds nothing.
-    let again = core.pass(&rt, &shared, &gate);
+    let mut none = NoShipper;
+    let again = core.pass(&rt, &shared, &gate, &mut none, &[]);
+    let NoShipper = none;
     let (twin, _writer) = core.into_parts();
     let phase = twin.phase();
     let memory = twin.into_device();
@@ -90,7 +94,9 @@ fn calls_at_the_limit_of_the_count_are_answered_as_spent(rt: HostRuntime) -> Res
             device(alloc, *count, &[])?,
         )?;
         post_three(&shared, &mut first, &mut second, &mut third);
-        let passed = core.pass(&rt, &shared, &NoGate);
+        let mut none = NoShipper;
+        let passed = core.pass(&rt, &shared, &NoGate, &mut none, &[]);
+        let NoShipper = none;
         let told = take_three(&shared, &mut first, &mut second, &mut third)?;
         let last = read_count(&shared, &mut third);
         let (twin, _writer) = core.into_parts();

@@ -1,4 +1,5 @@
-//! Talks: what clients in memory say in pieces, and what each is told before it is asked for more.
+//! Talks: what clients in memory say in pieces, what each is told before it is asked for more, and the frames that
+//! are shipped of it.
 ghost use Rattle.std.specs.Prelude.{All, IfOk};
 ghost use Rattle.rom_hear.specs.Memory.{shown_client};
 ghost use Rattle.rom_talk.specs.Serving.{IsFresh};
@@ -12,8 +13,9 @@ use rom_device::{CallKind, Device, Trip};
 use rom_heap::Trio;
 use rom_hear::{Client, Mark};
 use rom_script::TrioLines;
+use rom_ship::FrameStream;
 use rom_store::{Gate, NoGate, Pass};
-use rom_talk::talk;
+use rom_talk::talk_shipping;
 use rom_test::{Found, Holding, NEVER, Roll, device_of, is_lawful, places, right};
 use rom_text::Collect;
 use std::alloc::{AllocError, Global};
@@ -23,6 +25,9 @@ use std::thread::Threads;
 
 /// No client stands so many calls, and no text that is told has so many bytes.
 const ROOM: usize = 4096;
+
+/// No row ships so many bytes.
+const FRAMES_ROOM: u64 = 16_384;
 
 /// Clients that talk to a heap, and what comes of it.
 #[derive(Clone, Copy)]
@@ -37,6 +42,8 @@ struct Talk {
     failing: &'static [u64],
     /// For how many bytes a client has room.
     room: usize,
+    /// For how many bytes of frames the stream has room.
+    stream: u64,
     device: Words,
     /// A call of the device that fails.
     trip: Option<Trip>,
@@ -55,6 +62,7 @@ const TWO: Talk = Talk {
     piece: 4096,
     failing: &[],
     room: ROOM,
+    stream: FRAMES_ROOM,
     device: Words::Heap(&[]),
     trip: None,
     status: 0,
@@ -182,7 +190,13 @@ static LINES: [Talk; 15] = [
     },
 ];
 
-static FAILING: [Talk; 12] = [
+static FAILING: [Talk; 13] = [
+    // The stream takes no more amid the second frame. The client is told all the same.
+    Talk {
+        stream: 60,
+        status: 5,
+        ..TWO
+    },
     // An asking fails: at once, behind a line, and within a line.
     Talk {
         failing: &[1],
@@ -313,6 +327,34 @@ static TOGETHER: [Talk; 3] = [
 struct Told {
     found: Found,
     clients: Vec<Client<Pass>>,
+    /// What was shipped.
+    frames: Vec<u8>,
+}
+
+/// The 64-bit word of these bytes, eight from a place on, the lowest first.
+fn word_at(bytes: &[u8], at: usize) -> Option<u64> {
+    let end = at.checked_add(8)?;
+    let mut word = 0u64;
+    for byte in bytes.get(at..end)?.iter().rev() {
+        word = word.wrapping_mul(256).wrapping_add(u64::from(*byte));
+    }
+    Some(word)
+}
+
+/// How many frames these bytes are, whose places are 0, 1 and so on; none where they are something else.
+fn frames_in(bytes: &[u8]) -> Option<u64> {
+    let mut at = 0usize;
+    for count in 0..=ROOM as u64 {
+        if at == bytes.len() {
+            return Some(count);
+        }
+        if word_at(bytes, at.saturating_add(8))? != count {
+            return None;
+        }
+        let words = word_at(bytes, at)?;
+        at = at.saturating_add(words.saturating_mul(8) as usize);
+    }
+    None
 }
 
 /// A client of a talk that says this.
@@ -352,12 +394,13 @@ fn talked<R: Threads + Wait + Sync + AllocGlobal, G: Gate + Sync>(
     }
     let device = device_of(alloc, words, 0, trips, calls)?;
     let mut out = Collect::with_room(alloc, ROOM as u64, 4096)?;
+    let frames = FrameStream::to(Collect::with_room(alloc, row.stream, 4096)?);
     let clients = clients_of(alloc, row)?;
     if clients.is_empty() || clients.len() > 16 {
         return Err("another number of clients".into());
     }
-    let ended = talk::<Trio, TrioLines, TrioLines, _, _, _, _, _>(
-        rt, alloc, device, clients, &mut out, gate,
+    let (ended, frames) = talk_shipping::<Trio, TrioLines, TrioLines, _, _, _, _, _, _>(
+        rt, alloc, device, clients, &mut out, gate, frames,
     );
     Ok(Told {
         found: Found {
@@ -367,6 +410,7 @@ fn talked<R: Threads + Wait + Sync + AllocGlobal, G: Gate + Sync>(
             device: ended.device.inner(),
         },
         clients: ended.peers,
+        frames: frames.into_sink().bytes().to_vec(alloc)?,
     })
 }
 
@@ -445,6 +489,13 @@ fn try_talks<R: Threads + Wait + Sync + AllocGlobal>(
             number,
             count == row.count && found.device.fault_count() == faults,
         )?;
+        let frames = talked.frames.as_slice();
+        let shipped = if row.stream < FRAMES_ROOM {
+            frames.len() as u64 == row.stream
+        } else {
+            frames_in(frames) == Some(count.unwrap_or(0))
+        };
+        right(what, number, shipped)?;
         right(
             what,
             number,
@@ -459,6 +510,25 @@ fn clients_are_told_at_once(rt: HostRuntime) -> Result<(), Fail> {
     try_talks(&rt, "a row of lines", &LINES)?;
     try_talks(&rt, "a row of failing", &FAILING)?;
     try_talks(&rt, "a row of clients together", &TOGETHER)
+}
+
+/// The words of the frames of two updates, by hand.
+const FRAMES: [u64; 14] = [7, 0, 2, 1, 9, 1, 1, 7, 1, 1, 2, 2, 3, 9];
+
+#[test]
+fn frames_are_shipped_to_the_byte(rt: HostRuntime) -> Result<(), Fail> {
+    let row = Talk {
+        says: &["enq 9\ndeq\n"],
+        ..TWO
+    };
+    let words = words_of(rt.alloc(), &row.device, &[])?;
+    let frames = talked(&rt, &row, words, NEVER, &NoGate)?.frames;
+    right("their length", 0, frames.len() == 8 * FRAMES.len())?;
+    for (number, word) in FRAMES.iter().enumerate() {
+        let found = word_at(frames.as_slice(), number.saturating_mul(8));
+        right("the words of two frames", number, found == Some(*word))?;
+    }
+    Ok(())
 }
 
 /// Three updates, a line at a time.
@@ -480,12 +550,23 @@ fn every_stop_leaves_what_was_said(rt: HostRuntime) -> Result<(), Fail> {
     )?;
     for calls in 0..whole.found.device.calls_made() {
         for choice in [0, 1] {
-            let Told { found, clients } = talked(&rt, &UPDATES, heap.clone()?, calls, &NoGate)?;
+            let Told {
+                found,
+                clients,
+                frames,
+            } = talked(&rt, &UPDATES, heap.clone()?, calls, &NoGate)?;
             let mut found = found;
             for client in &clients {
                 let said = passed(alloc, client, false)?;
                 found.bytes.extend_from_slice(said.as_str().as_bytes())?;
             }
+            let shipped = frames_in(frames.as_slice());
+            let told = places(found.text()) as u64;
+            right(
+                "frames behind calls",
+                calls as usize,
+                shipped.is_some_and(|shipped| told <= shipped),
+            )?;
             let fits = leaves_a_state(&rt, found, choice, &STATES)?;
             right("after calls", calls as usize, fits)?;
         }

@@ -1,5 +1,5 @@
 -- What a caller keeps at the closing holds of what it had seen earlier: it begins the history, and lasts.
-use Rattle.std.proofs.Common.{◌≡◌, ℕ, ◌+◌, List, ◌++◌, Option, IsTrue, ◌∙◌, ap, subst, append_assoc}
+use Rattle.std.proofs.Common.{ℕ, ◌+◌, List, ◌++◌, Option, IsTrue, ◌∙◌, ap, subst, append_assoc}
 use Rattle.rom_model.specs.Seen.{StartsWith}
 use Rattle.rom_model.specs.Story.{Story}
 use Rattle.rom_model.specs.declared.entry.Entry.{Entry}

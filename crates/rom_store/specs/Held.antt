@@ -1,5 +1,5 @@
 -- What holds behind the lock whenever it is free.
-use Rattle.std.specs.Prelude.{◌≡◌, ◌⊎◌, ℕ, ◌≤◌, List, [], length, Option, None, IsTrue}
+use Rattle.std.specs.Prelude.{◌≡◌, ◌⊎◌, ℕ, ◌≤◌, List, [], length, map, Option, None, IsTrue}
 use Rattle.atomic_table.specs.Seated.{TableId}
 use Rattle.rom_model.specs.Faults.{Rose}
 use Rattle.rom_model.specs.Story.{Story, len_after}
@@ -11,6 +11,7 @@ use Rattle.rom_combine.specs.AtRest.{Locked}
 use Rattle.rom_combine.specs.Costs.{WithinHeap}
 use Rattle.rom_combine.specs.Histories.{Doubted, ImageAt}
 use Rattle.rom_combine.specs.Session.{SessionImage}
+use Rattle.rom_combine.specs.Shipping.{Shipped, Ships, ShownShipper, text_from, update_of}
 use Rattle.rom_rule.specs.Views.{plan_of, records_of}
 use Rattle.rom_rule.specs.declared.views.Base.{Base}
 use Rattle.rom_rule.specs.declared.views.Plan.{Plan}
@@ -20,6 +21,10 @@ use Rattle.rom_store.specs.Traced.{WentThrough}
 -- the published history as a story, from the state and the count that the opening image stands for
 abbrev pub story_at : {S : Type 0} → Base → S → ℕ → Plan → Story S
 story_at base s k p = record { order = base.order; opening = s; opening_count = k; opening_faults = base.faults; history = p.history; records = records_of p; in_doubt = None }
+
+-- Since that start the shipper was handed all updates of this history, which begins at the opening's count, and nothing else.
+abbrev pub HasShipped : {S W : Type 0} → (ℕ → List ℕ → S → ℕ → Type 0) → ShownShipper W → Base → Shipped → W → List Entry → Type 0
+HasShipped {S} Contents shown base began shipper history = IsTrue shown.tells → (s : S) (k : ℕ) → Contents base.order base.image s k → Ships began (shown.state shipper) (text_from shown.text k (map update_of history))
 
 -- What the lock keeps of a store with this table, this opening and this start of its device; the test tells which images a stop at some moment since another one might have left by the start.
 pub record IsBehindLock {D S : Type 0} (shown : ShownDevice D) (Contents : ℕ → List ℕ → S → ℕ → Type 0) (step : ℕ → S → ℕ → List ℕ → Option (S × List ℕ)) (table : TableId) (base : Base) (start : Start) (test : ℕ → List ℕ → Type 0) (c : Locked D) : Type 0 where

@@ -14,6 +14,7 @@ pub mod Traced
 pub mod Lasting
 pub mod Moments
 pub mod Held
+pub mod Lone
 pub mod Openings
 pub mod Seating
 pub mod Sessions

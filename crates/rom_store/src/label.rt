@@ -1,6 +1,7 @@
 //! The one name that a store and the value behind its lock carry.
 ghost use Rattle.std.specs.Prelude.{ℕ, List};
 ghost use Rattle.atomic_table.specs.Seated.{TableId};
+ghost use Rattle.rom_combine.specs.Shipping.{Shipped};
 ghost use Rattle.rom_rule.specs.declared.views.Base.{Base};
 ghost use Rattle.rom_store.specs.Start.{Start};
 
@@ -20,10 +21,13 @@ pub trait Label {
 
     /// The images that a stop at some moment since another one might have left by then.
     ghost since: { ℕ → List ℕ → Type 0 };
+
+    /// What the shipper had handed on by then.
+    ghost ships: { Shipped };
 }
 
 impl Label for Brand {
-    ghost use Rattle.rom_store.specs.Blank.{no_base, no_start, no_table};
+    ghost use Rattle.rom_store.specs.Blank.{no_base, no_ships, no_start, no_table};
 
     ghost table = { no_table };
 
@@ -32,4 +36,6 @@ impl Label for Brand {
     ghost start = { no_start };
 
     ghost since = { λ _ _. Unit {0} };
+
+    ghost ships = { no_ships };
 }

@@ -7,7 +7,8 @@
 //! `enter`, `ask` and `leave`, without a lock; it updates by `update`, or by `update_words` where it has the
 //! words of a call, and these post the call and have whoever holds the lock do all that are posted; by a note
 //! one caller tells another what it has seen. `close` ends the session. [`play`] and [`play_new`] do all of that for scripts, one caller each, in threads. Their
-//! contract says that the results are those of one history, and what a stop at any moment leaves of it.
+//! contract says that the results are those of one history, and what a stop at any moment leaves of it. Where one
+//! thread has all callers, [`Opening::start_lone`] makes a [`Lone`], which does batches of calls in a given order.
 //!
 //! What a clause says of a device's words, or of images that a stop leaves, holds where the device tells
 //! them. At an `ensures`, "now" is the end of the call, and "no call failed" means that the device's count of
@@ -24,6 +25,7 @@ mod closed;
 mod closing;
 mod held;
 mod label;
+mod lone;
 mod notes;
 mod opening;
 mod pace;
@@ -41,12 +43,13 @@ mod work;
 
 pub use closed::Closed;
 pub use label::Label;
+pub use lone::Lone;
 pub use opening::{Opening, open_store};
 pub use pass::Pass;
 pub use playing::{Unplayed, play};
 pub use playing_new::{Unmade, play_new};
 pub use reading::Reading;
-pub use rom_combine::{Gate, NoGate};
+pub use rom_combine::{Batch, Gate, NoGate, NoShipper, Shipper};
 pub use rom_lr::{Note, Steps};
 pub use rom_open::{
     NotFormatted, Opened, Refused, Why, format_device, open_device, upgrade_device, write_heap,

@@ -8,11 +8,12 @@ ghost use Rattle.rom_store.specs.Callers.{IsCallerOf, IsDatedBy, IsSameCaller};
 use crate::label::Label;
 use crate::pass::Pass;
 use crate::store::Store;
+use rom_combine::Shipper;
 use rom_device::Device;
 use rom_lr::Note;
 use rom_model::Object;
 
-impl<D: Device, O: Object, N: Label> Store<D, O, N> {
+impl<D: Device, O: Object, N: Label, W: Shipper> Store<D, O, N, W> {
     /// What this caller has seen, for another to learn. It takes no memory.
     pub fn note(&self, pass: &mut Pass) -> Note
         requires of { IsCallerOf O.Contents N.table N.base pass.old }

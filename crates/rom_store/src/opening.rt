@@ -1,5 +1,5 @@
 //! A heap that is opened for callers, whose lock isn't made yet.
-ghost use Rattle.std.specs.Prelude.{◌≡◌, ℕ, ◌*◌, ◌≤◌, List, IfErr, IfOk, IsTrue, length};
+ghost use Rattle.std.specs.Prelude.{◌≡◌, ℕ, ◌*◌, ◌≤◌, List, [], IfErr, IfOk, IsTrue, false, length};
 ghost use Rattle.rom_model.specs.Blocks.{IsOrder};
 ghost use Rattle.rom_model.specs.VecSpace.{words_of_space};
 ghost use Rattle.rom_device.specs.Device.{IsSynced};
@@ -7,7 +7,7 @@ ghost use Rattle.rom_header.specs.Layout.{back_of, main_of, words_needed};
 ghost use Rattle.rom_header.specs.Regions.{IsHeap};
 ghost use Rattle.rom_lr.specs.Seats.{opened_with};
 ghost use Rattle.rom_rule.specs.Places.{AreCallers};
-ghost use Rattle.rom_rule.specs.Views.{base_of};
+ghost use Rattle.rom_rule.specs.Views.{base_of, plan_of, records_of};
 ghost use Rattle.rom_store.specs.Callers.{IsNewCaller};
 ghost use Rattle.rom_store.specs.Indexed.{Indexed};
 ghost use Rattle.rom_store.specs.Openings.{HasBeenRefused, HasOpenedHeap};
@@ -17,11 +17,12 @@ ghost use Rattle.rom_store.specs.Start.{device_start};
 use crate::begun::Begun;
 use crate::held::Held;
 use crate::label::Label;
+use crate::lone::Lone;
 use crate::pace::Pace;
 use crate::pass::Pass;
 use crate::seated::Seated;
 use crate::store::Store;
-use rom_combine::Core;
+use rom_combine::{Core, NoShipper, Shipper};
 use rom_device::Device;
 use rom_header::Geometry;
 use rom_lr::Shared;
@@ -107,6 +108,22 @@ impl<D: Device, O: Object> Opening<D, O> {
             × (D.shown.left_since self.device t i → N.since t i) }
         ensures passes { result.1.items ≡ self.passes }
     {
+        self.start_shipping::<N, NoShipper>(NoShipper)
+    }
+
+    /// As [`start`](Opening::start), with a shipper, which is handed each batch that is done.
+    pub fn start_shipping<N: Label, W: Shipper>(self, shipper: W) -> (Store<D, O, N, W>, Vec<Pass>)
+        requires table { N.table ≡ self.table_id }
+        requires base { N.base ≡ base_of self.key }
+        requires started { N.start ≡ device_start D.shown self.device }
+        // What a stop might have left by now is the same by the label `N` as by the device.
+        requires since { IsTrue D.shown.tells_images → (t : ℕ) (i : List ℕ) →
+            (N.since t i → D.shown.left_since self.device t i)
+            × (D.shown.left_since self.device t i → N.since t i) }
+        // What the shipper has handed on by now is told by the label, and it has not failed.
+        requires ships { IsTrue W.shown.tells → (N.ships ≡ W.shown.state shipper) × (N.ships.failing ≡ false) }
+        ensures passes { result.1.items ≡ self.passes }
+    {
         let Opening {
             core,
             shared,
@@ -114,7 +131,7 @@ impl<D: Device, O: Object> Opening<D, O> {
             begun,
             pace,
         } = self;
-        let held = Mutex::new(Held::new(core));
+        let held = Mutex::new(Held::new(core, shipper));
         (
             Store {
                 shared,
@@ -125,6 +142,34 @@ impl<D: Device, O: Object> Opening<D, O> {
             },
             passes,
         )
+    }
+
+    /// As [`start`](Opening::start), where one thread has all callers. It takes no memory and is never refused.
+    pub fn start_lone<N: Label>(self) -> Lone<D, O, N>
+        requires table { N.table ≡ self.table_id }
+        requires base { N.base ≡ base_of self.key }
+        requires started { N.start ≡ device_start D.shown self.device }
+        // What a stop might have left by now is the same by the label `N` as by the device.
+        requires since { IsTrue D.shown.tells_images → (t : ℕ) (i : List ℕ) →
+            (N.since t i → D.shown.left_since self.device t i)
+            × (D.shown.left_since self.device t i → N.since t i) }
+        requires passes { Indexed (IsNewCaller O.Contents N.table N.base) self.passes }
+        requires many { length self.passes ≡ N.base.callers }
+        ensures base { result.core.view.base ≡ N.base }
+        // Nothing is done yet.
+        ensures none { (plan_of result.core.view).history ≡ [] }
+        ensures unrecorded { records_of (plan_of result.core.view) ≡ [] }
+        ensures many { result.many ≡ N.base.callers }
+        ensures turns { result.turns ≡ 0 }
+    {
+        let Opening {
+            core,
+            shared,
+            passes,
+            begun,
+            pace: _,
+        } = self;
+        Lone::of(core, shared, passes, begun)
     }
 }
 

@@ -16,6 +16,7 @@ ghost use Rattle.rom_store.specs.Reading.{HasAnswered, HasCost, IsAnswer, OnlySt
 use crate::label::Label;
 use crate::pass::Pass;
 use crate::store::Store;
+use rom_combine::Shipper;
 use rom_device::Device;
 use rom_lr::{Seat, Steps, ask};
 use rom_model::{COUNT, Object};
@@ -46,7 +47,7 @@ impl Model for Reading {
         × IsAnswered r.seat };
 }
 
-impl<D: Device, O: Object, N: Label> Store<D, O, N> {
+impl<D: Device, O: Object, N: Label, W: Shipper> Store<D, O, N, W> {
     /// Answers a query from one committed state. The number is the front: the count of updates in that
     /// state, which is at least one past each place, and at least each front, that the caller was told
     /// before. It makes at most five steps more than the query costs.

@@ -17,7 +17,7 @@ use crate::pace::Pace;
 use crate::pass::Pass;
 use crate::store::Store;
 use rom_announce::{answered, linger, nap, post_words, take_into, wake_next};
-use rom_combine::Gate;
+use rom_combine::{Gate, Shipper};
 use rom_device::Device;
 use rom_lines::{Became, Undone};
 use rom_lr::Seat;
@@ -52,7 +52,7 @@ fn updated_by<O: Object>(became: Became, words: &Back) -> Updated<O::Reply>
     }
 }
 
-impl<D: Device, O: Object, N: Label> Store<D, O, N> {
+impl<D: Device, O: Object, N: Label, W: Shipper> Store<D, O, N, W> {
     /// Does an update in one pass with those of other callers, and tells its reply and place, or
     /// why it was not done. `Failed` and `Doubt` come only where the device failed in the pass that
     /// took it, and `Spent` only where the count stood at 2^62, or this caller has posted 2^62
@@ -184,7 +184,7 @@ impl<D: Device, O: Object, N: Label> Store<D, O, N> {
         rt: &R,
         seat: &mut Seat,
         gate: &G,
-        mut held: MutexGuard<'_, Held<D, O, N>>,
+        mut held: MutexGuard<'_, Held<D, O, N, W>>,
     ) -> bool
         requires of { IsSeatOf self.now.shared seat.old }
         requires posted { IsPosted seat.old }

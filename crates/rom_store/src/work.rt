@@ -13,7 +13,7 @@ ghost use Rattle.rom_store.specs.Working.{HasDoneLines, HasNotBegun, HasTaken, H
 use crate::label::Label;
 use crate::pass::Pass;
 use crate::store::Store;
-use rom_combine::Gate;
+use rom_combine::{Gate, Shipper};
 use rom_device::Device;
 use rom_lines::{Became, Line, Results, Script, Told};
 use rom_lr::Steps;
@@ -69,9 +69,9 @@ pub fn told_of<'a, O: Object>(taken: &'a Taken<O::Answer>, words: &'a Back) -> T
 
 /// Does what one line asks for. It takes no memory. It makes `told` the words of the reply, whatever they were,
 /// where the line asks for an update.
-pub fn take_one<D: Device, O: Object, N: Label, R: Wait, G: Gate, L: Ledger>(
+pub fn take_one<D: Device, O: Object, N: Label, W: Shipper, R: Wait, G: Gate, L: Ledger>(
     rt: &R,
-    store: &Store<D, O, N>,
+    store: &Store<D, O, N, W>,
     pass: &mut Pass,
     line: Line<'_, O::Query>,
     told: &mut Back,

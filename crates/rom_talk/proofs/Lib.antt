@@ -6,5 +6,6 @@ pub mod Talked
 pub mod TopPlayed
 pub mod TopEnding
 pub mod TopPromise
+pub mod TopShipping
 pub mod Lending
 pub mod Examples

@@ -1,5 +1,5 @@
 -- What a heap that converses promises.
-use Rattle.std.specs.Prelude.{◌≡◌, ◌⊎◌, ℕ, List, slice_get, Option, Some, IsSome, IsNone, IfSome, IsTrue}
+use Rattle.std.specs.Prelude.{◌≡◌, ◌⊎◌, ◌==◌, ℕ, Bool, if◌then◌else◌, List, map, slice_get, Option, Some, IsSome, IsNone, IfSome, IsTrue}
 use Rattle.std.specs.List.{AllByRecursion}
 use Rattle.rom_model.specs.Earlier.{Earlier}
 use Rattle.rom_model.specs.Faults.{Rose}
@@ -8,6 +8,7 @@ use Rattle.rom_model.specs.declared.line.Step.{Step}
 use Rattle.rom_model.specs.declared.unfit.Unfit.{Unfit}
 use Rattle.rom_device.specs.Device.{ShownDevice}
 use Rattle.rom_combine.specs.Costs.{IsUnfailed}
+use Rattle.rom_combine.specs.Shipping.{Ships, ShownShipper, text_from, update_of}
 use Rattle.rom_text.specs.Streams.{ShownSink, StopsWriting}
 use Rattle.rom_text.specs.Text.{Texts}
 use Rattle.rom_hear.specs.Peers.{ShownPeer}
@@ -31,6 +32,10 @@ HasMet status = (status ≡ 0) ⊎ (status ≡ 1) ⊎ (status ≡ 4) ⊎ (status
 -- with these it was not, and none is left
 abbrev pub HasNotMet : ℕ → Type 0
 HasNotMet status = (status ≡ 3) ⊎ (status ≡ 6)
+
+-- The status of a talk that alone leads to this one, by whether handing on has failed: then it is 5, but 7 stays.
+abbrev pub shipping_status : ℕ → Bool → ℕ
+shipping_status told failing = if failing then (if told == 7 then 7 else 5) else told
 
 module _ {D P K : Type 0} (shown : ShownDevice D) (peer : ShownPeer Caller P) (sink : ShownSink K) where
   -- no count of faults rose, nor did one stand at its last value: the device's, the sink's, and those of each peer
@@ -78,3 +83,17 @@ module _ {S C Q R A D P K : Type 0} (machine : Machine S C Q R A) (Contents : �
     -- no write of the sink is made after one that failed, and what it has beside its bytes stays
     pub writing : StopsWriting sink old new
     pub rest : sink.rest new ≡ sink.rest old
+
+-- so, and of who is handed what is done
+module _ {S C Q R A D P K W : Type 0} (machine : Machine S C Q R A) (Contents : ℕ → List ℕ → S → ℕ → Type 0) (Rejects : ℕ → List ℕ → Unfit → Type 0) (earlier : Earlier S) (shown : ShownDevice D) (peer : ShownPeer Caller P) (sink : ShownSink K)
+    (texts : Texts R A) (Reads : List ℕ → Step C Q → Type 0) (ship : ShownShipper W) where
+  -- Peers talk to the heap of a device, what is done is handed on, and it ends so.
+  pub record ShippingPromise (was now : D) (before after : List P) (old new : K) (status : ℕ) (session : Option SessionSeen) (shipper left : W) : Type 0 where
+    -- The status to which the talk alone leads. All that is promised of a talk holds with it: handing on changes nothing else.
+    pub told : ℕ
+    pub talk : TalkPromise machine Contents Rejects earlier shown peer sink texts Reads was now before after old new told session
+    pub status_is : status ≡ shipping_status told (ship.state left).failing
+    -- the text of the session's history was handed on, all of it, or some of it from its front and then handing on has failed
+    pub shipped : IfSome session (λ s. EachStory machine Contents s (λ story. IsTrue ship.tells → Ships (ship.state shipper) (ship.state left) (text_from ship.text story.opening_count (map update_of story.history))))
+    -- and nothing where there is none
+    pub unshipped : IsNone session → left ≡ shipper

@@ -18,7 +18,7 @@ use rom_hear::{Ear, Next, Peer, tell};
 use rom_lines::Line;
 use rom_lr::Steps;
 use rom_model::{Args, Back, LAST_COUNT, Object};
-use rom_store::{Gate, Label, Pass, Store, Taken, take_one, told_of};
+use rom_store::{Gate, Label, Pass, Shipper, Store, Taken, take_one, told_of};
 use rom_text::{IoFailed, Parsed, Print, PrintReplies, ShortLines, ToldLine};
 use std::marker::{Brand, PhantomData};
 use std::sync::Wait;
@@ -31,11 +31,12 @@ pub(crate) struct Room<
     D: Device,
     O: Object,
     N: Label,
+    W: Shipper,
     L: ShortLines<O>,
     T: PrintReplies<O>,
     G: Gate,
 > {
-    pub store: &'a Store<D, O, N>,
+    pub store: &'a Store<D, O, N, W>,
     pub gate: &'a G,
     pub lines: PhantomData<L>,
     pub replies: PhantomData<T>,
@@ -87,6 +88,7 @@ fn answer<
     D: Device,
     O: Object,
     N: Label,
+    W: Shipper,
     T: PrintReplies<O>,
     P: Peer<Pass>,
     R: Wait,
@@ -94,7 +96,7 @@ fn answer<
     C: Ledger,
 >(
     rt: &R,
-    store: &Store<D, O, N>,
+    store: &Store<D, O, N, W>,
     talker: &mut Talker<P>,
     line: Line<'_, O::Query>,
     told: &mut Back,
@@ -128,6 +130,7 @@ pub(crate) fn converse<
     D: Device,
     O: Object,
     N: Label,
+    W: Shipper,
     L: ShortLines<O>,
     T: PrintReplies<O>,
     P: Peer<Pass>,
@@ -136,7 +139,7 @@ pub(crate) fn converse<
     C: Ledger,
 >(
     rt: &R,
-    store: &Store<D, O, N>,
+    store: &Store<D, O, N, W>,
     talker: &mut Talker<P>,
     desk: &mut Desk,
     steps: &mut Steps<C>,
@@ -162,9 +165,17 @@ where
     match desk.ear.hear(&mut talker.peer) {
         Next::Line => {
             let line = line_in::<O, L>(desk.ear.line(), &mut desk.words);
-            answer::<D, O, N, T, P, R, G, C>(rt, store, talker, line, &mut desk.told, steps, gate)
+            answer::<D, O, N, W, T, P, R, G, C>(
+                rt,
+                store,
+                talker,
+                line,
+                &mut desk.told,
+                steps,
+                gate,
+            )
         }
-        Next::Long => answer::<D, O, N, T, P, R, G, C>(
+        Next::Long => answer::<D, O, N, W, T, P, R, G, C>(
             rt,
             store,
             talker,
@@ -183,13 +194,14 @@ fn attend<
     D: Device,
     O: Object,
     N: Label,
+    W: Shipper,
     L: ShortLines<O>,
     T: PrintReplies<O>,
     P: Peer<Pass>,
     R: Wait,
     G: Gate,
     C: Ledger,
->(rt: &R, blank: Blank, store: &Store<D, O, N>, talker: &mut Talker<P>, gate: &G) -> Ending
+>(rt: &R, blank: Blank, store: &Store<D, O, N, W>, talker: &mut Talker<P>, gate: &G) -> Ending
 where
     O::Answer: Print,
     requires name { blank.name ≡ C.name }
@@ -210,7 +222,7 @@ where
     };
     // So many lines a caller may have done; nobody says as many.
     for _ in 0..LAST_COUNT {
-        if let Some(ending) = converse::<D, O, N, L, T, P, R, G, C>(
+        if let Some(ending) = converse::<D, O, N, W, L, T, P, R, G, C>(
             rt, store, talker, &mut desk, &mut steps, gate,
         ) {
             return ending;
@@ -225,12 +237,13 @@ pub(crate) fn serve<
     D: Device,
     O: Object,
     N: Label,
+    W: Shipper,
     L: ShortLines<O>,
     T: PrintReplies<O>,
     P: Peer<Pass>,
     R: Wait,
     G: Gate,
->(rt: &R, room: &Room<'a, D, O, N, L, T, G>, talker: &mut Talker<P>)
+>(rt: &R, room: &Room<'a, D, O, N, W, L, T, G>, talker: &mut Talker<P>)
 where
     O::Answer: Print,
     requires opened { (s : O.State) × (k : ℕ) × O.Contents N.base.order N.base.image s k }
@@ -242,7 +255,7 @@ where
         talker.new.peer talker.new.ending talker.new.unread talker.new.faulted }
 {
     talker.peer.meet();
-    talker.ending = attend::<D, O, N, L, T, P, R, G, Brand>(
+    talker.ending = attend::<D, O, N, W, L, T, P, R, G, Brand>(
         rt,
         Blank::new(1),
         room.store,

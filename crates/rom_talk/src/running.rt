@@ -1,8 +1,9 @@
 //! Talks on an opened heap, each in a thread of its own, and its closing.
-ghost use Rattle.std.specs.Prelude.{◌≡◌, ◌≤◌, ℕ, List, [], All, length, map, reverse, slice_get, Some, IsTrue, vec_capacity};
+ghost use Rattle.std.specs.Prelude.{◌≡◌, ◌≤◌, ℕ, List, [], All, length, map, reverse, slice_get, Some, IsTrue, false, vec_capacity};
 ghost use Rattle.rom_rule.specs.Views.{base_of};
 ghost use Rattle.rom_store.specs.Callers.{IsNewCaller};
 ghost use Rattle.rom_store.specs.Closing.{IsClosedFrom};
+ghost use Rattle.rom_store.specs.Held.{HasShipped};
 ghost use Rattle.rom_store.specs.Indexed.{Indexed};
 ghost use Rattle.rom_store.specs.Start.{device_start};
 ghost use Rattle.rom_run.specs.Statuses.{exit_number};
@@ -19,19 +20,21 @@ use rom_device::Device;
 use rom_hear::Peer;
 use rom_model::{MAX_CALLERS, Object};
 use rom_run::Status;
-use rom_store::{Closed, Gate, Label, Opening, Pass, Store};
+use rom_store::{Closed, Gate, Label, Opening, Pass, Shipper, Store};
 use rom_text::{Print, PrintReplies, ShortLines};
 use std::marker::{Brand, PhantomData};
 use std::sync::Wait;
 use std::thread;
 use std::thread::Threads;
 
-/// The peers after all that passed, the status that it leads to, and the store that was closed.
+/// The peers after all that passed, the status that it leads to, the store that was closed, and what was handed
+/// its updates.
 #[derive(Drop)]
-pub(crate) struct Talked<D: Device, O: Object, P> {
+pub(crate) struct Talked<D: Device, O: Object, P, W> {
     pub peers: Vec<P>,
     pub status: Status,
     pub closed: Closed<D, O>,
+    pub shipper: W,
 }
 
 /// What serves talkers, each by itself. It hides what it is made of from the threads.
@@ -53,11 +56,12 @@ impl<
     D: Device,
     O: Object,
     N: Label,
+    W: Shipper,
     L: ShortLines<O>,
     T: PrintReplies<O>,
     P: Peer<Pass>,
     G: Gate,
-> Serve<P> for Room<'a, D, O, N, L, T, G>
+> Serve<P> for Room<'a, D, O, N, W, L, T, G>
 where
     O::Answer: Print,
 {
@@ -91,12 +95,13 @@ fn serve_all<
     D: Device + Send,
     O: Object + Send + Sync,
     N: Label + Send + Sync,
+    W: Shipper + Send,
     L: ShortLines<O> + Sync,
     T: PrintReplies<O> + Sync,
     P: Peer<Pass> + Send,
     R: Threads + Wait + Sync,
     G: Gate + Sync,
->(rt: &R, store: &Store<D, O, N>, gate: &G, talkers: &mut Vec<Talker<P>>)
+>(rt: &R, store: &Store<D, O, N, W>, gate: &G, talkers: &mut Vec<Talker<P>>)
 where
     O::Call: Send + Sync,
     O::Query: Send + Sync,
@@ -110,7 +115,7 @@ where
         IsServed O.machine O.Contents N.table N.base P.shown (texts_of T.shown O.Answer.shown) L.Reads
         a.pass c.pass a.peer c.peer c.ending c.unread c.faulted }
 {
-    let room = Room::<D, O, N, L, T, G> {
+    let room = Room::<D, O, N, W, L, T, G> {
         store,
         gate,
         lines: PhantomData,
@@ -124,6 +129,7 @@ fn talk_seated<
     D: Device + Send,
     O: Object + Send + Sync,
     N: Label + Send + Sync,
+    W: Shipper + Send,
     L: ShortLines<O> + Sync,
     T: PrintReplies<O> + Sync,
     P: Peer<Pass> + Send + Drop,
@@ -131,12 +137,12 @@ fn talk_seated<
     G: Gate + Sync,
 >(
     rt: &R,
-    store: Store<D, O, N>,
+    store: Store<D, O, N, W>,
     mut passes: Vec<Pass>,
     mut peers: Vec<P>,
     mut talkers: Vec<Talker<P>>,
     gate: &G,
-) -> Talked<D, O, P>
+) -> Talked<D, O, P, W>
 where
     O::Call: Send + Sync,
     O::Query: Send + Sync,
@@ -153,15 +159,19 @@ where
     ensures talks { AreTalks O.machine O.Contents D.shown P.shown (texts_of T.shown O.Answer.shown)
         L.Reads (map (λ t. t.peer) (reverse talkers.items)) result.peers.items
         (exit_number result.status) result.closed }
+    // The shipper was handed all of the session's history, and nothing else.
+    ensures shipped { HasShipped O.Contents W.shown N.base N.ships result.shipper
+        result.closed.session.history }
 {
-    serve_all::<D, O, N, L, T, P, R, G>(rt, &store, gate, &mut talkers);
+    serve_all::<D, O, N, W, L, T, P, R, G>(rt, &store, gate, &mut talkers);
     let status = status_found(&talkers);
     part_all(&mut talkers, &mut passes, &mut peers);
-    let closed = store.close(rt, passes);
+    let (closed, shipper) = store.close_shipping(rt, passes);
     Talked {
         peers,
         status,
         closed,
+        shipper,
     }
 }
 
@@ -170,6 +180,7 @@ fn talk_started<
     D: Device + Send,
     O: Object + Send + Sync,
     N: Label + Send + Sync,
+    W: Shipper + Send,
     L: ShortLines<O> + Sync,
     T: PrintReplies<O> + Sync,
     P: Peer<Pass> + Send + Drop,
@@ -177,12 +188,12 @@ fn talk_started<
     G: Gate + Sync,
 >(
     rt: &R,
-    store: Store<D, O, N>,
+    store: Store<D, O, N, W>,
     mut passes: Vec<Pass>,
     mut peers: Vec<P>,
     mut talkers: Vec<Talker<P>>,
     gate: &G,
-) -> Talked<D, O, P>
+) -> Talked<D, O, P, W>
 where
     O::Call: Send + Sync,
     O::Query: Send + Sync,
@@ -197,9 +208,11 @@ where
     ensures ended { IsClosedFrom D.shown O.machine O.Contents N.base N.start N.since result.closed }
     ensures talks { AreTalks O.machine O.Contents D.shown P.shown (texts_of T.shown O.Answer.shown)
         L.Reads peers.items result.peers.items (exit_number result.status) result.closed }
+    ensures shipped { HasShipped O.Contents W.shown N.base N.ships result.shipper
+        result.closed.session.history }
 {
     seat_all(&mut passes, &mut peers, &mut talkers);
-    talk_seated::<D, O, N, L, T, P, R, G>(rt, store, passes, peers, talkers, gate)
+    talk_seated::<D, O, N, W, L, T, P, R, G>(rt, store, passes, peers, talkers, gate)
 }
 
 // All that follows the opening, with a label.
@@ -207,6 +220,7 @@ fn talk_as<
     D: Device + Send,
     O: Object + Send + Sync,
     N: Label + Send + Sync,
+    W: Shipper + Send,
     L: ShortLines<O> + Sync,
     T: PrintReplies<O> + Sync,
     P: Peer<Pass> + Send + Drop,
@@ -218,7 +232,8 @@ fn talk_as<
     peers: Vec<P>,
     talkers: Vec<Talker<P>>,
     gate: &G,
-) -> Talked<D, O, P>
+    shipper: W,
+) -> Talked<D, O, P, W>
 where
     O::Call: Send + Sync,
     O::Query: Send + Sync,
@@ -230,6 +245,7 @@ where
     requires since { IsTrue D.shown.tells_images → (t : ℕ) (i : List ℕ) →
         (N.since t i → D.shown.left_since opening.device t i)
         × (D.shown.left_since opening.device t i → N.since t i) }
+    requires ships { IsTrue W.shown.tells → (N.ships ≡ W.shown.state shipper) × (N.ships.failing ≡ false) }
     requires opened { (s : O.State) × (k : ℕ) × O.Contents N.base.order N.base.image s k }
     requires callers { Indexed (IsNewCaller O.Contents N.table N.base) opening.passes }
     requires many { (length opening.passes ≡ length peers.items)
@@ -240,9 +256,11 @@ where
     // Whatever the story of the session, the peers were told the results of one history, and what was said lasts.
     ensures talks { AreTalks O.machine O.Contents D.shown P.shown (texts_of T.shown O.Answer.shown)
         L.Reads peers.items result.peers.items (exit_number result.status) result.closed }
+    ensures shipped { HasShipped O.Contents W.shown N.base N.ships result.shipper
+        result.closed.session.history }
 {
-    let (store, passes) = opening.start::<N>();
-    talk_started::<D, O, N, L, T, P, R, G>(rt, store, passes, peers, talkers, gate)
+    let (store, passes) = opening.start_shipping::<N, W>(shipper);
+    talk_started::<D, O, N, W, L, T, P, R, G>(rt, store, passes, peers, talkers, gate)
 }
 
 /// The talks on an opened heap, which is closed then. It picks the label that tells what the store was started
@@ -251,6 +269,7 @@ where
 pub(crate) fn talk_on<
     D: Device + Send,
     O: Object + Send + Sync,
+    W: Shipper + Send,
     L: ShortLines<O> + Sync,
     T: PrintReplies<O> + Sync,
     P: Peer<Pass> + Send + Drop,
@@ -262,7 +281,8 @@ pub(crate) fn talk_on<
     peers: Vec<P>,
     talkers: Vec<Talker<P>>,
     gate: &G,
-) -> Talked<D, O, P>
+    shipper: W,
+) -> Talked<D, O, P, W>
 where
     O::Call: Send + Sync,
     O::Query: Send + Sync,
@@ -275,9 +295,12 @@ where
         × (length peers.items ≡ (base_of opening.key).callers) }
     requires fresh { All (IsFresh P.shown) peers.items }
     requires room { (talkers.items ≡ []) × (length peers.items ≤ vec_capacity talkers) }
+    requires on { IsTrue W.shown.tells → (W.shown.state shipper).failing ≡ false }
     ensures talked { IsTalkedOn O.machine O.Contents D.shown P.shown (texts_of T.shown O.Answer.shown)
         L.Reads (base_of opening.key) opening.device peers.items result.peers.items
         (exit_number result.status) result.closed }
+    ensures shipped { HasShipped O.Contents W.shown (base_of opening.key) (W.shown.state shipper)
+        result.shipper result.closed.session.history }
 {
-    talk_as::<D, O, Brand, L, T, P, R, G>(rt, opening, peers, talkers, gate)
+    talk_as::<D, O, Brand, W, L, T, P, R, G>(rt, opening, peers, talkers, gate, shipper)
 }

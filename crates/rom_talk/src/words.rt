@@ -1,6 +1,6 @@
 //! The words that name whom a heap talks to.
 ghost use Rattle.std.specs.Prelude.{◌≡◌, ◌<◌, ◌≤◌, IfSome, IsTrue};
-ghost use Rattle.rom_talk.specs.Words.{callers_named, callers_read, file_and_pairs, talk_named};
+ghost use Rattle.rom_talk.specs.Words.{callers_named, callers_read, file_and_pairs, ship_and_callers, shipping_read, talk_named};
 ghost use Rattle.rom_talk.specs.Words as named;
 ghost use Rattle.rom_run.specs.Plain as plain;
 
@@ -46,6 +46,37 @@ pub fn read_callers(words: &[Name]) -> Option<Callers<'_>>
     } else {
         None
     }
+}
+
+/// Whom a heap talks to, and the stream to which it ships what is done, where there is one.
+#[derive(Clone, Copy, Debug)]
+pub struct Shipping<'a> {
+    pub stream: Option<&'a Name>,
+    pub callers: Callers<'a>,
+}
+
+/// The same as of `read_callers`, or behind `--ship` and the name of a stream.
+pub fn read_shipping(words: &[Name]) -> Option<Shipping<'_>>
+    ensures named { shipping_read result ≡ ship_and_callers words.now }
+    // There are 1 to 16 callers.
+    ensures few { IfSome result (λ shipping. (0 < callers_named shipping.callers.names.now)
+        × (callers_named shipping.callers.names.now ≤ 16)) }
+{
+    let (option, behind) = words.split_first()?;
+    if option.as_str() != "--ship" {
+        return Some(Shipping {
+            stream: None,
+            callers: read_callers(words)?,
+        });
+    }
+    let (stream, words) = behind.split_first()?;
+    if !is_name(stream) {
+        return None;
+    }
+    Some(Shipping {
+        stream: Some(stream),
+        callers: read_callers(words)?,
+    })
 }
 
 /// The same behind the command `talk`, of a program that has others.

@@ -4,7 +4,8 @@ ghost use Rattle.rom_model.specs.VecSpace.{words_of_space};
 ghost use Rattle.rom_model.specs.Blocks.{IsOrder, region_len};
 ghost use Rattle.rom_block.specs.Taken.{IsSomeTree, IsTakenAt};
 
-use crate::regions::{FRESH, change, region};
+use crate::regions::{change, region};
+use crate::right::right;
 use rom_block::{Blocks, Taken, fill_node};
 use rom_model::{Rule, Unfit, VecSpace, region_len};
 use std::alloc::Global;
@@ -53,13 +54,13 @@ fn give(space: &mut VecSpace, order: u32, at: u64, want: u32)
 fn the_fresh_tree_and_one_unit_more(rt: HostRuntime) -> Result<(), Fail> {
     // The words of other parts stay.
     let mut words = [77; 112];
-    words[16..48].copy_from_slice(&FRESH[16..48]);
+    words[16..48].copy_from_slice(&region(false, &[])[16..48]);
     let mut space = free_region(rt.alloc(), 4)?;
-    assert_eq!(rt; take(&mut space, 4, 0), Some(48));
+    assert!(rt; take(&mut space, 4, 0) == Some(48));
     assert!(rt; space.words() == words.as_slice());
 
     let unit = take(&mut space, 4, 0).expect(&rt, "a unit is free");
-    assert_eq!(rt; unit, 52);
+    assert!(rt; unit == 52);
     let mut taken = words;
     change(&mut taken, &[(24, 0), (33, 0)]);
     assert!(rt; space.words() == taken.as_slice());
@@ -75,29 +76,29 @@ fn the_fresh_tree_and_one_unit_more(rt: HostRuntime) -> Result<(), Fail> {
 #[test]
 fn a_full_region_and_two_blocks_given_back(rt: HostRuntime) -> Result<(), Fail> {
     let mut space = free_region(rt.alloc(), 4)?;
-    assert_eq!(rt; take(&mut space, 4, 0), Some(48));
+    assert!(rt; take(&mut space, 4, 0) == Some(48));
 
     let unit = take(&mut space, 4, 0).expect(&rt, "a unit is free");
-    assert_eq!(rt; unit, 52);
+    assert!(rt; unit == 52);
     let pair = take(&mut space, 4, 1).expect(&rt, "two units are free");
-    assert_eq!(rt; pair, 56);
-    assert_eq!(rt; take(&mut space, 4, 2), Some(64));
-    assert_eq!(rt; take(&mut space, 4, 3), Some(80));
-    assert_eq!(rt; take(&mut space, 4, 0), None);
-    assert_eq!(rt; Blocks::largest_free(&mut space, 4), None);
+    assert!(rt; pair == 56);
+    assert!(rt; take(&mut space, 4, 2) == Some(64));
+    assert!(rt; take(&mut space, 4, 3) == Some(80));
+    assert!(rt; take(&mut space, 4, 0) == None);
+    assert!(rt; Blocks::largest_free(&mut space, 4) == None);
 
     give(&mut space, 4, unit, 0);
-    assert_eq!(rt; Blocks::largest_free(&mut space, 4), Some(0));
+    assert!(rt; Blocks::largest_free(&mut space, 4) == Some(0));
     give(&mut space, 4, pair, 1);
-    assert_eq!(rt; Blocks::largest_free(&mut space, 4), Some(1));
+    assert!(rt; Blocks::largest_free(&mut space, 4) == Some(1));
     // Units 1 to 3 are free, but they are no block.
-    assert_eq!(rt; take(&mut space, 4, 2), None);
-    assert_eq!(rt; take(&mut space, 4, 1), Some(56));
+    assert!(rt; take(&mut space, 4, 2) == None);
+    assert!(rt; take(&mut space, 4, 1) == Some(56));
     Ok(())
 }
 
 #[test]
-fn an_inspection_names_the_first_word_that_differs(rt: HostRuntime) {
+fn an_inspection_names_the_first_word_that_differs(rt: HostRuntime) -> Result<(), Fail> {
     // Words that are changed, and the first that differs. Offset 16 belongs to no node.
     let rows: [(&[(usize, u64)], Option<u64>); 6] = [
         (&[(16, 0)], None),
@@ -108,8 +109,8 @@ fn an_inspection_names_the_first_word_that_differs(rt: HostRuntime) {
         (&[(47, 0), (32, 1), (33, 0)], Some(32)),
     ];
     let table = [Taken { at: 48, order: 0 }];
-    for (changes, differs) in rows {
-        let want = match differs {
+    for (row, (changes, differs)) in rows.iter().enumerate() {
+        let want = match *differs {
             Some(offset) => Err(Unfit::Malformed {
                 offset,
                 rule: Rule::Tree,
@@ -117,6 +118,8 @@ fn an_inspection_names_the_first_word_that_differs(rt: HostRuntime) {
             None => Ok(()),
         };
         let words = region(false, changes);
-        assert_eq!(rt; Blocks::inspect(rt.alloc(), &words, 4, &table), want);
+        let told = Blocks::inspect(rt.alloc(), &words, 4, &table);
+        right("inspected", row, told == want)?;
     }
+    Ok(())
 }

@@ -134,7 +134,7 @@ const FUSED: Row = Row {
     counts: (3, 0, 4),
 };
 
-const ROWS: [Row; 10] = [
+static ROWS: [Row; 10] = [
     FAILING,
     MANY,
     SECOND,
@@ -186,7 +186,7 @@ fn does(alloc: Global, row: &Row) -> Result<bool, Fail> {
 }
 
 /// Calls of three words in memory that never fail.
-const READ_BACK: [Step; 5] = [
+static READ_BACK: [Step; 5] = [
     Step::Write(1, u64::MAX, true),
     Step::Sync(true),
     Step::Read(0, Some(0)),

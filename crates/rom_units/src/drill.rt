@@ -22,7 +22,7 @@ const FROM_0: &[u8] =
     b"put 0 1000\nput 1 1000\nput 2 1000\nput 3 1000\nenq 0\ndeq\nenq 5367\ndeq\nenq 2497\ndeq\nmove 1 2 29\n";
 
 /// A start, a caller, how many callers there are, and the lines of four items.
-const SCRIPTS: [(u64, u64, u64, &[u8]); 3] = [
+static SCRIPTS: [(u64, u64, u64, &[u8]); 3] = [
     (1, 1, 1, WORKED),
     (u64::MAX, 16, 16, LAST_START),
     (2147483647, 1, 1, FROM_0),

@@ -147,7 +147,7 @@ const READ_ONLY: Row = Row {
     left: &[(0, [0; 8])],
 };
 
-const ROWS: [(&str, Row); 5] = [
+static ROWS: [(&str, Row); 5] = [
     ("read_back", READ_BACK),
     ("waiting", WAITING),
     ("beside", BESIDE),

@@ -9,7 +9,10 @@ use std::{env, fs, process};
 
 /// The name of a file of the process with this number.
 fn file_name(alloc: Global, process: u32, name: &str) -> Result<String, AllocError> {
-    format!(in alloc; "rom_units_{process}_{name}")
+    let mut file = process.to_string(alloc)?;
+    file.push_str("_rom_units_")?;
+    file.push_str(name)?;
+    Ok(file)
 }
 
 /// A path of this name that no other process uses.

@@ -11,7 +11,7 @@ use std::alloc::Global;
 use std::test::Fail;
 
 /// Words that stand for no call.
-const NO_CALL: [&[u64]; 10] = [
+static NO_CALL: [&[u64]; 10] = [
     // No words, a tag of no row, a number too many.
     &[],
     &[12, 40],
@@ -30,7 +30,7 @@ const NO_CALL: [&[u64]; 10] = [
 
 /// Words that stand for no reply: none; of a group, no number of replies, too few words, nine replies, a
 /// group's replies in a group's.
-const NO_REPLY: [&[u64]; 5] = [
+static NO_REPLY: [&[u64]; 5] = [
     &[],
     &[14],
     &[14, 2, 10, 9],
@@ -78,7 +78,7 @@ fn other_words_are_no_call_and_no_reply(rt: HostRuntime) -> Result<(), Fail> {
 
 /// How many values the queue has first, each of them 1; the members of a group; and what they are
 /// told, or nothing where one of them finds the heap full.
-const GROUPS: [(usize, &[Single], &[SingleReply]); 17] = [
+static GROUPS: [(usize, &[Single], &[SingleReply]); 17] = [
     (
         0,
         &[Single::Put(1, 5), Single::Put(2, 6), Single::Move(1, 2, 5)],

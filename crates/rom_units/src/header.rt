@@ -21,7 +21,7 @@ type Made = (
     u64,
 );
 
-const MADE: [Made; 16] = [
+static MADE: [Made; 16] = [
     (232, 0, 0, &[], Ok(()), MAGIC),
     (235, 0, 0, &[], Ok(()), MAGIC),
     (235, 7, 7, &[], Ok(()), MAGIC),

@@ -6,7 +6,8 @@ ghost use Rattle.rom_model.specs.State.{State, empty};
 ghost use Rattle.rom_model.specs.Region.{Contents};
 ghost use Rattle.rom_counted.specs.Counted.{BeginsLedger};
 
-use crate::regions::{BROKEN, BROKEN_OLD, FRESH, OLD, OLD_PAIRS, QUEUED, region};
+use crate::regions::{BROKEN, BROKEN_OLD, OLD, OLD_PAIRS, QUEUED, region};
+use crate::right::right;
 use rom_counted::Counted;
 use rom_heap::Trio;
 use rom_model::{
@@ -39,7 +40,7 @@ const FIFTEEN: [Single; 15] = [
 
 /// Updates on a new heap of order 4, one more and what it is told, and the words that are then others
 /// than in a new region.
-const UPDATES: [(&[Single], Single, SingleReply, Option<&[(usize, u64)]>); 16] = [
+static UPDATES: [(&[Single], Single, SingleReply, Option<&[(usize, u64)]>); 16] = [
     (&[], Single::Enq(9), SingleReply::Queued, Some(&QUEUED)),
     (
         &[Single::Enq(9)],
@@ -237,28 +238,28 @@ pub(crate) fn apply_all(space: &mut VecSpace, calls: &[Single], last: &Call) -> 
 
 #[test]
 fn updates_word_for_word(rt: HostRuntime) -> Result<(), Fail> {
-    for (calls, last, reply, changes) in UPDATES {
+    for (row, (calls, last, reply, changes)) in UPDATES.iter().enumerate() {
         let mut space = new_region::<Trio>(rt.alloc(), 4)?;
         assert!(rt; calls.len() <= 15);
-        let told = apply_all(&mut space, calls, &Call::plain(last));
-        assert_eq!(rt; told, Reply::plain(reply), "at {last:?}");
+        let told = apply_all(&mut space, calls, &Call::plain(*last));
+        right("update", row, told == Reply::plain(*reply))?;
         if let Some(changes) = changes {
             let words = region(false, changes);
-            assert!(rt; space.words() == words.as_slice(), "at {last:?}");
+            right("words", row, space.words() == words.as_slice())?;
         }
     }
     // A new region over other words: those of free blocks, which begin behind the bucket table, stay.
     let mut space = VecSpace::of(vec![in rt.alloc(); 7u64; 112]?);
     Trio::format(&mut space, 4);
-    let mut words = [7; 112];
-    words[..52].copy_from_slice(&FRESH[..52]);
-    assert!(rt; space.words() == words.as_slice());
+    let words = space.words();
+    assert!(rt; words.get(..52) == region(false, &[]).get(..52));
+    assert!(rt; words.get(52..) == Some([7u64; 60].as_slice()));
     Ok(())
 }
 
 /// The version that a region is inspected by, whether 9 is in its queue, words that are changed, and what
 /// the inspection tells.
-const INSPECTED: [(u64, bool, &[(usize, u64)], Result<(), Unfit>); 10] = [
+static INSPECTED: [(u64, bool, &[(usize, u64)], Result<(), Unfit>); 10] = [
     (2, false, &[], Ok(())),
     (2, true, &[], Ok(())),
     (
@@ -305,23 +306,30 @@ fn inspected(alloc: Global, version: u64, words: &[u64; 112]) -> Result<(), Unfi
 }
 
 #[test]
-fn regions_of_both_versions_are_inspected(rt: HostRuntime) {
-    for (version, queued, changes, want) in INSPECTED {
-        let words = region(queued, changes);
-        assert_eq!(rt;
-            inspected(rt.alloc(), version, &words),
-            want,
-            "at {changes:?}"
-        );
+fn regions_of_both_versions_are_inspected(rt: HostRuntime) -> Result<(), Fail> {
+    for (row, (version, queued, changes, want)) in INSPECTED.iter().enumerate() {
+        let told = inspected(rt.alloc(), *version, &region(*queued, changes));
+        right("inspected", row, told == *want)?;
     }
-    for (queued, changes, offset, rule) in BROKEN {
-        let told = inspected(rt.alloc(), 2, &region(queued, changes));
-        assert_eq!(rt; told, Err(Unfit::Malformed { offset, rule }));
+    for (row, (queued, changes, offset, rule)) in BROKEN.iter().enumerate() {
+        let (offset, rule) = (*offset, *rule);
+        let told = inspected(rt.alloc(), 2, &region(*queued, changes));
+        right(
+            "broken",
+            row,
+            told == Err(Unfit::Malformed { offset, rule }),
+        )?;
     }
-    for (changes, offset, rule) in BROKEN_OLD {
+    for (row, (changes, offset, rule)) in BROKEN_OLD.iter().enumerate() {
+        let (offset, rule) = (*offset, *rule);
         let told = inspected(rt.alloc(), 1, &region(false, changes));
-        assert_eq!(rt; told, Err(Unfit::Malformed { offset, rule }));
+        right(
+            "broken and old",
+            row,
+            told == Err(Unfit::Malformed { offset, rule }),
+        )?;
     }
+    Ok(())
 }
 
 /// How many elements a heap of order 16 has room for.
@@ -366,10 +374,10 @@ fn the_most_stores_of_each_update(rt: HostRuntime) -> Result<(), Fail> {
         (Call::Deq, CAP, Call::Move(1000, 2000, 1), Reply::Moved, 5),
         (Call::Deq, CAP, Call::Add(5), Reply::Full, 1),
     ];
-    for (first, keys, call, reply, stores) in rows {
-        let space = filled(rt.alloc(), first, keys)?;
-        let told = told_and_stores::<Brand>(Blank::new(1), space, call);
-        assert_eq!(rt; told, (reply, stores));
+    for (row, (first, keys, call, reply, stores)) in rows.iter().enumerate() {
+        let space = filled(rt.alloc(), *first, *keys)?;
+        let told = told_and_stores::<Brand>(Blank::new(1), space, *call);
+        right("stores", row, told == (*reply, *stores))?;
     }
     Ok(())
 }
@@ -386,12 +394,12 @@ fn the_stores_of_a_group(rt: HostRuntime) -> Result<(), Fail> {
         (CAP - 8, &eight, true, 1 + 8 * 24),
         (CAP - 7, &eight, false, 1),
     ];
-    for (keys, members, done, stores) in rows {
-        let space = filled(rt.alloc(), Call::Deq, keys)?;
-        let group = Group::of(members).expect(&rt, "two to eight members");
+    for (row, (keys, members, done, stores)) in rows.iter().enumerate() {
+        let space = filled(rt.alloc(), Call::Deq, *keys)?;
+        let group = Group::of(members).ok_or("not two to eight members")?;
         let (reply, made) = told_and_stores::<Brand>(Blank::new(1), space, Call::Group(group));
-        assert_eq!(rt; reply != Reply::Full, done, "at {keys}");
-        assert!(rt; made <= stores && (done || made == 1), "at {keys}");
+        right("group", row, (reply != Reply::Full) == *done)?;
+        right("stores", row, made <= *stores && (*done || made == 1))?;
     }
     Ok(())
 }
@@ -426,10 +434,10 @@ fn loads_of_each_query(rt: HostRuntime) -> Result<(), Fail> {
         (Call::Deq, Query::Total, Answer::Total(3), 16384 + 2 * 3),
         (Call::Deq, Query::Fresh(2), Answer::Fresh(2), 16384 + 2 * 3),
     ];
-    for (first, query, answer, loads) in rows {
-        let space = filled(rt.alloc(), first, 3)?;
-        let told = answer_and_loads::<Brand>(Blank::new(1), space, query);
-        assert_eq!(rt; told, (answer, loads));
+    for (row, (first, query, answer, loads)) in rows.iter().enumerate() {
+        let space = filled(rt.alloc(), *first, 3)?;
+        let told = answer_and_loads::<Brand>(Blank::new(1), space, *query);
+        right("loads", row, told == (*answer, *loads))?;
     }
     Ok(())
 }

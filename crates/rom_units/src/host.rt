@@ -4,8 +4,10 @@ use crate::devices::{Step, takes};
 use crate::files::{path, zeroed};
 use rom_device::{Device, FileDevice};
 use rom_header::MAGIC;
-use rom_host::{HostDevice, Program, Reading, Script, device_of, file_of, reader_of, sources_of};
-use rom_text::{Adapted, DeviceWant, Name, Names, Source};
+use rom_host::{
+    HostDevice, Looked, Program, Reading, Script, device_of, file_of, look_at, sink_of, sources_of,
+};
+use rom_text::{Adapted, DeviceWant, Name, Names, Sink, Source};
 use std::fs;
 use std::os::unix::fs::{MetadataExt, symlink};
 use std::path::PathBuf;
@@ -42,7 +44,12 @@ fn opened(rt: &HostRuntime, path: &PathBuf, how: How) -> Result<FileDevice, Fail
     let name = Name::of(rt.alloc(), path.as_str())?;
     let want = match how {
         How::Of(words) => return Ok(file_of(&program, path.as_str(), words)?),
-        How::Read => return Ok(reader_of(&program, path.as_str())?),
+        How::Read => {
+            return match look_at(&program, path.as_str())? {
+                Looked::Still(device) => Ok(device),
+                Looked::InUse(_) => Ok(FileDevice::missing()),
+            };
+        }
         How::Old => DeviceWant::Old(name),
         How::Made(words) => DeviceWant::Made(name, words),
     };
@@ -74,7 +81,7 @@ fn opens(rt: &HostRuntime, path: &PathBuf, rows: &[Row]) -> Result<(), Fail> {
 }
 
 /// What stands there stays. It is not shortened, and lengthened by words that are 0.
-const KEPT: [Row; 4] = [
+static KEPT: [Row; 4] = [
     (
         How::Made(10),
         10,
@@ -96,7 +103,7 @@ const KEPT: [Row; 4] = [
 ];
 
 /// A file without a heap is begun anew by `format` alone, and only where all its words are among the wanted ones.
-const ANEW: [Row; 6] = [
+static ANEW: [Row; 6] = [
     (
         How::Of(10),
         10,
@@ -139,7 +146,7 @@ const ANEW: [Row; 6] = [
 ];
 
 /// A heap is never begun anew.
-const HEAP: [Row; 4] = [
+static HEAP: [Row; 4] = [
     (
         How::Of(10),
         10,
@@ -157,7 +164,7 @@ const HEAP: [Row; 4] = [
 ];
 
 /// Of a file of five bytes, `hello`.
-const SHORT: [Row; 3] = [
+static SHORT: [Row; 3] = [
     (How::Old, 0, &[], Some(5)),
     (
         How::Of(2),
@@ -174,14 +181,14 @@ const SHORT: [Row; 3] = [
 ];
 
 /// Beside one that has the file to write.
-const LOCKED: [Row; 3] = [
+static LOCKED: [Row; 3] = [
     (How::Old, 8, &MISSING, Some(80)),
     (How::Made(20), 8, &MISSING, Some(80)),
     (How::Read, 8, &MISSING, Some(80)),
 ];
 
 /// Beside one that reads it: two may read it at a time, and then nobody may write it.
-const SHARED: [Row; 2] = [
+static SHARED: [Row; 2] = [
     (How::Read, 10, &[Step::Read(3, Some(5))], Some(80)),
     (How::Old, 8, &MISSING, Some(80)),
 ];
@@ -313,5 +320,40 @@ fn scripts_come_in_their_order(rt: HostRuntime) -> Result<(), Fail> {
     }
     fs::remove_file(&rt, first.as_path())?;
     fs::remove_file(&rt, second.as_path())?;
+    Ok(())
+}
+
+#[test]
+fn frames_go_to_a_new_file_and_to_no_file_of_a_talk(rt: HostRuntime) -> Result<(), Fail> {
+    let heap = zeroed(&rt, "host_shipping", 80)?;
+    let stream = path(&rt, "host_stream")?;
+    let output = zeroed(&rt, "host_output", 0)?;
+    let mut program = Program::new(&rt, "rom_units");
+    program.spare(heap.as_str());
+    let mut callers = Names::new(rt.alloc());
+    callers.push(rt.alloc(), "/nowhere/input")?;
+    callers.push(rt.alloc(), output.as_str())?;
+    for (name, taken) in [
+        (stream.as_str(), true),
+        (stream.as_str(), false),
+        ("/", false),
+        ("/nowhere/stream", false),
+        ("/dev/full", false),
+        (heap.as_str(), false),
+        (output.as_str(), false),
+    ] {
+        let name = Name::of(rt.alloc(), name)?;
+        let ships = match sink_of(&program, &name, callers.as_slice()) {
+            Some(mut sink) => sink.write(b"x") == Ok(1),
+            None => false,
+        };
+        assert!(rt; ships == taken);
+    }
+    assert!(rt; fs::read(&rt, stream.as_path())?.as_slice() == b"x".as_slice());
+    assert!(rt; fs::metadata(&rt, heap.as_path())?.len() == 80);
+    assert!(rt; fs::metadata(&rt, output.as_path())?.len() == 0);
+    fs::remove_file(&rt, heap.as_path())?;
+    fs::remove_file(&rt, stream.as_path())?;
+    fs::remove_file(&rt, output.as_path())?;
     Ok(())
 }

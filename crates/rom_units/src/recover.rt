@@ -26,7 +26,7 @@ struct Row {
     calls: u64,
 }
 
-const ROWS: [Row; 3] = [
+static ROWS: [Row; 3] = [
     Row {
         state: 0,
         found: State::Idle,
@@ -48,7 +48,7 @@ const ROWS: [Row; 3] = [
 ];
 
 /// A region of which nothing is left.
-const TORN: [u64; 112] = [77; 112];
+static TORN: [u64; 112] = [77; 112];
 
 /// The words of a heap in which those of the header that are never read are not 0, with three behind it.
 fn among_others(
@@ -136,7 +136,7 @@ fn both_regions_become_the_one_that_counts(rt: HostRuntime) -> Result<(), Fail> 
 /// A state as it reads and as it may still be on the disk, and whether main and back are the newer region.
 /// The state alone is in doubt, as where the sync behind its writing failed: that of a commit, of a repair,
 /// of a batch's beginning, or none.
-const IN_DOUBT: [(u64, u64, bool, bool); 4] = [
+static IN_DOUBT: [(u64, u64, bool, bool); 4] = [
     (2, 1, true, false),
     (1, 2, true, false),
     (1, 0, false, false),
@@ -206,7 +206,7 @@ type Changed = Option<&'static [(usize, u64)]>;
 /// many words of main are those of back by then. No other word is another.
 type Refused = (u64, Changed, Changed, Failing, RecoverRefused, u64, usize);
 
-const REFUSED: [Refused; 12] = [
+static REFUSED: [Refused; 12] = [
     (
         0,
         Some(&[(2, 5), (111, 6)]),

@@ -8,7 +8,7 @@ use std::alloc::{AllocError, Global};
 pub(crate) const MAGIC: u64 = 0x524F_4D55_4C55_5331;
 
 /// A new region: the root, the tree from offset 16 on, and from 48 on the blocks, which are 0.
-pub(crate) const FRESH: [u64; 112] = [
+pub(crate) static FRESH: [u64; 112] = [
     1, 2, 0, 0, 0, 0, 0, 0, 48, 0, 0, 0, 0, 0, 0, 0, 0, 4, 3, 4, 2, 3, 3, 3, 1, 2, 2, 2, 2, 2, 2,
     2, 0, 1, 1, 1, 1, 1, 1, 1, 1, 1, 1, 1, 1, 1, 1, 1, 0, 0, 0, 0, 0, 0, 0, 0, 0, 0, 0, 0, 0, 0, 0,
     0, 0, 0, 0, 0, 0, 0, 0, 0, 0, 0, 0, 0, 0, 0, 0, 0, 0, 0, 0, 0, 0, 0, 0, 0, 0, 0, 0, 0, 0, 0, 0,
@@ -28,7 +28,7 @@ pub(crate) const QUEUED: [(usize, u64); 7] = [
 
 /// Regions that are none: whether 9 is in the queue, the words that are changed, and the offset and
 /// the rule of the first break.
-pub(crate) const BROKEN: [(bool, &[(usize, u64)], u64, Rule); 17] = [
+pub(crate) static BROKEN: [(bool, &[(usize, u64)], u64, Rule); 17] = [
     (false, &[(0, 2)], 0, Rule::Root),
     (false, &[(1, 3)], 1, Rule::Root),
     (false, &[(2, 4_611_686_018_427_387_905)], 2, Rule::Root),
@@ -72,7 +72,7 @@ pub(crate) const OLD: (usize, u64) = (1, 1);
 
 /// Regions that are none of version 1, though they say so: the words that are changed, and the offset and
 /// the rule of the first break.
-pub(crate) const BROKEN_OLD: [(&[(usize, u64)], u64, Rule); 6] = [
+pub(crate) static BROKEN_OLD: [(&[(usize, u64)], u64, Rule); 6] = [
     (&[OLD, (2, 4_611_686_018_427_387_905)], 2, Rule::Root),
     (&[OLD, (3, 53)], 3, Rule::Link),
     (&[OLD, (48, 52), (52, 5), (55, 1)], 55, Rule::Pad),

@@ -11,7 +11,7 @@ const DEQ: Line = Line::Update(Call::Deq);
 
 const PEEK: Line = Line::Ask(Query::Peek);
 
-const LINES: [(&[u8], Line); 58] = [
+const LINES: [(&[u8], Line); 14] = [
     (b"enq 7", ENQ_7),
     (b"deq", DEQ),
     (b"add 10", Line::Update(Call::Add(10))),
@@ -32,57 +32,58 @@ const LINES: [(&[u8], Line); 58] = [
         b"fresh 18446744073709551615",
         Line::Ask(Query::Fresh(18446744073709551615)),
     ),
-    (b"fresh", Line::Unread),
-    (b"fresh 1 2", Line::Unread),
-    (b"put 18446744073709551616 1", Line::Unread),
-    (b"put 1 100000000000000000000", Line::Unread),
-    (b"enq 007", Line::Unread),
-    (b"enq 00", Line::Unread),
-    (b"enq +1", Line::Unread),
-    (b"enq -1", Line::Unread),
-    (b"enq 0x1", Line::Unread),
-    (b"enq \xd9\xa1", Line::Unread),
-    (b"put  1 1", Line::Unread),
-    (b"put 1  1", Line::Unread),
-    (b"put 1 1 ", Line::Unread),
-    (b" put 1 1", Line::Unread),
-    (b"put\t1 1", Line::Unread),
-    (b"put 1\t1", Line::Unread),
-    (b"PUT 1 1", Line::Unread),
-    (b"put 1", Line::Unread),
-    (b"move 1 2 3 4", Line::Unread),
-    (b"total 1", Line::Unread),
-    (b"deq ", Line::Unread),
-    (b"len\r", Line::Unread),
-    (b"", Line::Unread),
-    (b"tx", Line::Unread),
-    (b"tx ", Line::Unread),
-    (b"tx enq 1", Line::Unread),
-    (b"tx enq 1 ; peek", Line::Unread),
-    (b"tx len ; enq 1", Line::Unread),
-    (b"tx enq 1 ; tx deq ; deq", Line::Unread),
-    (b"tx tx enq 1 ; deq", Line::Unread),
-    (b"tx enq 1;deq", Line::Unread),
-    (b"tx enq 1 ;deq", Line::Unread),
-    (b"tx enq 1; deq", Line::Unread),
-    (b"tx enq 1  ; deq", Line::Unread),
-    (b"tx enq 1 ;  deq", Line::Unread),
-    (b"tx  enq 1 ; deq", Line::Unread),
-    (b"tx enq 1 ; deq ;", Line::Unread),
-    (b"tx enq 1 ; deq ; ", Line::Unread),
-    (b"tx enq 1 ;  ; deq", Line::Unread),
-    (b"tx ; enq 1 ; deq", Line::Unread),
-    (b"tx enq 1 ; enq 18446744073709551616", Line::Unread),
-    (b"tx enq 1 ; unread", Line::Unread),
-    (b"TX enq 1 ; deq", Line::Unread),
-    (
-        b"tx deq ; deq ; deq ; deq ; deq ; deq ; deq ; deq ; deq",
-        Line::Unread,
-    ),
+];
+
+/// Lines that ask for nothing.
+static UNREAD: [&[u8]; 44] = [
+    b"fresh",
+    b"fresh 1 2",
+    b"put 18446744073709551616 1",
+    b"put 1 100000000000000000000",
+    b"enq 007",
+    b"enq 00",
+    b"enq +1",
+    b"enq -1",
+    b"enq 0x1",
+    b"enq \xd9\xa1",
+    b"put  1 1",
+    b"put 1  1",
+    b"put 1 1 ",
+    b" put 1 1",
+    b"put\t1 1",
+    b"put 1\t1",
+    b"PUT 1 1",
+    b"put 1",
+    b"move 1 2 3 4",
+    b"total 1",
+    b"deq ",
+    b"len\r",
+    b"",
+    b"tx",
+    b"tx ",
+    b"tx enq 1",
+    b"tx enq 1 ; peek",
+    b"tx len ; enq 1",
+    b"tx enq 1 ; tx deq ; deq",
+    b"tx tx enq 1 ; deq",
+    b"tx enq 1;deq",
+    b"tx enq 1 ;deq",
+    b"tx enq 1; deq",
+    b"tx enq 1  ; deq",
+    b"tx enq 1 ;  deq",
+    b"tx  enq 1 ; deq",
+    b"tx enq 1 ; deq ;",
+    b"tx enq 1 ; deq ; ",
+    b"tx enq 1 ;  ; deq",
+    b"tx ; enq 1 ; deq",
+    b"tx enq 1 ; enq 18446744073709551616",
+    b"tx enq 1 ; unread",
+    b"TX enq 1 ; deq",
+    b"tx deq ; deq ; deq ; deq ; deq ; deq ; deq ; deq ; deq",
 ];
 
 /// Lines of groups and their members.
-const GROUPS: [(&[u8], &[Single]); 3] = [
+static GROUPS: [(&[u8], &[Single]); 3] = [
     (
         b"tx deq ; enq 18446744073709551615",
         &[Single::Deq, Single::Enq(18446744073709551615)],
@@ -111,6 +112,9 @@ fn lines_are_read_or_unread() -> Result<(), Fail> {
     for (row, (line, wanted)) in LINES.iter().enumerate() {
         right("line", row, read_line(line) == *wanted)?;
     }
+    for (row, line) in UNREAD.iter().enumerate() {
+        right("unread", row, read_line(line) == Line::Unread)?;
+    }
     for (row, (line, members)) in GROUPS.iter().enumerate() {
         let group = Group::of(members).ok_or("not two to eight members")?;
         right(
@@ -123,7 +127,7 @@ fn lines_are_read_or_unread() -> Result<(), Fail> {
 }
 
 /// Texts and their lines.
-const ENDS: [(&[u8], &[&[u8]]); 13] = [
+static ENDS: [(&[u8], &[&[u8]]); 13] = [
     (b"", &[]),
     (b"a", &[b"a"]),
     (b"a\n", &[b"a"]),
@@ -209,7 +213,7 @@ fn scripts_are_read_in_pieces(rt: HostRuntime) -> Result<(), Fail> {
 
 /// A byte, how many of it a script has and those behind them, and how many a read gives at most. Then the
 /// script's lines, none of which is a command; or that it is too long, and how many bytes are not read then.
-const LONG: [(u8, usize, &[u8], u64, Result<u64, usize>); 6] = [
+static LONG: [(u8, usize, &[u8], u64, Result<u64, usize>); 6] = [
     (b'7', 1_048_576, b"", u64::MAX, Ok(1)),
     (b'7', 1_048_580, b"", u64::MAX, Err(3)),
     (b'7', 1_048_577, b"", 1000, Err(0)),
@@ -222,19 +226,19 @@ const LONG: [(u8, usize, &[u8], u64, Result<u64, usize>); 6] = [
 #[test]
 fn scripts_have_at_most_1048576_bytes_and_131072_lines(rt: HostRuntime) -> Result<(), Fail> {
     let alloc = rt.alloc();
-    for (byte, many, behind, piece, want) in LONG {
-        assert!(rt; piece > 0);
-        let mut bytes = vec![in alloc; byte; many]?;
+    for (byte, many, behind, piece, want) in &LONG {
+        assert!(rt; *piece > 0);
+        let mut bytes = vec![in alloc; *byte; *many]?;
         bytes.extend_from_slice(behind)?;
         // Blocks of 4,096 bytes: 256 reads give the longest script, and one more tells its end.
         let trips = [if want.is_ok() { 258 } else { 0 }].to_vec(alloc)?;
-        let mut source = Bytes::new(bytes, piece, trips);
+        let mut source = Bytes::new(bytes, *piece, trips);
         let told = match read_script(alloc, &mut source) {
             Ok(script) => Ok(script.len()),
             Err(ReadRefused::TooLong) => Err(read_bytes(alloc, &mut source)?.len()),
             Err(_) => return Err("no script".into()),
         };
-        right("bytes", many, told == want)?;
+        right("bytes", *many, told == *want)?;
     }
     Ok(())
 }

@@ -16,7 +16,7 @@ use std::test::Fail;
 const CALLS: u64 = 235;
 
 /// The words of a region of which nothing is left.
-const TORN: [u64; 112] = [77; 112];
+static TORN: [u64; 112] = [77; 112];
 
 /// Opens the heap on a device, which comes back. The image has no words where it is refused.
 fn opened<D: Device>(alloc: Global, device: D) -> (D, Vec<u64>, Option<Why>) {
@@ -84,7 +84,7 @@ fn a_new_heap_is_opened_after_every_stop(rt: HostRuntime) -> Result<(), Fail> {
 }
 
 /// What differs from a new heap: place and word. Then why it is refused.
-const REFUSED: [(&[(usize, u64)], Why); 8] = [
+static REFUSED: [(&[(usize, u64)], Why); 8] = [
     (
         &[(10, 5), (122, 4)],
         Why::Twins {

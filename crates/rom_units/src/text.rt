@@ -39,7 +39,7 @@ const UPDATES: [(Updated<Reply>, &str); 16] = [
 ];
 
 /// What the members of groups are told.
-const GROUPS: [(&[SingleReply], &str); 4] = [
+static GROUPS: [(&[SingleReply], &str); 4] = [
     (
         &[
             SingleReply::NoPrior,
@@ -75,7 +75,7 @@ const GROUPS: [(&[SingleReply], &str); 4] = [
     ),
 ];
 
-const ANSWERS: [(Answer, u64, &str); 10] = [
+static ANSWERS: [(Answer, u64, &str); 10] = [
     (Answer::Yes, 1, "yes #1"),
     (Answer::No, 4, "no #4"),
     (Answer::Value(7), 1, "value 7 #1"),
@@ -169,7 +169,7 @@ const FILLED_TEXT: &str =
     "caller 1\nqueued @0\nqueued @1\nqueued @2\nqueued @3\nqueued @4\nqueued @5\nqueued @6\nqueued @7\nqueued @8\nqueued @9\nqueued @10\nqueued @11\nqueued @12\nqueued @13\nqueued @14\nfull @15\nhead 1 @16\nqueued @17\ncount 18\n";
 
 /// What each caller was told, the count, and the text.
-const RUNS: [(&[&[Row]], u64, &str); 3] = [
+static RUNS: [(&[&[Row]], u64, &str); 3] = [
     (&[FILLED], 18, FILLED_TEXT),
     (
         &[

@@ -147,7 +147,7 @@ fn ranges_that_do_not_touch_are_written_alone(rt: HostRuntime) -> Result<(), Fai
 /// the first write of the state, 112 writes to each region, and 3 syncs.
 type Fault = (&'static [Failing], Phase, bool, u64, u64);
 
-const FAULTS: [Fault; 13] = [
+static FAULTS: [Fault; 13] = [
     (&[(Write, 3, 4, 2, false)], Phase::Undo, true, 0, 7),
     (&[(Sync, 0, 1, 4, false)], Phase::Undo, true, 0, 7),
     (&[(Write, 8, 120, 162, false)], Phase::Undo, true, 0, 7),

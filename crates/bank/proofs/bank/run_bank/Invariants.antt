@@ -1,4 +1,5 @@
 use Rattle.rom_rule.specs.Views.{base_of}
+use Rattle.rom_store.specs.Blank.{no_ships}
 use Rattle.rom_store.specs.Start.{device_start}
 use Rattle.bank.proofs.bank.run_bank.Given as goal
 
@@ -8,4 +9,5 @@ ghosts-bank g a = let shown = g.D.Device.shown in record {
   base = base_of a.opening.key;
   start = device_start shown a.opening.device;
   since = λ t i. shown.left_since a.opening.device t i;
+  ships = no_ships;
 }

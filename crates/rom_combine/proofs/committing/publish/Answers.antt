@@ -39,6 +39,7 @@ use Rattle.rom_combine.specs.declared.answering.CallAnswer.{CallAnswer}
 use Rattle.rom_combine.specs.Answering.{HasGiven}
 use Rattle.rom_combine.specs.Applying.{IsApplied}
 use Rattle.rom_combine.proofs.Limits.{batch_fits}
+use Rattle.rom_combine.proofs.Handed.{told_all}
 use Rattle.rom_combine.proofs.Publishes.{can_publish, is_left}
 use Rattle.rom_combine.proofs.Bridge.{all_held, same_held, list_before, list_committed}
 use Rattle.rom_combine.proofs.Refusing.{is_refused, may_know}
@@ -528,3 +529,17 @@ returns-clause-published g c e = absurd (published_not_failed (sym e))
 
 pub returns-clause-doubt : goal.returns-clause-doubt
 returns-clause-doubt g c e = absurd (failed_not_doubt e)
+
+-- what is told where it published, and nothing where it did not
+pub returns-then-is_ok-clause-told : goal.returns-then-is_ok-clause-told
+returns-then-is_ok-clause-told g c e s n op = let u : View = c.args.seat.now.token.me.0 in let it = took_ok g c in
+    told_all g.O.Object.Contents (on_words g.O.Object.machine) u.base s n it.start it.count (plan_of u) (plan_of c.apply_all.new.seat.token.me.0).main (length c.args.found.now) c.apply_all.new.answers.items (g.met.O.Object.one_contents u.base.order u.base.image s it.start n it.count op it.opened) it.long it.applied
+
+pub returns-then-is_err-clause-told : goal.returns-then-is_err-clause-told
+returns-then-is_err-clause-told g c e = absurd (published_not_failed (sym e))
+
+pub returns-then-eq-clause-told : goal.returns-then-eq-clause-told
+returns-then-eq-clause-told g c e = absurd (published_not_doubt (sym e))
+
+pub returns-clause-told : goal.returns-clause-told
+returns-clause-told g c e = absurd (published_not_failed (sym e))

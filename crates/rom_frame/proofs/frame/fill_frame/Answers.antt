@@ -18,3 +18,6 @@ returns-clause-frame c = λ f place call reply.
         replies = few_read f.reply (ap words_reply told ∙ reply);
       },
     )
+
+pub returns-clause-bytes : goal.returns-clause-bytes
+returns-clause-bytes c = c.put.ensures.bytes ∙ ap bytes_of (c.as_slice.ensures.words ∙ c.words_of.ensures)

@@ -1,4 +1,4 @@
-use Rattle.std.proofs.Common.{◌≤◌, length, subst, arith}
+use Rattle.std.proofs.Common.{◌≤◌, subst, arith}
 use Rattle.rom_lines.specs.Steps.{need}
 use Rattle.rom_store.specs.Taking.{HasTakenOne, HasTakenWords, words_taken}
 use Rattle.rom_store.specs.declared.work.Taken.TheVariants as taken

@@ -1,36 +1,14 @@
-use Rattle.rom_run.specs.Statuses.{exit_number}
+use Rattle.std.proofs.Common.{subst, sym}
 use Rattle.rom_text.specs.Text.{texts_of}
-use Rattle.rom_talk.proofs.TopPromise.{promise_refused, promise_talked, promise_unmet}
+use Rattle.rom_talk.specs.Promise.{TalkPromise}
 use Rattle.rom_talk.proofs.peers.talk.Goals as goal
 
-pub returns-in_default : goal.returns-in_default
-returns-in_default g c =
+pub returns : goal.returns
+returns g c =
     let o = g.O.Object in
-    let ended = c.end_without.ensures in
-    rw ended.ended record {
-      promise = promise_unmet o.machine o.Contents o.Rejects o.earlier g.D.Device.shown g.P.Peer.shown g.K.Sink.shown (texts_of g.T.PrintReplies.shown g.O.Answer.Print.shown) g.L.Lines.Reads
-          c.args.device c.args.peers.items c.args.out.now c.end_without.new.out ended.told ended.writing ended.rest;
-    }
-
-pub returns-in-Ok-open_store : goal.returns-in-Ok-open_store
-returns-in-Ok-open_store g c =
-    let o = g.O.Object in
-    let w = g.world in
-    let laws = g.met.O.Object w.𝓛 w.𝓜 w.𝓡 ((λ s x. x), (λ x. x), (λ x. x), λ x. x) in
-    let only_now = (g.met.D.Device w.𝓛 w.𝓜 w.𝓡 ((λ s x. x), (λ x. x), (λ x. x), λ x. x)).only_now in
-    let talked = c.talk_on-peers.result in
-    rw (c.parts-device.ensures.device, c.parts-device.ensures.session, c.number.ensures) record {
-      promise = promise_talked o.machine o.Contents o.Rejects o.earlier g.D.Device.shown g.P.Peer.shown g.K.Sink.shown (texts_of g.T.PrintReplies.shown g.O.Answer.Print.shown) g.L.Lines.Reads
-          (λ order words s k held. (laws.contents_within order words s k held).2) only_now
-          c.args.device c.in-Ok-open_store.opening c.args.peers.items talked.peers.items (exit_number talked.status) talked.closed c.in-Ok-open_store.ensures.opened c.talk_on-peers.ensures.talked c.args.out.now;
-    }
-
-pub returns-in-Err : goal.returns-in-Err
-returns-in-Err g c =
-    let o = g.O.Object in
-    let ended = c.end_without-in-Err.ensures in
-    let left = c.in-Err.refused in
-    rw ended.ended record {
-      promise = promise_refused o.machine o.Contents o.Rejects o.earlier g.D.Device.shown g.P.Peer.shown g.K.Sink.shown (texts_of g.T.PrintReplies.shown g.O.Answer.Print.shown) g.L.Lines.Reads
-          c.args.device left.device c.args.peers.items c.args.out.now c.end_without-in-Err.new.out left.why c.in-Err.ensures.refused ended.told ended.writing ended.rest;
+    let promise = c.talk_shipping-ended.ensures.promise in
+    let ended = c.talk_shipping-ended.result.0 in
+    record {
+      promise = subst (λ status. TalkPromise o.machine o.Contents o.Rejects o.earlier g.D.Device.shown g.P.Peer.shown g.K.Sink.shown (texts_of g.T.PrintReplies.shown g.O.Answer.Print.shown) g.L.Lines.Reads
+          c.args.device ended.device c.args.peers.items ended.peers.items c.args.out.now c.talk_shipping-ended.new.out status ended.session) (sym promise.status_is) promise.talk;
     }

@@ -10,10 +10,10 @@ use Rattle.rom_talk.proofs.running.serve_all.Goals as goal
 pub serve_each-requires-sync-W : goal.serve_each-requires-sync-W
 serve_each-requires-sync-W g c κs within =
     let b = c.type_bounds in let r = g.row in let o = g.O in
-    param_sync 0 _ (arg_sync _ no _ (room_sync (param 0 r.D) (param 1 r.O) (param 2 r.N) (copied 8 r.O-Call) (copied 9 r.O-Query) (copied 10 r.O-Reply) (copied 11 r.O-Answer)
-    g.D.Device g.N.Label o.Object o.Call.Clone o.Query.Clone o.Reply.Clone o.Answer.Clone
-    b.send-D b.send-O b.send-N b.send-O-Call b.send-O-Query b.send-O-Reply b.send-O-Answer b.sync-O b.sync-N b.sync-O-Call b.sync-O-Query b.sync-O-Reply b.sync-O-Answer
-    _ (param 3 r.L) (param 4 r.T) (param 7 r.G) b.sync-L b.sync-T b.sync-G))
+    param_sync 0 _ (arg_sync _ no _ (room_sync (param 0 r.D) (param 1 r.O) (param 2 r.N) (param 3 r.W) (copied 9 r.O-Call) (copied 10 r.O-Query) (copied 11 r.O-Reply) (copied 12 r.O-Answer)
+    g.D.Device g.N.Label g.W.Shipper o.Object o.Call.Clone o.Query.Clone o.Reply.Clone o.Answer.Clone
+    b.send-D b.send-O b.send-N b.send-W b.send-O-Call b.send-O-Query b.send-O-Reply b.send-O-Answer b.sync-O b.sync-N b.sync-O-Call b.sync-O-Query b.sync-O-Reply b.sync-O-Answer
+    _ (param 4 r.L) (param 5 r.T) (param 8 r.G) b.sync-L b.sync-T b.sync-G))
 
 pub returns-clause-served : goal.returns-clause-served
 returns-clause-served g c = λ i a e was now.

@@ -11,4 +11,5 @@ returns g c =
     record {
       talked = talked_on o.machine o.Contents g.D.Device.shown g.P.Peer.shown _ _ (base_of opening.key) opening.device
           c.args.peers.items talked.peers.items (exit_number talked.status) talked.closed c.talk_as.ensures.talks c.talk_as.ensures.ended;
+      shipped = c.talk_as.ensures.shipped;
     }

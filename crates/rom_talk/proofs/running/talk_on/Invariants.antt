@@ -8,4 +8,5 @@ ghosts-talk_as g a = let shown = g.D.Device.shown in record {
   base = base_of a.opening.key;
   start = device_start shown a.opening.device;
   since = λ t i. shown.left_since a.opening.device t i;
+  ships = g.W.Shipper.shown.state a.shipper;
 }

@@ -9,8 +9,8 @@ use Rattle.rom_talk.proofs.Pairing.{pairs_of, pairs_turned}
 use Rattle.rom_talk.proofs.Talked.{Served, all_numbered, found_is, new_numbered, talks_of}
 use Rattle.rom_talk.proofs.running.talk_seated.Goals as goal
 
-pub close-closed-requires-clause-passes : goal.close-closed-requires-clause-passes
-close-closed-requires-clause-passes g c =
+pub close_shipping-closed-requires-clause-passes : goal.close_shipping-closed-requires-clause-passes
+close_shipping-closed-requires-clause-passes g c =
     let o = g.O.Object in let table = g.N.Label.table in let base = g.N.Label.base in let peer = g.P.Peer.shown in
     let texts = texts_of g.T.PrintReplies.shown g.O.Answer.Print.shown in let Reads = g.L.Lines.Reads in
     let olds = c.args.talkers.items in
@@ -20,8 +20,8 @@ close-closed-requires-clause-passes g c =
     let numbers = new_numbered o.machine o.Contents table base peer texts Reads _ (reverse olds) refl c.requires.callers in
     subst (Indexed (IsNumberedCaller o.Contents table base)) (sym c.part_all.ensures.passes) (all_numbered o.machine o.Contents table base peer texts Reads (reverse olds) (reverse news) all numbers)
 
-pub close-closed-requires-clause-all : goal.close-closed-requires-clause-all
-close-closed-requires-clause-all g c =
+pub close_shipping-closed-requires-clause-all : goal.close_shipping-closed-requires-clause-all
+close_shipping-closed-requires-clause-all g c =
     let news = c.serve_all.new.talkers.items in
     ap length c.part_all.ensures.passes ∙ (length-map (reverse news) (λ t. t.pass) ∙ (length-reverse news ∙ (c.serve_all.ensures.many ∙ c.requires.many)))
 
@@ -34,9 +34,9 @@ returns-clause-talks g c =
     let S = Served o.machine o.Contents table base peer texts Reads in
     let all = pairs_turned S olds news (pairs_of S olds news c.serve_all.ensures.many c.serve_all.ensures.served) in
     let numbers = new_numbered o.machine o.Contents table base peer texts Reads _ (reverse olds) refl c.requires.callers in
-    let closed = c.close-closed.ensures in
+    let closed = c.close_shipping-closed.ensures in
     let status : exit_number c.status_found-status.result ≡ number_found news = c.status_found-status.ensures ∙ ap number_found c.deref.ensures.value in
-    talks_of o.machine o.Contents table base peer texts Reads g.D.Device.shown c.close-closed.result c.part_all.new.passes.items (reverse olds) (reverse news) all numbers c.part_all.ensures.passes
+    talks_of o.machine o.Contents table base peer texts Reads g.D.Device.shown c.close_shipping-closed.result.0 c.part_all.new.passes.items (reverse olds) (reverse news) all numbers c.part_all.ensures.passes
     (record { order = closed.ended.order; image = closed.ended.image; closed_is = closed.closed; callers = closed.callers; kept = closed.kept; lasts = closed.lasts })
     (map (λ t. t.peer) (reverse olds)) c.part_all.new.peers.items (exit_number c.status_found-status.result) refl c.part_all.ensures.peers
     (status ∙ found_is o.machine o.Contents table base peer texts Reads (reverse olds) news all)

@@ -7,5 +7,5 @@ use Rattle.rom_units.proofs.block.an_inspection_names_the_first_word_that_differ
 table_block : IsBlock 4 (record { at = 48; order = 0 }) 16
 table_block = record { most = omega arith; node = record { least = omega arith; most = omega arith }; here = refl }
 
-pub inspect-requires-clause-apart : goal.inspect-requires-clause-apart
-inspect-requires-clause-apart g c = one_disjoint 4 16 (record { at = 48; order = 0 }) table_block
+pub inspect-told-requires-clause-apart : goal.inspect-told-requires-clause-apart
+inspect-told-requires-clause-apart c = one_disjoint 4 16 (record { at = 48; order = 0 }) table_block

@@ -1,11 +1,12 @@
+use Rattle.std.proofs.Math.Seq.{drop-append_seam}
 use Rattle.rom_model.specs.Machine.{on_words, weight_on_words}
-use Rattle.std.proofs.Common.{Some, rules, arith, ◌≡◌, ◌⊎◌, inl, inr, ⊎_elim, ℕ, ◌+◌, ◌-◌, ◌*◌, ◌^◌, ◌<◌, ◌≤◌, List, [], ◌∷◌, ◌++◌, map, length, length-append, slice_index, sym, refl, ap, ◌∙◌, subst, true, false, ◌≢◌, IsTrue}
+use Rattle.std.proofs.Common.{IfSome, Some, rules, arith, drop, take, ◌≡◌, ◌⊎◌, inl, inr, ⊎_elim, ℕ, ◌+◌, ◌-◌, ◌*◌, ◌^◌, ◌<◌, ◌≤◌, List, [], ◌∷◌, ◌++◌, map, length, length-append, slice_index, sym, refl, ap, ◌∙◌, subst, true, false, ◌≢◌, IsTrue}
 use mathlib.Core.Option.{some}
 use lib.ListN.{get_elem?}
 use Rattle.rom_combine.proofs.Weights.{same_found}
 use Rattle.rom_combine.proofs.Since.{becomes_none}
 use Rattle.rom_combine.proofs.Counting.{after_region, committed_region}
-use Rattle.rom_twin.specs.Seen.{NeedsRepair, committed}
+use Rattle.rom_twin.specs.Seen.{NeedsRepair, Seen, committed}
 use Rattle.rom_header.specs.Regions.{IsCurrentRegion}
 use Rattle.rom_device.specs.Device.{Runs}
 use Rattle.rom_device.specs.Device.{Becomes}
@@ -47,7 +48,12 @@ use Rattle.rom_combine.specs.Answering.{HasGiven, IsRecordedBy, SameCalls, calle
 use Rattle.rom_combine.specs.Answering.{refused}
 use Rattle.rom_combine.specs.Ends.{EndsFailed, EndsInDoubt}
 use Rattle.rom_combine.specs.Histories.{IsCertainSince, PassMakes, ImageAt, batch_found}
+use Rattle.rom_combine.specs.Applying.{laid_of}
 use Rattle.rom_combine.specs.AtRest.{IsAtRest, Locked}
+use Rattle.rom_combine.specs.Published.{IsPublished}
+use Rattle.rom_combine.specs.Shipping.{reply_in, update_of, updates_of}
+use Rattle.rom_combine.specs.Wanted.{calls_found}
+use Rattle.rom_combine.proofs.Wanting.{posted_requests, same_calls_found}
 use Rattle.rom_combine.proofs.Bridge.{same_held, list_certain, list_settled}
 use Rattle.rom_combine.specs.Passing.{IsPass}
 use Rattle.rom_combine.proofs.Keeping.{ready_by, scan_stays, rest_same, now_of, pass_nothing, none_answered}
@@ -55,6 +61,7 @@ use Rattle.rom_combine.proofs.Failing.{begins_in, clean_needs_none, failing_refu
 use Rattle.rom_combine.proofs.Refusing.{is_refused, may_spend}
 use Rattle.rom_combine.proofs.Writing.{keeps_by, keeps_then}
 use Rattle.rom_combine.proofs.Begins.{answered_plan, ready_to_publish}
+use Rattle.rom_combine.proofs.Handed.{Grew, handed_batch, has_grown, history_stays, length_given, ships_grown, ships_same, unanswered_left}
 use Rattle.rom_combine.proofs.Ends.{doubt_not_nothing, ended, failed_not_nothing, none_done, none_of, published_not_doubt, published_not_failed, published_not_nothing, some_of}
 use Rattle.rom_combine.proofs.locked.Core.pass.Given.{Over}
 use Rattle.rom_combine.proofs.locked.Core.pass.Goals as goal
@@ -81,27 +88,27 @@ is_published g c = search rules
 -- the answers leave the published plan but for its requests
 settles_given : (g : Over) (c : goal.After-settle-arg-2-1 g) → (is_made (plan_of c.publish-outcome.new.seat.token.me.0).mine ≡ true) × (but_requests (plan_of c.answer_all-2.new.seat.token.me.0) ≡ but_requests (plan_of c.publish-outcome.new.seat.token.me.0))
 settles_given g c = let x : View = c.load_main-place.new.seat.token.me.0 in
-    answered_plan g.O.Object.Contents (on_words g.O.Object.machine) x.base (plan_of c.scan.new.seat.token.me.0) (plan_of x) (plan_of c.publish-outcome.new.seat.token.me.0) (plan_of c.load_main.new.seat.token.me.0) (plan_of c.answer_all-2.new.seat.token.me.0) c.fault_count-before.result (g.D.Device.shown.faults c.publish-outcome.new.twin.device)
-    c.scan.new.found.items c.scan.ensures.scanned.items_are (some_of (length c.scan.new.found.items) c.if-is_empty.ensures) (ap plan_of c.load_main-place.ensures.still.2) (c.publish-outcome.ensures.published (settles_published g c)).published (ap plan_of c.load_main.ensures.still.2) c.answer_all-2.ensures.kept
+    answered_plan g.O.Object.Contents (on_words g.O.Object.machine) x.base (plan_of c.find.new.seat.token.me.0) (plan_of x) (plan_of c.publish-outcome.new.seat.token.me.0) (plan_of c.load_main.new.seat.token.me.0) (plan_of c.answer_all-2.new.seat.token.me.0) c.fault_count-before.result (g.D.Device.shown.faults c.publish-outcome.new.twin.device)
+    c.find.new.found.items c.find.ensures.scanned.items_are (some_of (length c.find.new.found.items) c.if-is_empty.ensures) (ap plan_of c.load_main-place.ensures.still.2) (c.publish-outcome.ensures.published (settles_published g c)).published (ap plan_of c.load_main.ensures.still.2) c.answer_all-2.ensures.kept
 
 is_given : (g : Over) (c : goal.After-of-2 g) → (is_made (plan_of c.publish-outcome.new.seat.token.me.0).mine ≡ true) × (but_requests (plan_of c.answer_all-2.new.seat.token.me.0) ≡ but_requests (plan_of c.publish-outcome.new.seat.token.me.0))
 is_given g c = let x : View = c.load_main-place.new.seat.token.me.0 in
-    answered_plan g.O.Object.Contents (on_words g.O.Object.machine) x.base (plan_of c.scan.new.seat.token.me.0) (plan_of x) (plan_of c.publish-outcome.new.seat.token.me.0) (plan_of c.load_main.new.seat.token.me.0) (plan_of c.answer_all-2.new.seat.token.me.0) c.fault_count-before.result (g.D.Device.shown.faults c.publish-outcome.new.twin.device)
-    c.scan.new.found.items c.scan.ensures.scanned.items_are (some_of (length c.scan.new.found.items) c.if-is_empty.ensures) (ap plan_of c.load_main-place.ensures.still.2) (c.publish-outcome.ensures.published (is_published g c)).published (ap plan_of c.load_main.ensures.still.2) c.answer_all-2.ensures.kept
+    answered_plan g.O.Object.Contents (on_words g.O.Object.machine) x.base (plan_of c.find.new.seat.token.me.0) (plan_of x) (plan_of c.publish-outcome.new.seat.token.me.0) (plan_of c.load_main.new.seat.token.me.0) (plan_of c.answer_all-2.new.seat.token.me.0) c.fault_count-before.result (g.D.Device.shown.faults c.publish-outcome.new.twin.device)
+    c.find.new.found.items c.find.ensures.scanned.items_are (some_of (length c.find.new.found.items) c.if-is_empty.ensures) (ap plan_of c.load_main-place.ensures.still.2) (c.publish-outcome.ensures.published (is_published g c)).published (ap plan_of c.load_main.ensures.still.2) c.answer_all-2.ensures.kept
 
 pub invariant_of-self : goal.invariant_of-self
-invariant_of-self g c = let v : View = c.self.inside.seat.token.me.0 in let w : View = c.scan.new.seat.token.me.0 in let inv = c.self.invariant.0 in let sc = c.scan.ensures.scanned in
-    let base : w.base ≡ v.base = ap (λ (z : View). z.base) c.scan.ensures.same.2 in
-    let zero : length c.scan.new.found.items ≡ 0 = none_of (length c.scan.new.found.items) c.if-is_empty.ensures in
-    let now = rest_same g.O.Object.Contents (on_words g.O.Object.machine) g.D.Device.shown c.self.inside.twin v w inv base (scan_stays (plan_of v) (plan_of w) sc.rest) (none_answered g.O.Object.Contents (on_words g.O.Object.machine) v.base (plan_of v) (plan_of w) _ c.scan.new.found.items sc zero) in
+invariant_of-self g c = let v : View = c.self.inside.seat.token.me.0 in let w : View = c.find.new.seat.token.me.0 in let inv = c.self.invariant.0 in let sc = c.find.ensures.scanned in
+    let base : w.base ≡ v.base = ap (λ (z : View). z.base) c.find.ensures.same.2 in
+    let zero : length c.find.new.found.items ≡ 0 = none_of (length c.find.new.found.items) c.if-is_empty.ensures in
+    let now = rest_same g.O.Object.Contents (on_words g.O.Object.machine) g.D.Device.shown c.self.inside.twin v w inv base (scan_stays (plan_of v) (plan_of w) sc.rest) (none_answered g.O.Object.Contents (on_words g.O.Object.machine) v.base (plan_of v) (plan_of w) _ c.find.new.found.items sc zero) in
     (now, ready_by (g.O.Object.STORES * g.O.Object.WEIGHT) v.base w.base c.self.inside.log c.self.inside.log c.self.invariant.1 base c.self.invariant.1.clear refl)
 
-passed_none : (g : Over) (c : goal.After-of g) → Told g c.args.self.now (plan_of c.scan.new.seat.token.me.0) c.args.shared.now.layout.callers c.self.inside.twin.device c.of.result
-passed_none g c = let v : View = c.self.inside.seat.token.me.0 in let w : View = c.scan.new.seat.token.me.0 in let inv = c.self.invariant.0 in let sc = c.scan.ensures.scanned in
-    let base : w.base ≡ v.base = ap (λ (z : View). z.base) c.scan.ensures.same.2 in
-    let zero : length c.scan.new.found.items ≡ 0 = none_of (length c.scan.new.found.items) c.if-is_empty.ensures in
-    let x = pass_nothing g.O.Object.Contents (on_words g.O.Object.machine) v.base (plan_of v) (plan_of w) c.args.shared.now.layout.callers (g.D.Device.shown.faults c.self.inside.twin.device) (g.D.Device.shown.faults c.self.inside.twin.device) c.scan.new.found.items inv.start inv.count (λ s₁ s₂ j k. g.met.O.Object.one_contents v.base.order v.base.image s₁ s₂ j k) inv.opening sc zero
-    (none_answered g.O.Object.Contents (on_words g.O.Object.machine) v.base (plan_of v) (plan_of w) _ c.scan.new.found.items sc zero) in
+passed_none : (g : Over) (c : goal.After-of g) → Told g c.args.self.now (plan_of c.find.new.seat.token.me.0) c.args.shared.now.layout.callers c.self.inside.twin.device c.of.result
+passed_none g c = let v : View = c.self.inside.seat.token.me.0 in let w : View = c.find.new.seat.token.me.0 in let inv = c.self.invariant.0 in let sc = c.find.ensures.scanned in
+    let base : w.base ≡ v.base = ap (λ (z : View). z.base) c.find.ensures.same.2 in
+    let zero : length c.find.new.found.items ≡ 0 = none_of (length c.find.new.found.items) c.if-is_empty.ensures in
+    let x = pass_nothing g.O.Object.Contents (on_words g.O.Object.machine) v.base (plan_of v) (plan_of w) c.args.shared.now.layout.callers (g.D.Device.shown.faults c.self.inside.twin.device) (g.D.Device.shown.faults c.self.inside.twin.device) c.find.new.found.items inv.start inv.count (λ s₁ s₂ j k. g.met.O.Object.one_contents v.base.order v.base.image s₁ s₂ j k) inv.opening sc zero
+    (none_answered g.O.Object.Contents (on_words g.O.Object.machine) v.base (plan_of v) (plan_of w) _ c.find.new.found.items sc zero) in
     rw c.of.ensures.is (subst (λ z. (y : IsPass g.O.Object.Contents (on_words g.O.Object.machine) z.view.base (plan_of z.view) (plan_of w) c.args.shared.now.layout.callers (g.D.Device.shown.faults z.twin.device) (g.D.Device.shown.faults c.self.inside.twin.device) (record { found = 0; done = 0; outcome = Rattle.rom_combine.specs.declared.passed.Outcome.TheVariants.Nothing }))
     × (Rattle.std.proofs.Common.IsTrue g.D.Device.shown.tells_images → (s : g.O.Object.State) (n : ℕ) → g.O.Object.Contents z.view.base.order z.view.base.image s n →
     Rattle.rom_device.specs.Device.Runs g.D.Device.shown (Rattle.rom_device.specs.Device.Becomes (PassMakes g.O.Object.Contents (on_words g.O.Object.machine) z.view.base s n fate.Published (plan_of z.view).history y.more)) z.twin.device c.self.inside.twin.device))
@@ -111,18 +118,18 @@ pub returns-then-is_empty-clause-passed : goal.returns-then-is_empty-clause-pass
 returns-then-is_empty-clause-passed g c = let t = passed_none g c in record {
   is = t.0;
   since = t.1;
-  now = λ told s n op i left. let v : View = c.self.inside.seat.token.me.0 in let w : View = c.scan.new.seat.token.me.0 in let inv = c.self.invariant.0 in let sc = c.scan.ensures.scanned in
-      let base : w.base ≡ v.base = ap (λ (z : View). z.base) c.scan.ensures.same.2 in
-      let zero : length c.scan.new.found.items ≡ 0 = none_of (length c.scan.new.found.items) c.if-is_empty.ensures in
-      let now = rest_same g.O.Object.Contents (on_words g.O.Object.machine) g.D.Device.shown c.self.inside.twin v w inv base (scan_stays (plan_of v) (plan_of w) sc.rest) (none_answered g.O.Object.Contents (on_words g.O.Object.machine) v.base (plan_of v) (plan_of w) _ c.scan.new.found.items sc zero) in
+  now = λ told s n op i left. let v : View = c.self.inside.seat.token.me.0 in let w : View = c.find.new.seat.token.me.0 in let inv = c.self.invariant.0 in let sc = c.find.ensures.scanned in
+      let base : w.base ≡ v.base = ap (λ (z : View). z.base) c.find.ensures.same.2 in
+      let zero : length c.find.new.found.items ≡ 0 = none_of (length c.find.new.found.items) c.if-is_empty.ensures in
+      let now = rest_same g.O.Object.Contents (on_words g.O.Object.machine) g.D.Device.shown c.self.inside.twin v w inv base (scan_stays (plan_of v) (plan_of w) sc.rest) (none_answered g.O.Object.Contents (on_words g.O.Object.machine) v.base (plan_of v) (plan_of w) _ c.find.new.found.items sc zero) in
       let same : w.base ≡ c.args.self.now.view.base = base ∙ ap (λ z. z.view.base) c.self.view_is in
       subst (λ (z : Base). ImageAt g.O.Object.Contents (on_words g.O.Object.machine) z s n c.self.inside.twin.phase (plan_of w) i) same
       (now_of g.O.Object.Contents (on_words g.O.Object.machine) g.D.Device.shown c.self.inside.twin w s n (λ s₁ s₂ j k. g.met.O.Object.one_contents w.base.order w.base.image s₁ s₂ j k) now told (subst (λ (z : Base). g.O.Object.Contents z.order z.image s n) (sym same) op) i left);
 }
 
 pub answer_all-requires-clause-left : goal.answer_all-requires-clause-left
-answer_all-requires-clause-left g c = let v : View = c.self.inside.seat.token.me.0 in let w : View = c.scan.new.seat.token.me.0 in let inv = c.self.invariant.0 in let sc = c.scan.ensures.scanned in
-    let base : w.base ≡ v.base = ap (λ (z : View). z.base) c.scan.ensures.same.2 in
+answer_all-requires-clause-left g c = let v : View = c.self.inside.seat.token.me.0 in let w : View = c.find.new.seat.token.me.0 in let inv = c.self.invariant.0 in let sc = c.find.ensures.scanned in
+    let base : w.base ≡ v.base = ap (λ (z : View). z.base) c.find.ensures.same.2 in
     let x : View = c.load_main-place.new.seat.token.me.0 in let q : Plan = plan_of w in let st = scan_stays (plan_of v) q sc.rest in let before : ℕ = c.fault_count-before.result in
     let plan_x : plan_of x ≡ q = ap plan_of c.load_main-place.ensures.still.2 in let base_x : x.base ≡ v.base = ap (λ (z : View). z.base) c.load_main-place.ensures.still.2 ∙ base in
     let held : rule.Held g.O.Object.Contents (on_words g.O.Object.machine) v.base inv.start inv.count q.main q.history = subst (λ (z : List ℕ × List Entry). rule.Held g.O.Object.Contents (on_words g.O.Object.machine) v.base inv.start inv.count z.0 z.1) (λ j. (sym st.main j, sym st.history j)) inv.held in
@@ -140,27 +147,27 @@ answer_all-requires-clause-left g c = let v : View = c.self.inside.seat.token.me
     )
 
 pub publish-outcome-requires-clause-ready : goal.publish-outcome-requires-clause-ready
-publish-outcome-requires-clause-ready g c = let v : View = c.self.inside.seat.token.me.0 in let w : View = c.scan.new.seat.token.me.0 in let inv = c.self.invariant.0 in let sc = c.scan.ensures.scanned in
+publish-outcome-requires-clause-ready g c = let v : View = c.self.inside.seat.token.me.0 in let w : View = c.find.new.seat.token.me.0 in let inv = c.self.invariant.0 in let sc = c.find.ensures.scanned in
     let x : View = c.load_main-place.new.seat.token.me.0 in let plan_x : plan_of x ≡ plan_of w = ap plan_of c.load_main-place.ensures.still.2 in
-    let base_x : x.base ≡ v.base = ap (λ (z : View). z.base) c.load_main-place.ensures.still.2 ∙ ap (λ (z : View). z.base) c.scan.ensures.same.2 in
+    let base_x : x.base ≡ v.base = ap (λ (z : View). z.base) c.load_main-place.ensures.still.2 ∙ ap (λ (z : View). z.base) c.find.ensures.same.2 in
     let of : v.base ≡ base_of c.args.shared.now.table.shared.key = ap (λ z. z.view.base) c.self.view_is ∙ c.requires.of.1 in
     let callers : c.args.shared.now.layout.callers ≡ v.base.callers = ap (λ l. l.callers) c.args.shared.now.laid ∙ sym (ap (λ (z : Base). z.callers) of) in
-    let scanned : IsScan (IsCall (on_words g.O.Object.machine) x.base) (plan_of v) (plan_of x) c.args.shared.now.layout.callers c.scan.new.found.items
-    = subst (λ (r : Base × Plan). IsScan (IsCall (on_words g.O.Object.machine) r.0) (plan_of v) r.1 c.args.shared.now.layout.callers c.scan.new.found.items) (λ j. (sym base_x j, sym plan_x j)) sc in
+    let scanned : IsScan (IsCall (on_words g.O.Object.machine) x.base) (plan_of v) (plan_of x) c.args.shared.now.layout.callers c.find.new.found.items
+    = subst (λ (r : Base × Plan). IsScan (IsCall (on_words g.O.Object.machine) r.0) (plan_of v) r.1 c.args.shared.now.layout.callers c.find.new.found.items) (λ j. (sym base_x j, sym plan_x j)) sc in
     let st = scan_stays (plan_of v) (plan_of x) scanned.rest in
     let held : rule.Held g.O.Object.Contents (on_words g.O.Object.machine) v.base inv.start inv.count (plan_of x).main (plan_of x).history = subst (λ (z : List ℕ × List Entry). rule.Held g.O.Object.Contents (on_words g.O.Object.machine) v.base inv.start inv.count z.0 z.1) (λ j. (sym st.main j, sym st.history j)) inv.held in
     let within = g.met.O.Object.contents_within v.base.order (plan_of x).main _ _ held in
     let place_is : c.load_main-place.result ≡ inv.count + length (plan_of x).history = c.load_main-place.ensures.word ∙ (ap (λ (z : Plan). slice_index z.main 2) (sym plan_x) ∙ within.1) in
     let below : c.load_main-place.result < LAST_COUNT = omega (arith, place_is, within.2, c.if-place-eq-LAST_COUNT.false) in
-    ready_to_publish g.O.Object.Contents (on_words g.O.Object.machine) g.D.Device.shown c.self.inside.twin v c.load_main-place.new.seat c.self.inside.log c.args.shared.now.layout.callers c.fault_count-before.result c.load_main-place.result c.scan.new.found.items
+    ready_to_publish g.O.Object.Contents (on_words g.O.Object.machine) g.D.Device.shown c.self.inside.twin v c.load_main-place.new.seat c.self.inside.log c.args.shared.now.layout.callers c.fault_count-before.result c.load_main-place.result c.find.new.found.items
     inv base_x callers scanned c.self.invariant.1.clear c.fault_count-before.ensures place_is below
 
 pub invariant_of-self-then-place-eq-LAST_COUNT : goal.invariant_of-self-then-place-eq-LAST_COUNT
-invariant_of-self-then-place-eq-LAST_COUNT g c = let v : View = c.self.inside.seat.token.me.0 in let w : View = c.scan.new.seat.token.me.0 in let inv = c.self.invariant.0 in let sc = c.scan.ensures.scanned in
+invariant_of-self-then-place-eq-LAST_COUNT g c = let v : View = c.self.inside.seat.token.me.0 in let w : View = c.find.new.seat.token.me.0 in let inv = c.self.invariant.0 in let sc = c.find.ensures.scanned in
     let x : View = c.load_main-place.new.seat.token.me.0 in let q : Plan = plan_of x in let plan_x : q ≡ plan_of w = ap plan_of c.load_main-place.ensures.still.2 in
-    let base_x : x.base ≡ v.base = ap (λ (z : View). z.base) c.load_main-place.ensures.still.2 ∙ ap (λ (z : View). z.base) c.scan.ensures.same.2 in
+    let base_x : x.base ≡ v.base = ap (λ (z : View). z.base) c.load_main-place.ensures.still.2 ∙ ap (λ (z : View). z.base) c.find.ensures.same.2 in
     let scan : but_requests q ≡ but_requests (beginning (plan_of v)) = ap but_requests plan_x ∙ sc.rest in
-    let before : ℕ = c.fault_count-before.result in let items : List Posted = c.scan.new.found.items in let some_found : 0 < length items = some_of (length items) c.if-is_empty.ensures in
+    let before : ℕ = c.fault_count-before.result in let items : List Posted = c.find.new.found.items in let some_found : 0 < length items = some_of (length items) c.if-is_empty.ensures in
     let found : 0 < length q.requests = omega (arith, some_found, ap length sc.items_are, length_map posted_of (plan_of w).requests, ap (λ (z : Plan). length z.requests) plan_x) in
     let op : g.O.Object.Contents x.base.order x.base.image inv.start inv.count = subst (λ (z : Base). g.O.Object.Contents z.order z.image inv.start inv.count) (sym base_x) inv.opening in
     let u : View = c.answer_all.new.seat.token.me.0 in let base_u : u.base ≡ v.base = ap (λ (z : View). z.base) c.answer_all.ensures.same.2 ∙ base_x in
@@ -175,11 +182,11 @@ invariant_of-self-then-place-eq-LAST_COUNT g c = let v : View = c.self.inside.se
     (core_spent g.O.Object.Contents (on_words g.O.Object.machine) g.D.Device.shown c.self.inside.twin v u q before made.0 made.1 inv base_u scan made.3 none found c.answer_all.ensures.answered (omega (arith, c.fault_count-before.ensures)), ready_by (g.O.Object.STORES * g.O.Object.WEIGHT) v.base u.base c.self.inside.log c.self.inside.log c.self.invariant.1 base_u c.self.invariant.1.clear refl)
 
 passed_spent : (g : Over) (c : goal.After-of-then-place-eq-LAST_COUNT g) → Told g c.args.self.now (plan_of c.answer_all.new.seat.token.me.0) c.args.shared.now.layout.callers c.self.inside.twin.device c.of-then-place-eq-LAST_COUNT.result
-passed_spent g c = let v : View = c.self.inside.seat.token.me.0 in let w : View = c.scan.new.seat.token.me.0 in let inv = c.self.invariant.0 in let sc = c.scan.ensures.scanned in
+passed_spent g c = let v : View = c.self.inside.seat.token.me.0 in let w : View = c.find.new.seat.token.me.0 in let inv = c.self.invariant.0 in let sc = c.find.ensures.scanned in
     let x : View = c.load_main-place.new.seat.token.me.0 in let q : Plan = plan_of x in let plan_x : q ≡ plan_of w = ap plan_of c.load_main-place.ensures.still.2 in
-    let base_x : x.base ≡ v.base = ap (λ (z : View). z.base) c.load_main-place.ensures.still.2 ∙ ap (λ (z : View). z.base) c.scan.ensures.same.2 in
+    let base_x : x.base ≡ v.base = ap (λ (z : View). z.base) c.load_main-place.ensures.still.2 ∙ ap (λ (z : View). z.base) c.find.ensures.same.2 in
     let scan : but_requests q ≡ but_requests (beginning (plan_of v)) = ap but_requests plan_x ∙ sc.rest in
-    let before : ℕ = c.fault_count-before.result in let items : List Posted = c.scan.new.found.items in let some_found : 0 < length items = some_of (length items) c.if-is_empty.ensures in
+    let before : ℕ = c.fault_count-before.result in let items : List Posted = c.find.new.found.items in let some_found : 0 < length items = some_of (length items) c.if-is_empty.ensures in
     let found : 0 < length q.requests = omega (arith, some_found, ap length sc.items_are, length_map posted_of (plan_of w).requests, ap (λ (z : Plan). length z.requests) plan_x) in
     let op : g.O.Object.Contents x.base.order x.base.image inv.start inv.count = subst (λ (z : Base). g.O.Object.Contents z.order z.image inv.start inv.count) (sym base_x) inv.opening in
     let u : View = c.answer_all.new.seat.token.me.0 in let base_u : u.base ≡ v.base = ap (λ (z : View). z.base) c.answer_all.ensures.same.2 ∙ base_x in
@@ -205,18 +212,18 @@ returns-then-place-eq-LAST_COUNT-clause-passed g c = let t = passed_spent g c in
   is = t.0;
   since = t.1;
   now = λ told s n op i left. let v : View = c.self.inside.seat.token.me.0 in let x : View = c.load_main-place.new.seat.token.me.0 in let u : View = c.answer_all.new.seat.token.me.0 in let t = c.self.inside.twin in
-      let base_x : x.base ≡ v.base = ap (λ (z : View). z.base) c.load_main-place.ensures.still.2 ∙ ap (λ (z : View). z.base) c.scan.ensures.same.2 in
+      let base_x : x.base ≡ v.base = ap (λ (z : View). z.base) c.load_main-place.ensures.still.2 ∙ ap (λ (z : View). z.base) c.find.ensures.same.2 in
       let same : u.base ≡ c.args.self.now.view.base = ap (λ (z : View). z.base) c.answer_all.ensures.same.2 ∙ (base_x ∙ ap (λ r. r.view.base) c.self.view_is) in
       subst (λ (r : Base). ImageAt g.O.Object.Contents (on_words g.O.Object.machine) r s n t.phase (plan_of u) i) same
       (now_of g.O.Object.Contents (on_words g.O.Object.machine) g.D.Device.shown t u s n (λ s₁ s₂ j k. g.met.O.Object.one_contents u.base.order u.base.image s₁ s₂ j k) (invariant_of-self-then-place-eq-LAST_COUNT g c).0 told (subst (λ (r : Base). g.O.Object.Contents r.order r.image s n) (sym same) op) i left);
 }
 
 pub invariant_of-self-then-ne : goal.invariant_of-self-then-ne
-invariant_of-self-then-ne g c = let v : View = c.self.inside.seat.token.me.0 in let w : View = c.scan.new.seat.token.me.0 in let inv = c.self.invariant.0 in let sc = c.scan.ensures.scanned in
+invariant_of-self-then-ne g c = let v : View = c.self.inside.seat.token.me.0 in let w : View = c.find.new.seat.token.me.0 in let inv = c.self.invariant.0 in let sc = c.find.ensures.scanned in
     let x : View = c.load_main-place.new.seat.token.me.0 in let q : Plan = plan_of x in let plan_x : q ≡ plan_of w = ap plan_of c.load_main-place.ensures.still.2 in
-    let base_x : x.base ≡ v.base = ap (λ (z : View). z.base) c.load_main-place.ensures.still.2 ∙ ap (λ (z : View). z.base) c.scan.ensures.same.2 in
+    let base_x : x.base ≡ v.base = ap (λ (z : View). z.base) c.load_main-place.ensures.still.2 ∙ ap (λ (z : View). z.base) c.find.ensures.same.2 in
     let scan : but_requests q ≡ but_requests (beginning (plan_of v)) = ap but_requests plan_x ∙ sc.rest in
-    let before : ℕ = c.fault_count-before.result in let items : List Posted = c.scan.new.found.items in let some_found : 0 < length items = some_of (length items) c.if-is_empty.ensures in
+    let before : ℕ = c.fault_count-before.result in let items : List Posted = c.find.new.found.items in let some_found : 0 < length items = some_of (length items) c.if-is_empty.ensures in
     let found : 0 < length q.requests = omega (arith, some_found, ap length sc.items_are, length_map posted_of (plan_of w).requests, ap (λ (z : Plan). length z.requests) plan_x) in
     let op : g.O.Object.Contents x.base.order x.base.image inv.start inv.count = subst (λ (z : Base). g.O.Object.Contents z.order z.image inv.start inv.count) (sym base_x) inv.opening in
     let y : View = c.publish-outcome.new.seat.token.me.0 in let o = c.publish-outcome.result in let t = c.publish-outcome.new.twin in
@@ -238,11 +245,11 @@ invariant_of-self-then-ne g c = let v : View = c.self.inside.seat.token.me.0 in 
     )
 
 passed_ne : (g : Over) (c : goal.After-of-then-ne g) → Told g c.args.self.now (plan_of c.answer_all-then-ne.new.seat.token.me.0) c.args.shared.now.layout.callers c.publish-outcome.new.twin.device c.of-then-ne.result
-passed_ne g c = let v : View = c.self.inside.seat.token.me.0 in let w : View = c.scan.new.seat.token.me.0 in let inv = c.self.invariant.0 in let sc = c.scan.ensures.scanned in
+passed_ne g c = let v : View = c.self.inside.seat.token.me.0 in let w : View = c.find.new.seat.token.me.0 in let inv = c.self.invariant.0 in let sc = c.find.ensures.scanned in
     let x : View = c.load_main-place.new.seat.token.me.0 in let q : Plan = plan_of x in let plan_x : q ≡ plan_of w = ap plan_of c.load_main-place.ensures.still.2 in
-    let base_x : x.base ≡ v.base = ap (λ (z : View). z.base) c.load_main-place.ensures.still.2 ∙ ap (λ (z : View). z.base) c.scan.ensures.same.2 in
+    let base_x : x.base ≡ v.base = ap (λ (z : View). z.base) c.load_main-place.ensures.still.2 ∙ ap (λ (z : View). z.base) c.find.ensures.same.2 in
     let scan : but_requests q ≡ but_requests (beginning (plan_of v)) = ap but_requests plan_x ∙ sc.rest in
-    let before : ℕ = c.fault_count-before.result in let items : List Posted = c.scan.new.found.items in let some_found : 0 < length items = some_of (length items) c.if-is_empty.ensures in
+    let before : ℕ = c.fault_count-before.result in let items : List Posted = c.find.new.found.items in let some_found : 0 < length items = some_of (length items) c.if-is_empty.ensures in
     let found : 0 < length q.requests = omega (arith, some_found, ap length sc.items_are, length_map posted_of (plan_of w).requests, ap (λ (z : Plan). length z.requests) plan_x) in
     let op : g.O.Object.Contents x.base.order x.base.image inv.start inv.count = subst (λ (z : Base). g.O.Object.Contents z.order z.image inv.start inv.count) (sym base_x) inv.opening in
     let y : View = c.publish-outcome.new.seat.token.me.0 in let o = c.publish-outcome.result in let t = c.publish-outcome.new.twin in
@@ -268,15 +275,15 @@ returns-then-ne-clause-passed g c = let t = passed_ne g c in record {
   is = t.0;
   since = t.1;
   now = λ told s n op i left. let v : View = c.self.inside.seat.token.me.0 in let x : View = c.load_main-place.new.seat.token.me.0 in let u : View = c.answer_all-then-ne.new.seat.token.me.0 in let t = c.publish-outcome.new.twin in
-      let base_x : x.base ≡ v.base = ap (λ (z : View). z.base) c.load_main-place.ensures.still.2 ∙ ap (λ (z : View). z.base) c.scan.ensures.same.2 in
+      let base_x : x.base ≡ v.base = ap (λ (z : View). z.base) c.load_main-place.ensures.still.2 ∙ ap (λ (z : View). z.base) c.find.ensures.same.2 in
       let same : u.base ≡ c.args.self.now.view.base = ap (λ (z : View). z.base) c.answer_all-then-ne.ensures.same.2 ∙ (ap (λ (z : View). z.base) c.publish-outcome.ensures.same.2 ∙ (base_x ∙ ap (λ r. r.view.base) c.self.view_is)) in
       subst (λ (r : Base). ImageAt g.O.Object.Contents (on_words g.O.Object.machine) r s n t.phase (plan_of u) i) same
       (now_of g.O.Object.Contents (on_words g.O.Object.machine) g.D.Device.shown t u s n (λ s₁ s₂ j k. g.met.O.Object.one_contents u.base.order u.base.image s₁ s₂ j k) (invariant_of-self-then-ne g c).0 told (subst (λ (r : Base). g.O.Object.Contents r.order r.image s n) (sym same) op) i left);
 }
 
 pub overflow_sub-done : goal.overflow_sub-done
-overflow_sub-done g c = let v : View = c.self.inside.seat.token.me.0 in let w : View = c.scan.new.seat.token.me.0 in let inv = c.self.invariant.0 in let sc = c.scan.ensures.scanned in
-    let base : w.base ≡ v.base = ap (λ (z : View). z.base) c.scan.ensures.same.2 in
+overflow_sub-done g c = let v : View = c.self.inside.seat.token.me.0 in let w : View = c.find.new.seat.token.me.0 in let inv = c.self.invariant.0 in let sc = c.find.ensures.scanned in
+    let base : w.base ≡ v.base = ap (λ (z : View). z.base) c.find.ensures.same.2 in
     let x : View = c.load_main-place.new.seat.token.me.0 in let q : Plan = plan_of w in let st = scan_stays (plan_of v) q sc.rest in
     let plan_x : plan_of x ≡ q = ap plan_of c.load_main-place.ensures.still.2 in let base_x : x.base ≡ v.base = ap (λ (z : View). z.base) c.load_main-place.ensures.still.2 ∙ base in
     let y : View = c.publish-outcome.new.seat.token.me.0 in let is_pub : c.publish-outcome.result ≡ outcome.Published = loads_published g c in let pb = (c.publish-outcome.ensures.published is_pub).published in let ph = (c.publish-outcome.ensures.published is_pub).held in
@@ -288,8 +295,8 @@ overflow_sub-done g c = let v : View = c.self.inside.seat.token.me.0 in let w : 
     omega (arith, word, word₂, counts, history, log_x, c.load_main-place.ensures.word, c.load_main.ensures.word)
 
 pub overflow_cast-done : goal.overflow_cast-done
-overflow_cast-done g c = let v : View = c.self.inside.seat.token.me.0 in let w : View = c.scan.new.seat.token.me.0 in let inv = c.self.invariant.0 in let sc = c.scan.ensures.scanned in
-    let base : w.base ≡ v.base = ap (λ (z : View). z.base) c.scan.ensures.same.2 in
+overflow_cast-done g c = let v : View = c.self.inside.seat.token.me.0 in let w : View = c.find.new.seat.token.me.0 in let inv = c.self.invariant.0 in let sc = c.find.ensures.scanned in
+    let base : w.base ≡ v.base = ap (λ (z : View). z.base) c.find.ensures.same.2 in
     let x : View = c.load_main-place.new.seat.token.me.0 in let q : Plan = plan_of w in let st = scan_stays (plan_of v) q sc.rest in
     let plan_x : plan_of x ≡ q = ap plan_of c.load_main-place.ensures.still.2 in let base_x : x.base ≡ v.base = ap (λ (z : View). z.base) c.load_main-place.ensures.still.2 ∙ base in
     let y : View = c.publish-outcome.new.seat.token.me.0 in let is_pub : c.publish-outcome.result ≡ outcome.Published = loads_published g c in let pb = (c.publish-outcome.ensures.published is_pub).published in let ph = (c.publish-outcome.ensures.published is_pub).held in
@@ -305,8 +312,8 @@ overflow_cast-done g c = let v : View = c.self.inside.seat.token.me.0 in let w :
     search (rules, small)
 
 pub answer_all-requires-2-clause-left : goal.answer_all-requires-2-clause-left
-answer_all-requires-2-clause-left g c = let v : View = c.self.inside.seat.token.me.0 in let w : View = c.scan.new.seat.token.me.0 in let inv = c.self.invariant.0 in let sc = c.scan.ensures.scanned in
-    let base : w.base ≡ v.base = ap (λ (z : View). z.base) c.scan.ensures.same.2 in
+answer_all-requires-2-clause-left g c = let v : View = c.self.inside.seat.token.me.0 in let w : View = c.find.new.seat.token.me.0 in let inv = c.self.invariant.0 in let sc = c.find.ensures.scanned in
+    let base : w.base ≡ v.base = ap (λ (z : View). z.base) c.find.ensures.same.2 in
     let x : View = c.load_main-place.new.seat.token.me.0 in let q : Plan = plan_of w in let st = scan_stays (plan_of v) q sc.rest in
     let plan_x : plan_of x ≡ q = ap plan_of c.load_main-place.ensures.still.2 in let base_x : x.base ≡ v.base = ap (λ (z : View). z.base) c.load_main-place.ensures.still.2 ∙ base in
     let y : View = c.publish-outcome.new.seat.token.me.0 in let is_pub : c.publish-outcome.result ≡ outcome.Published = search rules in let pb = (c.publish-outcome.ensures.published is_pub).published in let ph = (c.publish-outcome.ensures.published is_pub).held in
@@ -314,7 +321,7 @@ answer_all-requires-2-clause-left g c = let v : View = c.self.inside.seat.token.
     let base_lm : lm.base ≡ x.base = ap (λ (r : View). r.base) c.load_main.ensures.still.2 ∙ ap (λ (r : View). r.base) c.publish-outcome.ensures.same.2 in (
       fate_of c.publish-outcome.result,
       subst (λ (r : Base × Plan × ℕ × List CallAnswer). HasGiven g.O.Object.Contents (on_words g.O.Object.machine) r.0 (fate_of c.publish-outcome.result) c.fault_count-before.result r.2 r.1 0 r.3)
-          (λ j. (sym base_lm j, sym plan_lm j, sym c.fault_count-now.ensures j, sym c.as_slice-3.ensures.value j)) c.publish-outcome.ensures.left,
+          (λ j. (sym base_lm j, sym plan_lm j, sym c.fault_count-now.ensures j, sym c.as_slice-5.ensures.value j)) c.publish-outcome.ensures.left,
     )
 
 pub settle-requires-clause-main : goal.settle-requires-clause-main
@@ -344,8 +351,8 @@ settle-requires-clause-held g c = let ph = (c.publish-outcome.ensures.published 
     )
 
 pub invariant_of-self-2 : goal.invariant_of-self-2
-invariant_of-self-2 g c = let v : View = c.self.inside.seat.token.me.0 in let w : View = c.scan.new.seat.token.me.0 in let inv = c.self.invariant.0 in let sc = c.scan.ensures.scanned in
-    let base : w.base ≡ v.base = ap (λ (z : View). z.base) c.scan.ensures.same.2 in
+invariant_of-self-2 g c = let v : View = c.self.inside.seat.token.me.0 in let w : View = c.find.new.seat.token.me.0 in let inv = c.self.invariant.0 in let sc = c.find.ensures.scanned in
+    let base : w.base ≡ v.base = ap (λ (z : View). z.base) c.find.ensures.same.2 in
     let x : View = c.load_main-place.new.seat.token.me.0 in let q : Plan = plan_of w in let st = scan_stays (plan_of v) q sc.rest in
     let plan_x : plan_of x ≡ q = ap plan_of c.load_main-place.ensures.still.2 in let base_x : x.base ≡ v.base = ap (λ (z : View). z.base) c.load_main-place.ensures.still.2 ∙ base in
     let y : View = c.publish-outcome.new.seat.token.me.0 in let is_pub : c.publish-outcome.result ≡ outcome.Published = is_published g c in let pb = (c.publish-outcome.ensures.published is_pub).published in let ph = (c.publish-outcome.ensures.published is_pub).held in
@@ -384,14 +391,14 @@ invariant_of-self-2 g c = let v : View = c.self.inside.seat.token.me.0 in let w 
     (now, ready_by (g.O.Object.STORES * g.O.Object.WEIGHT) v.base z.base c.self.inside.log c.settle.new.log c.self.invariant.1 (base_z ∙ base_x) c.settle.ensures.cleared (c.settle.ensures.room ∙ c.publish-outcome.ensures.room))
 
 passed_all : (g : Over) (c : goal.After-of-2 g) → Told g c.args.self.now (plan_of c.settle.new.seat.token.me.0) c.args.shared.now.layout.callers c.settle.new.twin.device c.of-2.result
-passed_all g c = let v : View = c.self.inside.seat.token.me.0 in let w : View = c.scan.new.seat.token.me.0 in let inv = c.self.invariant.0 in let sc = c.scan.ensures.scanned in
-    let base : w.base ≡ v.base = ap (λ (z : View). z.base) c.scan.ensures.same.2 in
+passed_all g c = let v : View = c.self.inside.seat.token.me.0 in let w : View = c.find.new.seat.token.me.0 in let inv = c.self.invariant.0 in let sc = c.find.ensures.scanned in
+    let base : w.base ≡ v.base = ap (λ (z : View). z.base) c.find.ensures.same.2 in
     let x : View = c.load_main-place.new.seat.token.me.0 in let q : Plan = plan_of w in let st = scan_stays (plan_of v) q sc.rest in
     let plan_x : plan_of x ≡ q = ap plan_of c.load_main-place.ensures.still.2 in let base_x : x.base ≡ v.base = ap (λ (z : View). z.base) c.load_main-place.ensures.still.2 ∙ base in
     let y : View = c.publish-outcome.new.seat.token.me.0 in let is_pub : c.publish-outcome.result ≡ outcome.Published = is_published g c in let pb = (c.publish-outcome.ensures.published is_pub).published in let ph = (c.publish-outcome.ensures.published is_pub).held in
     let lm : View = c.load_main.new.seat.token.me.0 in let plan_lm : plan_of lm ≡ plan_of y = ap plan_of c.load_main.ensures.still.2 in
     let base_lm : lm.base ≡ x.base = ap (λ (r : View). r.base) c.load_main.ensures.still.2 ∙ ap (λ (r : View). r.base) c.publish-outcome.ensures.same.2 in
-    let some_found : 0 < length c.scan.new.found.items = some_of (length c.scan.new.found.items) c.if-is_empty.ensures in
+    let some_found : 0 < length c.find.new.found.items = some_of (length c.find.new.found.items) c.if-is_empty.ensures in
     let both = is_given g c in let made : is_made (plan_of y).mine ≡ true = both.0 in
     let u : View = c.answer_all-2.new.seat.token.me.0 in let base_u : u.base ≡ x.base = ap (λ (r : View). r.base) c.answer_all-2.ensures.same.2 ∙ base_lm in
     let given : but_requests (plan_of u) ≡ but_requests (plan_of y) = both.1 in
@@ -405,8 +412,8 @@ passed_all g c = let v : View = c.self.inside.seat.token.me.0 in let w : View = 
     let same = g.met.O.Object.one_contents x.base.order x.base.image ph.0 inv.start ph.1 inv.count ph.2 (subst (λ (z : Base). g.O.Object.Contents z.order z.image inv.start inv.count) (sym base_x) inv.opening) in let counts = same.1 in
     let log₂ : length (plan_of y).history ≡ length (plan_of x).history + length pb.more = ap length pb.history ∙ length-append (plan_of x).history pb.more in let log_x : length (plan_of x).history ≡ length q.history = ap (λ (z : Plan). length z.history) plan_x in
     let o = c.publish-outcome.result in let many : ℕ = c.len-many.result in let done : c.load_main.result - c.load_main-place.result ≡ length pb.more = omega (arith, word, word₂, counts, log₂, log_x, c.load_main-place.ensures.word, c.load_main.ensures.word) in
-    let scan : IsScan (IsCall (on_words g.O.Object.machine) x.base) (plan_of v) (plan_of x) c.args.shared.now.layout.callers c.scan.new.found.items = subst (λ (r : Base × Plan). IsScan (IsCall (on_words g.O.Object.machine) r.0) (plan_of v) r.1 c.args.shared.now.layout.callers c.scan.new.found.items) (λ j. (sym base_x j, sym plan_x j)) sc in
-    let many_is : many ≡ length c.scan.new.found.items = omega (arith, c.len-many.ensures.value) in let diff : ℕ = c.load_main.result - c.load_main-place.result in
+    let scan : IsScan (IsCall (on_words g.O.Object.machine) x.base) (plan_of v) (plan_of x) c.args.shared.now.layout.callers c.find.new.found.items = subst (λ (r : Base × Plan). IsScan (IsCall (on_words g.O.Object.machine) r.0) (plan_of v) r.1 c.args.shared.now.layout.callers c.find.new.found.items) (λ j. (sym base_x j, sym plan_x j)) sc in
+    let many_is : many ≡ length c.find.new.found.items = omega (arith, c.len-many.ensures.value) in let diff : ℕ = c.load_main.result - c.load_main-place.result in
     let a = c.self.inside.twin.device in let d = c.settle.new.twin.device in
     let run : IsTrue g.D.Device.shown.tells_images → (s : g.O.Object.State) (n : ℕ) → g.O.Object.Contents x.base.order x.base.image s n → Runs g.D.Device.shown (Becomes (PassMakes g.O.Object.Contents (on_words g.O.Object.machine) x.base s n (fate_of o) (plan_of x).history (batch_found g.O.Object.Contents (on_words g.O.Object.machine) x.base s n (plan_of x)))) a d
     = λ told s n op. let bq : pb.more ≡ batch_found g.O.Object.Contents (on_words g.O.Object.machine) x.base s n (plan_of x) = (pb.batch s n op).1 ∙ ap (λ (k : ℕ). batch (on_words g.O.Object.machine) x.base.order (after (on_words g.O.Object.machine) x.base.order s n (plan_of x).history) k (map found_of (plan_of x).requests)) (pb.batch s n op).0 in
@@ -414,7 +421,7 @@ passed_all g c = let v : View = c.self.inside.seat.token.me.0 in let w : View = 
     (same_held g.O.Object.Contents (on_words g.O.Object.machine) x.base s n ph.0 ph.1 (plan_of y).history (plan_of y).main (g.met.O.Object.one_contents x.base.order x.base.image s ph.0 n ph.1 op ph.2) ph.3) in
     list_settled g.O.Object.Contents (on_words g.O.Object.machine) x.base s n g.D.Device.shown (fate_of o) (plan_of x).history (batch_found g.O.Object.Contents (on_words g.O.Object.machine) x.base s n (plan_of x)) c.publish-outcome.new.twin.order (plan_of u).main a c.publish-outcome.new.twin.device d
     (c.publish-outcome.ensures.order ∙ (inv.order_is ∙ ap (λ (r : Base). r.order) (sym base_x))) (subst (λ w. MayPublish (fate_of w)) (sym is_pub) tt) heldm (c.publish-outcome.ensures.stops.since told s n op) (c.settle.ensures.since told) in
-    let whole = passed_published g.O.Object.Contents (on_words g.O.Object.machine) g.D.Device.shown a d x.base (plan_of v) (plan_of x) (plan_of y) (plan_of u) (plan_of z) c.args.shared.now.layout.callers c.fault_count-before.result (g.D.Device.shown.faults c.publish-outcome.new.twin.device) end c.settle.ensures.rested.version c.settle.ensures.rested.clear many diff c.scan.new.found.items o scan pb given settled some_found many_is done c.answer_all-2.ensures.answered is_pub c.publish-outcome.ensures.calls
+    let whole = passed_published g.O.Object.Contents (on_words g.O.Object.machine) g.D.Device.shown a d x.base (plan_of v) (plan_of x) (plan_of y) (plan_of u) (plan_of z) c.args.shared.now.layout.callers c.fault_count-before.result (g.D.Device.shown.faults c.publish-outcome.new.twin.device) end c.settle.ensures.rested.version c.settle.ensures.rested.clear many diff c.find.new.found.items o scan pb given settled some_found many_is done c.answer_all-2.ensures.answered is_pub c.publish-outcome.ensures.calls
     (subst (λ (r : Plan). SameCalls r (plan_of u)) plan_lm c.answer_all-2.ensures.calls) run in
     rw c.of-2.ensures.is (subst (λ (r : Base × Locked g.row.D.Denot × ℕ). (z' : IsPass g.O.Object.Contents (on_words g.O.Object.machine) r.0 (plan_of r.1.view) (plan_of z) c.args.shared.now.layout.callers r.2 end (record { found = many; done = diff; outcome = o }))
     × (IsTrue g.D.Device.shown.tells_images → (s : g.O.Object.State) (n : ℕ) → g.O.Object.Contents r.0.order r.0.image s n → Runs g.D.Device.shown (Becomes (PassMakes g.O.Object.Contents (on_words g.O.Object.machine) r.0 s n (fate_of o) (plan_of r.1.view).history z'.more)) r.1.twin.device d))
@@ -424,8 +431,8 @@ pub returns-clause-passed : goal.returns-clause-passed
 returns-clause-passed g c = let t = passed_all g c in record {
   is = t.0;
   since = t.1;
-  now = λ told s n op i left. let v : View = c.self.inside.seat.token.me.0 in let w : View = c.scan.new.seat.token.me.0 in let x : View = c.load_main-place.new.seat.token.me.0 in let z : View = c.settle.new.seat.token.me.0 in let t = c.settle.new.twin in
-      let base_x : x.base ≡ v.base = ap (λ (z : View). z.base) c.load_main-place.ensures.still.2 ∙ ap (λ (z : View). z.base) c.scan.ensures.same.2 in
+  now = λ told s n op i left. let v : View = c.self.inside.seat.token.me.0 in let w : View = c.find.new.seat.token.me.0 in let x : View = c.load_main-place.new.seat.token.me.0 in let z : View = c.settle.new.seat.token.me.0 in let t = c.settle.new.twin in
+      let base_x : x.base ≡ v.base = ap (λ (z : View). z.base) c.load_main-place.ensures.still.2 ∙ ap (λ (z : View). z.base) c.find.ensures.same.2 in
       let base_z : z.base ≡ x.base = ap (λ (r : View). r.base) c.settle.ensures.rested.writes.2 ∙ (ap (λ (r : View). r.base) c.answer_all-2.ensures.same.2 ∙ (ap (λ (r : View). r.base) c.load_main.ensures.still.2 ∙ ap (λ (r : View). r.base) c.publish-outcome.ensures.same.2)) in
       let same : z.base ≡ c.args.self.now.view.base = base_z ∙ (base_x ∙ ap (λ r. r.view.base) c.self.view_is) in
       subst (λ (r : Base). ImageAt g.O.Object.Contents (on_words g.O.Object.machine) r s n t.phase (plan_of z) i) same
@@ -457,7 +464,7 @@ left_refused g c = let weight : List ℕ → ℕ = weight_on_words g.O.Object.ma
 -- after a pass that published, the history has grown by what was published
 grown : (g : Over) (c : goal.After-of-2 g) → weights_added (weight_on_words g.O.Object.machine) (plan_of c.load_main-place.new.seat.token.me.0).history (plan_of c.publish-outcome.new.seat.token.me.0).history
     ≡ weights_added (weight_on_words g.O.Object.machine) (plan_of c.args.self.now.view).history (plan_of c.settle.new.seat.token.me.0).history
-grown g c = let v : View = c.self.inside.seat.token.me.0 in let w : View = c.scan.new.seat.token.me.0 in let sc = c.scan.ensures.scanned in
+grown g c = let v : View = c.self.inside.seat.token.me.0 in let w : View = c.find.new.seat.token.me.0 in let sc = c.find.ensures.scanned in
     let x : View = c.load_main-place.new.seat.token.me.0 in let plan_x : plan_of x ≡ plan_of w = ap plan_of c.load_main-place.ensures.still.2 in
     let y : View = c.publish-outcome.new.seat.token.me.0 in let is_pub : c.publish-outcome.result ≡ outcome.Published = is_published g c in let pb = (c.publish-outcome.ensures.published is_pub).published in
     let lm : View = c.load_main.new.seat.token.me.0 in let plan_lm : plan_of lm ≡ plan_of y = ap plan_of c.load_main.ensures.still.2 in
@@ -468,8 +475,8 @@ grown g c = let v : View = c.self.inside.seat.token.me.0 in let w : View = c.sca
     λ j. weights_added (weight_on_words g.O.Object.machine) (old j) (sym new j)
 
 pub returns-clause-done : goal.returns-clause-done
-returns-clause-done g c some_done = let v : View = c.self.inside.seat.token.me.0 in let w : View = c.scan.new.seat.token.me.0 in let inv = c.self.invariant.0 in let sc = c.scan.ensures.scanned in
-    let base : w.base ≡ v.base = ap (λ (z : View). z.base) c.scan.ensures.same.2 in
+returns-clause-done g c some_done = let v : View = c.self.inside.seat.token.me.0 in let w : View = c.find.new.seat.token.me.0 in let inv = c.self.invariant.0 in let sc = c.find.ensures.scanned in
+    let base : w.base ≡ v.base = ap (λ (z : View). z.base) c.find.ensures.same.2 in
     let x : View = c.load_main-place.new.seat.token.me.0 in let q : Plan = plan_of w in let st = scan_stays (plan_of v) q sc.rest in
     let plan_x : plan_of x ≡ q = ap plan_of c.load_main-place.ensures.still.2 in let base_x : x.base ≡ v.base = ap (λ (z : View). z.base) c.load_main-place.ensures.still.2 ∙ base in
     let y : View = c.publish-outcome.new.seat.token.me.0 in let is_pub : c.publish-outcome.result ≡ outcome.Published = is_published g c in let pb = (c.publish-outcome.ensures.published is_pub).published in let ph = (c.publish-outcome.ensures.published is_pub).held in
@@ -520,9 +527,9 @@ returns-clause-whole g c =
 
 -- a pass that published has done a call
 some_done : (g : Over) (c : goal.After-of-2 g) → 0 < c.load_main.result - c.load_main-place.result
-some_done g c = let v : View = c.self.inside.seat.token.me.0 in let w : View = c.scan.new.seat.token.me.0 in let inv = c.self.invariant.0 in let sc = c.scan.ensures.scanned in
+some_done g c = let v : View = c.self.inside.seat.token.me.0 in let w : View = c.find.new.seat.token.me.0 in let inv = c.self.invariant.0 in let sc = c.find.ensures.scanned in
     let x : View = c.load_main-place.new.seat.token.me.0 in let q : Plan = plan_of x in let plan_x : q ≡ plan_of w = ap plan_of c.load_main-place.ensures.still.2 in let y : View = c.publish-outcome.new.seat.token.me.0 in
-    let base_x : x.base ≡ v.base = ap (λ (z : View). z.base) c.load_main-place.ensures.still.2 ∙ ap (λ (z : View). z.base) c.scan.ensures.same.2 in
+    let base_x : x.base ≡ v.base = ap (λ (z : View). z.base) c.load_main-place.ensures.still.2 ∙ ap (λ (z : View). z.base) c.find.ensures.same.2 in
     let is_pub : c.publish-outcome.result ≡ outcome.Published = is_published g c in let pb = (c.publish-outcome.ensures.published is_pub).published in let ph = (c.publish-outcome.ensures.published is_pub).held in
     let op : g.O.Object.Contents x.base.order x.base.image inv.start inv.count = subst (λ (z : Base). g.O.Object.Contents z.order z.image inv.start inv.count) (sym base_x) inv.opening in
     let held : rule.Held g.O.Object.Contents (on_words g.O.Object.machine) x.base inv.start inv.count q.main q.history = subst (λ (z : Base × List ℕ × List Entry). rule.Held g.O.Object.Contents (on_words g.O.Object.machine) z.0 inv.start inv.count z.1 z.2) (λ j. (sym base_x j, sym (ap (λ (z : Plan). z.main) (ap but_requests plan_x ∙ sc.rest)) j, sym (ap (λ (z : Plan). z.history) (ap but_requests plan_x ∙ sc.rest)) j)) inv.held in
@@ -530,7 +537,7 @@ some_done g c = let v : View = c.self.inside.seat.token.me.0 in let w : View = c
     let word₂ : slice_index (plan_of y).main 2 ≡ ph.1 + length (plan_of y).history = (g.met.O.Object.contents_within x.base.order (plan_of y).main _ _ ph.3).1 in
     let same = g.met.O.Object.one_contents x.base.order x.base.image ph.0 inv.start ph.1 inv.count ph.2 op in let counts = same.1 in
     let history : length (plan_of y).history ≡ length q.history + length pb.more = ap length pb.history ∙ length-append q.history pb.more in
-    let some_found : 0 < length c.scan.new.found.items = some_of (length c.scan.new.found.items) c.if-is_empty.ensures in
+    let some_found : 0 < length c.find.new.found.items = some_of (length c.find.new.found.items) c.if-is_empty.ensures in
     let found : 0 < length q.requests = omega (arith, some_found, ap length sc.items_are, length_map posted_of (plan_of w).requests, ap (λ (z : Plan). length z.requests) plan_x) in
     let fresh : Each (λ _ f. IsUnanswered (IsCall (on_words g.O.Object.machine) x.base) f) q.requests = subst (λ (z : Base × Plan). Each (λ _ f. IsUnanswered (IsCall (on_words g.O.Object.machine) z.0) f) z.1.requests) (λ j. (sym base_x j, sym plan_x j)) (λ j f e. (sc.fresh j f e).1) in
     let within = (g.met.O.Object.contents_within x.base.order q.main _ _ held).2 in
@@ -566,38 +573,38 @@ pub returns-clause-unwaited : goal.returns-clause-unwaited
 returns-clause-unwaited g c none = let done : c.of-2.result.done ≡ c.load_main.result - c.load_main-place.result = ap (λ (r : Passed). r.done) c.of-2.ensures.is in absurd (omega (arith, none, done, some_done g c))
 
 pub returns-then-is_empty-clause-kept : goal.returns-then-is_empty-clause-kept
-returns-then-is_empty-clause-kept g c = let v : View = c.self.inside.seat.token.me.0 in let w : View = c.scan.new.seat.token.me.0 in
-    subst (λ r. w ≡ record r.view { plan = Some (plan_of w); steps = w.steps }) c.self.view_is (c.scan.ensures.same.2)
+returns-then-is_empty-clause-kept g c = let v : View = c.self.inside.seat.token.me.0 in let w : View = c.find.new.seat.token.me.0 in
+    subst (λ r. w ≡ record r.view { plan = Some (plan_of w); steps = w.steps }) c.self.view_is (c.find.ensures.same.2)
 
 pub returns-then-place-eq-LAST_COUNT-clause-kept : goal.returns-then-place-eq-LAST_COUNT-clause-kept
-returns-then-place-eq-LAST_COUNT-clause-kept g c = let v : View = c.self.inside.seat.token.me.0 in let w : View = c.scan.new.seat.token.me.0 in let x : View = c.load_main-place.new.seat.token.me.0 in let u : View = c.answer_all.new.seat.token.me.0 in
-    subst (λ r. u ≡ record r.view { plan = Some (plan_of u); steps = u.steps }) c.self.view_is (keeps_then v w u c.scan.ensures.same.2 (keeps_then w x u (keeps_by w x (plan_of w) c.load_main-place.ensures.still.2) c.answer_all.ensures.same.2))
+returns-then-place-eq-LAST_COUNT-clause-kept g c = let v : View = c.self.inside.seat.token.me.0 in let w : View = c.find.new.seat.token.me.0 in let x : View = c.load_main-place.new.seat.token.me.0 in let u : View = c.answer_all.new.seat.token.me.0 in
+    subst (λ r. u ≡ record r.view { plan = Some (plan_of u); steps = u.steps }) c.self.view_is (keeps_then v w u c.find.ensures.same.2 (keeps_then w x u (keeps_by w x (plan_of w) c.load_main-place.ensures.still.2) c.answer_all.ensures.same.2))
 
 pub returns-then-ne-clause-kept : goal.returns-then-ne-clause-kept
-returns-then-ne-clause-kept g c = let v : View = c.self.inside.seat.token.me.0 in let w : View = c.scan.new.seat.token.me.0 in let x : View = c.load_main-place.new.seat.token.me.0 in let y : View = c.publish-outcome.new.seat.token.me.0 in let u : View = c.answer_all-then-ne.new.seat.token.me.0 in
-    subst (λ r. u ≡ record r.view { plan = Some (plan_of u); steps = u.steps }) c.self.view_is (keeps_then v w u c.scan.ensures.same.2 (keeps_then w x u (keeps_by w x (plan_of w) c.load_main-place.ensures.still.2) (keeps_then x y u c.publish-outcome.ensures.same.2 c.answer_all-then-ne.ensures.same.2)))
+returns-then-ne-clause-kept g c = let v : View = c.self.inside.seat.token.me.0 in let w : View = c.find.new.seat.token.me.0 in let x : View = c.load_main-place.new.seat.token.me.0 in let y : View = c.publish-outcome.new.seat.token.me.0 in let u : View = c.answer_all-then-ne.new.seat.token.me.0 in
+    subst (λ r. u ≡ record r.view { plan = Some (plan_of u); steps = u.steps }) c.self.view_is (keeps_then v w u c.find.ensures.same.2 (keeps_then w x u (keeps_by w x (plan_of w) c.load_main-place.ensures.still.2) (keeps_then x y u c.publish-outcome.ensures.same.2 c.answer_all-then-ne.ensures.same.2)))
 
 pub returns-clause-kept : goal.returns-clause-kept
-returns-clause-kept g c = let v : View = c.self.inside.seat.token.me.0 in let w : View = c.scan.new.seat.token.me.0 in let x : View = c.load_main-place.new.seat.token.me.0 in let y : View = c.publish-outcome.new.seat.token.me.0 in let l : View = c.load_main.new.seat.token.me.0 in let u : View = c.answer_all-2.new.seat.token.me.0 in let z : View = c.settle.new.seat.token.me.0 in
-    subst (λ r. z ≡ record r.view { plan = Some (plan_of z); steps = z.steps }) c.self.view_is (keeps_then v w z c.scan.ensures.same.2 (keeps_then w x z (keeps_by w x (plan_of w) c.load_main-place.ensures.still.2) (keeps_then x y z c.publish-outcome.ensures.same.2 (keeps_then y l z (keeps_by y l (plan_of y) c.load_main.ensures.still.2) (keeps_then l u z c.answer_all-2.ensures.same.2 (keeps_by u z _ c.settle.ensures.rested.writes.2))))))
+returns-clause-kept g c = let v : View = c.self.inside.seat.token.me.0 in let w : View = c.find.new.seat.token.me.0 in let x : View = c.load_main-place.new.seat.token.me.0 in let y : View = c.publish-outcome.new.seat.token.me.0 in let l : View = c.load_main.new.seat.token.me.0 in let u : View = c.answer_all-2.new.seat.token.me.0 in let z : View = c.settle.new.seat.token.me.0 in
+    subst (λ r. z ≡ record r.view { plan = Some (plan_of z); steps = z.steps }) c.self.view_is (keeps_then v w z c.find.ensures.same.2 (keeps_then w x z (keeps_by w x (plan_of w) c.load_main-place.ensures.still.2) (keeps_then x y z c.publish-outcome.ensures.same.2 (keeps_then y l z (keeps_by y l (plan_of y) c.load_main.ensures.still.2) (keeps_then l u z c.answer_all-2.ensures.same.2 (keeps_by u z _ c.settle.ensures.rested.writes.2))))))
 
 pub returns-then-is_empty-clause-unwaited : goal.returns-then-is_empty-clause-unwaited
-returns-then-is_empty-clause-unwaited g c none = let v : View = c.self.inside.seat.token.me.0 in let w : View = c.scan.new.seat.token.me.0 in
-    (scan_stays (plan_of v) (plan_of w) c.scan.ensures.scanned.rest).clear ∙ ap (λ r. (plan_of r.view).clear) c.self.view_is
+returns-then-is_empty-clause-unwaited g c none = let v : View = c.self.inside.seat.token.me.0 in let w : View = c.find.new.seat.token.me.0 in
+    (scan_stays (plan_of v) (plan_of w) c.find.ensures.scanned.rest).clear ∙ ap (λ r. (plan_of r.view).clear) c.self.view_is
 
 pub returns-then-place-eq-LAST_COUNT-clause-unwaited : goal.returns-then-place-eq-LAST_COUNT-clause-unwaited
-returns-then-place-eq-LAST_COUNT-clause-unwaited g c none = let v : View = c.self.inside.seat.token.me.0 in let w : View = c.scan.new.seat.token.me.0 in let x : View = c.load_main-place.new.seat.token.me.0 in let u : View = c.answer_all.new.seat.token.me.0 in
-    let scan : but_requests (plan_of x) ≡ but_requests (beginning (plan_of v)) = ap (λ (z : View). but_requests (plan_of z)) c.load_main-place.ensures.still.2 ∙ c.scan.ensures.scanned.rest in
-    let items : List Posted = c.scan.new.found.items in let some_found : 0 < length items = some_of (length items) c.if-is_empty.ensures in let before : ℕ = c.fault_count-before.result in
+returns-then-place-eq-LAST_COUNT-clause-unwaited g c none = let v : View = c.self.inside.seat.token.me.0 in let w : View = c.find.new.seat.token.me.0 in let x : View = c.load_main-place.new.seat.token.me.0 in let u : View = c.answer_all.new.seat.token.me.0 in
+    let scan : but_requests (plan_of x) ≡ but_requests (beginning (plan_of v)) = ap (λ (z : View). but_requests (plan_of z)) c.load_main-place.ensures.still.2 ∙ c.find.ensures.scanned.rest in
+    let items : List Posted = c.find.new.found.items in let some_found : 0 < length items = some_of (length items) c.if-is_empty.ensures in let before : ℕ = c.fault_count-before.result in
     let given : List CallAnswer = c.as_slice-answers.result.now in let given_is : given ≡ map (refused (2 ^ 62)) items = c.as_slice-answers.ensures.value ∙ (c.refuse.ensures ∙ ap (map (refused (2 ^ 62))) c.as_slice.ensures.value) in
     let some_given : 0 < length given = omega (arith, some_found, ap length given_is, length_map (refused (2 ^ 62)) items) in
     clear_by g.O.Object.Contents (on_words g.O.Object.machine) x.base (plan_of x) (plan_of u) before before given some_given (ap (λ (z : Plan). z.mine) scan) c.answer_all.ensures.recorded ∙ (ap (λ (z : Plan). z.clear) scan ∙ ap (λ r. (plan_of r.view).clear) c.self.view_is)
 
 pub returns-then-ne-clause-unwaited : goal.returns-then-ne-clause-unwaited
-returns-then-ne-clause-unwaited g c none = let v : View = c.self.inside.seat.token.me.0 in let w : View = c.scan.new.seat.token.me.0 in let x : View = c.load_main-place.new.seat.token.me.0 in let y : View = c.publish-outcome.new.seat.token.me.0 in let u : View = c.answer_all-then-ne.new.seat.token.me.0 in
-    let not_published : c.publish-outcome.result ≢ outcome.Published = unpublished g c in let stays : plan_of y ≡ plan_of x = (c.publish-outcome.ensures.unpublished not_published).stays in let sc = c.scan.ensures.scanned in
+returns-then-ne-clause-unwaited g c none = let v : View = c.self.inside.seat.token.me.0 in let w : View = c.find.new.seat.token.me.0 in let x : View = c.load_main-place.new.seat.token.me.0 in let y : View = c.publish-outcome.new.seat.token.me.0 in let u : View = c.answer_all-then-ne.new.seat.token.me.0 in
+    let not_published : c.publish-outcome.result ≢ outcome.Published = unpublished g c in let stays : plan_of y ≡ plan_of x = (c.publish-outcome.ensures.unpublished not_published).stays in let sc = c.find.ensures.scanned in
     let plan_x : plan_of x ≡ plan_of w = ap plan_of c.load_main-place.ensures.still.2 in let scan : but_requests (plan_of y) ≡ but_requests (beginning (plan_of v)) = ap but_requests (stays ∙ plan_x) ∙ sc.rest in
-    let some_found : 0 < length c.scan.new.found.items = some_of (length c.scan.new.found.items) c.if-is_empty.ensures in let before : ℕ = c.fault_count-before.result in let now : ℕ = c.fault_count-now.result in let left = c.publish-outcome.ensures.left in
+    let some_found : 0 < length c.find.new.found.items = some_of (length c.find.new.found.items) c.if-is_empty.ensures in let before : ℕ = c.fault_count-before.result in let now : ℕ = c.fault_count-now.result in let left = c.publish-outcome.ensures.left in
     let found : 0 < length (plan_of y).requests = omega (arith, some_found, ap length sc.items_are, length_map posted_of (plan_of w).requests, ap (λ (z : Plan). length z.requests) (stays ∙ plan_x)) in
     let given : List CallAnswer = c.as_slice-then-ne.result.now in let items : List CallAnswer = c.publish-outcome.new.answers.items in
     let some_given : 0 < length given = omega (arith, found, ap length left.same, length_map caller_in (plan_of y).requests, length_map caller_of items, ap length c.as_slice-then-ne.ensures.value) in
@@ -608,9 +615,9 @@ pub returns-then-is_empty-clause-needed : goal.returns-then-is_empty-clause-need
 returns-then-is_empty-clause-needed g c = subst (λ (r : Locked g.row.D.Denot). NeedsRepair r.twin.phase → IsTrue (g.D.Device.shown.failing r.twin.device)) c.self.view_is c.self.invariant.0.failed
 
 pub returns-then-is_empty-clause-same : goal.returns-then-is_empty-clause-same
-returns-then-is_empty-clause-same g c = let s = c.scan.new.seat in let t = c.self.inside.twin in
+returns-then-is_empty-clause-same g c = let s = c.find.new.seat in let t = c.self.inside.twin in
     subst (λ (r : Locked g.row.D.Denot). (s.token.table_id ≡ r.table_id) × (s.token.id ≡ r.id) × (s.token.me.0.base ≡ r.view.base) × (t.order ≡ r.twin.order)) c.self.view_is
-    (c.scan.ensures.same.0, c.scan.ensures.same.1, ap (λ (z : View). z.base) c.scan.ensures.same.2, refl)
+    (c.find.ensures.same.0, c.find.ensures.same.1, ap (λ (z : View). z.base) c.find.ensures.same.2, refl)
 
 pub returns-then-place-eq-LAST_COUNT-clause-needed : goal.returns-then-place-eq-LAST_COUNT-clause-needed
 returns-then-place-eq-LAST_COUNT-clause-needed g c = subst (λ (r : Locked g.row.D.Denot). NeedsRepair r.twin.phase → IsTrue (g.D.Device.shown.failing r.twin.device)) c.self.view_is c.self.invariant.0.failed
@@ -618,7 +625,7 @@ returns-then-place-eq-LAST_COUNT-clause-needed g c = subst (λ (r : Locked g.row
 pub returns-then-place-eq-LAST_COUNT-clause-same : goal.returns-then-place-eq-LAST_COUNT-clause-same
 returns-then-place-eq-LAST_COUNT-clause-same g c = let s = c.answer_all.new.seat in let t = c.self.inside.twin in
     subst (λ (r : Locked g.row.D.Denot). (s.token.table_id ≡ r.table_id) × (s.token.id ≡ r.id) × (s.token.me.0.base ≡ r.view.base) × (t.order ≡ r.twin.order)) c.self.view_is
-    (c.answer_all.ensures.same.0 ∙ (c.load_main-place.ensures.still.0 ∙ c.scan.ensures.same.0), c.answer_all.ensures.same.1 ∙ (c.load_main-place.ensures.still.1 ∙ c.scan.ensures.same.1), ap (λ (z : View). z.base) c.answer_all.ensures.same.2 ∙ (ap (λ (z : View). z.base) c.load_main-place.ensures.still.2 ∙ ap (λ (z : View). z.base) c.scan.ensures.same.2), refl)
+    (c.answer_all.ensures.same.0 ∙ (c.load_main-place.ensures.still.0 ∙ c.find.ensures.same.0), c.answer_all.ensures.same.1 ∙ (c.load_main-place.ensures.still.1 ∙ c.find.ensures.same.1), ap (λ (z : View). z.base) c.answer_all.ensures.same.2 ∙ (ap (λ (z : View). z.base) c.load_main-place.ensures.still.2 ∙ ap (λ (z : View). z.base) c.find.ensures.same.2), refl)
 
 pub returns-then-ne-clause-needed : goal.returns-then-ne-clause-needed
 returns-then-ne-clause-needed g c = subst (λ (r : Locked g.row.D.Denot). NeedsRepair r.twin.phase → IsTrue (g.D.Device.shown.failing r.twin.device)) c.self.view_is c.self.invariant.0.failed
@@ -626,7 +633,7 @@ returns-then-ne-clause-needed g c = subst (λ (r : Locked g.row.D.Denot). NeedsR
 pub returns-then-ne-clause-same : goal.returns-then-ne-clause-same
 returns-then-ne-clause-same g c = let s = c.answer_all-then-ne.new.seat in let t = c.publish-outcome.new.twin in
     subst (λ (r : Locked g.row.D.Denot). (s.token.table_id ≡ r.table_id) × (s.token.id ≡ r.id) × (s.token.me.0.base ≡ r.view.base) × (t.order ≡ r.twin.order)) c.self.view_is
-    (c.answer_all-then-ne.ensures.same.0 ∙ (c.publish-outcome.ensures.same.0 ∙ (c.load_main-place.ensures.still.0 ∙ c.scan.ensures.same.0)), c.answer_all-then-ne.ensures.same.1 ∙ (c.publish-outcome.ensures.same.1 ∙ (c.load_main-place.ensures.still.1 ∙ c.scan.ensures.same.1)), ap (λ (z : View). z.base) c.answer_all-then-ne.ensures.same.2 ∙ (ap (λ (z : View). z.base) c.publish-outcome.ensures.same.2 ∙ (ap (λ (z : View). z.base) c.load_main-place.ensures.still.2 ∙ ap (λ (z : View). z.base) c.scan.ensures.same.2)), c.publish-outcome.ensures.order)
+    (c.answer_all-then-ne.ensures.same.0 ∙ (c.publish-outcome.ensures.same.0 ∙ (c.load_main-place.ensures.still.0 ∙ c.find.ensures.same.0)), c.answer_all-then-ne.ensures.same.1 ∙ (c.publish-outcome.ensures.same.1 ∙ (c.load_main-place.ensures.still.1 ∙ c.find.ensures.same.1)), ap (λ (z : View). z.base) c.answer_all-then-ne.ensures.same.2 ∙ (ap (λ (z : View). z.base) c.publish-outcome.ensures.same.2 ∙ (ap (λ (z : View). z.base) c.load_main-place.ensures.still.2 ∙ ap (λ (z : View). z.base) c.find.ensures.same.2)), c.publish-outcome.ensures.order)
 
 pub returns-clause-needed : goal.returns-clause-needed
 returns-clause-needed g c = subst (λ (r : Locked g.row.D.Denot). NeedsRepair r.twin.phase → IsTrue (g.D.Device.shown.failing r.twin.device)) c.self.view_is c.self.invariant.0.failed
@@ -634,14 +641,14 @@ returns-clause-needed g c = subst (λ (r : Locked g.row.D.Denot). NeedsRepair r.
 pub returns-clause-same : goal.returns-clause-same
 returns-clause-same g c = let s = c.settle.new.seat in let t = c.settle.new.twin in
     subst (λ (r : Locked g.row.D.Denot). (s.token.table_id ≡ r.table_id) × (s.token.id ≡ r.id) × (s.token.me.0.base ≡ r.view.base) × (t.order ≡ r.twin.order)) c.self.view_is
-    (c.settle.ensures.rested.writes.0 ∙ (c.answer_all-2.ensures.same.0 ∙ (c.load_main.ensures.still.0 ∙ (c.publish-outcome.ensures.same.0 ∙ (c.load_main-place.ensures.still.0 ∙ c.scan.ensures.same.0)))), c.settle.ensures.rested.writes.1 ∙ (c.answer_all-2.ensures.same.1 ∙ (c.load_main.ensures.still.1 ∙ (c.publish-outcome.ensures.same.1 ∙ (c.load_main-place.ensures.still.1 ∙ c.scan.ensures.same.1)))), ap (λ (z : View). z.base) c.settle.ensures.rested.writes.2 ∙ (ap (λ (z : View). z.base) c.answer_all-2.ensures.same.2 ∙ (ap (λ (z : View). z.base) c.load_main.ensures.still.2 ∙ (ap (λ (z : View). z.base) c.publish-outcome.ensures.same.2 ∙ (ap (λ (z : View). z.base) c.load_main-place.ensures.still.2 ∙ ap (λ (z : View). z.base) c.scan.ensures.same.2)))), c.settle.ensures.kept.order ∙ c.publish-outcome.ensures.order)
+    (c.settle.ensures.rested.writes.0 ∙ (c.answer_all-2.ensures.same.0 ∙ (c.load_main.ensures.still.0 ∙ (c.publish-outcome.ensures.same.0 ∙ (c.load_main-place.ensures.still.0 ∙ c.find.ensures.same.0)))), c.settle.ensures.rested.writes.1 ∙ (c.answer_all-2.ensures.same.1 ∙ (c.load_main.ensures.still.1 ∙ (c.publish-outcome.ensures.same.1 ∙ (c.load_main-place.ensures.still.1 ∙ c.find.ensures.same.1)))), ap (λ (z : View). z.base) c.settle.ensures.rested.writes.2 ∙ (ap (λ (z : View). z.base) c.answer_all-2.ensures.same.2 ∙ (ap (λ (z : View). z.base) c.load_main.ensures.still.2 ∙ (ap (λ (z : View). z.base) c.publish-outcome.ensures.same.2 ∙ (ap (λ (z : View). z.base) c.load_main-place.ensures.still.2 ∙ ap (λ (z : View). z.base) c.find.ensures.same.2)))), c.settle.ensures.kept.order ∙ c.publish-outcome.ensures.order)
 
 pub returns-then-is_empty-clause-device : goal.returns-then-is_empty-clause-device
 returns-then-is_empty-clause-device g c = let shown = g.D.Device.shown in let a = c.self.inside.twin in subst (λ (r : Locked g.row.D.Denot). WritesHeap shown r.twin.order r.twin.device a.device) c.self.view_is (writes_none shown a.order a.device)
 
 pub returns-then-is_empty-clause-most : goal.returns-then-is_empty-clause-most
 returns-then-is_empty-clause-most g c = let shown = g.D.Device.shown in let a = c.self.inside.twin in
-    subst (λ (r : Locked g.row.D.Denot). SpendsAtMost shown (batch_writes r.twin.phase r.twin.order (g.O.Object.STORES * weights_found (weight_on_words g.O.Object.machine) (plan_of c.scan.new.seat.token.me.0))) (batch_syncs r.twin.phase) r.twin.device a.device) c.self.view_is (none_most shown _ _ a.device)
+    subst (λ (r : Locked g.row.D.Denot). SpendsAtMost shown (batch_writes r.twin.phase r.twin.order (g.O.Object.STORES * weights_found (weight_on_words g.O.Object.machine) (plan_of c.find.new.seat.token.me.0))) (batch_syncs r.twin.phase) r.twin.device a.device) c.self.view_is (none_most shown _ _ a.device)
 
 pub returns-then-is_empty-clause-whole : goal.returns-then-is_empty-clause-whole
 returns-then-is_empty-clause-whole g c = let shown = g.D.Device.shown in let a = c.self.inside.twin in
@@ -668,7 +675,7 @@ returns-clause-device g c = let shown = g.D.Device.shown in let a = c.self.insid
 
 -- what shared main was as the pass began
 main_refused : (g : Over) (c : goal.After-of-then-ne g) → (plan_of c.load_main-place.new.seat.token.me.0).main ≡ (plan_of c.args.self.now.view).main
-main_refused g c = ap (λ (r : View). (plan_of r).main) c.load_main-place.ensures.still.2 ∙ (ap (λ (r : Plan). r.main) c.scan.ensures.scanned.rest ∙ ap (λ r. (plan_of r.view).main) c.self.view_is)
+main_refused g c = ap (λ (r : View). (plan_of r).main) c.load_main-place.ensures.still.2 ∙ (ap (λ (r : Plan). r.main) c.find.ensures.scanned.rest ∙ ap (λ r. (plan_of r.view).main) c.self.view_is)
 
 pub returns-then-ne-clause-failed : goal.returns-then-ne-clause-failed
 returns-then-ne-clause-failed g c is = let shown = g.D.Device.shown in let m = c.publish-outcome.new.twin in
@@ -732,3 +739,118 @@ returns-clause-failed g c e = absurd (published_not_failed (sym (is_published g 
 
 pub returns-clause-doubt : goal.returns-clause-doubt
 returns-clause-doubt g c e = absurd (published_not_doubt (sym (is_published g c) ∙ ended _ _ _ _ _ c.of-2.ensures.is e))
+
+-- the numbers of a batch that was published
+batch_grew : (g : Over) (v w x y : View) (t : Seen g.row.D.Denot) (place count before now : ℕ) → IsAtRest g.D.Device.shown g.O.Object.Contents (on_words g.O.Object.machine) t v → w.base ≡ v.base → but_requests (plan_of w) ≡ but_requests (beginning (plan_of v)) → plan_of x ≡ plan_of w → x.base ≡ w.base
+    → place ≡ slice_index (plan_of w).main 2 → count ≡ slice_index (plan_of y).main 2 → (pb : IsPublished g.O.Object.Contents (on_words g.O.Object.machine) x.base (plan_of x) (plan_of y) before now)
+    → (s : g.O.Object.State) × (n : ℕ) × g.O.Object.Contents x.base.order x.base.image s n × rule.Held g.O.Object.Contents (on_words g.O.Object.machine) x.base s n (plan_of y).main (plan_of y).history
+    → Grew g.O.Object.Contents (on_words g.O.Object.machine) x.base (plan_of x) place (count - place) pb.more
+batch_grew g v w x y t place count before now inv base scan plan_x base_x was is pb ph = let base_v : x.base ≡ v.base = base_x ∙ base in
+    let op : g.O.Object.Contents x.base.order x.base.image inv.start inv.count = subst (λ (z : Base). g.O.Object.Contents z.order z.image inv.start inv.count) (sym base_v) inv.opening in
+    let held : rule.Held g.O.Object.Contents (on_words g.O.Object.machine) x.base inv.start inv.count (plan_of w).main (plan_of x).history = subst (λ (z : Base × List ℕ × List Entry). rule.Held g.O.Object.Contents (on_words g.O.Object.machine) z.0 inv.start inv.count z.1 z.2) (λ j. (sym base_v j, sym (ap (λ (z : Plan). z.main) scan) j, sym (ap (λ (z : Plan). z.history) (ap but_requests plan_x ∙ scan)) j)) inv.held in
+    has_grown g.O.Object.Contents (on_words g.O.Object.machine) x.base g.O.Object.KIND (λ words s k h. g.met.O.Object.contents_within x.base.order words s k h) (λ s t n k h₁ h₂. g.met.O.Object.one_contents x.base.order x.base.image s t n k h₁ h₂) (plan_of x) (plan_of y) (plan_of w).main before now place count inv.start inv.count op held was is pb ph
+
+-- the numbers of the batch that is handed on
+hands_grew : (g : Over) (c : goal.After-as_slice-4 g) → (more : List Entry) × Grew g.O.Object.Contents (on_words g.O.Object.machine) c.load_main-place.new.seat.token.me.0.base (plan_of c.load_main-place.new.seat.token.me.0) c.load_main-place.result (c.load_main.result - c.load_main-place.result) more
+hands_grew g c = let is_pub : c.publish-outcome.result ≡ outcome.Published = search rules in let pb = c.publish-outcome.ensures.published is_pub in (
+  pb.published.more,
+  batch_grew g c.self.inside.seat.token.me.0 c.find.new.seat.token.me.0 c.load_main-place.new.seat.token.me.0 c.publish-outcome.new.seat.token.me.0 c.self.inside.twin c.load_main-place.result c.load_main.result c.fault_count-before.result (g.D.Device.shown.faults c.publish-outcome.new.twin.device) c.self.invariant.0
+      (ap (λ (z : View). z.base) c.find.ensures.same.2) c.find.ensures.scanned.rest (ap plan_of c.load_main-place.ensures.still.2) (ap (λ (z : View). z.base) c.load_main-place.ensures.still.2) c.load_main-place.ensures.word c.load_main.ensures.word pb.published pb.held,
+)
+
+-- as many calls are handed on with their answers as were found
+hands_found : (g : Over) (c : goal.After-as_slice-4 g) → (c.as_slice-3.result.now ≡ map posted_of (plan_of c.load_main-place.new.seat.token.me.0).requests)
+hands_found g c = c.as_slice-3.ensures.value ∙ (c.find.ensures.scanned.items_are ∙ ap (λ (z : View). map posted_of (plan_of z).requests) (sym c.load_main-place.ensures.still.2))
+
+pub hand_on-requires-clause-many : goal.hand_on-requires-clause-many
+hand_on-requires-clause-many g c = ap length c.as_slice-4.ensures.value
+    ∙ length_given g.O.Object.Contents (on_words g.O.Object.machine) c.load_main-place.new.seat.token.me.0.base (fate_of c.publish-outcome.result) c.fault_count-before.result (g.D.Device.shown.faults c.publish-outcome.new.twin.device) (plan_of c.load_main-place.new.seat.token.me.0) (plan_of c.publish-outcome.new.seat.token.me.0) c.as_slice-3.result.now c.publish-outcome.new.answers.items
+    c.publish-outcome.ensures.left c.publish-outcome.ensures.calls (hands_found g c)
+
+pub hand_on-requires-clause-within : goal.hand_on-requires-clause-within
+hand_on-requires-clause-within g c = let more = hands_grew g c in omega (arith, more.1.done_is, more.1.few, ap length (hands_found g c), length_map posted_of (plan_of c.load_main-place.new.seat.token.me.0).requests)
+
+pub hand_on-requires-clause-fits : goal.hand_on-requires-clause-fits
+hand_on-requires-clause-fits g c = (hands_grew g c).1.fits
+
+pub hand_on-requires-clause-unanswered : goal.hand_on-requires-clause-unanswered
+hand_on-requires-clause-unanswered g c = subst (λ (z : Plan). Each (λ _ f. f.answered ≡ false) z.requests) (ap plan_of (sym c.load_main.ensures.still.2))
+    (unanswered_left g.O.Object.Contents (on_words g.O.Object.machine) c.load_main-place.new.seat.token.me.0.base (fate_of c.publish-outcome.result) c.fault_count-before.result (g.D.Device.shown.faults c.publish-outcome.new.twin.device) (plan_of c.publish-outcome.new.seat.token.me.0) c.publish-outcome.new.answers.items c.publish-outcome.ensures.left)
+
+-- what was handed on: nothing where no call was done, else what was done
+pub returns-then-is_empty-clause-shipped : goal.returns-then-is_empty-clause-shipped
+returns-then-is_empty-clause-shipped g c tells s n op = let p : Plan = plan_of c.args.self.now.view in
+    ships_same (g.W.Shipper.shown.state c.args.shipper.now) g.W.Shipper.shown.text (n + length p.history) p.history (plan_of c.find.new.seat.token.me.0).history
+    (history_stays g.O.Object.Contents (on_words g.O.Object.machine) c.args.self.now.view.base p (plan_of c.find.new.seat.token.me.0) _ _ _ c.of.result (passed_none g c).0 (ap (λ (r : Passed). r.done) c.of.ensures.is))
+
+pub returns-then-place-eq-LAST_COUNT-clause-shipped : goal.returns-then-place-eq-LAST_COUNT-clause-shipped
+returns-then-place-eq-LAST_COUNT-clause-shipped g c tells s n op = let p : Plan = plan_of c.args.self.now.view in
+    ships_same (g.W.Shipper.shown.state c.args.shipper.now) g.W.Shipper.shown.text (n + length p.history) p.history (plan_of c.answer_all.new.seat.token.me.0).history
+    (history_stays g.O.Object.Contents (on_words g.O.Object.machine) c.args.self.now.view.base p (plan_of c.answer_all.new.seat.token.me.0) _ _ _ c.of-then-place-eq-LAST_COUNT.result (passed_spent g c).0 (ap (λ (r : Passed). r.done) c.of-then-place-eq-LAST_COUNT.ensures.is))
+
+pub returns-then-ne-clause-shipped : goal.returns-then-ne-clause-shipped
+returns-then-ne-clause-shipped g c tells s n op = let p : Plan = plan_of c.args.self.now.view in
+    ships_same (g.W.Shipper.shown.state c.args.shipper.now) g.W.Shipper.shown.text (n + length p.history) p.history (plan_of c.answer_all-then-ne.new.seat.token.me.0).history
+    (history_stays g.O.Object.Contents (on_words g.O.Object.machine) c.args.self.now.view.base p (plan_of c.answer_all-then-ne.new.seat.token.me.0) _ _ _ c.of-then-ne.result (passed_ne g c).0 (ap (λ (r : Passed). r.done) c.of-then-ne.ensures.is))
+
+-- the history has grown by the batch, whose updates are those that were handed on
+handed_grown : (g : Over) (c : goal.After-of-2 g) → ((plan_of c.settle.new.seat.token.me.0).history ≡ (plan_of c.args.self.now.view).history ++ (c.publish-outcome.ensures.published (is_published g c)).published.more)
+    × Grew g.O.Object.Contents (on_words g.O.Object.machine) c.load_main-place.new.seat.token.me.0.base (plan_of c.load_main-place.new.seat.token.me.0) c.load_main-place.result (c.load_main.result - c.load_main-place.result) (c.publish-outcome.ensures.published (is_published g c)).published.more
+    × (take (c.load_main.result - c.load_main-place.result) (updates_of c.as_slice-3.result.now c.as_slice-4.result.now) ≡ map update_of (c.publish-outcome.ensures.published (is_published g c)).published.more)
+handed_grown g c = let v : View = c.self.inside.seat.token.me.0 in let w : View = c.find.new.seat.token.me.0 in let x : View = c.load_main-place.new.seat.token.me.0 in let y : View = c.publish-outcome.new.seat.token.me.0 in
+    let inv = c.self.invariant.0 in let s : g.O.Object.State = inv.start in let n : ℕ = inv.count in
+    let is_pub : c.publish-outcome.result ≡ outcome.Published = is_published g c in let pb = (c.publish-outcome.ensures.published is_pub).published in
+    let base : w.base ≡ v.base = ap (λ (r : View). r.base) c.find.ensures.same.2 in let base_x : x.base ≡ w.base = ap (λ (r : View). r.base) c.load_main-place.ensures.still.2 in
+    let op_x : g.O.Object.Contents x.base.order x.base.image s n = subst (λ (r : Base). g.O.Object.Contents r.order r.image s n) (sym (base_x ∙ base)) inv.opening in
+    let old : (plan_of x).history ≡ (plan_of c.args.self.now.view).history = ap (λ (r : View). (plan_of r).history) c.load_main-place.ensures.still.2 ∙ (ap (λ (r : Plan). r.history) c.find.ensures.scanned.rest ∙ ap (λ r. (plan_of r.view).history) c.self.view_is) in
+    let grew = batch_grew g v w x y c.self.inside.twin c.load_main-place.result c.load_main.result c.fault_count-before.result (g.D.Device.shown.faults c.publish-outcome.new.twin.device) inv base c.find.ensures.scanned.rest (ap plan_of c.load_main-place.ensures.still.2) base_x c.load_main-place.ensures.word c.load_main.ensures.word pb (c.publish-outcome.ensures.published is_pub).held in
+    let more : pb.more ≡ batch_found g.O.Object.Contents (on_words g.O.Object.machine) x.base s n (plan_of x) = (pb.batch s n op_x).1 ∙ ap (λ (k : ℕ). batch (on_words g.O.Object.machine) x.base.order (after (on_words g.O.Object.machine) x.base.order s n (plan_of x).history) k (map found_of (plan_of x).requests)) (pb.batch s n op_x).0 in
+    let found : c.as_slice-3.result.now ≡ map posted_of (plan_of x).requests = c.as_slice-3.ensures.value ∙ (c.find.ensures.scanned.items_are ∙ ap (λ (r : View). map posted_of (plan_of r).requests) (sym c.load_main-place.ensures.still.2)) in (
+      ap (λ (r : View). (plan_of r).history) c.settle.ensures.rested.writes.2 ∙ (ap (λ (r : Plan). r.history) (is_given g c).1 ∙ (pb.history ∙ ap (λ (l : List Entry). l ++ pb.more) old)),
+      grew,
+      handed_batch g.O.Object.Contents (on_words g.O.Object.machine) x.base s n (plan_of x) pb.more c.as_slice-3.result.now c.as_slice-4.result.now (c.load_main.result - c.load_main-place.result) found more grew.done_is (ap (map laid_of) c.as_slice-4.ensures.value ∙ c.publish-outcome.ensures.told is_pub s n op_x),
+    )
+
+pub returns-clause-shipped : goal.returns-clause-shipped
+returns-clause-shipped g c tells s n op = let x : View = c.load_main-place.new.seat.token.me.0 in let z : View = c.settle.new.seat.token.me.0 in let grown = handed_grown g c in
+    let base_x : x.base ≡ c.args.self.now.view.base = ap (λ (r : View). r.base) c.load_main-place.ensures.still.2 ∙ (ap (λ (r : View). r.base) c.find.ensures.same.2 ∙ ap (λ r. r.view.base) c.self.view_is) in
+    let op_x : g.O.Object.Contents x.base.order x.base.image s n = subst (λ (r : Base). g.O.Object.Contents r.order r.image s n) (sym base_x) op in
+    let old : (plan_of x).history ≡ (plan_of c.args.self.now.view).history = ap (λ (r : View). (plan_of r).history) c.load_main-place.ensures.still.2 ∙ (ap (λ (r : Plan). r.history) c.find.ensures.scanned.rest ∙ ap (λ r. (plan_of r.view).history) c.self.view_is) in
+    ships_grown (g.W.Shipper.shown.state c.args.shipper.now) (g.W.Shipper.shown.state c.hand_on.new.shipper) g.W.Shipper.shown.text c.load_main-place.result (n + length (plan_of c.args.self.now.view).history) (plan_of c.args.self.now.view).history (plan_of z).history (c.publish-outcome.ensures.published (is_published g c)).published.more (take (c.load_main.result - c.load_main-place.result) (updates_of c.as_slice-3.result.now c.as_slice-4.result.now))
+    (grown.1.place_is s n op_x ∙ ap (λ (l : List Entry). n + length l) old) grown.0 grown.2 (c.hand_on.ensures.ships tells)
+
+-- what the shipper keeps of the last batch: the replies of this one, where a call was done
+pub returns-then-is_empty-clause-last : goal.returns-then-is_empty-clause-last
+returns-then-is_empty-clause-last g c any = absurd (omega (arith, any, ap (λ (r : Passed). r.done) c.of.ensures.is))
+
+pub returns-then-place-eq-LAST_COUNT-clause-last : goal.returns-then-place-eq-LAST_COUNT-clause-last
+returns-then-place-eq-LAST_COUNT-clause-last g c any = absurd (omega (arith, any, ap (λ (r : Passed). r.done) c.of-then-place-eq-LAST_COUNT.ensures.is))
+
+pub returns-then-ne-clause-last : goal.returns-then-ne-clause-last
+returns-then-ne-clause-last g c any = absurd (omega (arith, any, ap (λ (r : Passed). r.done) c.of-then-ne.ensures.is))
+
+pub returns-clause-last : goal.returns-clause-last
+returns-clause-last g c any = let grown = handed_grown g c in let was : List Entry = (plan_of c.args.self.now.view).history in
+    subst (λ (us : List (List ℕ × List ℕ)). IfSome (g.W.Shipper.shown.last c.hand_on.new.shipper) (λ replies. replies ≡ map reply_in us))
+    (grown.2 ∙ ap (map update_of) (sym (ap (drop (length was)) grown.0 ∙ drop-append_seam was (c.publish-outcome.ensures.published (is_published g c)).published.more))) c.hand_on.ensures.last
+
+-- where calls were wanted, the calls that were found are these
+pub returns-then-is_empty-clause-wanted : goal.returns-then-is_empty-clause-wanted
+returns-then-is_empty-clause-wanted g c any = (let are = c.find.ensures.wanted any in posted_requests (plan_of c.find.new.seat.token.me.0) c.find.new.found.items c.find.ensures.scanned.items_are ∙ are)
+
+pub returns-then-place-eq-LAST_COUNT-clause-wanted : goal.returns-then-place-eq-LAST_COUNT-clause-wanted
+returns-then-place-eq-LAST_COUNT-clause-wanted g c any = (let are = c.find.ensures.wanted any in
+    same_calls_found (plan_of c.load_main-place.new.seat.token.me.0) (plan_of c.answer_all.new.seat.token.me.0) c.answer_all.ensures.calls
+    ∙ (ap (λ (r : View). calls_found (plan_of r)) c.load_main-place.ensures.still.2 ∙ (posted_requests (plan_of c.find.new.seat.token.me.0) c.find.new.found.items c.find.ensures.scanned.items_are ∙ are)))
+
+pub returns-then-ne-clause-wanted : goal.returns-then-ne-clause-wanted
+returns-then-ne-clause-wanted g c any = (let are = c.find.ensures.wanted any in
+    same_calls_found (plan_of c.publish-outcome.new.seat.token.me.0) (plan_of c.answer_all-then-ne.new.seat.token.me.0) c.answer_all-then-ne.ensures.calls
+    ∙ (same_calls_found (plan_of c.load_main-place.new.seat.token.me.0) (plan_of c.publish-outcome.new.seat.token.me.0) c.publish-outcome.ensures.calls
+    ∙ (ap (λ (r : View). calls_found (plan_of r)) c.load_main-place.ensures.still.2 ∙ (posted_requests (plan_of c.find.new.seat.token.me.0) c.find.new.found.items c.find.ensures.scanned.items_are ∙ are))))
+
+pub returns-clause-wanted : goal.returns-clause-wanted
+returns-clause-wanted g c any = let x : Plan = plan_of c.load_main-place.new.seat.token.me.0 in let y : Plan = plan_of c.publish-outcome.new.seat.token.me.0 in let lm : Plan = plan_of c.load_main.new.seat.token.me.0 in let u : Plan = plan_of c.answer_all-2.new.seat.token.me.0 in
+    (let are = c.find.ensures.wanted any in
+    ap (λ (r : View). calls_found (plan_of r)) c.settle.ensures.rested.writes.2 ∙ (same_calls_found lm u c.answer_all-2.ensures.calls ∙ (ap (λ (r : View). calls_found (plan_of r)) c.load_main.ensures.still.2 ∙ (same_calls_found x y c.publish-outcome.ensures.calls
+    ∙ (ap (λ (r : View). calls_found (plan_of r)) c.load_main-place.ensures.still.2 ∙ (posted_requests (plan_of c.find.new.seat.token.me.0) c.find.new.found.items c.find.ensures.scanned.items_are ∙ are))))))

@@ -1,0 +1,2 @@
+-- Lemmas on the words of a whole heap, and on putting them.
+pub mod Wholes

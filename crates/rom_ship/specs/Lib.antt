@@ -1,0 +1,2 @@
+-- What is shipped of a history.
+pub mod Streams

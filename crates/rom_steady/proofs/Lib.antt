@@ -1,0 +1,3 @@
+-- Laws on what a writer leaves standing, and readings one after another.
+pub mod Laws
+pub mod Reading
