@@ -12,12 +12,12 @@ use rom_device::Failed;
 use rom_header::Geometry;
 
 /// How many words are compared at a time.
-const PIECE: usize = 512;
+const PIECE: usize = 8192;
 
 /// Reads so many words from that place on, and says whether they are these.
 fn is_piece<W: Watched>(words: &mut W, at: u64, expected: &[u64]) -> Result<bool, Failed>
     requires inside { at + length expected.now ≤ W.shown.size words.old }
-    requires room { length expected.now ≤ 512 }
+    requires room { length expected.now ≤ 8192 }
     ensures found { IsTrue W.shown.tells → IfOk result (λ is. IsTrue is →
         StoodFrom W.shown words.old words.new at expected.now) }
     ensures later { IsLater W.shown words.old words.new }

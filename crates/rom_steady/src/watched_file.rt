@@ -7,10 +7,10 @@ use rom_device::{Failed, FileMedium, Medium};
 use std::fs::File;
 
 /// How many words are read in one call of the file.
-const PIECE: usize = 512;
+const PIECE: usize = 8192;
 
 /// The same in bytes.
-const PIECE_BYTES: usize = 4096;
+const PIECE_BYTES: usize = 65536;
 
 /// The words of a file, 8 bytes each, the lowest first, that are read as they stand in the file: none is kept, so
 /// that each read sees what was written before it. No contract can say what a file holds, so it tells nothing of
@@ -37,7 +37,7 @@ impl WatchedFile {
     /// Reads at most so many words as a piece has.
     fn read_piece(&mut self, at: u64, into: &mut [u64]) -> Result<(), Failed>
         requires inside { at + length into.old ≤ self.old.words }
-        requires room { length into.old ≤ 512 }
+        requires room { length into.old ≤ 8192 }
         ensures len { length into.new ≡ length into.old }
         ensures words { self.new.words ≡ self.old.words }
         ensures faults { HasRisen result (faults_of self.old.medium) (faults_of self.new.medium) }
