@@ -1,5 +1,5 @@
 -- What is handed on of a history, batch by batch, as it is done.
-use Rattle.std.specs.Prelude.{◌≡◌, ◌⊎◌, ℕ, ◌+◌, Bool, true, false, List, [], ◌∷◌, ◌++◌, take, Option, None}
+use Rattle.std.specs.Prelude.{◌≡◌, ◌⊎◌, ℕ, ◌+◌, Bool, true, false, List, [], ◌∷◌, ◌++◌, map, take, Option, None}
 use Rattle.std.specs.Io.KnownBytes.{Appends}
 use Rattle.rom_model.specs.Faults.{counted}
 use Rattle.rom_model.specs.declared.entry.Entry.{Entry}
@@ -18,6 +18,10 @@ updates_of found answers = []
 -- the words of the reply of an update
 abbrev pub reply_in : List ℕ × List ℕ → List ℕ
 reply_in u = u.1
+
+-- These updates are the last ones of a history.
+abbrev pub AreLast : List Entry → List (List ℕ × List ℕ) → Type 0
+AreLast history updates = (before : List Entry) × (done : List Entry) × (history ≡ before ++ done) × (updates ≡ map update_of done)
 
 -- updates that were done one behind another, and the place of the first
 pub record BatchSeen : Type 0 where

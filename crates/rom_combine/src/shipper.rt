@@ -4,7 +4,7 @@ ghost use Rattle.rom_lr.specs.Seats.{plan};
 ghost use Rattle.rom_model.specs.History.{LAST_COUNT};
 ghost use Rattle.rom_model.specs.declared.limits.TheConstants.{MAX_CALLERS};
 ghost use Rattle.rom_model.specs.declared.words.TheConstants.{CALL_WORDS, REPLY_WORDS};
-ghost use Rattle.rom_combine.specs.Shipping.{Ships, ShownShipper, reply_in, text_from, unshipped, updates_of};
+ghost use Rattle.rom_combine.specs.Shipping.{AreLast, Ships, ShownShipper, reply_in, text_from, unshipped, updates_of};
 ghost use Rattle.rom_rule.specs.Views.{Each};
 
 use crate::answering::CallAnswer;
@@ -22,11 +22,12 @@ pub struct Batch<'a> {
     pub(crate) seat: &'a WriterSeat,
 }
 
-// The invariant says that none of the calls that the pass found is answered. It needs the writer's seat, which
-// is here for that alone.
+// The invariant says that the updates are the last ones of the published history, which grows by a batch only once
+// that is certain on the device; and that none of the calls that the pass found is answered. It needs the writer's
+// seat, which is here for that alone.
 impl<'a> Model for Batch<'a> {
     ghost use Rattle.std.specs.Prelude.{◌≡◌, ◌+◌, ◌≤◌, length, false};
-    ghost use Rattle.rom_combine.specs.Shipping.{BatchSeen, updates_of};
+    ghost use Rattle.rom_combine.specs.Shipping.{AreLast, BatchSeen, updates_of};
     ghost use Rattle.rom_lr.specs.Seats.{plan};
     ghost use Rattle.rom_model.specs.History.{LAST_COUNT};
     ghost use Rattle.rom_model.specs.declared.limits.TheConstants.{MAX_CALLERS};
@@ -41,7 +42,8 @@ impl<'a> Model for Batch<'a> {
 
     ghost invariant = { λ b. (length b.found.now ≡ length b.answers.now)
         × (length b.found.now ≤ MAX_CALLERS) × (b.place + length b.found.now ≤ LAST_COUNT)
-        × Each (λ _ f. f.answered ≡ false) (plan b.seat.now).requests };
+        × Each (λ _ f. f.answered ≡ false) (plan b.seat.now).requests
+        × AreLast (plan b.seat.now).history (updates_of b.found.now b.answers.now) };
 }
 
 impl<'a> Batch<'a> {
@@ -130,6 +132,8 @@ pub(crate) fn hand_on<W: Shipper>(
     requires within { done ≤ length found.now }
     requires fits { place + done ≤ LAST_COUNT }
     requires unanswered { Each (λ _ f. f.answered ≡ false) (plan seat.now).requests }
+    requires published { AreLast (plan seat.now).history
+        (take done (updates_of found.now answers.now)) }
     ensures ships { IsTrue W.shown.tells → Ships (W.shown.state shipper.old) (W.shown.state shipper.new)
         (text_from W.shown.text place (take done (updates_of found.now answers.now))) }
     ensures last { IfSome (W.shown.last shipper.new) (λ replies.

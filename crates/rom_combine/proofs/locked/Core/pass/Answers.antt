@@ -51,7 +51,7 @@ use Rattle.rom_combine.specs.Histories.{IsCertainSince, PassMakes, ImageAt, batc
 use Rattle.rom_combine.specs.Applying.{laid_of}
 use Rattle.rom_combine.specs.AtRest.{IsAtRest, Locked}
 use Rattle.rom_combine.specs.Published.{IsPublished}
-use Rattle.rom_combine.specs.Shipping.{reply_in, update_of, updates_of}
+use Rattle.rom_combine.specs.Shipping.{AreLast, reply_in, update_of, updates_of}
 use Rattle.rom_combine.specs.Wanted.{calls_found}
 use Rattle.rom_combine.proofs.Wanting.{posted_requests, same_calls_found}
 use Rattle.rom_combine.proofs.Bridge.{same_held, list_certain, list_settled}
@@ -776,6 +776,21 @@ hand_on-requires-clause-fits g c = (hands_grew g c).1.fits
 pub hand_on-requires-clause-unanswered : goal.hand_on-requires-clause-unanswered
 hand_on-requires-clause-unanswered g c = subst (λ (z : Plan). Each (λ _ f. f.answered ≡ false) z.requests) (ap plan_of (sym c.load_main.ensures.still.2))
     (unanswered_left g.O.Object.Contents (on_words g.O.Object.machine) c.load_main-place.new.seat.token.me.0.base (fate_of c.publish-outcome.result) c.fault_count-before.result (g.D.Device.shown.faults c.publish-outcome.new.twin.device) (plan_of c.publish-outcome.new.seat.token.me.0) c.publish-outcome.new.answers.items c.publish-outcome.ensures.left)
+
+-- the updates that are handed on are the last ones of the history that was published
+pub hand_on-requires-clause-published : goal.hand_on-requires-clause-published
+unfolding hands_grew
+hand_on-requires-clause-published g c = let v : View = c.self.inside.seat.token.me.0 in let x : View = c.load_main-place.new.seat.token.me.0 in let inv = c.self.invariant.0 in
+    let is_pub : c.publish-outcome.result ≡ outcome.Published = search rules in let pb = (c.publish-outcome.ensures.published is_pub).published in
+    let base_v : x.base ≡ v.base = ap (λ (z : View). z.base) c.load_main-place.ensures.still.2 ∙ ap (λ (z : View). z.base) c.find.ensures.same.2 in
+    let op_x : g.O.Object.Contents x.base.order x.base.image inv.start inv.count = subst (λ (z : Base). g.O.Object.Contents z.order z.image inv.start inv.count) (sym base_v) inv.opening in
+    let more : pb.more ≡ batch_found g.O.Object.Contents (on_words g.O.Object.machine) x.base inv.start inv.count (plan_of x) = (pb.batch inv.start inv.count op_x).1 ∙ ap (λ (k : ℕ). batch (on_words g.O.Object.machine) x.base.order (after (on_words g.O.Object.machine) x.base.order inv.start inv.count (plan_of x).history) k (map found_of (plan_of x).requests)) (pb.batch inv.start inv.count op_x).0 in
+    subst (λ (z : Plan). AreLast z.history (take (c.load_main.result - c.load_main-place.result) (updates_of c.as_slice-3.result.now c.as_slice-4.result.now))) (ap plan_of (sym c.load_main.ensures.still.2)) (
+      (plan_of x).history,
+      pb.more,
+      pb.history,
+      handed_batch g.O.Object.Contents (on_words g.O.Object.machine) x.base inv.start inv.count (plan_of x) pb.more c.as_slice-3.result.now c.as_slice-4.result.now (c.load_main.result - c.load_main-place.result) (hands_found g c) more (hands_grew g c).1.done_is (ap (map laid_of) c.as_slice-4.ensures.value ∙ c.publish-outcome.ensures.told is_pub inv.start inv.count op_x),
+    )
 
 -- what was handed on: nothing where no call was done, else what was done
 pub returns-then-is_empty-clause-shipped : goal.returns-then-is_empty-clause-shipped
