@@ -31,7 +31,7 @@ pub struct Steady {
 pub enum Unsteady {
     /// No heap of this format stands there, or not all of it.
     NoHeap,
-    /// A batch came in between, each time.
+    /// A batch came in between, each time; or back stayed another than main under COPYING, as behind a failed write.
     Busy,
     /// There is no memory for a region.
     OutOfMemory,
