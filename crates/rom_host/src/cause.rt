@@ -45,9 +45,9 @@ impl Cause {
         Cause::from(io::Error::new(ErrorKind::InvalidInput, "is its own input"))
     }
 
-    /// That frames would stand among the lines or the replies of a caller.
-    pub(crate) fn callers_own() -> Cause {
-        let words = "is an input or an output of a caller";
+    /// That frames would stand among lines, replies or causes.
+    pub(crate) fn spoken_through() -> Cause {
+        let words = "is an input or an output of this program";
         Cause::from(io::Error::new(ErrorKind::InvalidInput, words))
     }
 
@@ -67,6 +67,12 @@ impl Cause {
     /// That another program has locked the file.
     pub(crate) fn locked() -> Cause {
         Cause::from(io::Error::new(ErrorKind::WouldBlock, "locked by another program"))
+    }
+
+    /// That another file has taken the place of the one that was opened.
+    pub(crate) fn replaced() -> Cause {
+        let words = "was replaced by another file while it was waited for";
+        Cause::from(io::Error::new(ErrorKind::WouldBlock, words))
     }
 
     /// That what stands at the name is neither a file nor a folder.

@@ -72,6 +72,17 @@ fn lock(program: &Program<'_>, file: &File, beside: Beside) -> Result<(), Cause>
     }
 }
 
+/// Locks a heap's file for this program alone. While it was waited for, another one may have been put in its place: what
+/// was written to the old one then nobody would find.
+fn lock_alone(program: &Program<'_>, name: &str, file: &File) -> Result<(), Cause> {
+    lock(program, file, Beside::Nobody)?;
+    if program.is_at(name, &file.metadata()?) {
+        Ok(())
+    } else {
+        Err(Cause::replaced())
+    }
+}
+
 /// The words of a file that is there.
 fn open_old(program: &Program<'_>, name: &str) -> Result<FileDevice, Cause> {
     program.may_open()?;
@@ -79,7 +90,7 @@ fn open_old(program: &Program<'_>, name: &str) -> Result<FileDevice, Cause> {
         .read(true)
         .write(true)
         .open(program.rt, name)?;
-    lock(program, &file, Beside::Nobody)?;
+    lock_alone(program, name, &file)?;
     let bytes = file.metadata()?.len();
     Ok(FileDevice::new(file, bytes))
 }
@@ -167,7 +178,7 @@ fn open_made(
         .create(true)
         .mode(0o600)
         .open(program.rt, name)?;
-    lock(program, &file, Beside::Nobody)?;
+    lock_alone(program, name, &file)?;
     // Asked for once it is locked: until then another program may have lengthened it, or made a heap there.
     let bytes = file.metadata()?.len();
     let wanted = words.saturating_mul(8);
@@ -196,7 +207,7 @@ fn open_new(program: &Program<'_>, name: &str, words: u64) -> Result<FileDevice,
         .create_new(true)
         .mode(0o600)
         .open(program.rt, name)?;
-    lock(program, &file, Beside::Nobody)?;
+    lock_alone(program, name, &file)?;
     // Until it was locked another program may have opened it, and made a heap there.
     if file.metadata()?.len() != 0 {
         return Err(io::Error::from(ErrorKind::AlreadyExists).into());

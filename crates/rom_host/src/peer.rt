@@ -10,7 +10,10 @@ use std::alloc::AllocError;
 use std::fs::{File, OpenOptions};
 use std::io;
 use std::io::{ErrorKind, Printer, Read, Stdin, Write};
-use std::os::unix::fs::MetadataExt;
+use std::os::unix::fs::{MetadataExt, OpenOptionsExt};
+
+/// The mode of an output that is made, less what the user's mask takes away.
+const ANYBODY: u32 = 0o666;
 
 /// The names of the files at which a peer is.
 #[derive(Clone, Copy)]
@@ -105,11 +108,12 @@ fn open_input(program: &Program<'_>, name: &str) -> Result<File, Cause> {
     Ok(file)
 }
 
-/// It is appended to, and made if need be.
-pub(crate) fn open_output(program: &Program<'_>, name: &str) -> Result<File, Cause> {
+/// A file that is appended to, and made with this mode if need be.
+pub(crate) fn open_to_append(program: &Program<'_>, name: &str, mode: u32) -> Result<File, Cause> {
     let file = OpenOptions::new()
         .append(true)
         .create(true)
+        .mode(mode)
         .open(program.rt, name)?;
     program.may_pass(&file.metadata()?)?;
     Ok(file)
@@ -142,7 +146,9 @@ fn apart(input: &File, output: File) -> Result<File, Cause> {
 /// Both files, the input first: each waits for who opens its other end, where it is a named pipe.
 fn open_pair(program: &Program<'_>, pair: Pair<'_>) -> Option<(File, File)> {
     let input = or_none(program, pair.input, open_input(program, pair.input))?;
-    let output = open_output(program, pair.output).and_then(|output| apart(&input, output));
+    let output = open_to_append(program, pair.output, ANYBODY).and_then(|output| apart(
+        &input, output,
+    ));
     let output = or_none(program, pair.output, output)?;
     Some((input, output))
 }

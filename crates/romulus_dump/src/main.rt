@@ -40,10 +40,10 @@ enum Source {
     Busy,
 }
 
-/// The heap in a file. It is tried for five seconds, as a lock is: one that is in use is taken, unless one of its
-/// regions is asked for by itself.
+/// The heap in a file. As often as a lock is tried, one that is in use is tried to be taken, unless one of its regions is
+/// asked for by itself.
 fn source_of(program: &Program<'_>, name: &str, alone: bool) -> Result<Source, AllocError> {
-    let mut last = Unsteady::NoHeap;
+    let mut is_busy = false;
     for _ in 0..NAPS {
         let mut file = match look_at(program, name)? {
             Looked::Still(device) => return Ok(Source::Still(device)),
@@ -53,12 +53,15 @@ fn source_of(program: &Program<'_>, name: &str, alone: bool) -> Result<Source, A
             match snapshot(program.alloc(), &mut file, TRIES) {
                 Ok(heap) => return Ok(Source::Taken(heap)),
                 Err(Unsteady::OutOfMemory) => return Err(AllocError),
-                Err(why) => last = why,
+                Err(Unsteady::Device) => return Ok(Source::Still(FileDevice::missing())),
+                Err(Unsteady::Busy) => is_busy = true,
+                // The heap may be being made.
+                Err(Unsteady::NoHeap) => {}
             }
         }
         program.nap();
     }
-    if last == Unsteady::Busy {
+    if is_busy {
         return Ok(Source::Busy);
     }
     program.tell_locked(name);
