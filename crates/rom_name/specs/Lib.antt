@@ -7,3 +7,4 @@ pub mod Greetings
 pub mod Heading
 pub mod Adopting
 pub mod Texts
+pub mod Telling

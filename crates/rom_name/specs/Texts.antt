@@ -5,6 +5,8 @@ use Rattle.hex.specs.Hex.{encode_lower}
 use Rattle.rom_frame.specs.declared.head.HeapName.{HeapName}
 use Rattle.rom_text.specs.Text.{line_text}
 use Rattle.rom_name.specs.declared.adoption.Adopted.{Adopted}
+use Rattle.rom_name.specs.declared.adoption.AdoptRefused.{AdoptRefused}
+use Rattle.rom_name.specs.declared.adoption.AdoptRefused.TheVariants as unadopted
 use Rattle.rom_name.specs.declared.identity.Identity.{Identity}
 use Rattle.rom_name.specs.declared.meeting.Refusal.{Refusal}
 use Rattle.rom_name.specs.declared.meeting.Refusal.TheVariants.{NoName, OtherName, OlderEpoch, SkippedEpoch, Parted, Gap, Nameless}
@@ -30,6 +32,13 @@ refusal_text refusal = line_text (refusal_line refusal)
 -- the line of an adoption
 abbrev pub adopted_text : Adopted → List ℕ
 adopted_text a = (codes "adopted " ++ name_text a.name) ++ line_text (codes " epoch " ++ decimal a.epoch ++ codes " at " ++ decimal a.count)
+
+-- why a copy is made no primary, without the LF
+abbrev pub unadopted_line : AdoptRefused → List ℕ
+unadopted_line unadopted.NoHeap = codes "refused: not a heap"
+unadopted_line unadopted.NoName = codes "refused: no name"
+unadopted_line unadopted.LastEpoch = codes "refused: last epoch"
+unadopted_line unadopted.Device = codes "device failed"
 
 -- whose updates a heap that has a name holds
 abbrev pub named_text : Identity → List ℕ

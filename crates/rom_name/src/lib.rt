@@ -20,6 +20,7 @@ mod identity;
 mod inputs;
 mod meeting;
 mod peeked;
+mod telling;
 mod text;
 mod writing;
 
@@ -32,5 +33,6 @@ pub use inputs::peek_all;
 pub use meeting::{Meeting, Refusal, meet};
 pub use peeked::{First, Peeked};
 pub use rom_frame::{Head, HeapName};
+pub use telling::{adopt_and_tell, tell_refusal};
 pub use text::{REFUSED, print_adopted, print_identity, print_refusal};
 pub use writing::{write_epoch, write_identity, write_name};
