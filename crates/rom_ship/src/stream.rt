@@ -1,7 +1,9 @@
 //! A sink that is handed the frames of all that is done.
-ghost use Rattle.std.specs.Prelude.{◌≡◌, ◌*◌, ◌<◌, ◌≤◌, ◌++◌, length, take, false};
-ghost use Rattle.rom_combine.specs.Shipping.{Ships, text_from};
+ghost use Rattle.std.specs.Prelude.{◌≡◌, ◌*◌, ◌<◌, ◌≤◌, ◌++◌, ℕ, List, length, map, take, false};
+ghost use Rattle.rom_combine.specs.Shipping.{Ships, text_from, update_of};
+ghost use Rattle.rom_frame.specs.Frames.{frames};
 ghost use Rattle.rom_frame.specs.Heads as heads;
+ghost use Rattle.rom_model.specs.declared.entry.Entry.{Entry};
 ghost use Rattle.rom_ship.specs.Streams.{frame_text, sunk};
 
 use rom_combine::{Batch, Shipper};
@@ -27,6 +29,9 @@ impl<K: Sink> FrameStream<K> {
     pub fn to(sink: K) -> Self
         ensures sink { result.sink ≡ sink }
         ensures on { result.failing ≡ false }
+        // What it makes of a history, whichever it is, is the frames of its entries from the place of the first on.
+        ensures frames { (place : ℕ) (history : List Entry) →
+            text_from frame_text place (map update_of history) ≡ frames place history }
     {
         FrameStream {
             sink,
