@@ -1,5 +1,5 @@
 //! The head of the stream that a heap begins.
-ghost use Rattle.std.specs.Prelude.{◌≡◌, ◌≤◌, ℕ, List, IfOk, IfSome, OnOk, IsTrue};
+ghost use Rattle.std.specs.Prelude.{◌≡◌, ◌≤◌, ℕ, List, IfOk, IfSome, IsSomeAnd, OnOk, IsTrue};
 ghost use Rattle.rom_model.specs.Faults.{HasCause};
 ghost use Rattle.rom_model.specs.Space.{ChangesOnly};
 ghost use Rattle.rom_device.specs.Device.{Does, IsSynced};
@@ -43,6 +43,10 @@ pub fn head_of<D: Device, O: Object>(
 ) -> Result<Option<Head>, Failed>
     requires { IsNamed drawn }
     ensures head { IfOk result (IsHeadOf D.shown drawn device.old device.new) }
+    // Of a heap that the device holds then there is a head, and the place that comes first is that heap's count.
+    ensures first { IsTrue D.shown.tells_words → (order : ℕ) (s : O.State) (k : ℕ) →
+        Holds O.Contents order (D.shown.words device.new) s k →
+        IfOk result (λ head. IsSomeAnd head (λ h. h.first ≡ k)) }
     // A stop behind it leaves the words that the head speaks of.
     ensures certain { IfOk result (λ head. IfSome head (λ _. IsSynced D.shown device.new)) }
     // Whatever it answers, and where it is stopped: the name is as it was, or it is the one that was drawn, whole.
