@@ -4,10 +4,10 @@
 //! region, and no file.
 //!
 //! [`snapshot`] takes a heap that is in use into memory, as one at rest: what is shown of it is then what is shown of
-//! any heap. [`view_whole`] takes the heap that a device holds, but none that is ahead of its back. [`put_whole`] puts the words of a heap
-//! ([`whole_words`]) on a device that has none, the magic last. Their contracts promise that what is taken is the
-//! region that counts, or that was committed at one moment, with the words of the name. A stop while it is put
-//! leaves what it might have left before, or no heap, or the whole one.
+//! any heap. [`view_whole`] takes the heap that a device holds, but none that is ahead of its back. [`put_whole`] puts
+//! the words of a heap ([`whole_words`]) on a device that has none, the magic last. Their contracts promise that what
+//! is taken is the region that counts, or that was committed at one moment, with the words of the name. A stop while
+//! it is put leaves what it might have left before, or no heap, or the whole one.
 #![tactic(auto)]
 
 mod put;

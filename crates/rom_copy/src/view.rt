@@ -140,9 +140,10 @@ fn read_whole<D: Device, O: Object>(alloc: Global, device: &mut D) -> Result<Ste
 }
 
 /// Takes the heap that a device holds: the region that counts, and the words of the name. It is what back holds,
-/// too. Under COPYING main is taken only where back is the same: back is written once COPYING is certain, and
-/// until then a stop may leave the heap as it was before. A sync here does not help: where an earlier one failed,
-/// it may succeed and write nothing.
+/// too. The sync makes certain what is read, so that a stop leaves no heap that is older than its copy. Under COPYING
+/// that is not enough: where the sync of COPYING failed, this one may succeed and write nothing, and a stop may leave
+/// the heap as it was before. So main is taken only where back is the same, since back is written once COPYING is
+/// certain.
 pub fn view_whole<D: Device, O: Object>(alloc: Global, device: &mut D) -> Result<Steady, Untaken>
     // Where the device tells its words: this region counts there, and these are the words of the name.
     ensures viewed { IsTrue D.shown.tells_words → IfOk result (λ whole.

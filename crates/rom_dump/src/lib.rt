@@ -13,8 +13,8 @@
 //! at least that order, give the state again, and none of them is told that the heap is full.
 //!
 //! `copy FILE NEW` is two calls, since the new file is made between them: `take_copy` takes the heap, and `put_copy`
-//! puts it on a device that has none. What the first answers is a whole heap with the region that counts and the words of
-//! the name. Where the second tells `copied`, the new device begins with these words.
+//! puts it on a device that has none. What the first answers is a whole heap with the region that counts and the words
+//! of the name. Where the second tells `copied`, the new device begins with these words.
 //!
 //! `main` opens the file for reading alone, with a lock that other dumps may share and a writer may not. That
 //! no write is made is proved. So a device that refuses writes is not needed: the usual one serves.
