@@ -2,9 +2,11 @@
 # Looks at a heap in a file that is write-protected, locked by others or damaged, and fails where
 # romulus_dump tells another thing, or where the file changes. By strace it fails too where a file is opened
 # to write, or written to or synced: that shows it for root as well, who may write a file that is protected.
-# Stored runs are one process alone, so this is no part of `rt ci`. Usage, from any folder, once the program
-# is built: bench/dump.sh
+# Then dump.py looks at heaps that a talk has open: at rest, at work, and stopped within an update.
+# Stored runs are one process alone, so this is no part of `rt ci`. Usage, from any folder, once the programs
+# are built: bench/dump.sh
 cd "$(dirname "$0")/.." || exit 1
+here=$PWD/bench
 program=$PWD/crates/romulus_dump/out/romulus_dump
 kept=$PWD/crates/romulus_dump/data/heap
 [ -x "$program" ] || { echo "build it first: ./romulus_dump check heap"; exit 1; }
@@ -60,34 +62,11 @@ told 5 "" sh -c "exec '$program' script heap >&-"
 told 0 "" sh -c "exec '$program' check heap >&-"
 cmp heap "$kept" || wrong=1
 
-# A heap that a talk changes meanwhile: each copy is what its count of updates makes, which are enq 1, deq, enq 2, deq
-# and so on.
-talk=${program%/*/*/*}/romulus_talk/out/romulus_talk
-romulus=${program%/*/*/*}/romulus/out/romulus
-in_use() {
-    rm -f talked copy.*
-    "$romulus" format talked --order "$1" >told || wrong=1
-    awk 'BEGIN { for (k = 1; k <= 200000; k++) print "enq " k "\ndeq" }' | "$talk" talked >replies &
-    talking=$!
-    sleep 0.2
-    for copy in 1 2 3 4 5 6 7 8; do
-        text=$("$program" copy talked copy.$copy) || { echo "WRONG: order $1: $text"; wrong=1; continue; }
-        count=${text##* }
-        made=$("$program" script copy.$copy)
-        [ "$((count % 2))" = 0 ] || made=${made#"enq $((count / 2 + 1))"}
-        [ -z "$made" ] || { echo "WRONG: order $1, count $count: $made"; wrong=1; }
-        "$program" check talked >told || { echo "WRONG: order $1: $(cat told)"; wrong=1; }
-    done
-    kill -0 $talking || { echo "the talk had ended: order $1 was not read in use"; wrong=1; }
-    kill $talking
-    wait $talking
-    last=$("$program" check talked | sed -n 's/^count //p')
-    [ "$count" -le "$last" ] || { echo "WRONG: order $1: count $count behind $last"; wrong=1; }
-}
-if [ -x "$talk" ] && [ -x "$romulus" ]; then
-    for order in 4 8 12 16; do in_use $order 2>/dev/null; done
+# A heap that a talk has open, and changes meanwhile.
+if command -v python3 >/dev/null; then
+    TMPDIR=$folder python3 "$here/dump.py" || wrong=1
 else
-    echo "build romulus and romulus_talk first: no heap was read in use"
+    echo "python3 is not here: no heap was read in use"
     wrong=1
 fi
 

@@ -2,23 +2,52 @@
 """A heap that ships its frames while clients talk to it, and a follower of it, on real processes. It prints a row for each
 thing that is looked at, and fails where a row does. A row is a function that tells what it saw, or raises Wrong.
 
+What a row demands holds however the system shares out its processors: where a moment matters it is waited for.
+
 Usage, from any folder, once the programs are built: bench/replica.py [--short] [ROW..], the rows by their names
 """
+import fcntl
 import os
 import random
 import re
+import select
 import shutil
 import signal
 import subprocess
 import sys
 import tempfile
+import termios
 import threading
 import time
 from functools import partial
 from subprocess import DEVNULL, PIPE
 
+sys.dont_write_bytecode = True  # the gate runs this
+
 import talk
 from talk import GIVEN, Talk, Wrong, converse, expect, new_heap, stat, told
+
+
+STARTED = []  # processes of a row, which may not outlive it
+
+
+def need(tool):
+    if not shutil.which(tool):
+        raise Wrong(f"{tool} is not here, so nothing was looked at")
+
+
+def wait_for(what, has_come):
+    """Waits until that has come, for a minute at most."""
+    until = time.monotonic() + 60
+    while not has_come():
+        if time.monotonic() > until:
+            raise Wrong(f"{what} did not come in a minute")
+        time.sleep(0.005)
+
+
+def bytes_in(pipe):
+    """How many bytes wait in a pipe."""
+    return int.from_bytes(fcntl.ioctl(pipe, termios.FIONREAD, bytes(4)), sys.byteorder)
 
 
 class Primary(Talk):
@@ -32,14 +61,21 @@ class Follower:
     """A follower of a stream: of a file also what is still to come, as the page has it."""
 
     def __init__(self, heap, stream, wrap=()):
-        self.parts = []
-        source = stream
-        if not os.path.exists(stream) or os.path.isfile(stream):
-            self.parts.append(subprocess.Popen(["tail", "-c", "+1", "-F", stream], stdout=PIPE, stderr=DEVNULL))
-            source = "/dev/stdin"
-        given = self.parts[0].stdout if self.parts else DEVNULL
-        self.process = subprocess.Popen([*wrap, GIVEN.replica, "follow", heap, source], stdin=given, stdout=PIPE, stderr=PIPE)
+        self.parts, words = [], [*wrap, GIVEN.replica, "follow", heap]
+        if os.path.exists(stream) and not os.path.isfile(stream):
+            self.process = subprocess.Popen([*words, stream], stdin=DEVNULL, stdout=PIPE, stderr=PIPE)
+        else:
+            wait_for("the stream's file", lambda: os.path.exists(stream))
+            self.follow_a_reader(words, "tail", "-c", "+1", "-f", stream)
         self.parts.append(self.process)
+        STARTED.extend(self.parts)
+
+    def follow_a_reader(self, words, *reader):
+        reading = subprocess.Popen(reader, stdout=PIPE, stderr=DEVNULL)
+        self.process = subprocess.Popen([*words, "/dev/stdin"], stdin=reading.stdout, stdout=PIPE, stderr=PIPE)
+        # Else the reader would not learn that the follower is gone.
+        reading.stdout.close()
+        self.parts.append(reading)
 
     def kill(self):
         for part in self.parts:
@@ -55,15 +91,28 @@ class Follower:
         return self.process.returncode, out.decode()
 
 
+# It keeps what it reads before it hands that on: so no follower has what is not kept.
+KEEPING = """
+import os, sys
+kept = os.open(sys.argv[2], os.O_WRONLY | os.O_CREAT)
+stream = os.open(sys.argv[1], os.O_RDONLY)
+while piece := os.read(stream, 1 << 16):
+    for out in kept, 1:
+        left = piece
+        while left:
+            left = left[os.write(out, left) :]
+"""
+
+
 class KeptFollower(Follower):
     """A follower at a pipe, whose bytes are kept in a file on their way to it."""
 
     def __init__(self, heap, stream, kept):
-        reader = subprocess.Popen(["sh", "-c", 'exec tee "$1" <"$0"', stream, kept], stdout=PIPE)
-        self.process = subprocess.Popen([GIVEN.replica, "follow", heap, "/dev/stdin"], stdin=reader.stdout, stdout=PIPE)
-        # Else the reader would not learn that the follower is gone.
-        reader.stdout.close()
-        self.parts = [reader, self.process]
+        self.parts = []
+        self.follow_a_reader([GIVEN.replica, "follow", heap], sys.executable, "-ISc", KEEPING, stream, kept)
+        self.parts.append(self.process)
+        STARTED.extend(self.parts)
+        wait_for("the kept file", lambda: os.path.exists(kept))
 
 
 def script_of(heap):
@@ -80,6 +129,13 @@ def name_of(heap):
 
 def count_of(heap):
     return int(stat(heap)["count"])
+
+
+def count_beside(heap):
+    """The count of a heap that another program may have."""
+    status, text = told(GIVEN.dump, "check", heap)
+    expect(status, 0, f"romulus_dump tells {text[:80]}")
+    return int(text.splitlines()[2].split()[1])
 
 
 def follow(heap, stream):
@@ -152,104 +208,150 @@ def pipe(callers):
     return f"{callers} clients: {count} frames by a pipe, the heaps are the same"
 
 
-def syncs():
-    """The syncs of a follower at a pipe behind sixteen clients, for each frame."""
-    if not shutil.which("strace"):
-        return "strace is not here, so nothing was looked at"
-    folder, lines = tempfile.mkdtemp(dir=GIVEN.memory), 60 if GIVEN.short else 1000
+def stand_still(process):
+    """Stops a process, and comes back once it stands still: until the signal is taken a read may still end."""
+    process.send_signal(signal.SIGSTOP)
+
+    def stands():
+        with open(f"/proc/{process.pid}/status") as told_process:
+            fields = dict(line.split(":\t", 1) for line in told_process)
+        waits = int(fields["ShdPnd"], 16) >> signal.SIGSTOP - 1 & 1
+        return fields["State"][0] in "tT" and not waits
+
+    wait_for("the stop of a process", stands)
+
+
+def follow_counted(rounds, together):
+    """The syncs of a follower at a pipe behind sixteen clients that say so many lines each, and the frames. Where these are to
+    come together the follower stands still while each client says one, and then takes them."""
+    folder = tempfile.mkdtemp(dir=GIVEN.memory)
     first, second, stream, calls = new_heap(8, folder), new_heap(8, folder), os.path.join(folder, "pipe"), os.path.join(folder, "calls")
     os.mkfifo(stream)
-    follower = Follower(second, stream, ("strace", "-f", "-c", "-o", calls, "-e", "trace=fdatasync,fsync"))
+    # By -D the process that is started is the follower.
+    follower = Follower(second, stream, ("strace", "-D", "-f", "-qq", "-o", calls, "-e", "trace=fdatasync,fsync"))
     with Primary(first, 16, stream) as primary:
         clients = primary.meet_all()
-        converse(clients, {client: drawn_lines(i, lines) for i, client in enumerate(clients)})
+        says = {client: drawn_lines(i, rounds) for i, client in enumerate(clients)}
+        looked_at = os.open(stream, os.O_RDONLY | os.O_NONBLOCK)
+        wait_for("the head to be read", lambda: not bytes_in(looked_at))
+        for _ in range(rounds if together else 0):
+            stand_still(follower.process)
+            converse(clients, {client: iter([next(says[client])]) for client in clients})
+            follower.process.send_signal(signal.SIGCONT)
+            wait_for("the frames to be read", lambda: not bytes_in(looked_at))
+        converse(clients, says)
         for client in clients:
             client.close()
+        os.close(looked_at)
         expect(primary.end(), (0, "", ""), "the end of the primary")
     expect(follower.end()[0], 0, "the end of the follower")
     same_heaps(first, second)
     with open(calls) as told_calls:
-        made = sum(int(line.split()[3]) for line in told_calls if re.search(r" f(data)?sync$", line))
-    count = count_of(first)
+        return len(re.findall(r"\bf(?:data)?sync\(", told_calls.read())), count_of(first)
+
+
+def syncs():
+    """The syncs of a follower for each frame, where the frames of sixteen clients have come together. Of a follower that
+    takes them as they come it is told alone: one that is quicker than its primary finds few."""
+    need("strace")
+    rounds = 30 if GIVEN.short else 1000
+    made, count = follow_counted(rounds, True)
     expect(made <= 0.4 * count + 4, True, f"at most 0.4 syncs a frame: {made} of {count}")
-    return f"{made / count:.2f} syncs a frame, of {count}"
+    live, live_count = follow_counted(rounds, False)
+    return f"{made / count:.2f} syncs a frame, of {count} that came together; {live / live_count:.2f} as they came"
+
+
+def counted(*words):
+    """The instructions of a command, by callgrind."""
+    out = os.path.join(tempfile.mkdtemp(), "out")
+    command = ["valgrind", "--tool=callgrind", f"--callgrind-out-file={out}", *words]
+    subprocess.run(command, check=True, stdin=DEVNULL, stdout=DEVNULL, stderr=DEVNULL)
+    with open(out) as profile:
+        return int(next(line for line in profile if line.startswith(("totals:", "summary:"))).split()[1])
 
 
 def instructions():
-    """The instructions of a frame that is followed beside those of an update of a talk that ships it."""
-    if not shutil.which("valgrind"):
-        return "valgrind is not here, so nothing was looked at"
-    folder, lines = tempfile.mkdtemp(dir=GIVEN.memory), 200 if GIVEN.short else 2000
+    """The instructions of a frame that is followed beside those of an update of a talk that ships it, of one client and of
+    sixteen, whose lines are in files."""
+    need("valgrind")
+    lines = 320 if GIVEN.short else 3200
 
-    def count(*words, **streams):
-        out = os.path.join(folder, "out")
-        subprocess.run(["valgrind", "--tool=callgrind", f"--callgrind-out-file={out}", *words], check=True, stdout=DEVNULL, stderr=DEVNULL, **streams)
-        with open(out) as profile:
-            return int(next(line for line in profile if line.startswith(("totals:", "summary:"))).split()[1])
-
-    def counts(many):
-        first, second, stream = new_heap(8, folder), new_heap(8, folder), os.path.join(folder, f"frames.{many}")
-        said = "".join(f"put {i % 40} {i}\n" for i in range(many)).encode()
-        shipped = count(GIVEN.talk, "--ship", stream, first, input=said)
-        followed = count(GIVEN.replica, "follow", second, stream)
+    def counts(many, callers):
+        folder = tempfile.mkdtemp()
+        first, second, stream, pairs = new_heap(8, folder), new_heap(8, folder), os.path.join(folder, "frames"), []
+        for caller in range(callers):
+            pairs += [os.path.join(folder, f"{caller}.{way}") for way in ("in", "out")]
+            with open(pairs[-2], "w") as said:
+                said.writelines(f"put {i % 40} {i}\n" for i in range(caller, many, callers))
+        shipped = counted(GIVEN.talk, "--ship", stream, first, *pairs)
+        followed = counted(GIVEN.replica, "follow", second, stream)
         same_heaps(first, second)
         return shipped, followed
 
-    short, long = counts(lines), counts(2 * lines)
-    shipped, followed = ((b - a) // lines for a, b in zip(short, long))
-    expect(followed <= 1.5 * shipped, True, f"at most 1.5 times the primary's instructions: {followed} beside {shipped}")
-    return f"{followed} a frame, {shipped} an update of the primary"
+    rows = []
+    for callers in 1, 16:
+        short, long = counts(lines, callers), counts(2 * lines, callers)
+        shipped, followed = ((b - a) // lines for a, b in zip(short, long))
+        expect(followed <= 1.5 * shipped, True, f"at most 1.5 times the primary's instructions: {followed} beside {shipped}")
+        rows.append(f"{followed} a frame, {shipped} an update of a primary of {callers}")
+    return "; ".join(rows)
 
 
 def copies():
-    """Copies of a heap that sixteen clients are at work on: each follows the stream of that talk, and is the primary at the
-    end."""
+    """Copies of a heap that sixteen clients are at work on: each has what they were told before, follows the stream of that
+    talk, and is the primary at the end."""
     folder, many = tempfile.mkdtemp(dir=GIVEN.memory), 3 if GIVEN.short else 40
-    first, stream = new_heap(8, folder), os.path.join(folder, "frames")
+    first, stream, heard = new_heap(8, folder), os.path.join(folder, "frames"), Told()
     made, counts = [], []
     with Primary(first, 16, stream) as primary:
         clients = primary.meet_all()
         endless = {client: drawn_lines(i, 10**9) for i, client in enumerate(clients)}
+
+        def go_on():
+            converse(clients, {client: iter([next(endless[client]) for _ in range(20)]) for client in clients}, heard=heard.hear)
+
         while len(made) < many:
-            copy = os.path.join(folder, f"copy.{len(made)}")
+            go_on()  # so each copy has more than the one before
+            before, copy = heard.last + 1, os.path.join(folder, f"copy.{len(made)}")
             copying = subprocess.Popen([GIVEN.dump, "copy", first, copy], stdout=PIPE)
             while copying.poll() is None:
-                converse(clients, {client: (line for line in [next(endless[client]) for _ in range(20)]) for client in clients})
+                go_on()
             text = copying.communicate()[0].decode()
             expect((copying.returncode, text.startswith("copied order 8 count ")), (0, True), f"a copy, told {text!r}")
             made.append(copy)
             counts.append(int(text.split()[-1]))
+            behind = heard.last + 1
+            expect(before <= counts[-1] <= behind, True, f"a copy at {counts[-1]}: {before} were told before it, {behind} behind it")
         for client in clients:
             client.close()
         expect(primary.end(), (0, "", ""), "the end of the primary")
-    expect(sorted(counts), counts, "the counts of the copies")
+    expect(sorted({*counts}), counts, "the counts of the copies")
     for copy, count in zip(made, counts):
         expect(count_of(copy), count, "the count of a copy")
         (applied, _, early), status = follow(copy, stream)
         expect((count + applied, early, status), (count_of(first), 0, 0), "what a copy follows")
         same_heaps(first, copy)
-    return f"{many} copies at {len({*counts})} counts from {counts[0]} to {counts[-1]} of {count_of(first)}: each follows"
+    return f"{many} copies at counts from {counts[0]} to {counts[-1]} of {count_of(first)}: each follows"
 
 
 def killed_followers():
-    """A follower that is killed again and again while the primary is at work, and started by the page's command."""
-    folder, kills = tempfile.mkdtemp(dir=GIVEN.memory), 5 if GIVEN.short else 200
+    """A follower that is killed again and again while the primary is at work, and started by the page's command. Every other
+    time it has done something before."""
+    folder, kills = tempfile.mkdtemp(dir=GIVEN.memory), 6 if GIVEN.short else 200
     first, second, stream = new_heap(8, folder), new_heap(8, folder), os.path.join(folder, "frames")
-    counts, turn = [], 0
+    counts = [0]
     with Primary(first, 16, stream) as primary:
         clients = primary.meet_all()
         endless = {client: drawn_lines(i, 10**9) for i, client in enumerate(clients)}
-        waiting = {client: [next(endless[client])] for client in clients}
-        while turn < kills:
+        for turn in range(kills):
             follower = Follower(second, stream)
-            said = {client: (line for line in waiting[client] + [next(endless[client]) for _ in range(20)]) for client in clients}
-            for client in clients:
-                waiting[client] = []
-            converse(clients, said)
-            time.sleep(random.random() * 0.05)
+            converse(clients, {client: iter([next(endless[client]) for _ in range(20)]) for client in clients})
+            if turn % 2:
+                wait_for("the follower's next count", lambda: count_beside(second) > counts[-1])
+            else:
+                time.sleep(random.random() * 0.05)
             follower.kill()
             counts.append(count_of(second))
-            turn += 1
         for client in clients:
             client.close()
         expect(primary.end(), (0, "", ""), "the end of the primary")
@@ -257,28 +359,27 @@ def killed_followers():
     (_, _, early), status = follow(second, stream)
     expect((early, status), (0, 0), "the last of the stream")
     same_heaps(first, second)
-    grown = len({*counts})
-    if grown < 2:
-        raise Wrong("the follower was killed before it did anything")
+    grown = len({*counts}) - 1
+    expect(grown >= kills // 2, True, f"that the follower did something before half of the kills: {grown} of {kills}")
     return f"{kills} kills, {grown} counts on the way, {counts[-1]} of {count_of(first)} before the last start"
 
 
 def killed_primaries(callers):
     """A primary that is killed at any moment, and a follower of it: nothing told is missing there. What was done and
     not told may be: then the follower begins anew as a copy, as the page says."""
-    folder, kills = tempfile.mkdtemp(dir=GIVEN.memory), 5 if GIVEN.short else 200
+    folder, kills = tempfile.mkdtemp(dir=GIVEN.memory), 6 if GIVEN.short else 200
     first, second = new_heap(8, folder), new_heap(8, folder)
     copies = lost = among = 0
     for turn in range(kills):
         stream = os.path.join(folder, f"frames.{turn}")
-        follower = Follower(second, stream)
         with Primary(first, callers, stream) as primary:
-            last = kill_among(primary, primary.meet_all(), turn)
+            clients = primary.meet_all()
+            follower = Follower(second, stream)
+            last = kill_among(primary, clients, turn, turn % 2)
         follower.kill()
-        if os.path.exists(stream):
-            (applied, known, early), status = follow(second, stream)
-            expect((early, status in (0, 1)), (0, True), f"turn {turn}, the stream that was cut: early, and the status {status}")
-            among += applied + known > 0
+        (applied, known, early), status = follow(second, stream)
+        expect((early, status in (0, 1)), (0, True), f"turn {turn}, the stream that was cut: early, and the status {status}")
+        among += applied + known > 0
         behind = count_of(first) - count_of(second)
         expect(last < count_of(second), True, f"turn {turn}, that place {last} is at the follower")
         if behind:
@@ -286,16 +387,17 @@ def killed_primaries(callers):
             lost, copies = lost + behind, copies + 1
             make_copy(first, second)
         same_heaps(first, second)
-        if os.path.exists(stream):
-            os.remove(stream)
-    if not among:
-        raise Wrong("no kill came among updates")
+        os.remove(stream)
+    expect(among >= kills // 2, True, f"that half of the kills came among updates: {among} of {kills}")
     return f"{kills} kills, {among} among updates: none told is missing; {lost} that nobody was told of, so {copies} copies"
 
 
-def kill_among(primary, clients, seed):
-    """Kills a primary while its clients talk, and gives the last place that one of them was told of."""
+def kill_among(primary, clients, seed, told_one):
+    """Kills a primary while its clients talk, if asked for once one of them was told a place, and gives the last place that
+    one was told of."""
     last = Told()
+    if told_one:
+        last.hear(None, clients[0].ask("enq 1"))
     said = {client: drawn_lines(1000 * seed + i, 10**9) for i, client in enumerate(clients)}
     converse(clients, said, time.monotonic() + random.random() * 0.2, last.hear)
     # Their last lines are on the way: a batch takes some 200 microseconds, and the kill comes within it.
@@ -310,8 +412,9 @@ def kill_among(primary, clients, seed):
 
 def killed_at_a_pipe(callers):
     """A follower at a named pipe: in turn it and its primary are killed. It has the first frames of what the pipe passed
-    on, and nothing told is missing where the primary was killed. Where it is behind it begins anew as a copy."""
-    folder, kills = tempfile.mkdtemp(dir=GIVEN.memory), 6 if GIVEN.short else 400
+    on, and nothing told is missing where the primary was killed. Where it is behind it begins anew as a copy. Every other
+    time either is killed it has done something before."""
+    folder, kills = tempfile.mkdtemp(dir=GIVEN.memory), 8 if GIVEN.short else 400
     first, second, third = new_heap(8, folder), new_heap(8, folder), os.path.join(folder, "third")
     copies = lost = among = 0
     for turn in range(kills):
@@ -323,12 +426,13 @@ def killed_at_a_pipe(callers):
         with Primary(first, callers, stream) as primary:
             clients = primary.meet_all()
             if turn % 2:
-                last = kill_among(primary, clients, turn)
+                last = kill_among(primary, clients, turn, turn % 4 == 1)
                 expect(follower.end()[0] in (0, 1), True, f"turn {turn}, the end of the follower")
                 expect(last < count_of(second), True, f"turn {turn}, that place {last} is at the follower")
                 lost += count_of(first) - count_of(second)
             else:
-                killing = threading.Timer(random.random() * 0.1, follower.process.kill)
+                grown = (lambda: count_beside(second) > begun) if turn % 4 == 0 else None
+                killing = threading.Thread(target=kill_later, args=(follower, grown))
                 killing.start()
                 converse(clients, {client: drawn_lines(1000 * turn + i, 40) for i, client in enumerate(clients)})
                 killing.join()
@@ -349,9 +453,17 @@ def killed_at_a_pipe(callers):
         same_heaps(first, second)
         for path in stream, kept, frames.name:
             os.remove(path)
-    if among < 2:
-        raise Wrong("no kill came among frames")
+    expect(among >= kills // 2, True, f"that half of the kills came among frames: {among} of {kills}")
     return f"{kills} kills, {among} among frames: the follower is a prefix, none told is missing; {lost} that nobody was told of, {copies} copies"
+
+
+def kill_later(follower, has_come):
+    """Kills a follower, its reader stays, once that has come, or else within a tenth of a second."""
+    if has_come:
+        wait_for("the follower's next count", has_come)
+    else:
+        time.sleep(random.random() * 0.1)
+    follower.process.kill()
 
 
 def failovers(callers):
@@ -366,8 +478,7 @@ def failovers(callers):
         follower = Follower(second, stream)
         with Primary(first, callers, stream) as primary:
             clients = primary.meet_all()
-            clients[0].ask("enq 1")
-            last = kill_among(primary, clients, turn)
+            last = kill_among(primary, clients, turn, True)
         expect(follower.end()[0] in (0, 1), True, f"turn {turn}, the end of the follower")
         count, place = count_of(first), count_of(second)
         adopted = told(GIVEN.replica, "adopt", second)
@@ -405,7 +516,7 @@ def failing_streams():
         reader.wait()
         expect(clients[1].ask("enq 2"), "queued @1", "a reply beside a stream that failed")
         expect(clients[0].ask("enq 3"), "queued @2", "a reply behind a stream that failed")
-        said = os.read(primary.process.stderr.fileno(), 4096).decode()
+        said = primary.process.stderr.readline().decode()
         expect("nothing more is shipped: Broken pipe" in said, True, f"the cause on standard error: {said!r}")
         for client in clients:
             client.close()
@@ -469,7 +580,11 @@ def held_up():
     with Primary(first, 2, stream) as primary:
         writer, other = primary.meet_all()
         writer.say(*[f"put {i % 40} {i}" for i in range(3000)])
-        time.sleep(0.5)
+        wait_for("the end of the pipe's room", lambda: not select.select([], [reader], [], 0)[1])
+        held = 0
+        while held < bytes_in(reader):  # the last page may take a frame more
+            held = bytes_in(reader)
+            time.sleep(0.05)
         answer = other.ask("get 77")
         expect(answer.startswith("none #"), True, f"a read beside a full pipe: {answer}")
         done = int(answer.rpartition("#")[2])
@@ -507,33 +622,45 @@ ROWS = {
 }
 
 
-def main():
-    GIVEN.short = "--short" in sys.argv
-    names = [name for name in sys.argv[1:] if name != "--short"] or [*ROWS]
-    for what, name in ("program", "romulus"), ("talk", "romulus_talk"), ("replica", "romulus_replica"), ("dump", "romulus_dump"):
+def find(**programs):
+    """Notes where these programs are."""
+    for what, name in programs.items():
         path = os.path.join(os.path.dirname(talk.BENCH), "crates", name, "out", name)
         if not os.path.exists(path):
             sys.exit(f"build the program first: ./{name}")
         setattr(GIVEN, what, path)
-    with tempfile.TemporaryDirectory(dir="/dev/shm" if os.path.isdir("/dev/shm") else None) as GIVEN.memory:
-        return look_at(names)
 
 
-def look_at(names):
-    signal.signal(signal.SIGALRM, talk.too_long)
-    well = 0
-    for name in names:
-        begun = time.monotonic()
-        signal.alarm(60 if GIVEN.short else 1800)
-        try:
-            print(f"{name}: {ROWS[name]()}, {time.monotonic() - begun:.1f} s", flush=True)
-            well += 1
-        except (Wrong, OSError, ValueError, subprocess.SubprocessError) as error:
-            print(f"{name}: FAILED: {type(error).__name__}: {error}", flush=True)
-        signal.alarm(0)
-    print(f"replica: {well} rows passed, {len(names) - well} failed")
+def main(of, rows, folder=None):
+    """Looks at the rows that the command line names, or at all. What they make is in a folder of that one."""
+    GIVEN.short = "--short" in sys.argv
+    names = [name for name in sys.argv[1:] if name != "--short"] or [*rows]
+    with tempfile.TemporaryDirectory(dir=folder) as GIVEN.memory:
+        tempfile.tempdir = GIVEN.memory
+        well = sum(look_at(name, rows[name]) for name in names)
+    print(f"{of}: {well} rows passed, {len(names) - well} failed")
     return 0 if names and well == len(names) else 1
 
 
+def look_at(name, row):
+    """Says whether a row passes, and prints what it saw."""
+    signal.signal(signal.SIGALRM, talk.too_long)
+    begun = time.monotonic()
+    signal.alarm(120 if GIVEN.short else 1800)
+    try:
+        print(f"{name}: {row()}, {time.monotonic() - begun:.1f} s", flush=True)
+        return True
+    except (Wrong, OSError, ValueError, subprocess.SubprocessError) as error:
+        print(f"{name}: FAILED: {type(error).__name__}: {error}", flush=True)
+        return False
+    finally:
+        signal.alarm(0)
+        while STARTED:
+            part = STARTED.pop()
+            if part.poll() is None:
+                part.kill()
+
+
 if __name__ == "__main__":
-    sys.exit(main())
+    find(program="romulus", talk="romulus_talk", replica="romulus_replica", dump="romulus_dump")
+    sys.exit(main("replica", ROWS, "/dev/shm" if os.path.isdir("/dev/shm") else None))
