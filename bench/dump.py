@@ -206,4 +206,4 @@ ROWS = {
 
 if __name__ == "__main__":
     replica.find(program="romulus", talk="romulus_talk", dump="romulus_dump")
-    sys.exit(replica.main("dump", ROWS))
+    sys.exit(replica.main("dump", ROWS, 120))

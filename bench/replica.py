@@ -459,11 +459,13 @@ def killed_at_a_pipe(callers):
 
 def kill_later(follower, has_come):
     """Kills a follower, its reader stays, once that has come, or else within a tenth of a second."""
-    if has_come:
-        wait_for("the follower's next count", has_come)
-    else:
-        time.sleep(random.random() * 0.1)
-    follower.process.kill()
+    try:
+        if has_come:
+            wait_for("the follower's next count", has_come)
+        else:
+            time.sleep(random.random() * 0.1)
+    finally:
+        follower.process.kill()
 
 
 def failovers(callers):
@@ -631,22 +633,23 @@ def find(**programs):
         setattr(GIVEN, what, path)
 
 
-def main(of, rows, folder=None):
-    """Looks at the rows that the command line names, or at all. What they make is in a folder of that one."""
+def main(of, rows, seconds, folder=None):
+    """Looks at the rows that the command line names, or at all, so many seconds each at most. What they make is in a folder of
+    that one."""
     GIVEN.short = "--short" in sys.argv
     names = [name for name in sys.argv[1:] if name != "--short"] or [*rows]
     with tempfile.TemporaryDirectory(dir=folder) as GIVEN.memory:
         tempfile.tempdir = GIVEN.memory
-        well = sum(look_at(name, rows[name]) for name in names)
+        well = sum(look_at(name, rows[name], seconds) for name in names)
     print(f"{of}: {well} rows passed, {len(names) - well} failed")
     return 0 if names and well == len(names) else 1
 
 
-def look_at(name, row):
+def look_at(name, row, seconds):
     """Says whether a row passes, and prints what it saw."""
     signal.signal(signal.SIGALRM, talk.too_long)
     begun = time.monotonic()
-    signal.alarm(120 if GIVEN.short else 1800)
+    signal.alarm(seconds)
     try:
         print(f"{name}: {row()}, {time.monotonic() - begun:.1f} s", flush=True)
         return True
@@ -663,4 +666,5 @@ def look_at(name, row):
 
 if __name__ == "__main__":
     find(program="romulus", talk="romulus_talk", replica="romulus_replica", dump="romulus_dump")
-    sys.exit(main("replica", ROWS, "/dev/shm" if os.path.isdir("/dev/shm") else None))
+    memory = "/dev/shm" if os.path.isdir("/dev/shm") else None
+    sys.exit(main("replica", ROWS, 120 if "--short" in sys.argv else 1800, memory))
