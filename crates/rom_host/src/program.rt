@@ -72,6 +72,16 @@ impl<'a> Program<'a> {
         self.tell(name, &Cause::locked());
     }
 
+    /// Says on standard error what helps a heap of this name that may not follow its primary's stream.
+    pub fn tell_copy(&self, name: &str) {
+        if !self.tells_there {
+            let (program, shown) = (self.name, name.escape_debug());
+            let _ = eprintln!(self.rt;
+                "{program}: {shown}: make it a copy of the primary: romulus_dump copy PRIMARY NEW && mv NEW {shown}"
+            );
+        }
+    }
+
     /// Where it takes memory.
     pub fn alloc(&self) -> Global {
         self.rt.alloc()
