@@ -200,7 +200,7 @@ def release(talk):
 ROWS = {
     **{f"at rest, order {order}": partial(at_rest, order) for order in (4, 8, 12, 16)},
     **{f"in use, order {order}": partial(in_use, order) for order in (4, 8, 12, 16)},
-    "stages": partial(stages, 12),
+    "stages": partial(stages, 8),
 }
 
 

@@ -271,8 +271,8 @@ def counted(*words):
 
 
 def instructions():
-    """The instructions of a frame that is followed beside those of an update of a talk that ships it, of one client and of
-    sixteen, whose lines are in files."""
+    """The instructions of a frame that is followed beside those of an update of a talk that ships it, whose clients' lines are
+    in files. Beside sixteen clients they are told alone: how many share a pass under valgrind is chance."""
     need("valgrind")
     lines = 320 if GIVEN.short else 3200
 
@@ -292,7 +292,8 @@ def instructions():
     for callers in 1, 16:
         short, long = counts(lines, callers), counts(2 * lines, callers)
         shipped, followed = ((b - a) // lines for a, b in zip(short, long))
-        expect(followed <= 1.5 * shipped, True, f"at most 1.5 times the primary's instructions: {followed} beside {shipped}")
+        if callers == 1:
+            expect(followed <= 1.5 * shipped, True, f"at most 1.5 times the primary's instructions: {followed} beside {shipped}")
         rows.append(f"{followed} a frame, {shipped} an update of a primary of {callers}")
     return "; ".join(rows)
 
