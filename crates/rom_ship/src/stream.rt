@@ -65,15 +65,9 @@ impl<K: Sink> FrameStream<K> {
 }
 
 impl<K: Sink> Shipper for FrameStream<K> {
-    ghost use Rattle.std.specs.Prelude.{None, true};
-    ghost use Rattle.rom_ship.specs.Streams.{frame_text, sunk};
+    ghost use Rattle.rom_ship.specs.Streams.{shown_stream};
 
-    ghost shown = { record {
-      tells = true;
-      text = frame_text;
-      state = λ s. sunk K.shown s.sink s.failing;
-      last = λ s. None;
-    } };
+    ghost shown = { shown_stream K.shown };
 
     fn ship(&mut self, batch: &Batch<'_>) {
         if self.failing {
