@@ -59,6 +59,7 @@ module _ (base : Base) (many turns count : ℕ) (was : View) (inv : IsChaser bas
       told = omega arith;
       history = sym (append-nil (plan_of was).history);
       records = sym (append-nil (records_of (plan_of was)));
+      one = omega arith;
       count_is = refl;
       args = refl;
       replies_are = refl;
@@ -120,6 +121,7 @@ module _ {D : Type 0} (shown : ShownDevice D) (base : Base) (many turns count : 
           told = omega (arith, d.done, told.0);
           history = d.history;
           records = d.records;
+          one = omega arith;
           count_is = refl;
           args = d.args ∙ ap (λ (n : ℕ). take n calls) (sym d.done);
           replies_are = told.1 ∙ ap (λ (n : ℕ). take n replies) (sym d.done);
@@ -158,6 +160,7 @@ module _ {D : Type 0} (shown : ShownDevice D) (base : Base) (many turns count : 
           told = omega arith;
           history = d.history;
           records = d.records;
+          one = omega arith;
           count_is = refl;
           args = ap (map args_in) none;
           replies_are = ap (map reply_of) none;

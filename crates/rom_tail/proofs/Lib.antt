@@ -1,4 +1,4 @@
--- Frames in turn, what a batch does, how a stream is followed on, and what a heap has of another's history.
+-- Frames in turn, what a batch does, how a stream is followed on, what a heap has of another's history, and whose.
 mod Lists
 mod Blocks
 mod Turns
@@ -11,3 +11,4 @@ mod Completing
 mod NextFrames
 mod Prefixed
 mod Follows
+mod Naming

@@ -34,6 +34,7 @@ none_taken frames c none = record {
   many = refl;
   history = sym (append-nil c.history);
   records = sym (append-nil c.records);
+  one = omega arith;
   count_is = let same : c.count ≡ c.count + 0 = omega arith in same;
   few = tt;
   updates = ap (λ (n : ℕ). map update_of (take n [])) (ap length none) ∙ sym (ap (map update_in) none);
@@ -147,6 +148,7 @@ module _ (frames : List Frame) (old new : Chased) (took : Took) (replies : List 
     many = c.many;
     history = x.history;
     records = x.records;
+    one = x.one;
     count_is = x.count_is ∙ ap (λ (n : ℕ). old.count + n) x.done_is;
     few = all_map (λ r. map args_of r.found ≡ calls) FindsFew b.passes (λ r found. omega (arith, ap length found, length-map r.found args_of, calls_long, applied_few old.count frames, few)) x.found;
     updates = updates;

@@ -79,6 +79,7 @@ module _ (calls : List (List ℕ)) (old new : Chased) (more : List Entry) (passe
     pub told : done ≤ length replies
     pub history : new.history ≡ old.history ++ more
     pub records : new.records ≡ old.records ++ passes
+    pub one : length passes ≤ 1
     pub count_is : new.count ≡ old.count + done
     pub args : map args_in more ≡ take done calls
     pub replies_are : map reply_of more ≡ take done replies
@@ -106,7 +107,7 @@ module _ (frames : List Frame) (old new : Chased) (before rest : List Frame) (mo
   StopsAtFirst (f ∷ fs) (Some stop) = (f.place ≡ old.count + many_next old.count before) × StopsAt f stop
   StopsAtFirst left other = ⊥
 
--- So of the frames before the stop, as many as are counted, and those from it on. The first entries are the updates of those before it; and all are calls of the frames.
+-- So of the frames before the stop, as many as are counted, and those from it on. The first entries are the updates of those before it; and all are calls of the frames. They were one pass at most.
 pub record TakesFrames (frames : List Frame) (old new : Chased) (took : Took) : Type 0 where
   pub before : List Frame
   pub rest : List Frame
@@ -116,6 +117,7 @@ pub record TakesFrames (frames : List Frame) (old new : Chased) (took : Took) : 
   pub many : took.counted ≡ length before
   pub history : new.history ≡ old.history ++ more
   pub records : new.records ≡ old.records ++ passes
+  pub one : length passes ≤ 1
   pub count_is : new.count ≡ old.count + length more
   pub few : AllByRecursion FindsFew passes
   pub updates : map update_of (take (many_next old.count before) more) ≡ map update_in (applied old.count before)

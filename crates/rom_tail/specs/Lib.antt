@@ -9,3 +9,4 @@ pub mod Tallied
 pub mod Tailed
 pub mod Prefixes
 pub mod Promise
+pub mod Named

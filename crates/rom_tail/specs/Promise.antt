@@ -1,6 +1,5 @@
 -- What following in batches promises.
-use Rattle.std.specs.Prelude.{◌≡◌, ◌⊎◌, ℕ, ◌≤◌, ◌++◌, length, IsTrue, IsSome, IsNone, IfSome, Option}
-use Rattle.std.specs.Global.{Vec}
+use Rattle.std.specs.Prelude.{◌≡◌, ◌⊎◌, ℕ, ◌≤◌, ◌++◌, List, length, IsTrue, IsSome, IsNone, IfSome, Option}
 use Rattle.std.specs.List.{AllByRecursion}
 use Rattle.rom_heap.specs.Answers.{Rejects, earlier}
 use Rattle.rom_model.specs.History.{IsLegal, LAST_COUNT}
@@ -60,30 +59,30 @@ pub record IsToldOfTail {D X K : Type 0} (shown : ShownDevice D) (device closed 
   pub printed : IsTailText sink tally stop (count story) old new status
 
 -- Whatever becomes of a heap that follows a stream in batches, it ends so and prints so.
-pub record TailPromise {D X K : Type 0} (shown : ShownDevice D) (source : ShownSource X) (sink : ShownSink K) (was now : D) (inputs left : Vec X) (old new : K) (status : ℕ) (session : Option SessionSeen) : Type 0 where
+pub record TailPromise {D X K : Type 0} (shown : ShownDevice D) (source : ShownSource X) (sink : ShownSink K) (was now : D) (inputs left : List X) (old new : K) (status : ℕ) (session : Option SessionSeen) : Type 0 where
   -- the status, and where a session is left
   pub statuses : IsTailedStatus status ⊎ IsUnfollowedStatus status ⊎ (status ≡ 7)
   pub taken : IsTailedStatus status → IsSome session
   pub not_taken : IsUnfollowedStatus status → IsNone session
   -- and which it is where the heap stands and nothing fails
-  pub complete : IsTrue shown.tells_words → IsAtHand Contents earlier Standing (shown.words was) → NoneFailed shown source sink was now inputs.items left.items old new → EndsUnfailed status
+  pub complete : IsTrue shown.tells_words → IsAtHand Contents earlier Standing (shown.words was) → NoneFailed shown source sink was now inputs left old new → EndsUnfailed status
   -- With 3 the heap is refused by name; and where it is, and no call of the device fails, it is 3, unless memory is short.
   pub refused_so : IsTrue shown.tells_words → status ≡ 3 → IsRefusedByName Contents Rejects earlier Standing (shown.words was)
   pub refused : IsTrue shown.tells_words → IsRefusedByName Contents Rejects earlier Standing (shown.words was) → IsUnfailed shown was now → (status ≡ 3) ⊎ (status ≡ 6)
   -- Where the heap was opened, the stream was followed, and what a stop of the device leaves is told by the history. And the heap follows each history whose frames it read.
-  pub story : IfSome session (HasSession trio Contents shown Standing was now (λ callers story. OfOne inputs.items left.items (λ x y. IsToldOfTail shown was now source sink x y old new status story)))
+  pub story : IfSome session (HasSession trio Contents shown Standing was now (λ callers story. OfOne inputs left (λ x y. IsToldOfTail shown was now source sink x y old new status story)))
   -- each pass that added to the history was certain at its commit: no stop since then has left less of it
   pub lasting : IfSome session (λ s. EachStory trio Contents s (λ story. HasLasted shown Contents (on_words trio) story now))
   -- and what a caller was told lasts
   pub told_lasts : IfSome session (λ s. EachStory trio Contents s (λ story. AllByRecursion (LastsFor shown Contents (on_words trio) story now) s.callers))
   -- else what a stop may leave, and why it was not opened; and the stream was not read
   pub none : IsNone session → HasNone trio Contents shown sink Rejects earlier Standing was now old new status
-  pub unread : IsNone session → left.items ≡ inputs.items
+  pub unread : IsNone session → left ≡ inputs
   -- the device
   pub kept : IsDeviceKept shown Standing was now
   -- the stream
-  pub many : length left.items ≡ length inputs.items
-  pub asked_once : AreAskedOnce source inputs.items left.items
+  pub many : length left ≡ length inputs
+  pub asked_once : AreAskedOnce source inputs left
   -- and the sink
   pub sink_failed : status ≡ 5 → WriteFailed sink old new
   pub writing : StopsWriting sink old new

@@ -124,8 +124,8 @@ impl Intake {
     }
 
     /// Puts the next frames of a stream into the list: those whole ones that wait, or that the next read brings, but
-    /// at least one, and as many as a batch has at most. Or it says why there is none, and then the stream is not to be read on. Frames
-    /// that came before such a stop are handed out first. It takes no memory, and waits as a read does.
+    /// at least one, and as many as a batch has at most. Or it says why there is none, and then the stream is not to be
+    /// read on. Frames that came before a stop are handed out first. It takes no memory, and waits as a read does.
     pub fn next_frames<S: Source>(
         &mut self,
         stream: &mut S,
@@ -136,6 +136,9 @@ impl Intake {
             stream.new frames.new.items }
         ensures of_words { AllByRecursion IsOfWords frames.new.items }
         ensures some { IfNone result (0 < length frames.new.items) }
+        // They are all the frames that have come: behind them no whole one waits, or they fill a batch.
+        ensures all { IfNone result (IsUnfinished (waits_in self.new) ⊎ IsBroken (waits_in self.new)
+            ⊎ (length frames.new.items ≡ MOST)) }
         ensures gave { IfNone result (GaveOn S.shown stream.old stream.new) }
         // At a stop there is no frame, and it has its cause.
         ensures none { IfSome result (λ _. frames.new.items ≡ []) }

@@ -27,8 +27,8 @@ pub fn tail<D: Device + Send, S: Source, O: Sink, R: Wait, G: Gate>(
 ) -> Ended<D, S>
     requires { length inputs.items ≡ 1 }
     // It ends so, and prints so: the facts are the record's fields.
-    ensures promise { TailPromise D.shown S.shown O.shown device result.device inputs
-        result.scripts out.old out.new result.status result.session }
+    ensures promise { TailPromise D.shown S.shown O.shown device result.device inputs.items
+        result.scripts.items out.old out.new result.status result.session }
 {
     follow_stream(rt, alloc, device, inputs, out, gate)
 }

@@ -40,8 +40,8 @@ enum Source {
     Busy,
 }
 
-/// The heap in a file. As often as a lock is tried, one that is in use is tried to be taken, unless one of its regions is
-/// asked for by itself.
+/// The heap in a file. One that is in use is taken, unless one of its regions is asked for by itself; where that is in
+/// vain, it is tried again as often as a lock is.
 fn source_of(program: &Program<'_>, name: &str, alone: bool) -> Result<Source, AllocError> {
     let mut is_busy = false;
     for _ in 0..NAPS {

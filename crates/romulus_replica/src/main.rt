@@ -1,23 +1,24 @@
 //! Runs a command on a heap that ships its history or follows that of another: makes the device and the
-//! streams that the words name, meets a stream that is to be followed, and calls `tail` or `run_replica`.
+//! streams that the words name, and calls `follow_named`, `adopt_and_tell` or `run_replica`. A stream that
+//! `--anonymous` is said of is met here, before `run_replica`.
 //!
-//! It knows real files and streams, and its usage; what a command does is `rom_replica`'s to know, how a named
-//! stream is followed `rom_tail`'s, and whose streams a heap follows `rom_name`'s.
+//! It knows real files and streams, its usage, and what helps where a stream is refused; what a command does is
+//! `rom_replica`'s to know, how a named stream is followed `rom_tail`'s, and how a copy is adopted `rom_name`'s.
 #![tactic(auto)]
 
-ghost use Rattle.std.specs.Prelude.{All};
+ghost use Rattle.std.specs.Prelude.{◌≡◌, All, length};
 ghost use Rattle.rom_name.specs.Peeked.{IsUnread};
+ghost use Rattle.rom_replica.specs.Words.{replica_command};
+ghost use Rattle.rom_run.specs.Plain.{plain_scripts};
 
 use rom_device::{Device, FileDevice};
 use rom_heap::Trio;
-use rom_host::{Opened, Program, Reading, heap_of, on_device, open_all};
-use rom_name::{
-    AdoptRefused, Greeting, Peeked, REFUSED, adopt, greet, peek_all, print_adopted, print_refusal,
-};
+use rom_host::{Opened, Program, Reading, Script, heap_of, on_device, open_all};
+use rom_name::{Greeting, Peeked, Refusal, adopt_and_tell, greet, peek_all, tell_refusal};
 use rom_replica::{NoGate, Status, files_of, run_replica};
 use rom_run::{is_name, tell};
-use rom_tail::tail;
-use rom_text::{Adapted, IoFailed, Name, Names, Sink, Source};
+use rom_tail::follow_named;
+use rom_text::{Adapted, Name, Names, Sink, Source};
 use std::alloc::{AllocError, Global};
 use std::process::ExitCode;
 
@@ -59,29 +60,41 @@ fn split_option(alloc: Global, words: Names) -> Result<(Names, bool), AllocError
     Ok((others, true))
 }
 
-/// The status of a line that was printed.
-fn status_of(printed: Result<(), IoFailed>, status: u8) -> u8 {
-    match printed {
-        Ok(()) => status,
-        Err(_) => Status::SinkFailed.number(),
+/// Whether a new copy of the primary may follow a stream that is refused so.
+fn needs_copy(refusal: &Refusal) -> bool {
+    matches!(
+        refusal,
+        Refusal::NoName | Refusal::SkippedEpoch { .. } | Refusal::Parted { .. } | Refusal::Gap(_)
+    )
+}
+
+/// Says what helps a heap that may not follow a stream.
+fn tell_help(program: &Program<'_>, words: &Names, refusal: &Refusal) {
+    if let Some(heap) = words.at(1) {
+        if needs_copy(refusal) {
+            program.tell_copy(heap);
+        }
     }
 }
 
-/// Meets the stream that is to be followed, where there is one, or says why it is not. One that fails is read no more:
-/// `missing` takes its place, of which each read fails.
-fn meet_stream<D: Device, S: Source + Drop, O: Sink>(
+/// Meets a stream that needs no name, or says why it is not followed. One that fails is read no more: `missing` takes
+/// its place, of which each read fails.
+fn meet_anonymous<D: Device, S: Source + Drop, O: Sink>(
+    program: &Program<'_>,
+    words: &Names,
     device: &mut D,
-    inputs: &mut [Peeked<S>],
+    stream: &mut Peeked<S>,
     missing: S,
-    anonymous: bool,
     out: &mut O,
 ) -> Option<u8>
-    requires { All IsUnread inputs.old }
+    requires { IsUnread stream.old }
 {
-    let stream = inputs.first_mut()?;
-    match greet::<D, Trio, S>(device, stream, anonymous) {
+    match greet::<D, Trio, S>(device, stream, true) {
         Greeting::Followed => None,
-        Greeting::Refused(why) => Some(status_of(print_refusal(out, &why), REFUSED)),
+        Greeting::Refused(why) => {
+            tell_help(program, words, &why);
+            Some(tell_refusal(out, &why))
+        }
         Greeting::StreamFailed => {
             *stream = Peeked::over(missing);
             None
@@ -93,20 +106,43 @@ fn meet_stream<D: Device, S: Source + Drop, O: Sink>(
     }
 }
 
-/// Makes a copy a primary, and says what it begins.
-fn adopt_copy<O: Sink>(device: &mut FileDevice, out: &mut O) -> u8 {
-    let line = match adopt::<FileDevice, Trio>(device) {
-        Ok(adopted) => return status_of(print_adopted(out, &adopted), 0),
-        Err(AdoptRefused::NoHeap) => "refused: not a heap",
-        Err(AdoptRefused::NoName) => "refused: no name",
-        Err(AdoptRefused::LastEpoch) => "refused: last epoch",
-        Err(AdoptRefused::Device) => {
-            tell(out, &["device failed"]);
-            return Status::DeviceFailed.number();
+/// Does what the words ask for, on a device of either kind. A stream of which `--anonymous` was said is met first.
+fn run_words<D: Device + Send>(
+    rt: &HostRuntime,
+    program: &Program<'_>,
+    words: &Names,
+    anonymous: bool,
+    device: D,
+    inputs: Vec<Peeked<Adapted<Script>>>,
+) -> u8
+    requires named { length inputs.items ≡ length (plain_scripts (replica_command words.now)) }
+    requires unread { All IsUnread inputs.items }
+{
+    let (mut device, mut inputs) = (device, inputs);
+    let mut out = program.output();
+    let missing = Adapted::missing();
+    let follows = words.at(0) == Some("follow");
+    if follows && !anonymous && inputs.len() == 1 {
+        let end = follow_named(rt, rt.alloc(), device, inputs, missing, &mut out, &NoGate);
+        if let Some(why) = &end.refusal {
+            tell_help(program, words, why);
         }
-    };
-    tell(out, &[line]);
-    REFUSED
+        return end.ended.status;
+    }
+    if follows && inputs.len() == 1 {
+        let stream = &mut inputs[0];
+        if let Some(status) = meet_anonymous(
+            program,
+            words,
+            &mut device,
+            stream,
+            missing,
+            &mut out,
+        ) {
+            return status;
+        }
+    }
+    run_replica(rt, rt.alloc(), words, device, inputs, &mut out, &NoGate).status
 }
 
 fn main(rt: HostRuntime) -> ExitCode {
@@ -115,38 +151,15 @@ fn main(rt: HostRuntime) -> ExitCode {
         if let Some(file) = adopted_file(&words) {
             program.spare(file.as_str());
             let mut device = heap_of(&program, file.as_str())?;
-            return Ok(adopt_copy(&mut device, &mut program.output()));
+            return Ok(adopt_and_tell::<FileDevice, Trio, _>(&mut device, &mut program.output()));
         }
-        let follows = words.at(0) == Some("follow");
         let (words, anonymous) = split_option(rt.alloc(), words)?;
         let wanted = files_of(rt.alloc(), &words)?;
         let Opened { device, sources } = open_all(&mut program, &wanted, reading_of(&words))?;
-        let mut inputs = peek_all(rt.alloc(), sources)?;
-        let mut out = program.output();
-        let status = on_device!(device, |device| {
-            let mut device = device;
-            let refused = if follows {
-                meet_stream(
-                    &mut device,
-                    &mut inputs,
-                    Adapted::missing(),
-                    anonymous,
-                    &mut out
-                )
-            } else {
-                None
-            };
-            match refused {
-                Some(status) => status,
-                None if follows && !anonymous && inputs.len() == 1 => {
-                    tail(&rt, rt.alloc(), device, inputs, &mut out, &NoGate).status
-                }
-                None => {
-                    run_replica(&rt, rt.alloc(), &words, device, inputs, &mut out, &NoGate).status
-                }
-            }
-        });
-        Ok(status)
+        let inputs = peek_all(rt.alloc(), sources)?;
+        Ok(on_device!(device, |device| {
+            run_words(&rt, &program, &words, anonymous, device, inputs)
+        }))
     });
     program.end(USAGE, called)
 }

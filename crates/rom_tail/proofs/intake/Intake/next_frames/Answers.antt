@@ -1,6 +1,7 @@
-use Rattle.std.proofs.Common.{◌≡◌, ◌⊎◌, ℕ, ◌<◌, ◌++◌, ◌∷◌, [], List, true, ap, subst, sym, refl, ◌∙◌, arith, inl, inr, length, rules, eqb-true, append_assoc, append-nil}
+use Rattle.std.proofs.Common.{◌≡◌, ◌⊎◌, ℕ, ◌<◌, ◌++◌, ◌∷◌, [], List, Bool, true, false, ap, subst, sym, refl, ◌∙◌, arith, inl, inr, length, rules, eqb-true, append_assoc, append-nil}
 use Rattle.std.proofs.KnownBytes.{Consumes-kept, Consumes-trans}
 use Rattle.std.specs.Prelude.{◌==◌}
+use Rattle.std.specs.Bool.{OnFalse, OnTrue}
 use Rattle.rom_text.specs.Limits.{CameToEnd}
 use Rattle.rom_text.specs.Streams.{ShownSource}
 use Rattle.rom_text.proofs.Taking.{not_idle}
@@ -9,6 +10,7 @@ use Rattle.rom_frame.specs.declared.frame.Frame.{Frame}
 use Rattle.rom_replica.specs.Turns.{bytes_of_all}
 use Rattle.rom_replica.specs.declared.stop.Stop.{Stop}
 use Rattle.rom_replica.specs.declared.stop.Stop.TheVariants.{End, Broken}
+use Rattle.rom_tail.specs.Fronts.{IsBroken}
 use Rattle.rom_tail.specs.Intakes.{IsStopOfStream}
 use Rattle.rom_tail.specs.Waiting.{waits_in}
 use Rattle.rom_tail.specs.declared.few.TheConstants.{MOST}
@@ -30,6 +32,15 @@ ended source waits old new stop less came (inr is) = subst (IsStopOfStream sourc
 unfinished : (waits : List ℕ) (fs : List Frame) → IsUnfinished waits ⊎ (length fs ≡ MOST) → fs ≡ [] → IsUnfinished waits
 unfinished waits fs (inl less) none = less
 unfinished waits fs (inr many) none = absurd (omega (arith, many, ap length none))
+
+-- what stands behind the frames that were cut off
+behind : (broken : Bool) (waits : List ℕ) (many : ℕ) → OnTrue broken (IsBroken waits) → OnFalse broken (IsUnfinished waits ⊎ (many ≡ MOST)) → IsUnfinished waits ⊎ IsBroken waits ⊎ (many ≡ MOST)
+behind true waits many is other = inr (inl is)
+behind false waits many is (inl less) = inl less
+behind false waits many is (inr full) = inr (inr full)
+
+pub returns-then-not-is_empty-clause-all : goal.returns-then-not-is_empty-clause-all
+returns-then-not-is_empty-clause-all g c = behind c.cut-broken.result _ _ c.cut-broken.ensures.broken c.cut-broken.ensures.whole
 
 pub returns-then-broken-clause-none : goal.returns-then-broken-clause-none
 returns-then-broken-clause-none g c = no_items _ c.if-not-is_empty.ensures
