@@ -21,6 +21,8 @@ use rom_tail::follow_named;
 use rom_text::{Adapted, Name, Names, Sink, Source};
 use std::alloc::{AllocError, Global};
 use std::process::ExitCode;
+use std::sync::Wait;
+use std::thread::Threads;
 
 /// What standard error tells where the words are no command.
 const USAGE: &str = "\
@@ -107,8 +109,8 @@ fn meet_anonymous<D: Device, S: Source + Drop, O: Sink>(
 }
 
 /// Does what the words ask for, on a device of either kind. A stream of which `--anonymous` was said is met first.
-fn run_words<D: Device + Send>(
-    rt: &HostRuntime,
+fn run_words<D: Device + Send + Drop, R: Threads + Wait + Sync>(
+    rt: &R,
     program: &Program<'_>,
     words: &Names,
     anonymous: bool,
@@ -119,11 +121,11 @@ fn run_words<D: Device + Send>(
     requires unread { All IsUnread inputs.items }
 {
     let (mut device, mut inputs) = (device, inputs);
-    let mut out = program.output();
+    let (alloc, mut out) = (program.alloc(), program.output());
     let missing = Adapted::missing();
     let follows = words.at(0) == Some("follow");
     if follows && !anonymous && inputs.len() == 1 {
-        let end = follow_named(rt, rt.alloc(), device, inputs, missing, &mut out, &NoGate);
+        let end = follow_named(rt, alloc, device, inputs, missing, &mut out, &NoGate);
         if let Some(why) = &end.refusal {
             tell_help(program, words, why);
         }
@@ -142,7 +144,7 @@ fn run_words<D: Device + Send>(
             return status;
         }
     }
-    run_replica(rt, rt.alloc(), words, device, inputs, &mut out, &NoGate).status
+    run_replica(rt, alloc, words, device, inputs, &mut out, &NoGate).status
 }
 
 fn main(rt: HostRuntime) -> ExitCode {
