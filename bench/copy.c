@@ -12,7 +12,7 @@
 #include <time.h>
 #include <unistd.h>
 
-enum { STATE = 3, COUNT = 2, MAIN = 8, PIECE = 512, WORDS = 64, UPDATES = 8 };
+enum { STATE = 3, COUNT = 2, MAIN = 8, PIECE = 8192, WORDS = 64, UPDATES = 8 };
 typedef uint64_t word;
 
 static const char *path;

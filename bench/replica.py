@@ -551,6 +551,9 @@ def names():
     ship(first, streams[2], "enq 3")
     ship(first, streams[3], "enq 4")
     answer(second, streams[3], ("refused: lacks 2", 3))
+    said = subprocess.run([GIVEN.replica, "follow", second, streams[3]], stdout=DEVNULL, stderr=PIPE).stderr.decode()
+    helps = f"make it a copy of the primary: romulus_dump copy PRIMARY NEW && mv NEW {second}"
+    expect(said, f"romulus_replica: {second}: {helps}\n", "the way out on standard error")
     status, text = told(GIVEN.replica, "adopt", second)
     expect((text, status), (f"adopted {name_of(first)} epoch 1 at 2\n", 0), "an adoption")
     answer(second, streams[2], ("refused: epoch 0 is older than 1", 3))
