@@ -35,8 +35,8 @@ def expect_script(file, count):
 
 def expect_check(file, first, order, count):
     status, text = told(GIVEN.dump, "check", file)
-    sizes = [first, f"order {order}", f"count {count}", f"queue {count % 2} set 0 map 0"]
-    expect((status, text.splitlines()[:4]), (0, sizes), "what check tells")
+    sizes = [first, "kind a queue, a set and a map", f"order {order}", f"count {count}", f"queue {count % 2} set 0 map 0"]
+    expect((status, text.splitlines()[:5]), (0, sizes), "what check tells")
 
 
 def copied(order, count):
@@ -54,7 +54,7 @@ def at_rest(order):
             expect(told(GIVEN.dump, "copy", heap, copy), copied(order, count), "a copy")
             for file in heap, copy:
                 expect_script(file, count)
-                expect_check(file, "counts both: idle", order, count)
+                expect_check(file, "region both: idle", order, count)
         client.close()
         expect(talk.end(), (0, "", ""), "the end of the talk")
     return "copies, scripts and sizes are those of the last reply, at three counts"
@@ -119,12 +119,12 @@ def in_use(order):
             looks.append(beside)
         for _ in range(2):
             text, before, beside = eager.beside("check", heap)
-            count = int(text.splitlines()[2].split()[1])
+            count = int(text.splitlines()[3].split()[1])
             expect(before <= count <= eager.said, True, f"a check at {count}: {before} were told before it, {eager.said} said")
             expect(f"queue {count % 2} set 0 map 0" in text, True, f"a check at {count}, which tells {text}")
             looks.append(beside)
         eager.rest()
-        expect_check(heap, "counts both: idle", order, eager.said)
+        expect_check(heap, "region both: idle", order, eager.said)
         eager.client.close()
         expect(talk.end(), (0, "", ""), "the end of the talk")
     return f"{len(looks)} looks, {sum(looks)} of which ended beside the client at work, up to count {count} of {eager.said}"
@@ -173,8 +173,8 @@ def stages(order):
                 copy = talk.heap + ".copy"
                 expect(told(GIVEN.dump, "copy", talk.heap, copy), copied(order, count), f"a copy behind sync {sync}")
                 expect_script(copy, count)
-                expect_check(talk.heap, "counts both: idle", order, count)
-            stood = "counts main: a copy is under way" if count == 2 else "counts back: a batch is under way"
+                expect_check(talk.heap, "region both: idle", order, count)
+            stood = "region main: a copy is under way" if count == 2 else "region back: a batch is under way"
             expect_check(talk.heap, stood, order, count)
         copy = going.heap + ".copy"
         copying = subprocess.Popen([GIVEN.dump, "copy", going.heap, copy], stdout=PIPE)
@@ -186,7 +186,7 @@ def stages(order):
         for look in looks:
             expect((look.wait(), look.stdout.read().decode()), BUSY, "a look behind sync 3, while the talk stands still")
         expect(os.path.exists(half.heap + ".copy"), False, "a copy of a heap that is too busy")
-    expect_check(half.heap, "counts main: a copy is under way", order, 2)
+    expect_check(half.heap, "region main: a copy is under way", order, 2)
     return "behind syncs 1 and 2 the old count, behind 3 too busy until the talk goes on, behind 4 the new count"
 
 

@@ -135,7 +135,7 @@ def count_beside(heap):
     """The count of a heap that another program may have."""
     status, text = told(GIVEN.dump, "check", heap)
     expect(status, 0, f"romulus_dump tells {text[:80]}")
-    return int(text.splitlines()[2].split()[1])
+    return int(next(line for line in text.splitlines() if line.startswith("count ")).split()[1])
 
 
 def follow(heap, stream):

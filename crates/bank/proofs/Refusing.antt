@@ -68,7 +68,7 @@ module _ {S : Type 0} (Contents' : ℕ → List ℕ → S → ℕ → Type 0) (o
   unready (Twins offset main back) is = absurd (no_difference offset main back held.current.counts is)
   unready OldRegion is = absurd is
   unready NewRegion is = absurd is
-  unready (Malformed offset rule) is = absurd is
+  unready (Malformed offset rule found) is = absurd is
   unready Device is = inl refl
   unready OutOfMemory is = absurd is
 
@@ -80,7 +80,7 @@ module _ {S : Type 0} (Contents' : ℕ → List ℕ → S → ℕ → Type 0) (o
 
   module _ (Rejects : ℕ → List ℕ → Unfit → Type 0) where
     unfit : (why : Why) (region : List ℕ) → IsCurrentRegion (named_order words) words region → IsUnfit Contents' Rejects (named_order words) region why → IsFree why
-    unfit (Malformed offset rule) region current is = absurd (stands region current is.none)
+    unfit (Malformed offset rule found) region current is = absurd (stands region current is.0.none)
     unfit OldRegion region current is = absurd (stands region current is.none)
     unfit OutOfMemory region current is = inr refl
     unfit NewRegion region current is = absurd is

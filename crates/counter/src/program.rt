@@ -31,7 +31,7 @@ pub fn run_counter<R: Threads + Wait + Sync, D: Device + Send, S: Source, O: Sin
 ) -> Ended<D, S>
     requires { length scripts.items ≡ length (plain_scripts (plain_command words.now)) }
     // What became of the command that the words ask for, of a counter: the fields of `Promise` say it.
-    ensures promise { Promise counter CounterContents RejectsCounter no_earlier D.shown S.shown O.shown
+    ensures promise { Promise counter CounterContents 77 RejectsCounter no_earlier D.shown S.shown O.shown
         (AreScripts ReadsCounter S.shown) (IsText O.shown (texts_of shown_sum shown_sum))
         (plain_use (plain_command words.now)) device result.device scripts result.scripts out.old out.new
         result.status result.session }

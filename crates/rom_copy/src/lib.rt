@@ -20,4 +20,4 @@ pub use put::put_whole;
 pub use taking::snapshot;
 pub use untaken::Untaken;
 pub use view::view_whole;
-pub use whole::{count_of, whole_words};
+pub use whole::{count_of, whole_words, words_at_rest};

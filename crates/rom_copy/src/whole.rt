@@ -5,7 +5,7 @@ ghost use Rattle.rom_header.specs.Layout.{words_needed};
 ghost use Rattle.rom_copy.specs.Whole.{HoldsWhole, heap_words};
 
 use rom_header::{HEADER_VERSION, MAGIC, State};
-use rom_steady::Steady;
+use rom_steady::{NameWords, Steady};
 use std::alloc::{AllocError, Global};
 
 /// The place of the count in a region.
@@ -17,6 +17,38 @@ pub fn count_of(whole: &Steady) -> u64
     ensures { result ≡ slice_index whole.now.image.items 2 }
 {
     whole.image[COUNT]
+}
+
+/// The words of a heap at rest of this order, with these words of the name and this region.
+pub fn words_at_rest(
+    alloc: Global,
+    order: u32,
+    names: NameWords,
+    region: &[u64],
+) -> Result<Vec<u64>, AllocError>
+    requires order { IsOrder order }
+    requires sized { length region.now ≡ region_len order }
+    // Header, IDLE, the words of the name, and the region twice.
+    ensures words { IfOk result (λ words. words.items ≡ heap_words order names region.now) }
+    ensures long { IfOk result (λ words. length words.items ≡ words_needed order) }
+    // In these words this region counts.
+    ensures holds { IfOk result (λ words. HoldsWhole order names region.now words.items) }
+{
+    let header = [
+        MAGIC,
+        HEADER_VERSION,
+        u64::from(order),
+        State::Idle.word(),
+        names.high,
+        names.low,
+        names.epoch,
+        names.since,
+    ];
+    let mut words = Vec::new(alloc);
+    words.extend_from_slice(&header)?;
+    words.extend_from_slice(region)?;
+    words.extend_from_slice(region)?;
+    Ok(words)
 }
 
 /// The words of a heap at rest with this region, this order and these words of the name.
@@ -31,20 +63,5 @@ pub fn whole_words(alloc: Global, whole: &Steady) -> Result<Vec<u64>, AllocError
     ensures holds { IfOk result (λ words.
         HoldsWhole whole.now.order whole.now.names whole.now.image.items words.items) }
 {
-    let names = whole.names;
-    let header = [
-        MAGIC,
-        HEADER_VERSION,
-        u64::from(whole.order),
-        State::Idle.word(),
-        names.high,
-        names.low,
-        names.epoch,
-        names.since,
-    ];
-    let mut words = Vec::new(alloc);
-    words.extend_from_slice(&header)?;
-    words.extend_from_slice(whole.image.as_slice())?;
-    words.extend_from_slice(whole.image.as_slice())?;
-    Ok(words)
+    words_at_rest(alloc, whole.order, whole.names, whole.image.as_slice())
 }

@@ -2,6 +2,8 @@
 
 use rom_device::Ram;
 use rom_dump::dump;
+use rom_heap::Trio;
+use rom_rebuild::CarryTrio;
 use rom_shell::{NoGate, files_of, run};
 use rom_test::{names_of, right, source_of};
 use rom_text::Collect;
@@ -10,8 +12,10 @@ use std::sync::Wait;
 use std::test::Fail;
 use std::thread::Threads;
 
-/// How many lines a part of a script has.
+/// How many elements a part of a script has, and how many of them a line.
 const PART: u64 = 20480;
+
+const GROUP: u64 = 8;
 
 /// Room for what is printed.
 const ROOM: u64 = 4_194_304;
@@ -60,13 +64,36 @@ static FULL: [Full; 3] = [
     },
 ];
 
-/// The lines that make it, in parts. The numbers of the set and the keys rise, or fall.
-fn lines_of(alloc: Global, full: &Full, rising: bool) -> Result<Vec<String>, AllocError> {
+/// The lines that make it, in parts: one for each element, the set rising and the keys falling.
+fn lines_of(alloc: Global, full: &Full) -> Result<Vec<String>, AllocError> {
     let mut parts = Vec::new(alloc);
     let mut part = String::new(alloc);
     let many = full.queue.saturating_add(full.set).saturating_add(full.map);
     for index in 0..many {
-        part.push_str(line_of(alloc, full, index, rising)?.as_str())?;
+        part.push_str(element_of(alloc, full, index, false)?.as_str())?;
+        part.push_str("\n")?;
+        if index % PART == PART - 1 {
+            parts.push(part)?;
+            part = String::new(alloc);
+        }
+    }
+    parts.push(part)?;
+    Ok(parts)
+}
+
+/// The lines of its own script, in parts: groups of eight, the set falling and the keys rising.
+fn groups_of(alloc: Global, full: &Full) -> Result<Vec<String>, AllocError> {
+    let mut parts = Vec::new(alloc);
+    let mut part = String::new(alloc);
+    let many = full.queue.saturating_add(full.set).saturating_add(full.map);
+    for index in 0..many {
+        let is_first = index % GROUP == 0;
+        let is_last = index % GROUP == GROUP - 1 || index.saturating_add(1) == many;
+        if is_first && !is_last {
+            part.push_str("tx ")?;
+        }
+        part.push_str(element_of(alloc, full, index, true)?.as_str())?;
+        part.push_str(if is_last { "\n" } else { " ; " })?;
         if index % PART == PART - 1 {
             parts.push(part)?;
             part = String::new(alloc);
@@ -86,19 +113,20 @@ fn number_of(full: &Full, index: u64, many: u64, rising: bool) -> u64 {
     full.base.saturating_add(index)
 }
 
-fn line_of(alloc: Global, full: &Full, index: u64, rising: bool) -> Result<String, AllocError> {
+/// The line of an element. The keys rise and the set falls, or the other way round.
+fn element_of(alloc: Global, full: &Full, index: u64, rising: bool) -> Result<String, AllocError> {
     if index < full.queue {
         let value = full.base.saturating_add(index % 1000);
-        return format!(in alloc; "enq {value}\n");
+        return format!(in alloc; "enq {value}");
     }
     let index = index.saturating_sub(full.queue);
     if index < full.set {
-        let number = number_of(full, index, full.set, rising);
-        return format!(in alloc; "add {number}\n");
+        let number = number_of(full, index, full.set, !rising);
+        return format!(in alloc; "add {number}");
     }
     let key = number_of(full, index.saturating_sub(full.set), full.map, rising);
     let value = full.base.saturating_add(key % 997);
-    format!(in alloc; "put {key} {value}\n")
+    format!(in alloc; "put {key} {value}")
 }
 
 /// A device, and what a command of `romulus` told of it.
@@ -154,6 +182,7 @@ fn made<R: Threads + Wait + Sync + AllocGlobal>(
             !line.starts_with("queued @")
                 && !line.starts_with("added @")
                 && !line.starts_with("none @")
+                && !line.starts_with("all ")
         });
         if done.status != 0 || others.count() != 2 {
             return Err("a line was told of something else".into());
@@ -171,7 +200,7 @@ pub(crate) fn dumped(
 ) -> Result<String, Fail> {
     let names = names_of(alloc, words)?;
     let mut out = Collect::with_room(alloc, ROOM, 4096)?;
-    if dump(alloc, &names, device, &mut out) != status {
+    if dump::<Ram, Trio, CarryTrio, Collect>(alloc, &names, device, &mut out) != status {
         return Err("another status".into());
     }
     Ok(str::from_utf8(out.bytes())?.to_string(alloc)?)
@@ -209,13 +238,13 @@ fn parts_of(alloc: Global, full: &Full, device: &mut Ram) -> Result<Vec<String>,
 fn a_full_heap_is_made_again(rt: HostRuntime) -> Result<(), Fail> {
     let alloc = rt.alloc();
     for (row, full) in FULL.iter().enumerate() {
-        let mut device = made(&rt, full, &lines_of(alloc, full, false)?)?;
+        let mut device = made(&rt, full, &lines_of(alloc, full)?)?;
         if !full.too_long.is_empty() {
             let told = dumped(alloc, &["script", "heap"], &mut device, 8)?;
             right("too long, of heap", row, told.as_str() == full.too_long)?;
         }
         let parts = parts_of(alloc, full, &mut device)?;
-        let wanted = lines_of(alloc, full, true)?;
+        let wanted = groups_of(alloc, full)?;
         for (part, wanted) in parts.iter().zip(wanted.iter()) {
             right("a part of heap", row, part.as_str() == wanted.as_str())?;
         }
@@ -235,13 +264,13 @@ fn a_full_heap_is_made_again(rt: HostRuntime) -> Result<(), Fail> {
 fn a_full_heap_grows(rt: HostRuntime) -> Result<(), Fail> {
     let alloc = rt.alloc();
     let [small, greater, _] = &FULL;
-    let mut device = made(&rt, small, &lines_of(alloc, small, false)?)?;
+    let mut device = made(&rt, small, &lines_of(alloc, small)?)?;
     let parts = parts_of(alloc, small, &mut device)?;
     let mut grown = made(&rt, greater, &parts)?;
     let told = dumped(alloc, &["check", "heap"], &mut grown, 0)?;
     assert!(rt;
         told.as_str()
-            == "counts both: idle\norder 9\ncount 15\nqueue 5 set 4 map 6\nfree 465\ntotal 15\n"
+            == "region both: idle\nkind a queue, a set and a map\norder 9\ncount 2\nqueue 5 set 4 map 6\nfree 465\ntotal 15\n"
     );
     let again = parts_of(alloc, small, &mut grown)?;
     for (at, (part, was)) in again.iter().zip(parts.iter()).enumerate() {

@@ -3,6 +3,8 @@
 use crate::heaps::{PAIRS, PUT, QUEUED, TAKEN, TORN, WORDS, change, heap_of};
 use rom_device::Device;
 use rom_dump::dump;
+use rom_heap::Trio;
+use rom_rebuild::CarryTrio;
 use rom_test::{Found, Limits, device_of, names_of, right};
 use rom_text::Collect;
 use std::alloc::{AllocError, Global};
@@ -39,7 +41,7 @@ pub(crate) const NEW: Row = Row {
     calls: 1_000_000,
     room: 4096,
     status: 0,
-    text: "counts both: idle\norder 4\ncount 0\nqueue 0 set 0 map 0\nfree 15\ntotal 0\n",
+    text: "region both: idle\nkind a queue, a set and a map\norder 4\ncount 0\nqueue 0 set 0 map 0\nfree 15\ntotal 0\n",
 };
 
 pub(crate) const SCRIPT: Row = Row {
@@ -59,14 +61,38 @@ pub(crate) const REFUSED: Row = Row {
     ..SCRIPT
 };
 
-static ROWS: [Row; 39] = [
+/// What a monitor reads of a heap with one element, in which a batch is under way.
+const METRICS: &str = "\
+# TYPE romulus_order gauge
+romulus_order 4
+# TYPE romulus_kind gauge
+romulus_kind 1
+# TYPE romulus_updates gauge
+romulus_updates 1
+# TYPE romulus_state gauge
+romulus_state 1
+# TYPE romulus_queue_elements gauge
+romulus_queue_elements 1
+# TYPE romulus_set_elements gauge
+romulus_set_elements 0
+# TYPE romulus_map_elements gauge
+romulus_map_elements 0
+# TYPE romulus_free_elements gauge
+romulus_free_elements 14
+# TYPE romulus_free_percent gauge
+romulus_free_percent 93
+# TYPE romulus_total gauge
+romulus_total 0
+";
+
+static ROWS: [Row; 42] = [
     // The worked regions.
     NEW,
     SCRIPT,
     Row {
         main: &QUEUED,
         back: &QUEUED,
-        text: "counts both: idle\norder 4\ncount 1\nqueue 1 set 0 map 0\nfree 14\ntotal 0\n",
+        text: "region both: idle\nkind a queue, a set and a map\norder 4\ncount 1\nqueue 1 set 0 map 0\nfree 14\ntotal 0\n",
         ..NEW
     },
     Row {
@@ -78,7 +104,7 @@ static ROWS: [Row; 39] = [
     Row {
         main: &TAKEN,
         back: &TAKEN,
-        text: "counts both: idle\norder 4\ncount 2\nqueue 0 set 0 map 0\nfree 15\ntotal 0\n",
+        text: "region both: idle\nkind a queue, a set and a map\norder 4\ncount 2\nqueue 0 set 0 map 0\nfree 15\ntotal 0\n",
         ..NEW
     },
     Row {
@@ -89,7 +115,7 @@ static ROWS: [Row; 39] = [
     Row {
         main: &PUT,
         back: &PUT,
-        text: "counts both: idle\norder 4\ncount 1\nqueue 0 set 0 map 1\nfree 14\ntotal 7\n",
+        text: "region both: idle\nkind a queue, a set and a map\norder 4\ncount 1\nqueue 0 set 0 map 1\nfree 14\ntotal 7\n",
         ..NEW
     },
     Row {
@@ -101,7 +127,7 @@ static ROWS: [Row; 39] = [
     Row {
         main: &PAIRS,
         back: &PAIRS,
-        text: "put 0 1\nput 5 2\n",
+        text: "tx put 0 1 ; put 5 2\n",
         ..SCRIPT
     },
     // In the midst of an update: it is read from the region that counts, whatever the other one is.
@@ -109,7 +135,7 @@ static ROWS: [Row; 39] = [
         state: 1,
         main: &TORN,
         back: &QUEUED,
-        text: "counts back: a batch is under way\norder 4\ncount 1\nqueue 1 set 0 map 0\nfree 14\ntotal 0\n",
+        text: "region back: a batch is under way\nkind a queue, a set and a map\norder 4\ncount 1\nqueue 1 set 0 map 0\nfree 14\ntotal 0\n",
         ..NEW
     },
     Row {
@@ -123,7 +149,7 @@ static ROWS: [Row; 39] = [
         state: 2,
         main: &PUT,
         back: &TORN,
-        text: "counts main: a copy is under way\norder 4\ncount 1\nqueue 0 set 0 map 1\nfree 14\ntotal 7\n",
+        text: "region main: a copy is under way\nkind a queue, a set and a map\norder 4\ncount 1\nqueue 0 set 0 map 1\nfree 14\ntotal 7\n",
         ..NEW
     },
     Row {
@@ -138,7 +164,7 @@ static ROWS: [Row; 39] = [
         words: &["script", "heap", "--part", "1"],
         main: &PAIRS,
         back: &PAIRS,
-        text: "put 0 1\nput 5 2\n",
+        text: "tx put 0 1 ; put 5 2\n",
         ..SCRIPT
     },
     Row {
@@ -148,7 +174,7 @@ static ROWS: [Row; 39] = [
         ..SCRIPT
     },
     Row {
-        words: &["script", "heap", "--part", "3"],
+        words: &["script", "heap", "--part", "64"],
         main: &PAIRS,
         back: &PAIRS,
         ..SCRIPT
@@ -158,13 +184,33 @@ static ROWS: [Row; 39] = [
         back: &PAIRS,
         room: 10,
         status: 5,
-        text: "put 0 1\npu",
+        text: "tx put 0 1",
         ..SCRIPT
     },
     Row {
         room: 20,
-        text: "counts both: idle\nor",
+        text: "region both: idle\nki",
         ..NEW
+    },
+    // What a monitor watches.
+    Row {
+        words: &["metrics", "heap"],
+        state: 1,
+        main: &TORN,
+        back: &QUEUED,
+        text: METRICS,
+        ..NEW
+    },
+    Row {
+        words: &["metrics", "heap"],
+        room: 10,
+        status: 5,
+        text: "# TYPE rom",
+        ..NEW
+    },
+    Row {
+        words: &["metrics", "heap", "--from", "main"],
+        ..NO_COMMAND
     },
     // What is refused.
     Row {
@@ -269,7 +315,7 @@ static ROWS: [Row; 39] = [
         ..NO_COMMAND
     },
     Row {
-        words: &["script", "heap", "--part", "4"],
+        words: &["script", "heap", "--part", "65"],
         ..NO_COMMAND
     },
     Row {
@@ -302,7 +348,7 @@ pub(crate) fn dump_words(
         limits.calls,
     )?;
     let mut out = Collect::with_room(alloc, limits.room, 5)?;
-    let status = dump(alloc, &names, &mut device, &mut out);
+    let status = dump::<_, Trio, CarryTrio, _>(alloc, &names, &mut device, &mut out);
     Ok(Found {
         status,
         bytes: out.bytes().to_vec(alloc)?,

@@ -63,7 +63,7 @@ static ROWS: [Row; 47] = [
     },
     Row {
         words: CHECK_BACK,
-        text: "back by itself\norder 4\ncount 1\nqueue 1 set 0 map 0\nfree 14\ntotal 0\n",
+        text: "region back by itself\nkind a queue, a set and a map\norder 4\ncount 1\nqueue 1 set 0 map 0\nfree 14\ntotal 0\n",
         ..LENGTH_IN_MAIN
     },
     Row {
@@ -90,7 +90,7 @@ static ROWS: [Row; 47] = [
     },
     Row {
         words: CHECK_MAIN,
-        text: "main by itself\norder 4\ncount 1\nqueue 0 set 0 map 1\nfree 14\ntotal 7\n",
+        text: "region main by itself\nkind a queue, a set and a map\norder 4\ncount 1\nqueue 0 set 0 map 1\nfree 14\ntotal 7\n",
         ..CHAIN_IN_BACK
     },
     Row {
@@ -125,7 +125,7 @@ static ROWS: [Row; 47] = [
     Row {
         words: CHECK_BACK,
         main: &[(1, 1)],
-        text: "back by itself\norder 4\ncount 0\nqueue 0 set 0 map 0\nfree 15\ntotal 0\n",
+        text: "region back by itself\nkind a queue, a set and a map\norder 4\ncount 0\nqueue 0 set 0 map 0\nfree 15\ntotal 0\n",
         ..NEW
     },
     // In the midst of an update: the region that is named is read, whether it counts or not.
@@ -190,7 +190,7 @@ static ROWS: [Row; 47] = [
     },
     Row {
         words: CHECK_BACK,
-        text: "back by itself\norder 4\ncount 1\nqueue 1 set 0 map 0\nfree 14\ntotal 0\n",
+        text: "region back by itself\nkind a queue, a set and a map\norder 4\ncount 1\nqueue 1 set 0 map 0\nfree 14\ntotal 0\n",
         ..STATE
     },
     // The rest of the header is tested as ever, and before the region.
@@ -256,7 +256,7 @@ static ROWS: [Row; 47] = [
     Row {
         words: &["script", "heap", "--from", "main", "--part", "1"],
         main: &PAIRS,
-        text: "put 0 1\nput 5 2\n",
+        text: "tx put 0 1 ; put 5 2\n",
         ..SCRIPT
     },
     Row {
@@ -269,13 +269,13 @@ static ROWS: [Row; 47] = [
         back: &PAIRS,
         room: 10,
         status: 5,
-        text: "put 0 1\npu",
+        text: "tx put 0 1",
         ..SCRIPT
     },
     Row {
         words: CHECK_MAIN,
         room: 17,
-        text: "main by itself\nor",
+        text: "region main by it",
         ..NEW
     },
     // And words that are none.
@@ -316,7 +316,7 @@ static ROWS: [Row; 47] = [
         ..NO_COMMAND
     },
     Row {
-        words: &["script", "heap", "--from", "main", "--part", "4"],
+        words: &["script", "heap", "--from", "main", "--part", "65"],
         ..NO_COMMAND
     },
     Row {
@@ -360,7 +360,7 @@ fn a_region_of_each_order_is_shown(rt: HostRuntime) -> Result<(), Fail> {
         right("script of words", *words as usize, told.as_str() == "")?;
         let told = dumped(alloc, CHECK_BACK, &mut made.device, 0)?;
         let wanted = format!(in alloc;
-            "back by itself\norder {order}\ncount 0\nqueue 0 set 0 map 0\nfree {free}\ntotal 0\n"
+            "region back by itself\nkind a queue, a set and a map\norder {order}\ncount 0\nqueue 0 set 0 map 0\nfree {free}\ntotal 0\n"
         )?;
         right(
             "check of words",

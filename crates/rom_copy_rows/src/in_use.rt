@@ -87,11 +87,14 @@ const REST: Moment = Moment {
     reads: LONG,
 };
 
-const NEW: &str = "counts both: idle\norder 4\ncount 0\nqueue 0 set 0 map 0\nfree 15\ntotal 0\n";
+const NEW: &str =
+    "region both: idle\nkind a queue, a set and a map\norder 4\ncount 0\nqueue 0 set 0 map 0\nfree 15\ntotal 0\n";
 
-const ONE: &str = "counts both: idle\norder 4\ncount 1\nqueue 1 set 0 map 0\nfree 14\ntotal 0\n";
+const ONE: &str =
+    "region both: idle\nkind a queue, a set and a map\norder 4\ncount 1\nqueue 1 set 0 map 0\nfree 14\ntotal 0\n";
 
-const TWO: &str = "counts both: idle\norder 4\ncount 2\nqueue 0 set 0 map 2\nfree 13\ntotal 3\n";
+const TWO: &str =
+    "region both: idle\nkind a queue, a set and a map\norder 4\ncount 2\nqueue 0 set 0 map 2\nfree 13\ntotal 3\n";
 
 /// A batch that is committed, and not yet copied.
 const COMMITTED: Moment = Moment {

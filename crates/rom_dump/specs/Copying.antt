@@ -1,4 +1,4 @@
--- The words and the lines of the command `copy`.
+-- The words of the command `copy`, and the lines of heaps that are taken and put.
 use Rattle.std.specs.Prelude.{ℕ, ◌&&◌, List, [], ◌∷◌, ◌++◌, codes, decimal, Option, Some, None, Result, Ok, Err, if◌then◌else◌}
 use Rattle.std.specs.Borrow.{Bor}
 use Rattle.std.specs.Str.{bytes_eq}
@@ -7,6 +7,8 @@ use Rattle.rom_header.specs.declared.fresh.FormatRefused.TheVariants.{AlreadyAHe
 use Rattle.rom_open.specs.declared.reasons.Why.TheVariants as why
 use Rattle.rom_copy.specs.declared.untaken.Untaken.{Untaken}
 use Rattle.rom_copy.specs.declared.untaken.Untaken.TheVariants.{Refused, Unfinished}
+use Rattle.rom_dump.specs.declared.copy.Made.{Made}
+use Rattle.rom_dump.specs.declared.copy.Made.TheVariants.{Copied, Grown}
 use Rattle.rom_run.specs.Plain.{is_name}
 use Rattle.rom_run.specs.Refusing.{refusal_line, refusal_status}
 use Rattle.rom_run.specs.Statuses.{exit_number}
@@ -21,15 +23,20 @@ abbrev pub names_read : Option (Bor (List ℕ) × Bor (List ℕ)) → Option (Li
 names_read (Some files) = Some (files.0.now, files.1.now)
 names_read None = None
 
--- the line of a copy
-abbrev pub copied_line : ℕ → ℕ → List ℕ
-copied_line order count = codes "copied order " ++ decimal order ++ codes " count " ++ decimal count
+-- what was done
+abbrev pub made_word : Made → List ℕ
+made_word Copied = codes "copied"
+made_word Grown = codes "grown"
 
--- why a copy was not put
+-- the line of a heap that was put
+abbrev pub made_line : Made → ℕ → ℕ → List ℕ
+made_line made order count = made_word made ++ codes " order " ++ decimal order ++ codes " count " ++ decimal count
+
+-- why a heap was not put
 abbrev pub unput_line : FormatRefused → List ℕ
 unput_line AlreadyAHeap = codes "refused: already a heap"
-unput_line (TooSmall need have) = refusal_line (why.TooSmall need have)
-unput_line Device = refusal_line why.Device
+unput_line (TooSmall need have) = refusal_line 1 (why.TooSmall need have)
+unput_line Device = refusal_line 1 why.Device
 
 -- its status
 abbrev pub unput_status : FormatRefused → ℕ
@@ -37,20 +44,20 @@ unput_status AlreadyAHeap = 3
 unput_status (TooSmall need have) = 3
 unput_status Device = 7
 
--- the line of a copy that was put, or of its refusal
-abbrev pub put_line : ℕ → ℕ → Result (Unit {0}) FormatRefused → List ℕ
-put_line order count (Ok done) = copied_line order count
-put_line order count (Err refused) = unput_line refused
+-- the line of a heap that was put, or of its refusal
+abbrev pub put_line : Made → ℕ → ℕ → Result (Unit {0}) FormatRefused → List ℕ
+put_line made order count (Ok done) = made_line made order count
+put_line made order count (Err refused) = unput_line refused
 
 -- its status
 abbrev pub put_status : Result (Unit {0}) FormatRefused → ℕ
 put_status (Ok done) = 0
 put_status (Err refused) = unput_status refused
 
--- why a heap was not taken
-abbrev pub untaken_line : Untaken → List ℕ
-untaken_line (Refused reason) = refusal_line reason
-untaken_line Unfinished = codes "refused: a batch is not finished"
+-- why a heap was not taken, where one of this kind was looked for
+abbrev pub untaken_line : ℕ → Untaken → List ℕ
+untaken_line kind (Refused reason) = refusal_line kind reason
+untaken_line kind Unfinished = codes "refused: a batch is not finished"
 
 -- its status
 abbrev pub untaken_status : Untaken → ℕ

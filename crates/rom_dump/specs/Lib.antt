@@ -2,6 +2,9 @@
 pub mod Words
 pub mod Named
 pub mod Shown
+pub mod Kinds
 pub mod Promise
 pub mod Copying
 pub mod Copied
+pub mod Growing
+pub mod Grown

@@ -12,6 +12,8 @@ pub data DumpCommand : Type 0 where
   Script : List ℕ → Option Region → Option ℕ → DumpCommand
   -- say which region of the heap in the file counts, and its sizes; or those of the region of that name
   Check : List ℕ → Option Region → DumpCommand
+  -- say what a monitor watches of the heap in the file
+  Metrics : List ℕ → DumpCommand
 
 -- the region of that name
 abbrev pub region_named : List ℕ → Option Region
@@ -21,9 +23,9 @@ region_named name = if bytes_eq name (codes "main") then Some Main else if bytes
 abbrev pub from_words : List ℕ → List ℕ → Option Region
 from_words option name = if bytes_eq option (codes "--from") then region_named name else None
 
--- the part behind `--part`, of which there are three at most
+-- the part behind `--part`: no script has more than 64
 abbrev pub part_words : List ℕ → List ℕ → Option ℕ
-part_words option part = if bytes_eq option (codes "--part") then number_within 1 3 part else None
+part_words option part = if bytes_eq option (codes "--part") then number_within 1 64 part else None
 
 -- one of them stands there
 abbrev pub region_or_part : Option Region → Option ℕ → Option (Option Region × Option ℕ)
@@ -44,11 +46,12 @@ options_of (option ∷ value ∷ []) = region_or_part (from_words option value) 
 options_of (from ∷ name ∷ option ∷ part ∷ []) = region_and_part (from_words from name) (part_words option part)
 options_of words = None
 
--- the command of this name, of this file with these options; `check` has no parts
+-- the command of this name, of this file with these options; `check` has no parts, and `metrics` no options
 abbrev pub dump_command_of : List ℕ → List ℕ → Option Region → Option ℕ → Option DumpCommand
 dump_command_of name file from part =
     if bytes_eq name (codes "script") then Some (Script file from part) else
-    if bytes_eq name (codes "check") && is_none part then Some (Check file from) else None
+    if bytes_eq name (codes "check") && is_none part then Some (Check file from) else
+    if bytes_eq name (codes "metrics") && (is_none from && is_none part) then Some (Metrics file) else None
 
 -- the command that the words are, if they are one
 abbrev pub dump_command : List (List ℕ) → Option DumpCommand
@@ -60,9 +63,11 @@ dump_command words = None
 abbrev pub file_of : Option DumpCommand → Option (List ℕ)
 file_of (Some (Script file from part)) = Some file
 file_of (Some (Check file from)) = Some file
+file_of (Some (Metrics file)) = Some file
 file_of None = None
 
 -- the region that it names, if it names one
 abbrev pub region_asked : DumpCommand → Option Region
 region_asked (Script file from part) = from
 region_asked (Check file from) = from
+region_asked (Metrics file) = None

@@ -15,6 +15,15 @@ use rom_open::Why;
 use rom_text::Sink;
 use std::alloc::Global;
 
+/// How a heap that is put was taken.
+#[derive(Clone, Copy, Debug, PartialEq, Eq)]
+pub enum Made {
+    /// As it is.
+    Copied,
+    /// As one of a greater order.
+    Grown,
+}
+
 /// A heap that was taken.
 #[derive(Drop)]
 pub struct Taken {
@@ -58,11 +67,11 @@ pub fn take_copy<D: Device, O: Object>(alloc: Global, device: &mut D) -> Result<
 }
 
 /// Puts a heap that was taken on a device, unless a heap stands there, and tells what came of it.
-pub fn put_copy<D: Device, O: Sink>(device: &mut D, taken: &Taken, out: &mut O) -> u8
+pub fn put_copy<D: Device, O: Sink>(device: &mut D, made: Made, taken: &Taken, out: &mut O) -> u8
     requires some { 0 < length taken.now.words.items }
     // One putting is told, by its line and its status. Where the device tells its words, a refusal comes where its
-    // test fails, and `copied` where the device begins with the words of the heap. No fault is told without one.
-    ensures told { IsPutTold D.shown O.shown taken.now device.old device.new out.old out.new result }
+    // test fails, and `copied` or `grown` where the device begins with the words of the heap. No fault is told without one.
+    ensures told { IsPutTold D.shown O.shown made taken.now device.old device.new out.old out.new result }
     ensures rest { O.shown.rest out.new ≡ O.shown.rest out.old }
     // The size stays. Where the device tells its words, none behind those of the heap differs.
     ensures alters { Alters D.shown (ChangesOnly 0 (length taken.now.words.items)) device.old device.new }
@@ -72,5 +81,5 @@ pub fn put_copy<D: Device, O: Sink>(device: &mut D, taken: &Taken, out: &mut O) 
         Leaves D.shown (NoneOrWhole taken.now.words.items) device.old device.new }
 {
     let put = put_whole(device, taken.words.as_slice());
-    tell_put(out, taken.order, taken.count, put)
+    tell_put(out, made, taken.order, taken.count, put)
 }

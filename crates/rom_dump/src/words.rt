@@ -1,19 +1,18 @@
-//! The words of the command line: `script` or `check` with a file, then the region where one is named, and of
-//! `script` the part where one is asked for.
-ghost use Rattle.std.specs.Prelude.{◌≡◌, IfSome};
+//! The words of the command line: `script`, `check` or `metrics` with a file, then the region where one is named, and
+//! of `script` the part where one is asked for.
+ghost use Rattle.std.specs.Prelude.{◌≡◌, IfSome, option_and_then};
 ghost use Rattle.rom_dump.specs.Named.{AsksForPart, IsPartNumber, dump_command_read, named_file};
-ghost use Rattle.rom_dump.specs.Words.{dump_command, file_of};
+ghost use Rattle.rom_dump.specs.Words.{dump_command, dump_command_of, file_of, region_asked};
 ghost use Rattle.rom_dump.specs.Words as asks;
 
 use rom_open::Region;
-use rom_rebuild::MOST_PARTS;
 use rom_run::is_name;
 use rom_text::{Name, Names, read_within};
 
 /// What the words ask for. No name is empty or begins with a dash.
 #[derive(Clone, Copy, Debug)]
 pub enum Dump<'a> {
-    /// To print the script of the heap in this file, or this part of it, which is 1 to 3; by the region of
+    /// To print the script of the heap in this file, or this part of it, which is 1 to 64; by the region of
     /// this name, or by the one that counts.
     Script {
         file: &'a Name,
@@ -25,7 +24,14 @@ pub enum Dump<'a> {
         file: &'a Name,
         from: Option<Region>,
     },
+    /// To say what a monitor watches of the heap in this file.
+    Metrics {
+        file: &'a Name,
+    },
 }
+
+/// How many parts a script has at most.
+const MOST_PARTS: u64 = 64;
 
 /// The region behind `--from`.
 fn read_from(option: &Name, name: &Name) -> Option<Region>
@@ -82,6 +88,31 @@ fn read_options(words: &[Name]) -> Option<(Option<Region>, Option<u64>)>
     }
 }
 
+/// The command of this name, of this file with these options.
+fn command_of<'a>(
+    name: &Name,
+    file: &'a Name,
+    from: Option<Region>,
+    part: Option<u64>,
+) -> Option<Dump<'a>>
+    requires { IfSome part IsPartNumber }
+    ensures named { dump_command_read result ≡ dump_command_of name.now file.now from part }
+    ensures part { IfSome result AsksForPart }
+{
+    match name.as_str() {
+        "script" => Some(Dump::Script { file, from, part }),
+        "check" => match part {
+            None => Some(Dump::Check { file, from }),
+            Some(_) => None,
+        },
+        "metrics" => match (from, part) {
+            (None, None) => Some(Dump::Metrics { file }),
+            _ => None,
+        },
+        _ => None,
+    }
+}
+
 /// The command that the words are. It takes no memory.
 pub fn read_dump(words: &Names) -> Option<Dump<'_>>
     ensures named { dump_command_read result ≡ dump_command words.now }
@@ -94,14 +125,7 @@ pub fn read_dump(words: &Names) -> Option<Dump<'_>>
         return None;
     }
     let (from, part) = read_options(options)?;
-    match name.as_str() {
-        "script" => Some(Dump::Script { file, from, part }),
-        "check" => match part {
-            None => Some(Dump::Check { file, from }),
-            Some(_) => None,
-        },
-        _ => None,
-    }
+    command_of(name, file, from, part)
 }
 
 /// The file whose heap the words ask `main` to open for reading.
@@ -109,6 +133,18 @@ pub fn dump_file(words: &Names) -> Option<&Name>
     ensures { named_file result ≡ file_of (dump_command words.now) }
 {
     match read_dump(words)? {
-        Dump::Script { file, .. } | Dump::Check { file, .. } => Some(file),
+        Dump::Script { file, .. } | Dump::Check { file, .. } | Dump::Metrics { file } => {
+            Some(file)
+        }
+    }
+}
+
+/// The region that the words name by `--from`, if they are a command and name one.
+pub fn region_of(words: &Names) -> Option<Region>
+    ensures { result ≡ option_and_then region_asked (dump_command words.now) }
+{
+    match read_dump(words)? {
+        Dump::Script { from, .. } | Dump::Check { from, .. } => from,
+        Dump::Metrics { .. } => None,
     }
 }

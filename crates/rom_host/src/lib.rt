@@ -3,8 +3,8 @@
 //! there is no memory, and ends with the call's status (`end`). For a talk it tries whether each caller can have a
 //! thread, makes the peers, which open their own files, and opens the file that frames are shipped to.
 //!
-//! It knows descriptors, files and standard streams, and by which word a file is a heap; it knows nothing
-//! else of a heap, and no command by its name.
+//! It knows descriptors, files and standard streams, and by which words a file is a heap and of which kind; it knows
+//! nothing else of a heap, and no command by its name.
 //!
 //! The contracts promise a source for each name of a script, and as many peers as names make; of files nothing is
 //! told. What cannot be opened is a device, a source or a peer of which each call fails, and a line on standard
@@ -13,6 +13,7 @@
 
 mod cause;
 mod device;
+mod kind;
 mod opened;
 mod peer;
 mod program;

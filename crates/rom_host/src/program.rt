@@ -87,6 +87,14 @@ impl<'a> Program<'a> {
         self.rt.alloc()
     }
 
+    // Says on standard error what kind of heap a file holds, and which program reads it.
+    pub(crate) fn tell_reader(&self, name: &str, kind: &str, reader: &str) {
+        if !self.tells_there {
+            let (program, shown) = (self.name, name.escape_debug());
+            let _ = eprintln!(self.rt; "{program}: {shown}: a heap of {kind}, for {reader}");
+        }
+    }
+
     // Says on standard error what is wrong, behind the program's name.
     pub(crate) fn complain(&self, what: &str) {
         if !self.tells_there {

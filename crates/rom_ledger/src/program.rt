@@ -46,7 +46,7 @@ pub fn run_ledger<R: Threads + Wait + Sync, D: Device + Send, S: Source, O: Sink
     requires { length scripts.items ≡ length (plain_scripts (plain_command words.now)) }
 
     // What the words ask for is done so, and printed so: the facts are the record's fields.
-    ensures promise { Promise guarded_ledger Contents Rejects earlier D.shown S.shown O.shown
+    ensures promise { Promise guarded_ledger Contents 1 Rejects earlier D.shown S.shown O.shown
         (AreScripts ReadsLedger S.shown) (IsText O.shown ledger_texts) (plain_use (plain_command words.now))
         device result.device scripts result.scripts out.old out.new result.status result.session }
 

@@ -44,6 +44,10 @@ unadopted_line unadopted.Device = codes "device failed"
 abbrev pub named_text : Identity → List ℕ
 named_text i = (codes "name " ++ name_text i.name) ++ line_text (codes " epoch " ++ decimal i.epoch ++ codes " since " ++ decimal i.since)
 
+-- the epoch of a heap that has a name, as a monitor reads it
+abbrev pub epoch_text : Identity → List ℕ
+epoch_text i = ((codes "# TYPE romulus_epoch gauge" ++ 10 ∷ codes "romulus_epoch{name=" ++ 34 ∷ []) ++ name_text i.name) ++ line_text ((34 ∷ codes "} ") ++ decimal i.epoch)
+
 -- the line of an identity
 abbrev pub identity_text : Identity → List ℕ
 identity_text i = if i.name.high == 0 then line_text (codes "no name") else named_text i

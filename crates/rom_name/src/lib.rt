@@ -34,5 +34,5 @@ pub use meeting::{Meeting, Refusal, meet};
 pub use peeked::{First, Peeked};
 pub use rom_frame::{Head, HeapName};
 pub use telling::{adopt_and_tell, tell_refusal};
-pub use text::{REFUSED, print_adopted, print_identity, print_refusal};
+pub use text::{REFUSED, print_adopted, print_epoch, print_identity, print_refusal};
 pub use writing::{write_epoch, write_identity, write_name};

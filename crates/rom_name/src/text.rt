@@ -2,7 +2,7 @@
 ghost use Rattle.std.specs.Prelude.{◌≡◌, ◌++◌, codes, decimal};
 ghost use Rattle.rom_text.specs.Streams.{Prints};
 ghost use Rattle.rom_text.specs.Text.{line_text};
-ghost use Rattle.rom_name.specs.Texts.{adopted_text, identity_text, name_text, named_text, refusal_text};
+ghost use Rattle.rom_name.specs.Texts.{adopted_text, epoch_text, identity_text, name_text, named_text, refusal_text};
 
 use crate::adoption::Adopted;
 use crate::count::Own;
@@ -183,4 +183,17 @@ pub fn print_identity<O: Sink>(out: &mut O, own: &Own) -> Result<(), IoFailed>
     ensures prints { Prints O.shown out.old out.new result (identity_text own.now.identity) }
 {
     print_gathered(out, &own.identity)
+}
+
+/// Prints the epoch of a heap that has a name, in the text format of Prometheus: its type, and the value behind the name.
+pub fn print_epoch<O: Sink>(out: &mut O, own: &Own) -> Result<(), IoFailed>
+    ensures prints { Prints O.shown out.old out.new result (epoch_text own.now.identity) }
+{
+    let identity = own.identity;
+    print_named(
+        out,
+        "# TYPE romulus_epoch gauge\nromulus_epoch{name=\"",
+        identity.name,
+    )?;
+    print_one(out, "\"} ", identity.epoch)
 }

@@ -34,7 +34,7 @@ module _ {D : Type 0} (shown : ShownDevice D) (was now : D) (room : shown.size w
   pub refused_late : (why : Why) → IsTrue (is_late why) → Opens shown was now (Err why)
   refused_late OldRegion late = after OldRegion tt (λ told. let made = opens.calls told in record { reads = made.reads; writes = made.writes; syncs = made.syncs }) opens.faults
   refused_late NewRegion late = after NewRegion tt (λ told. let made = opens.calls told in record { reads = made.reads; writes = made.writes; syncs = made.syncs }) opens.faults
-  refused_late (Malformed offset rule) late = after (Malformed offset rule) tt (λ told. let made = opens.calls told in record { reads = made.reads; writes = made.writes; syncs = made.syncs }) opens.faults
+  refused_late (Malformed offset rule found) late = after (Malformed offset rule found) tt (λ told. let made = opens.calls told in record { reads = made.reads; writes = made.writes; syncs = made.syncs }) opens.faults
   refused_late OutOfMemory late = after OutOfMemory tt (λ told. let made = opens.calls told in record { reads = made.reads; writes = made.writes; syncs = made.syncs }) opens.faults
   refused_late NotAHeap late = early late
   refused_late (BadVersion version) late = early late
@@ -57,7 +57,7 @@ refused_region Unfit order words region why current unfit =
 
 pub unfit_late : {S : Type 0} (Contents : ℕ → List ℕ → S → ℕ → Type 0) (Rejects : ℕ → List ℕ → Unfit → Type 0) (order : ℕ) (region : List ℕ) (why : Why) → IsUnfit Contents Rejects order region why → IsTrue (is_late why)
 unfit_late Contents Rejects order region OldRegion unfit = refl
-unfit_late Contents Rejects order region (Malformed offset rule) unfit = refl
+unfit_late Contents Rejects order region (Malformed offset rule found) unfit = refl
 unfit_late Contents Rejects order region OutOfMemory unfit = refl
 unfit_late Contents Rejects order region NewRegion unfit = absurd unfit
 unfit_late Contents Rejects order region NotAHeap unfit = absurd unfit
@@ -70,7 +70,7 @@ unfit_late Contents Rejects order region Device unfit = absurd unfit
 
 pub unfit_old_late : {S : Type 0} (earlier : Earlier S) (order : ℕ) (region : List ℕ) (why : Why) → IsUnfitOld earlier order region why → IsTrue (is_late why)
 unfit_old_late earlier order region NewRegion unfit = refl
-unfit_old_late earlier order region (Malformed offset rule) unfit = refl
+unfit_old_late earlier order region (Malformed offset rule found) unfit = refl
 unfit_old_late earlier order region OutOfMemory unfit = refl
 unfit_old_late earlier order region OldRegion unfit = absurd unfit
 unfit_old_late earlier order region NotAHeap unfit = absurd unfit

@@ -1,6 +1,5 @@
--- What words hold is one, what an inspection tells of them, and how many calls an opening and a making come to.
+-- What words hold is one, and how many calls an opening and a making come to.
 pub mod Holding
-pub mod Inspected
 pub mod Recovering
 pub mod Room
 pub mod Within

@@ -25,7 +25,7 @@ refused_writes order state (TooSmall need have) before now writes = writes
 refused_writes order state (Twins offset main back) before now writes = writes
 refused_writes order state OldRegion before now writes = writes
 refused_writes order state NewRegion before now writes = writes
-refused_writes order state (Malformed offset rule) before now writes = writes
+refused_writes order state (Malformed offset rule found) before now writes = writes
 refused_writes order state OutOfMemory before now writes = writes
 refused_writes order state Device before now writes = most_more _ _ before now writes
 
@@ -38,7 +38,7 @@ refused_syncs state (TooSmall need have) before now syncs = syncs
 refused_syncs state (Twins offset main back) before now syncs = syncs
 refused_syncs state OldRegion before now syncs = syncs
 refused_syncs state NewRegion before now syncs = syncs
-refused_syncs state (Malformed offset rule) before now syncs = syncs
+refused_syncs state (Malformed offset rule found) before now syncs = syncs
 refused_syncs state OutOfMemory before now syncs = syncs
 refused_syncs state Device before now syncs = most_more _ _ before now syncs
 

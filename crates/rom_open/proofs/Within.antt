@@ -51,7 +51,7 @@ most_reads : {T : Type 0} (order state : ℕ) (result : Result T Why) (before no
 most_reads order state (Ok opened) before now reads = adds_most _ _ before now (same_most _) reads
 most_reads order state (Err OldRegion) before now reads = adds_most _ _ before now (same_most _) reads
 most_reads order state (Err NewRegion) before now reads = adds_most _ _ before now (same_most _) reads
-most_reads order state (Err (Malformed offset rule)) before now reads = adds_most _ _ before now (same_most _) reads
+most_reads order state (Err (Malformed offset rule found)) before now reads = adds_most _ _ before now (same_most _) reads
 most_reads order state (Err Device) before now reads = reads
 most_reads order state (Err OutOfMemory) before now reads = adds_most _ _ before now (same_most _) reads
 most_reads order state (Err (Twins offset main back)) before now reads = most_most _ _ before now (least_most _ _) reads
@@ -65,7 +65,7 @@ most_writes : {T : Type 0} (order state : ℕ) (result : Result T Why) (before n
 most_writes order state (Ok opened) before now writes = adds_most _ _ before now (same_most _) writes
 most_writes order state (Err OldRegion) before now writes = adds_most _ _ before now (same_most _) writes
 most_writes order state (Err NewRegion) before now writes = adds_most _ _ before now (same_most _) writes
-most_writes order state (Err (Malformed offset rule)) before now writes = adds_most _ _ before now (same_most _) writes
+most_writes order state (Err (Malformed offset rule found)) before now writes = adds_most _ _ before now (same_most _) writes
 most_writes order state (Err OutOfMemory) before now writes = adds_most _ _ before now (same_most _) writes
 most_writes order state (Err Device) before now writes = writes
 most_writes order state (Err (Twins offset main back)) before now writes = none_most _ before now writes
@@ -79,7 +79,7 @@ most_syncs : {T : Type 0} (state : ℕ) (result : Result T Why) (before now : �
 most_syncs state (Ok opened) before now syncs = adds_most _ _ before now (same_most _) syncs
 most_syncs state (Err OldRegion) before now syncs = adds_most _ _ before now (same_most _) syncs
 most_syncs state (Err NewRegion) before now syncs = adds_most _ _ before now (same_most _) syncs
-most_syncs state (Err (Malformed offset rule)) before now syncs = adds_most _ _ before now (same_most _) syncs
+most_syncs state (Err (Malformed offset rule found)) before now syncs = adds_most _ _ before now (same_most _) syncs
 most_syncs state (Err OutOfMemory) before now syncs = adds_most _ _ before now (same_most _) syncs
 most_syncs state (Err Device) before now syncs = syncs
 most_syncs state (Err (Twins offset main back)) before now syncs = adds_most 1 _ before now (one_sync (state == 0)) syncs
@@ -100,7 +100,7 @@ stops_opening (Err (BadState word)) before now failing same = inl same
 stops_opening (Err (TooSmall need have)) before now failing same = inl same
 stops_opening (Err OldRegion) before now failing same = inl same
 stops_opening (Err NewRegion) before now failing same = inl same
-stops_opening (Err (Malformed offset rule)) before now failing same = inl same
+stops_opening (Err (Malformed offset rule found)) before now failing same = inl same
 stops_opening (Err OutOfMemory) before now failing same = inl same
 
 within_opening : {D T : Type 0} (shown : ShownDevice D) (was now : D) (result : Result T Why) → (IsTrue shown.tells_words → OpeningCalls shown (shown.words was) was now result)

@@ -18,7 +18,7 @@ is_late (TooSmall need have) = false
 is_late (Twins offset main back) = false
 is_late OldRegion = true
 is_late NewRegion = true
-is_late (Malformed offset rule) = true
+is_late (Malformed offset rule found) = true
 is_late Device = false
 is_late OutOfMemory = true
 
@@ -38,7 +38,7 @@ HasOpeningFaults (Err (TooSmall need have)) before now failing = now ≡ before
 HasOpeningFaults (Err (Twins offset main back)) before now failing = StopsAtFault before now failing
 HasOpeningFaults (Err OldRegion) before now failing = now ≡ before
 HasOpeningFaults (Err NewRegion) before now failing = now ≡ before
-HasOpeningFaults (Err (Malformed offset rule)) before now failing = now ≡ before
+HasOpeningFaults (Err (Malformed offset rule found)) before now failing = now ≡ before
 HasOpeningFaults (Err Device) before now failing = FailedLast before now failing
 HasOpeningFaults (Err OutOfMemory) before now failing = now ≡ before
 
@@ -59,7 +59,7 @@ abbrev pub AreOpeningReads : {T : Type 0} → ℕ → ℕ → Result T Why → �
 AreOpeningReads order state (Ok opened) before now = Adds (opening_reads order state) before now
 AreOpeningReads order state (Err OldRegion) before now = Adds (opening_reads order state) before now
 AreOpeningReads order state (Err NewRegion) before now = Adds (opening_reads order state) before now
-AreOpeningReads order state (Err (Malformed offset rule)) before now = Adds (opening_reads order state) before now
+AreOpeningReads order state (Err (Malformed offset rule found)) before now = Adds (opening_reads order state) before now
 AreOpeningReads order state (Err Device) before now = AtMost (opening_reads order state) before now
 AreOpeningReads order state (Err OutOfMemory) before now = Adds (opening_reads order state) before now
 AreOpeningReads order state (Err (Twins offset main back)) before now = AtMost (min (opening_reads order state) (5 + 2 * (offset + 64))) before now
@@ -74,7 +74,7 @@ abbrev pub AreOpeningWrites : {T : Type 0} → ℕ → ℕ → Result T Why → 
 AreOpeningWrites order state (Ok opened) before now = Adds (opening_writes order state) before now
 AreOpeningWrites order state (Err OldRegion) before now = Adds (opening_writes order state) before now
 AreOpeningWrites order state (Err NewRegion) before now = Adds (opening_writes order state) before now
-AreOpeningWrites order state (Err (Malformed offset rule)) before now = Adds (opening_writes order state) before now
+AreOpeningWrites order state (Err (Malformed offset rule found)) before now = Adds (opening_writes order state) before now
 AreOpeningWrites order state (Err OutOfMemory) before now = Adds (opening_writes order state) before now
 AreOpeningWrites order state (Err Device) before now = AtMost (opening_writes order state) before now
 AreOpeningWrites order state (Err (Twins offset main back)) before now = now ≡ before
@@ -89,7 +89,7 @@ abbrev pub AreOpeningSyncs : {T : Type 0} → ℕ → Result T Why → ℕ → �
 AreOpeningSyncs state (Ok opened) before now = Adds (opening_syncs state) before now
 AreOpeningSyncs state (Err OldRegion) before now = Adds (opening_syncs state) before now
 AreOpeningSyncs state (Err NewRegion) before now = Adds (opening_syncs state) before now
-AreOpeningSyncs state (Err (Malformed offset rule)) before now = Adds (opening_syncs state) before now
+AreOpeningSyncs state (Err (Malformed offset rule found)) before now = Adds (opening_syncs state) before now
 AreOpeningSyncs state (Err OutOfMemory) before now = Adds (opening_syncs state) before now
 AreOpeningSyncs state (Err Device) before now = AtMost (opening_syncs state) before now
 AreOpeningSyncs state (Err (Twins offset main back)) before now = Adds 1 before now

@@ -26,12 +26,6 @@ abbrev pub of_recovery : RecoverRefused → Why
 of_recovery (recovery.Twins offset main back) = Twins offset main back
 of_recovery recovery.Device = Device
 
--- that of an inspection, likewise
-abbrev pub of_inspection : Unfit → Why
-of_inspection (unfit.Malformed offset rule) = Malformed offset rule
-of_inspection unfit.Old = OldRegion
-of_inspection unfit.OutOfMemory = OutOfMemory
-
 -- the order that the header names
 abbrev pub named_order : List ℕ → ℕ
 named_order words = slice_index words 2
@@ -46,7 +40,7 @@ IsUnready words (TooSmall need have) = IsHeaderAnswer words (Err (header.TooSmal
 IsUnready words (Twins offset main back) = IsHeap (named_order words) words × DifferAt (named_order words) words offset main back
 IsUnready words OldRegion = ⊥
 IsUnready words NewRegion = ⊥
-IsUnready words (Malformed offset rule) = ⊥
+IsUnready words (Malformed offset rule found) = ⊥
 IsUnready words Device = Unit {0}
 IsUnready words OutOfMemory = ⊥
 
@@ -60,7 +54,7 @@ NamesTooFew size (BadState word) = Unit {0}
 NamesTooFew size (Twins offset main back) = Unit {0}
 NamesTooFew size OldRegion = Unit {0}
 NamesTooFew size NewRegion = Unit {0}
-NamesTooFew size (Malformed offset rule) = Unit {0}
+NamesTooFew size (Malformed offset rule found) = Unit {0}
 NamesTooFew size Device = Unit {0}
 NamesTooFew size OutOfMemory = Unit {0}
 
@@ -70,9 +64,9 @@ pub record IsRejected {S : Type 0} (Contents : ℕ → List ℕ → S → ℕ �
   pub only : (other : Unfit) → Rejects order region other → other ≡ reason
   pub none : (state : S) (count : ℕ) → Contents order region state count → ⊥
 
--- The refusal of a region: it is of the version before, or else not well-formed, or there was no memory to see.
+-- The refusal of a region: it is of the version before; or else not well-formed, and the word is named that stands where a rule is broken; or there was no memory to see.
 abbrev pub IsUnfit : {S : Type 0} → (ℕ → List ℕ → S → ℕ → Type 0) → (ℕ → List ℕ → Unfit → Type 0) → ℕ → List ℕ → Why → Type 0
-IsUnfit Contents Rejects order region (Malformed offset rule) = IsRejected Contents Rejects order region (unfit.Malformed offset rule)
+IsUnfit Contents Rejects order region (Malformed offset rule found) = IsRejected Contents Rejects order region (unfit.Malformed offset rule) × (found ≡ slice_index region offset)
 IsUnfit Contents Rejects order region OldRegion = IsRejected Contents Rejects order region unfit.Old
 IsUnfit Contents Rejects order region OutOfMemory = Unit {0}
 IsUnfit Contents Rejects order region NewRegion = ⊥

@@ -30,7 +30,7 @@ AreUpgradeWrites order state (Ok done) before now = Adds (opening_writes order s
 AreUpgradeWrites order state (Err Device) before now = AtMost (opening_writes order state + replacement_writes order) before now
 AreUpgradeWrites order state (Err OldRegion) before now = opening.AreOpeningWrites {T = Unit {0}} order state (Err OldRegion) before now
 AreUpgradeWrites order state (Err NewRegion) before now = opening.AreOpeningWrites {T = Unit {0}} order state (Err NewRegion) before now
-AreUpgradeWrites order state (Err (Malformed offset rule)) before now = opening.AreOpeningWrites {T = Unit {0}} order state (Err (Malformed offset rule)) before now
+AreUpgradeWrites order state (Err (Malformed offset rule found)) before now = opening.AreOpeningWrites {T = Unit {0}} order state (Err (Malformed offset rule found)) before now
 AreUpgradeWrites order state (Err OutOfMemory) before now = opening.AreOpeningWrites {T = Unit {0}} order state (Err OutOfMemory) before now
 AreUpgradeWrites order state (Err (Twins offset main back)) before now = opening.AreOpeningWrites {T = Unit {0}} order state (Err (Twins offset main back)) before now
 AreUpgradeWrites order state (Err (TooSmall need have)) before now = opening.AreOpeningWrites {T = Unit {0}} order state (Err (TooSmall need have)) before now
@@ -45,7 +45,7 @@ AreUpgradeSyncs state (Ok done) before now = Adds (opening_syncs state + replace
 AreUpgradeSyncs state (Err Device) before now = AtMost (opening_syncs state + replacement_syncs) before now
 AreUpgradeSyncs state (Err OldRegion) before now = opening.AreOpeningSyncs {T = Unit {0}} state (Err OldRegion) before now
 AreUpgradeSyncs state (Err NewRegion) before now = opening.AreOpeningSyncs {T = Unit {0}} state (Err NewRegion) before now
-AreUpgradeSyncs state (Err (Malformed offset rule)) before now = opening.AreOpeningSyncs {T = Unit {0}} state (Err (Malformed offset rule)) before now
+AreUpgradeSyncs state (Err (Malformed offset rule found)) before now = opening.AreOpeningSyncs {T = Unit {0}} state (Err (Malformed offset rule found)) before now
 AreUpgradeSyncs state (Err OutOfMemory) before now = opening.AreOpeningSyncs {T = Unit {0}} state (Err OutOfMemory) before now
 AreUpgradeSyncs state (Err (Twins offset main back)) before now = opening.AreOpeningSyncs {T = Unit {0}} state (Err (Twins offset main back)) before now
 AreUpgradeSyncs state (Err (TooSmall need have)) before now = opening.AreOpeningSyncs {T = Unit {0}} state (Err (TooSmall need have)) before now

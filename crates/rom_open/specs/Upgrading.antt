@@ -27,10 +27,10 @@ upgrade_refusal (Err refused) = Err refused.why
 
 -- Of an object whose regions had this version before:
 module _ {S : Type 0} (earlier : Earlier S) where
-  -- The refusal of the region that counts: it is of the next version already, or else not well-formed in the version before, or there was no memory to see or to make the new one in.
+  -- The refusal of the region that counts: it is of the next version already; or else not well-formed in the version before, and the word is named that stands where a rule is broken; or there was no memory to see or to make the new one in.
   abbrev pub IsUnfitOld : ℕ → List ℕ → Why → Type 0
   IsUnfitOld order region NewRegion = IsTrue (earlier.is_next region)
-  IsUnfitOld order region (Malformed offset rule) = (earlier.is_next region ≡ false) × IsRejected earlier.Contents earlier.Rejects order region (unfit.Malformed offset rule)
+  IsUnfitOld order region (Malformed offset rule found) = (earlier.is_next region ≡ false) × IsRejected earlier.Contents earlier.Rejects order region (unfit.Malformed offset rule) × (found ≡ slice_index region offset)
   IsUnfitOld order region OutOfMemory = Unit {0}
   IsUnfitOld order region OldRegion = ⊥
   IsUnfitOld order region NotAHeap = ⊥

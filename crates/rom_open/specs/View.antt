@@ -58,7 +58,7 @@ IsHeaderless words (BadState state) = ⊥
 IsHeaderless words (Twins offset main back) = ⊥
 IsHeaderless words OldRegion = ⊥
 IsHeaderless words NewRegion = ⊥
-IsHeaderless words (Malformed offset rule) = ⊥
+IsHeaderless words (Malformed offset rule found) = ⊥
 IsHeaderless words OutOfMemory = ⊥
 
 -- The refusal of the region of this name in these words. The header is refused; or else it is accepted, and that region by itself is refused.

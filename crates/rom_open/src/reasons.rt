@@ -1,7 +1,7 @@
 //! Why a device is not opened.
 
 use rom_header::HeaderRefused;
-use rom_model::{Rule, Unfit};
+use rom_model::Rule;
 use rom_recover::RecoverRefused;
 use std::alloc::AllocError;
 
@@ -29,8 +29,8 @@ pub enum Why {
     /// recovered.
     NewRegion,
     /// The region that counts is not well-formed: the first word that breaks a rule, in words from the
-    /// region's start. The device has been recovered.
-    Malformed { offset: u64, rule: Rule },
+    /// region's start, and the word that was found there. The device has been recovered.
+    Malformed { offset: u64, rule: Rule, found: u64 },
     /// The device failed. The opening may be tried again.
     Device,
     /// There was no memory for the region or its inspection. The device has been recovered.
@@ -65,21 +65,6 @@ impl From<RecoverRefused> for Why {
         match refused {
             RecoverRefused::Twins { offset, main, back } => Why::Twins { offset, main, back },
             RecoverRefused::Device => Why::Device,
-        }
-    }
-}
-
-impl From<Unfit> for Why {
-    ghost use Rattle.std.specs.Prelude.{◌≡◌};
-    ghost use Rattle.rom_open.specs.Refusals.{of_inspection};
-
-    ghost from_gives = { λ unfit why. why ≡ of_inspection unfit };
-
-    fn from(unfit: Unfit) -> Why {
-        match unfit {
-            Unfit::Malformed { offset, rule } => Why::Malformed { offset, rule },
-            Unfit::Old => Why::OldRegion,
-            Unfit::OutOfMemory => Why::OutOfMemory,
         }
     }
 }

@@ -42,7 +42,7 @@ pub fn run_order<R: Threads + Wait + Sync, D: Device + Send, S: Source, O: Sink,
     requires { length scripts.items ≡ length (plain_scripts (plain_command words.now)) }
 
     // What the words ask for is done so, and printed so: the facts are the record's fields.
-    ensures promise { Promise index IndexContents RejectsIndex no_earlier D.shown S.shown O.shown
+    ensures promise { Promise index IndexContents 3 RejectsIndex no_earlier D.shown S.shown O.shown
         (AreScripts ReadsIndex S.shown) (IsText O.shown index_texts) (plain_use (plain_command words.now)) device
         result.device scripts result.scripts out.old out.new result.status result.session }
 

@@ -47,7 +47,20 @@ pub static ROWS: [Row; 5] = [
 /// which has none; the heads of their buckets are at 50 and 48. Then what is asked.
 pub const BEFORE: [&str; 2] = ["set 1 0102030405060708ff\nset 2 -\n", "fetch 1\nfetch 2\n"];
 
-pub static BROKEN: [Broken; 17] = [
+pub static BROKEN: [Broken; 20] = [
+    // A kind that has no name is told by its number.
+    Broken {
+        changes: &[(0, 1)],
+        text: "refused: another kind, a queue, a set and a map\n",
+    },
+    Broken {
+        changes: &[(0, 3), (1, 2)],
+        text: "refused: another kind, an ordered index\n",
+    },
+    Broken {
+        changes: &[(0, 77)],
+        text: "refused: another kind, kind 77\n",
+    },
     Broken {
         changes: &[(1, 2)],
         text: "refused: malformed at 1, rule root\n",

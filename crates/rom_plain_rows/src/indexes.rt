@@ -69,7 +69,7 @@ pub static BROKEN: [Broken; 32] = [
     // Root words: another kind, another version, a count past the last, and words that are 0.
     Broken {
         changes: &[(0, 2), (1, 2)],
-        text: "refused: malformed at 0, rule root\n",
+        text: "refused: another kind, keys with bytes\n",
     },
     Broken {
         changes: &[(1, 2), (2, 4_611_686_018_427_387_905)],

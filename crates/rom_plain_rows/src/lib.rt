@@ -5,7 +5,8 @@
 //! One runner does each run, of whichever program. A row has the words of a command, its scripts, and what
 //! it is to tell, which was written by hand. Texts of callers who meet are replayed on plain models, which
 //! share no code with the objects. Long runs of keys with bytes are told line by line as a model of units
-//! tells, and those of the index's calls as std's own map does. No crate stands on this one, and it has
+//! tells, and those of the index's calls as std's own map does. Heaps of keys with bytes and indexes are shown, made again
+//! from their scripts, and made greater. No crate stands on this one, and it has
 //! nothing but tests.
 #![tactic(auto)]
 
@@ -13,6 +14,8 @@
 mod blobs;
 #[cfg(test)]
 mod broken;
+#[cfg(test)]
+mod carried;
 #[cfg(test)]
 mod costs;
 #[cfg(test)]

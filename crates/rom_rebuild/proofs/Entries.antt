@@ -20,7 +20,7 @@ pub second : (a b : Bool) → T (a && b) → T b
 second true b is = is
 second false b is = absurd is
 
-less_is : (o : Ordering) → T (is_lt o) → o ≡ Less
+pub less_is : (o : Ordering) → T (is_lt o) → o ≡ Less
 less_is Less is = refl
 less_is Equal is = absurd is
 less_is Greater is = absurd is

@@ -1,6 +1,6 @@
 -- Where the elements that were taken from a region stand.
-use Rattle.std.proofs.Common.{◌≡◌, ℕ, zero, suc, ◌+◌, ◌-◌, ◌<◌, ◌≤◌, List, [], ◌∷◌, ◌++◌, map, length, get_or, refl, sym, ◌∙◌, ap, arith, length-append}
-use Rattle.std.proofs.lemmas.List.{length-map}
+use Rattle.std.proofs.Common.{◌≡◌, ℕ, zero, suc, ◌+◌, ◌-◌, ◌<◌, ◌≤◌, List, [], ◌∷◌, ◌++◌, map, reverse, length, get_or, refl, ◌∙◌, ap, arith, length-append}
+use Rattle.std.proofs.lemmas.List.{length-map, length-reverse}
 use Rattle.rom_rebuild.specs.declared.elements.element.Element.{Element}
 use Rattle.rom_rebuild.specs.declared.elements.element.Element.TheVariants.{Value, Member, Pair}
 use Rattle.rom_rebuild.specs.Elements.{paired}
@@ -22,9 +22,10 @@ length_paired (k ∷ ks) [] same = absurd (omega (arith, same))
 length_paired (k ∷ ks) (v ∷ vs) same = ap suc (length_paired ks vs (omega (arith, same)))
 
 module _ (queue members ks vs : List ℕ) (same : length vs ≡ length ks) where
-  pub length_elements : length (map Value queue ++ (map Member members ++ paired ks vs)) ≡ length queue + length members + length ks
-  length_elements = omega (arith, length-append (map Value queue) (map Member members ++ paired ks vs), length-append (map Member members) (paired ks vs), length-map queue Value, length-map members Member, length_paired ks vs same)
+  pub length_elements : length (map Value queue ++ (map Member (reverse members) ++ paired ks vs)) ≡ length queue + length members + length ks
+  length_elements =
+      omega (arith, length-append (map Value queue) (map Member (reverse members) ++ paired ks vs), length-append (map Member (reverse members)) (paired ks vs), length-map queue Value, length-map (reverse members) Member, length-reverse members, length_paired ks vs same)
 
-  pub at_key : (i j a b : ℕ) (d : Element) → length queue + length members ≤ i → j ≡ i - length queue - length members → j < length ks → get_or (map Value queue ++ (map Member members ++ paired ks vs)) i d ≡ Pair (get_or ks j a) (get_or vs j b)
+  pub at_key : (i j a b : ℕ) (d : Element) → length queue + length members ≤ i → j ≡ i - length queue - length members → j < length ks → get_or (map Value queue ++ (map Member (reverse members) ++ paired ks vs)) i d ≡ Pair (get_or ks j a) (get_or vs j b)
   at_key i j a b d le is lt =
-      at_past Value queue (map Member members ++ paired ks vs) i d (omega (arith, le)) ∙ at_past Member members (paired ks vs) (i - length queue) d (omega (arith, le)) ∙ ap (λ k. get_or (paired ks vs) k d) (sym is) ∙ at_pair ks vs j a b d lt same
+      at_past Value queue (map Member (reverse members) ++ paired ks vs) i d (omega (arith, le)) ∙ at_past Member (reverse members) (paired ks vs) (i - length queue) d (omega (arith, le, length-reverse members)) ∙ ap (λ k. get_or (paired ks vs) k d) (omega (arith, is, length-reverse members)) ∙ at_pair ks vs j a b d lt same

@@ -17,7 +17,7 @@ use Rattle.rom_model.proofs.Room.{times_members}
 use Rattle.rom_bucket.proofs.Keys.{holds_bucket, keys_single}
 use Rattle.rom_map.proofs.Keyed.{map_keys}
 use Rattle.rom_rebuild.specs.Chains.{HoldsChain}
-use Rattle.rom_rebuild.proofs.Sorted.{keys_sorted, rising_sorted, same_sorted, sorted_rising, times_permuted}
+use Rattle.rom_carry.proofs.Sorted.{keys_sorted, rising_sorted, same_sorted, sorted_rising, times_permuted}
 
 module _ {n : ℕ} {w : List ℕ} {p : Chains} {s : State} {k : ℕ} (is : IsRegion n w p s k) where
   held : (l : ℕ) (bs : List ℕ) → Chain n w l 1 bs → ((b : ℕ) → times b bs ≤ times b (element_blocks n p)) → HoldsChain n w l 1

@@ -1,5 +1,5 @@
--- What the updates of a script make of a state that has room for them.
-use Rattle.std.proofs.Common.{◌≡◌, ◌≢◌, ℕ, suc, ◌+◌, ◌<◌, ◌≤◌, Bool, true, false, cond, List, [], ◌∷◌, ◌++◌, map, length, refl, sym, ◌∙◌, ap, subst, arith, length-append, append_assoc, append-nil}
+-- What the elements of a script make of a state that has room for them.
+use Rattle.std.proofs.Common.{◌≡◌, ◌≢◌, ℕ, ◌+◌, ◌/◌, ◌<◌, ◌≤◌, Bool, true, false, cond, List, [], ◌∷◌, ◌++◌, map, length, refl, sym, ◌∙◌, ap, subst, arith, length-append, append_assoc, append-nil}
 use Rattle.std.specs.Prelude.{◌==◌, ◌||◌, Option, Some, None, option_map, if◌then◌else◌}
 use Rattle.std.specs.List.{AllByRecursion}
 use Rattle.std.specs.Ordering.{nat_cmp, eq_by_cmp}
@@ -8,29 +8,31 @@ use Rattle.std.specs.FinSet as set
 use Rattle.std.specs.FinMap as finite
 use Rattle.std.proofs.lemmas.Bool.{lt-ltb}
 use Rattle.std.proofs.lemmas.Bool.Decides.{nat_tests}
-use Rattle.rom_model.specs.Singles.{call_of, reply_of}
 use Rattle.rom_model.specs.State.{State, Stamped, cap, has_room, live, one, put, value_of, written}
-use Rattle.rom_model.specs.Trio.{trio}
-use Rattle.rom_model.specs.declared.call.Reply.TheVariants as reply
 use Rattle.rom_model.specs.declared.call.SingleReply.{SingleReply}
 use Rattle.rom_model.specs.declared.call.SingleReply.TheVariants as told
 use Rattle.rom_rebuild.specs.declared.elements.element.Element.{Element}
 use Rattle.rom_rebuild.specs.declared.elements.element.Element.TheVariants.{Value, Member, Pair}
-use Rattle.rom_rebuild.specs.Rebuilds.{after_steps, told_by_steps}
-use Rattle.rom_rebuild.specs.Script.{insertion_of}
-use Rattle.rom_rebuild.proofs.Reading.{steps_of}
+use Rattle.rom_rebuild.specs.Lines.{insertion_of}
 
--- no reply tells that the heap is full
-abbrev pub NoneFull : ℕ → State → ℕ → List Element → Type 0
-NoneFull n s k es = AllByRecursion (λ r. r ≢ reply.Full) (told_by_steps trio n s k (steps_of es))
-
--- the state after the updates of some elements
+-- An element is put in at a place that eight elements have, as a group of them has one. The place goes into a stamp alone.
+-- the state after some elements, of which the first has that number
 abbrev pub after : ℕ → State → ℕ → List Element → State
-after n s k es = after_steps trio n s k (steps_of es)
+after n s k [] = s
+after n s k (e ∷ es) = after n (one n s (k / 8) (insertion_of e)).0 (k + 1) es
+
+-- what each of them is told
+abbrev pub told_each : ℕ → State → ℕ → List Element → List SingleReply
+told_each n s k [] = []
+told_each n s k (e ∷ es) = (one n s (k / 8) (insertion_of e)).1 ∷ told_each n (one n s (k / 8) (insertion_of e)).0 (k + 1) es
+
+-- none is told that the heap is full
+abbrev pub NoneFull : ℕ → State → ℕ → List Element → Type 0
+NoneFull n s k es = AllByRecursion (λ r. r ≢ told.Full) (told_each n s k es)
 
 -- the state after one of them
 abbrev next_of : ℕ → State → ℕ → Element → State
-next_of n s k e = (trio.step n s k (call_of (insertion_of e))).0
+next_of n s k e = (one n s (k / 8) (insertion_of e)).0
 
 pub after_append : (n : ℕ) (s : State) (k : ℕ) (xs ys : List Element) → after n s k (xs ++ ys) ≡ after n (after n s k xs) (k + length xs) ys
 after_append n s k [] ys = let e : k ≡ k + 0 = omega arith in ap (λ m. after n s m ys) e
@@ -44,27 +46,16 @@ none_append n s k (e ∷ xs) ys first second =
     let next : k + length (e ∷ xs) ≡ (k + 1) + length xs = omega arith in
     (first.0, none_append n (next_of n s k e) (k + 1) xs ys first.1 (subst (λ m. NoneFull n (after n (next_of n s k e) (k + 1) xs) m ys) next second))
 
-pub told_many : (n : ℕ) (s : State) (k : ℕ) (es : List Element) → length (told_by_steps trio n s k (steps_of es)) ≡ length es
-told_many n s k [] = refl
-told_many n s k (e ∷ es) = ap suc (told_many n (next_of n s k e) (k + 1) es)
+-- and the other way round
+pub none_parts : (n : ℕ) (s : State) (k : ℕ) (xs ys : List Element) → NoneFull n s k (xs ++ ys) → NoneFull n s k xs × NoneFull n (after n s k xs) (k + length xs) ys
+none_parts n s k [] ys none = let e : k ≡ k + 0 = omega arith in (tt, subst (λ m. NoneFull n s m ys) e none)
+none_parts n s k (e ∷ xs) ys none =
+    let next : (k + 1) + length xs ≡ k + length (e ∷ xs) = omega arith in
+    let rest = none_parts n (next_of n s k e) (k + 1) xs ys none.1 in
+    ((none.0, rest.0), subst (λ m. NoneFull n (after n (next_of n s k e) (k + 1) xs) m ys) next rest.1)
 
 room : (n : ℕ) (s : State) → live s < cap n → has_room n s ≡ true
 room n s lt = lt-ltb (live s) (cap n) lt
-
-not_full : (r : SingleReply) → r ≢ told.Full → reply_of r ≢ reply.Full
-not_full told.Queued ne is = let never : reply.Queued ≡ reply.Full = is in cc
-not_full told.Full ne is = ne refl
-not_full (told.Head v) ne is = let never : reply.Head v ≡ reply.Full = is in cc
-not_full told.Empty ne is = let never : reply.Empty ≡ reply.Full = is in cc
-not_full told.Added ne is = let never : reply.Added ≡ reply.Full = is in cc
-not_full told.Present ne is = let never : reply.Present ≡ reply.Full = is in cc
-not_full told.Removed ne is = let never : reply.Removed ≡ reply.Full = is in cc
-not_full told.Absent ne is = let never : reply.Absent ≡ reply.Full = is in cc
-not_full told.NoPrior ne is = let never : reply.NoPrior ≡ reply.Full = is in cc
-not_full (told.Was v) ne is = let never : reply.Was v ≡ reply.Full = is in cc
-not_full told.Moved ne is = let never : reply.Moved ≡ reply.Full = is in cc
-not_full (told.Short v) ne is = let never : reply.Short v ≡ reply.Full = is in cc
-not_full told.Over ne is = let never : reply.Over ≡ reply.Full = is in cc
 
 -- What some elements leave of a state: how much more it has at most, and that no reply tells that the heap is full.
 pub record Taken (n : ℕ) (s : State) (k : ℕ) (es : List Element) : Type 0 where
@@ -90,16 +81,16 @@ queue_all n s k [] fits = record {
 }
 queue_all n s k (v ∷ vs) fits =
     let next : State = record s { queue = s.queue ++ v ∷ [] } in
-    let step = queued n s k v (omega (arith, fits)) in
+    let step = queued n s (k / 8) v (omega (arith, fits)) in
     let more : live next ≡ live s + 1 = omega (arith, length-append s.queue (v ∷ [])) in
     let rest = queue_all n next (k + 1) vs (omega (arith, fits, more)) in
     let same : after n s k (map Value (v ∷ vs)) ≡ after n next (k + 1) (map Value vs) = ap (λ (d : State × SingleReply). after n d.0 (k + 1) (map Value vs)) step in
-    let here : (one n s k (insertion_of (Value v))).1 ≡ told.Queued = ap (λ (d : State × SingleReply). d.1) step in
+    let here : (one n s (k / 8) (insertion_of (Value v))).1 ≡ told.Queued = ap (λ (d : State × SingleReply). d.1) step in
     record {
       taken = record {
         few = omega (arith, ap live same, rest.taken.few, more);
         none = (
-          not_full (one n s k (insertion_of (Value v))).1 (λ is. let never : told.Queued ≡ told.Full = sym here ∙ is in cc),
+          λ is. let never : told.Queued ≡ told.Full = sym here ∙ is in cc,
           subst (λ (t : State). NoneFull n t (k + 1) (map Value vs)) (sym (ap (λ (d : State × SingleReply). d.0) step)) rest.taken.none,
         );
       };
@@ -112,7 +103,7 @@ queue_all n s k (v ∷ vs) fits =
 pub tied : (q k : ℕ) → eq_by_cmp nat_cmp q k ≡ true → q ≡ k
 tied q k test = let same : (q == k) ≡ true = sym (unsigned_tied q k) ∙ test in grind (arith, nat_tests)
 
-insert_there : (m : set.FinSet nat_cmp) (k : ℕ) → set.contains m k ≡ true → set.insert m k ≡ m
+pub insert_there : (m : set.FinSet nat_cmp) (k : ℕ) → set.contains m k ≡ true → set.insert m k ≡ m
 insert_there m k has = set.same_set nat_cmp_total finite.nat_cmp-IsAntisymmetric (set.insert m k) m (λ q. set.contains-insert nat_cmp_total m k q ∙ either q (eq_by_cmp nat_cmp q k) refl)
   where
     either : (q : ℕ) (t : Bool) → eq_by_cmp nat_cmp q k ≡ t → (t || set.contains m q) ≡ set.contains m q
@@ -167,12 +158,12 @@ set_all n s c xs [] are fits = record {
   pairs = refl;
 }
 set_all n s c xs (k ∷ ks) are fits =
-    let step = added_one n s c k (omega (arith, fits)) in
-    let next = (one n s c (insertion_of (Member k))).0 in
+    let step = added_one n s (c / 8) k (omega (arith, fits)) in
+    let next = (one n s (c / 8) (insertion_of (Member k))).0 in
     let has : next.members ≡ set.from_list (xs ++ k ∷ []) = step.members ∙ ap (λ m. set.insert m k) are ∙ sym (set.from_list_push nat_cmp_total finite.nat_cmp-IsAntisymmetric xs k) in
     let rest = set_all n next (c + 1) (xs ++ k ∷ []) ks has (omega (arith, fits, step.few)) in
     record {
-      taken = record { few = omega (arith, rest.taken.few, step.few); none = (not_full (one n s c (insertion_of (Member k))).1 step.told, rest.taken.none) };
+      taken = record { few = omega (arith, rest.taken.few, step.few); none = (step.told, rest.taken.none) };
       queue = rest.queue ∙ step.queue;
       members = rest.members ∙ ap (λ ys. set.from_list ys) (append_assoc xs (k ∷ []) ks);
       pairs = rest.pairs ∙ step.pairs;
@@ -190,7 +181,7 @@ pub record PutOne (n : ℕ) (s : State) (c k v : ℕ) : Type 0 where
   pub few : live (one n s c (insertion_of (Pair k v))).0 ≤ live s + 1
   pub told : (one n s c (insertion_of (Pair k v))).1 ≢ told.Full
 
-one_more : (b : Bool) (n : ℕ) → cond b n (n + 1) ≤ n + 1
+pub one_more : (b : Bool) (n : ℕ) → cond b n (n + 1) ≤ n + 1
 one_more true n = omega arith
 one_more false n = omega arith
 
@@ -239,11 +230,11 @@ pub map_all : (n : ℕ) (s : State) (c : ℕ) (es : List (ℕ × Stamped)) → l
 unfolding put_over
 map_all n s c [] fits = record { taken = record { few = omega arith; none = tt }; queue = refl; members = refl; values = λ q. refl }
 map_all n s c (e ∷ es) fits =
-    let step = put_one n s c e.0 e.1.value (omega (arith, fits)) in
-    let next = (one n s c (insertion_of (pair_of e))).0 in
+    let step = put_one n s (c / 8) e.0 e.1.value (omega (arith, fits)) in
+    let next = (one n s (c / 8) (insertion_of (pair_of e))).0 in
     let rest = map_all n next (c + 1) es (omega (arith, fits, step.few)) in
     record {
-      taken = record { few = omega (arith, rest.taken.few, step.few); none = (not_full (one n s c (insertion_of (pair_of e))).1 step.told, rest.taken.none) };
+      taken = record { few = omega (arith, rest.taken.few, step.few); none = (step.told, rest.taken.none) };
       queue = rest.queue ∙ step.queue;
       members = rest.members ∙ step.members;
       values = λ q. rest.values q ∙ same_over es (value_of next) (λ p. cond (eq_by_cmp nat_cmp p e.0) (Some e.1.value) (value_of s p)) q step.values;

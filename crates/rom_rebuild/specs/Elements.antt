@@ -1,5 +1,5 @@
 -- The elements of a state, in the order in which a script puts them in again.
-use Rattle.std.specs.Prelude.{◌≡◌, ℕ, ◌^◌, ◌<◌, List, [], ◌∷◌, ◌++◌, map}
+use Rattle.std.specs.Prelude.{◌≡◌, ℕ, ◌^◌, ◌<◌, List, [], ◌∷◌, ◌++◌, map, reverse}
 use Rattle.std.specs.Ordering.{nat_cmp}
 use Rattle.std.specs.FinSet as set
 use Rattle.std.specs.FinMap as finite
@@ -13,12 +13,12 @@ use Rattle.rom_rebuild.specs.declared.elements.elements.Elements.{Elements}
 abbrev pub ElementSeen : Type 0
 ElementSeen = Element
 
--- These are the elements of a state, in this order: the values of the queue from first to last, the numbers of the set, which rise, and the map's keys, which rise, each with its value.
+-- These are the elements of a state, in this order: the values of the queue from first to last, the numbers of the set, which fall, and the map's keys, which rise, each with its value.
 pub record AreElements (s : State) (elements : List Element) : Type 0 where
   pub numbers : List ℕ
   pub rising : IsRising numbers
   pub members : set.from_list {R = nat_cmp} numbers ≡ s.members
-  pub are : elements ≡ map Value s.queue ++ (map Member numbers ++ map (λ e. Pair e.0 e.1.value) (finite.entries s.pairs))
+  pub are : elements ≡ map Value s.queue ++ (map Member (reverse numbers) ++ map (λ e. Pair e.0 e.1.value) (finite.entries s.pairs))
 
 -- keys with their values
 abbrev pub paired : List ℕ → List ℕ → List Element
@@ -28,7 +28,7 @@ paired (key ∷ keys) (value ∷ values) = Pair key value ∷ paired keys values
 
 -- those that were taken from a region
 abbrev pub elements_in : Elements → List Element
-elements_in e = map Value e.queue.items ++ (map Member e.members.items ++ paired e.keys.items e.values.items)
+elements_in e = map Value e.queue.items ++ (map Member (reverse e.members.items) ++ paired e.keys.items e.values.items)
 
 -- its numbers have at most 64 bits
 abbrev pub ElementFits : Element → Type 0

@@ -1,6 +1,8 @@
--- The script of some elements, its parts, and what its lines rebuild.
-pub mod Script
-pub mod Parts
-pub mod Rebuilds
-pub mod Chains
+-- The elements of a state, the lines that put them into a new heap, and what is carried over by them.
 pub mod Elements
+pub mod Lines
+pub mod Carried
+pub mod Laws
+pub mod Measures
+pub mod Chains
+pub mod Filling

@@ -1,14 +1,15 @@
-//! The lines of some elements that stand side by side.
+//! The lines of some groups that stand side by side.
 ghost use Rattle.std.specs.Prelude.{◌≡◌, ◌≤◌, length};
+ghost use Rattle.rom_carry.specs.Scripts.{between, script_of};
 ghost use Rattle.rom_rebuild.specs.Elements.{elements_in};
-ghost use Rattle.rom_rebuild.specs.Script.{between, elements_script};
+ghost use Rattle.rom_rebuild.specs.Lines.{element_lines};
 ghost use Rattle.rom_text.specs.Streams.{Prints};
 
 use crate::elements::Elements;
-use crate::line::{line_len, print_line};
+use crate::group::{group_len, print_group};
 use rom_text::{IoFailed, Sink};
 
-/// Prints the lines of the elements from that index on up to the other one.
+/// Prints the lines from that number on up to the other one, counted from 0.
 pub fn print_lines<O: Sink>(
     out: &mut O,
     elements: &Elements,
@@ -16,12 +17,13 @@ pub fn print_lines<O: Sink>(
     to: u64,
 ) -> Result<(), IoFailed>
     requires order { from ≤ to }
-    requires within { to ≤ length (elements_in elements.now) }
+    requires within { to ≤ length (element_lines (elements_in elements.now)) }
+    requires few { length (element_lines (elements_in elements.now)) ≤ 7680 }
     ensures prints { Prints O.shown out.old out.new result
-        (elements_script (between from to (elements_in elements.now))) }
+        (script_of (between from to (element_lines (elements_in elements.now)))) }
 {
-    for index in from..to {
-        print_line(out, elements.at(index))?;
+    for number in from..to {
+        print_group(out, elements, number)?;
     }
     Ok(())
 }
@@ -29,13 +31,14 @@ pub fn print_lines<O: Sink>(
 /// How many bytes these lines have.
 pub fn lines_len(elements: &Elements, from: u64, to: u64) -> u64
     requires order { from ≤ to }
-    requires within { to ≤ length (elements_in elements.now) }
-    requires few { to ≤ 61440 }
-    ensures len { result ≡ length (elements_script (between from to (elements_in elements.now))) }
+    requires within { to ≤ length (element_lines (elements_in elements.now)) }
+    requires few { length (element_lines (elements_in elements.now)) ≤ 7680 }
+    ensures len { result
+        ≡ length (script_of (between from to (element_lines (elements_in elements.now)))) }
 {
     let mut total = 0;
-    for index in from..to {
-        total += line_len(elements.at(index));
+    for number in from..to {
+        total += group_len(elements, number);
     }
     total
 }

@@ -130,7 +130,7 @@ module _ {D X K : Type 0} (shown : ShownDevice D) (source : ShownSource X) (sink
   IsStoryTold session = HasSession trio Contents shown Standing was now (λ callers story. OfOne inputs left (IsFollowedBy source sink old new status callers story)) session
 
   abbrev pub HasNoSession : Type 0
-  HasNoSession = HasNone trio Contents shown sink Rejects earlier Standing was now old new status
+  HasNoSession = HasNone trio Contents shown sink 1 Rejects earlier Standing was now old new status
 
   -- with 7 the device's count rose
   device_rose : (session : Option SessionSeen) → IfSome session IsStoryTold → (IsNone session → HasNoSession) → status ≡ 7 → Rose (shown.faults was) (shown.faults now)
@@ -145,7 +145,7 @@ module _ {D X K : Type 0} (shown : ShownDevice D) (source : ShownSource X) (sink
 
   module _ (session : Option SessionSeen) (story : IfSome session IsStoryTold) (none : IsNone session → HasNoSession) (tells : IsTrue shown.tells_words) where
     pub named : IsNone session → status ≡ 3 → IsRefusedByName Contents Rejects earlier Standing (shown.words was)
-    named left is = by_name Contents Rejects earlier shown was tells sink now old new Standing ((none left).heap_refused is)
+    named left is = by_name Contents Rejects earlier shown was tells 1 sink now old new Standing ((none left).heap_refused is)
 
     -- where there is a session the heap was at hand
     stood : IsSome session → IsAtHand Contents earlier Standing (shown.words was)

@@ -63,7 +63,7 @@ module _ {D X K : Type 0} (shown : ShownDevice D) (source : ShownSource X) (sink
     -- What its one caller was told is all of the history, and it keeps the moments at which that was committed: no stop since the moment of an entry has left less of the history than up to this entry.
     pub told_lasts : IfSome session (λ s. EachStory trio Contents s (λ story. AllByRecursion (LastsFor shown Contents (on_words trio) story now) s.callers))
     -- else what a stop may leave, and why it was not opened; and the stream was not read
-    pub none : IsNone session → HasNone trio Contents shown sink Rejects earlier Standing was now old new status
+    pub none : IsNone session → HasNone trio Contents shown sink 1 Rejects earlier Standing was now old new status
     pub unread : IsNone session → left.items ≡ inputs.items
     -- the device
     pub kept : IsDeviceKept shown Standing was now
@@ -79,7 +79,7 @@ module _ {D X K : Type 0} (shown : ShownDevice D) (source : ShownSource X) (sink
   abbrev pub ReplicaPromise : Option PlainCommand → D → D → Vec X → Vec X → K → K → ℕ → Option SessionSeen → Type 0
   ReplicaPromise (Some (Follow file stream)) was now inputs left old new status session = FollowPromise was now inputs left old new status session
   ReplicaPromise asked was now inputs left old new status session =
-      Promise trio Contents Rejects earlier shown source sink (AreScripts ReadsTrio source) (AreShipped sink) (plain_use asked) was now inputs left old new status session
+      Promise trio Contents 1 Rejects earlier shown source sink (AreScripts ReadsTrio source) (AreShipped sink) (plain_use asked) was now inputs left old new status session
 
 -- A history whose frames were shipped is one that can be followed: its frames are of 64-bit words.
 abbrev pub CanBeFollowed : Type 0

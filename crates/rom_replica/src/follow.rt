@@ -119,7 +119,7 @@ fn follow_heap<D: Device + Send, S: Source, O: Sink, R: Wait, G: Gate>(
         f.closed.session) }
     ensures kept { IfOk result (λ f. IsDeviceKept D.shown Standing device f.closed.device) }
     ensures unprinted { OnOk result (out.new ≡ out.old) }
-    ensures none { IfErr result (HasNoHeap trio Contents D.shown O.shown Rejects earlier Standing
+    ensures none { IfErr result (HasNoHeap trio Contents D.shown O.shown 1 Rejects earlier Standing
         device out.old out.new) }
     ensures unread { OnErr result (stream.new ≡ stream.old) }
     ensures asked_once { IsAskedOnce S.shown stream.old stream.new }
@@ -148,7 +148,7 @@ fn follow_only<D: Device + Send, S: Source, O: Sink, R: Wait, G: Gate>(
         IsStreamFollowed S.shown was now f.tally f.stop callers story)) f.closed.session) }
     ensures kept { IfOk result (λ f. IsDeviceKept D.shown Standing device f.closed.device) }
     ensures unprinted { OnOk result (out.new ≡ out.old) }
-    ensures none { IfErr result (HasNoHeap trio Contents D.shown O.shown Rejects earlier Standing
+    ensures none { IfErr result (HasNoHeap trio Contents D.shown O.shown 1 Rejects earlier Standing
         device out.old out.new) }
     ensures unread { OnErr result (inputs.new ≡ inputs.old) }
     ensures many { length inputs.new ≡ length inputs.old }
@@ -222,7 +222,7 @@ pub(crate) fn follow<D: Device + Send, S: Source, O: Sink, R: Wait, G: Gate>(
     ensures story { IfSome result.session (HasSession trio Contents D.shown Standing device
         result.device (λ callers story. OfOne inputs.items result.scripts.items (λ was now.
         IsToldOfStream S.shown O.shown was now out.old out.new result.status callers story))) }
-    ensures none { IsNone result.session → HasNone trio Contents D.shown O.shown Rejects earlier
+    ensures none { IsNone result.session → HasNone trio Contents D.shown O.shown 1 Rejects earlier
         Standing device result.device out.old out.new result.status }
     ensures unread { IsNone result.session → result.scripts.items ≡ inputs.items }
     ensures kept { IsDeviceKept D.shown Standing device result.device }

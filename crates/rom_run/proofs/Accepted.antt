@@ -65,7 +65,7 @@ module _ {S : Type 0} (Contents : ℕ → List ℕ → S → ℕ → Type 0) (or
       no_difference order words held.region offset main back held.current.counts (subst (λ (n : ℕ). DifferAt n words offset main back) held.current.heap.header.order_is is.1)
   ready OldRegion name is = is
   ready NewRegion name is = is
-  ready (Malformed offset rule) name is = is
+  ready (Malformed offset rule found) name is = is
   ready Device name is = absurd (name.0 refl)
   ready OutOfMemory name is = is
 
@@ -78,7 +78,7 @@ module _ {S : Type 0} (Contents : ℕ → List ℕ → S → ℕ → Type 0) (or
 -- so it is not refused, in this version
 module _ {S : Type 0} (Contents : ℕ → List ℕ → S → ℕ → Type 0) (Rejects : ℕ → List ℕ → Unfit → Type 0) (order : ℕ) (words : List ℕ) (state : S) (count : ℕ) (held : Holds Contents order words state count) where
   fit : (why : Why) (region : List ℕ) → HasName why → IsCurrentRegion (named_order words) words region → IsUnfit Contents Rejects (named_order words) region why → ⊥
-  fit (Malformed offset rule) region name current is = stands Contents order words state count held region current is.none
+  fit (Malformed offset rule found) region name current is = stands Contents order words state count held region current is.0.none
   fit OldRegion region name current is = stands Contents order words state count held region current is.none
   fit OutOfMemory region name current is = absurd (name.1 refl)
   fit NewRegion region name current is = is
@@ -113,7 +113,7 @@ apart_played earlier Upgraded is = absurd is
 -- an upgrade does not refuse words that hold something in the version before
 module _ {S : Type 0} (earlier : Earlier S) (apart : IsToldApart earlier) (order : ℕ) (words : List ℕ) (state : S) (count : ℕ) (held : Holds earlier.Contents order words state count) where
   fit_before : (why : Why) (region : List ℕ) → HasName why → IsCurrentRegion (named_order words) words region → IsUnfitOld earlier (named_order words) region why → ⊥
-  fit_before (Malformed offset rule) region name current is = stands earlier.Contents order words state count held region current is.1.none
+  fit_before (Malformed offset rule found) region name current is = stands earlier.Contents order words state count held region current is.1.none
   fit_before NewRegion region name current is = stands earlier.Contents order words state count held region current (λ s k stood. apart (named_order words) region s k stood is)
   fit_before OutOfMemory region name current is = absurd (name.1 refl)
   fit_before OldRegion region name current is = is
@@ -144,10 +144,10 @@ module _ {S : Type 0} (Contents : ℕ → List ℕ → S → ℕ → Type 0) (Re
 
   module _ {D : Type 0} (shown : ShownDevice D) (was : D) (tells : IsTrue shown.tells_words) where
     -- what is told is refused so
-    pub by_name : {K : Type 0} (sink : ShownSink K) (now : D) (old new : K) (heap : Heap) → IsHeapRefused shown sink Contents Rejects earlier heap was now old new → IsRefusedByName Contents Rejects earlier heap (shown.words was)
-    by_name sink now old new (New order) is = (is.why, is.by_name, is.refused tells)
-    by_name sink now old new Standing is = (is.why, is.by_name, is.refused tells)
-    by_name sink now old new Upgraded is = (is.why, is.by_name, is.refused tells)
+    pub by_name : (kind : ℕ) {K : Type 0} (sink : ShownSink K) (now : D) (old new : K) (heap : Heap) → IsHeapRefused shown sink Contents kind Rejects earlier heap was now old new → IsRefusedByName Contents Rejects earlier heap (shown.words was)
+    by_name kind sink now old new (New order) is = (is.why, is.by_name, is.refused tells)
+    by_name kind sink now old new Standing is = (is.why, is.by_name, is.refused tells)
+    by_name kind sink now old new Upgraded is = (is.why, is.by_name, is.refused tells)
 
     told : (P : List ℕ → Type 0) → IfSome (told_words shown was) P → P (shown.words was)
     told P is = subst (λ (b : Bool). IfSome (if b then Some (shown.words was) else None) P) tells is

@@ -127,7 +127,7 @@ module _ {S C Q R A D : Type 0} (machine : Machine S C Q R A) (Contents : ℕ �
 pub once_rose : (before now : ℕ) → now ≡ counted before → Rose before now
 once_rose before now is = omega (arith, is)
 
-module _ {S C Q R A D X K : Type 0} (machine : Machine S C Q R A) (Contents : ℕ → List ℕ → S → ℕ → Type 0) (Rejects : ℕ → List ℕ → Unfit → Type 0) (earlier : Earlier S) (shown : ShownDevice D) (source : ShownSource X) (sink : ShownSink K)
+module _ {S C Q R A D X K : Type 0} (machine : Machine S C Q R A) (Contents : ℕ → List ℕ → S → ℕ → Type 0) (kind : ℕ) (Rejects : ℕ → List ℕ → Unfit → Type 0) (earlier : Earlier S) (shown : ShownDevice D) (source : ShownSource X) (sink : ShownSink K)
     (AreRun : List X → List (List (Step C Q)) → Type 0) (Prints : Story S → List (List (LineResult R A)) → K → K → ℕ → Type 0) (was now : D) (before after : List X) (old new : K) where
   -- What is promised of a command besides.
   pub record Promised (asked : Option Use) (status : ℕ) (session : Option SessionSeen) : Type 0 where
@@ -135,7 +135,7 @@ module _ {S C Q R A D X K : Type 0} (machine : Machine S C Q R A) (Contents : �
     pub ran : HasRun asked status → IsSome session
     pub not_run : HasNotRun asked status → IsNone session
     pub story : IfSome asked (λ does. IfSome session (HasSession machine Contents shown (heap_of does) was now (HasReplies machine AreRun Prints before old new status)))
-    pub none : IfSome asked (λ does. IsNone session → HasNone machine Contents shown sink Rejects earlier (heap_of does) was now old new status)
+    pub none : IfSome asked (λ does. IsNone session → HasNone machine Contents shown sink kind Rejects earlier (heap_of does) was now old new status)
     pub made : status ≡ 0 → HasMade machine Contents earlier shown sink asked was now old new
     pub source_failed : status ≡ 4 → SourceFailed source sink before after old new
     pub too_long : status ≡ 8 → SourceTooLong source sink before after old new
@@ -147,7 +147,7 @@ module _ {S C Q R A D X K : Type 0} (machine : Machine S C Q R A) (Contents : �
     module _ (does : Use) (status : ℕ) where
       -- with 7 the device's count rose
       seven : (session : Option SessionSeen) → IfSome session (HasSession machine Contents shown (heap_of does) was now (HasReplies machine AreRun Prints before old new status)) →
-          (IsNone session → HasNone machine Contents shown sink Rejects earlier (heap_of does) was now old new status) → status ≡ 7 → Rose (shown.faults was) (shown.faults now)
+          (IsNone session → HasNone machine Contents shown sink kind Rejects earlier (heap_of does) was now old new status) → status ≡ 7 → Rose (shown.faults was) (shown.faults now)
       seven None told none is = once_rose _ _ ((none refl).device_failed is).failed.once
       seven (Some z) told none is =
           let story = told.story.0 in let of = told.story.1 in let r = told.told story of in
@@ -163,7 +163,7 @@ module _ {S C Q R A D X K : Type 0} (machine : Machine S C Q R A) (Contents : �
 
       module _ (session : Option SessionSeen) (p : Promised (Some does) status session) (tells : IsTrue shown.tells_words) (apart : AreApart earlier (heap_of does)) (can : IsAtHand Contents earlier (heap_of does) (shown.words was)) (none : NoneFailed shown source sink was now before after old new) where
         not_three : (status ≡ 3 → IsNone session) → status ≡ 3 → ⊥
-        not_three left is = begins Contents Rejects earlier (heap_of does) (shown.words was) apart can (by_name Contents Rejects earlier shown was tells sink now old new (heap_of does) ((p.none (left is)).heap_refused is))
+        not_three left is = begins Contents Rejects earlier (heap_of does) (shown.words was) apart can (by_name Contents Rejects earlier shown was tells kind sink now old new (heap_of does) ((p.none (left is)).heap_refused is))
 
         not_four : status ≡ 4 → ⊥
         not_four is = let f = p.source_failed is in none.of_sources f.script f.was f.now f.first.stood f.first.stands (once_rose _ _ f.failed.cause.once)
@@ -212,7 +212,7 @@ module _ {S C Q R A D X K : Type 0} (machine : Machine S C Q R A) (Contents : �
     module _ (does : Use) (status : ℕ) (session : Option SessionSeen) (p : Promised (Some does) status session) (tells : IsTrue shown.tells_words) where
       -- with 3 it is refused by name
       named : (status ≡ 3 → IsNone session) → status ≡ 3 → IsRefusedByName Contents Rejects earlier (heap_of does) (shown.words was)
-      named left is = by_name Contents Rejects earlier shown was tells sink now old new (heap_of does) ((p.none (left is)).heap_refused is)
+      named left is = by_name Contents Rejects earlier shown was tells kind sink now old new (heap_of does) ((p.none (left is)).heap_refused is)
 
       -- with a session it was at hand
       began : (z : Option SessionSeen) → IfSome z (HasSession machine Contents shown (heap_of does) was now (HasReplies machine AreRun Prints before old new status)) → IsSome z → IsAtHand Contents earlier (heap_of does) (shown.words was)

@@ -60,10 +60,10 @@ named_calls shown words was now why named calls = record {
 
 module _ {D O : Type 0} (shown : ShownDevice D) (sink : ShownSink O) (was now : D) (old new : O) where
   -- a device that failed while its heap was opened
-  pub opening_failed : (why : Why) (n : ℕ) → n ≡ exit_number (refusal_status why) → n ≡ 7 →
-      HasOpeningFaults {T = Unit {0}} (Err why) (shown.faults was) (shown.faults now) (shown.failing now) → IsLineWrittenOrCutShort sink old new (refusal_line why) → HasDeviceFailed shown sink was now old new
-  opening_failed Device n is seven failed told = record { failed = failed; told = told }
-  opening_failed other n is seven failed told = absurd (omega arith)
+  pub opening_failed : (kind : ℕ) (why : Why) (n : ℕ) → n ≡ exit_number (refusal_status why) → n ≡ 7 →
+      HasOpeningFaults {T = Unit {0}} (Err why) (shown.faults was) (shown.faults now) (shown.failing now) → IsLineWrittenOrCutShort sink old new (refusal_line kind why) → HasDeviceFailed shown sink was now old new
+  opening_failed kind Device n is seven failed told = record { failed = failed; told = told }
+  opening_failed kind other n is seven failed told = absurd (omega arith)
 
   -- or while a heap was made
   pub making_failed : (why : NotFormatted) (n order : ℕ) (reads writes syncs : Result (Unit {0}) FormatRefused → ℕ) → n ≡ exit_number (unmade_status why) → n ≡ 7 →
@@ -111,12 +111,12 @@ want_of_memory result (unmade.Refused format.AlreadyAHeap) status is told six = 
 want_of_memory result (unmade.Refused (format.TooSmall need have)) status is told six = absurd (omega (arith, told, six))
 want_of_memory result (unmade.Refused format.Device) status is told six = absurd (omega (arith, told, six))
 
-module _ {S C Q R A D K : Type 0} (machine : Machine S C Q R A) (Contents : ℕ → List ℕ → S → ℕ → Type 0) (shown : ShownDevice D) (sink : ShownSink K) (Rejects : ℕ → List ℕ → Unfit → Type 0) (earlier : Earlier S) (was now : D) (old new : K) where
+module _ {S C Q R A D K : Type 0} (machine : Machine S C Q R A) (Contents : ℕ → List ℕ → S → ℕ → Type 0) (shown : ShownDevice D) (sink : ShownSink K) (kind : ℕ) (Rejects : ℕ → List ℕ → Unfit → Type 0) (earlier : Earlier S) (was now : D) (old new : K) where
   -- there is none, since none was made
   pub none_made : (order : ℕ) (why : NotFormatted) →
       (IsTrue shown.tells_words → (w : FormatRefused) → why ≡ unmade.Refused w → IsFormatAnswer order (shown.words was) (Err w)) → ((w : FormatRefused) → why ≡ unmade.Refused w → HasTooFewFor order (shown.size was) w) →
       MakesNone shown order why was now → HasFaultsUnmade why (shown.faults was) (shown.faults now) (shown.failing now) → (IsTrue shown.tells_images → IsLeft machine Contents shown earlier (New order) was now) → (why ≡ unmade.OutOfMemory → now ≡ was) → WithinMaking shown order was now → IsLineWrittenOrCutShort sink old new (unmade_line why) →
-      HasNone machine Contents shown sink Rejects earlier (New order) was now old new (exit_number (unmade_status why))
+      HasNone machine Contents shown sink kind Rejects earlier (New order) was now old new (exit_number (unmade_status why))
   none_made order why answer sizes calls faults images memory within told = record {
     images = images;
     calls = within;
@@ -147,8 +147,8 @@ module _ {S C Q R A D K : Type 0} (machine : Machine S C Q R A) (Contents : ℕ 
 
   -- or none was opened
   pub none_opened : (why : Why) → (IsTrue shown.tells_words → IsRefusal Contents Rejects (shown.words was) why) → NamesTooFew (shown.size was) why →
-      HasOpeningFaults {T = Unit {0}} (Err why) (shown.faults was) (shown.faults now) (shown.failing now) → (IsTrue shown.tells_images → IsLeft machine Contents shown earlier Standing was now) → (IsTrue shown.tells_words → OpeningCalls {T = Unit {0}} shown (shown.words was) was now (Err why)) → WithinOpening shown was now → IsLineWrittenOrCutShort sink old new (refusal_line why) →
-      HasNone machine Contents shown sink Rejects earlier Standing was now old new (exit_number (refusal_status why))
+      HasOpeningFaults {T = Unit {0}} (Err why) (shown.faults was) (shown.faults now) (shown.failing now) → (IsTrue shown.tells_images → IsLeft machine Contents shown earlier Standing was now) → (IsTrue shown.tells_words → OpeningCalls {T = Unit {0}} shown (shown.words was) was now (Err why)) → WithinOpening shown was now → IsLineWrittenOrCutShort sink old new (refusal_line kind why) →
+      HasNone machine Contents shown sink kind Rejects earlier Standing was now old new (exit_number (refusal_status why))
   none_opened Device answer sizes faults images calls within told = record {
     images = images;
     calls = within;
@@ -170,8 +170,8 @@ module _ {S C Q R A D K : Type 0} (machine : Machine S C Q R A) (Contents : ℕ 
   none_opened why answer sizes faults images calls within told = by_name why refl refl answer sizes calls faults told images
     where
       by_name : (why : Why) → refusal_status why ≡ HeapRefused → exit_number (refusal_status why) ≡ 3 → (IsTrue shown.tells_words → IsRefusal Contents Rejects (shown.words was) why) → NamesTooFew (shown.size was) why →
-          (IsTrue shown.tells_words → OpeningCalls {T = Unit {0}} shown (shown.words was) was now (Err why)) → HasOpeningFaults {T = Unit {0}} (Err why) (shown.faults was) (shown.faults now) (shown.failing now) → IsLineWrittenOrCutShort sink old new (refusal_line why) → (IsTrue shown.tells_images → IsLeft machine Contents shown earlier Standing was now) →
-          HasNone machine Contents shown sink Rejects earlier Standing was now old new (exit_number (refusal_status why))
+          (IsTrue shown.tells_words → OpeningCalls {T = Unit {0}} shown (shown.words was) was now (Err why)) → HasOpeningFaults {T = Unit {0}} (Err why) (shown.faults was) (shown.faults now) (shown.failing now) → IsLineWrittenOrCutShort sink old new (refusal_line kind why) → (IsTrue shown.tells_images → IsLeft machine Contents shown earlier Standing was now) →
+          HasNone machine Contents shown sink kind Rejects earlier Standing was now old new (exit_number (refusal_status why))
       by_name why named three answer sizes calls faults told images = record {
         images = images;
         calls = within;
@@ -196,8 +196,8 @@ module _ {S C Q R A D K : Type 0} (machine : Machine S C Q R A) (Contents : ℕ 
   pub none_upgraded : (why : Why) → (IsTrue shown.tells_words → IsUpgradeRefusal earlier (shown.words was) why) → NamesTooFew (shown.size was) why →
       HasUpgradeFaults {T = Unit {0}} (Err why) (shown.faults was) (shown.faults now) (shown.failing now) → (IsTrue shown.tells_images → IsLeft machine Contents shown earlier Upgraded was now) →
       (IsTrue shown.tells_words → UpgradeCalls {T = Unit {0}} shown (shown.words was) was now (Err why)) → WithinUpgrade shown was now → (why ≢ Device → WithinOpening shown was now) →
-      (IsTrue shown.tells_images → why ≢ Device → IsLeft machine Contents shown earlier Standing was now) → IsLineWrittenOrCutShort sink old new (refusal_line why) →
-      HasNone machine Contents shown sink Rejects earlier Upgraded was now old new (exit_number (refusal_status why))
+      (IsTrue shown.tells_images → why ≢ Device → IsLeft machine Contents shown earlier Standing was now) → IsLineWrittenOrCutShort sink old new (refusal_line kind why) →
+      HasNone machine Contents shown sink kind Rejects earlier Upgraded was now old new (exit_number (refusal_status why))
   none_upgraded why answer sizes faults images calls within opened left told = record {
     images = images;
     calls = within;
@@ -212,7 +212,7 @@ module _ {S C Q R A D K : Type 0} (machine : Machine S C Q R A) (Contents : ℕ 
       unfailed = unfailed_by_name why _ _ _ (name_of why (named why three)) faults;
       told = told;
     };
-    device_failed = λ seven. opening_failed shown sink was now old new why _ refl seven faults told;
+    device_failed = λ seven. opening_failed shown sink was now old new kind why _ refl seven faults told;
     unfailed = λ six. same why six faults;
     uncalled = λ six. opened (unfailed 6 why six (λ is. omega (arith, is)));
     no_memory = λ six. remembered why six told;
@@ -230,7 +230,7 @@ module _ {S C Q R A D K : Type 0} (machine : Machine S C Q R A) (Contents : ℕ 
       same OutOfMemory six faults = faults
       same other six faults = absurd (omega (arith, six))
 
-      remembered : (why : Why) → exit_number (refusal_status why) ≡ 6 → IsLineWrittenOrCutShort sink old new (refusal_line why) → IsLineWrittenOrCutShort sink old new (codes "no memory")
+      remembered : (why : Why) → exit_number (refusal_status why) ≡ 6 → IsLineWrittenOrCutShort sink old new (refusal_line kind why) → IsLineWrittenOrCutShort sink old new (codes "no memory")
       remembered OutOfMemory six told = told
       remembered other six told = absurd (omega (arith, six))
 

@@ -64,9 +64,9 @@ module _ {D : Type 0} (shown : ShownDevice D) (was : D) where
   }
 
   -- and there is no session, with a status of neither a refused heap nor a device that failed
-  pub none_uncalled : {S C Q R A K : Type 0} (machine : Machine S C Q R A) (Contents : ℕ → List ℕ → S → ℕ → Type 0) (sink : ShownSink K) (Rejects : ℕ → List ℕ → Unfit → Type 0) (earlier : Earlier S) (old new : K) (status : ℕ) →
-      status ≢ 3 → status ≢ 7 → (status ≡ 6 → IsLineWrittenOrCutShort sink old new (codes "no memory")) → (heap : Heap) → HasNone machine Contents shown sink Rejects earlier heap was was old new status
-  none_uncalled machine Contents sink Rejects earlier old new status unrefused unfailed told (New order) = record {
+  pub none_uncalled : {S C Q R A K : Type 0} (machine : Machine S C Q R A) (Contents : ℕ → List ℕ → S → ℕ → Type 0) (sink : ShownSink K) (kind : ℕ) (Rejects : ℕ → List ℕ → Unfit → Type 0) (earlier : Earlier S) (old new : K) (status : ℕ) →
+      status ≢ 3 → status ≢ 7 → (status ≡ 6 → IsLineWrittenOrCutShort sink old new (codes "no memory")) → (heap : Heap) → HasNone machine Contents shown sink kind Rejects earlier heap was was old new status
+  none_uncalled machine Contents sink kind Rejects earlier old new status unrefused unfailed told (New order) = record {
     images = λ tells. leaves_none shown _ was;
     calls = within_uncalled (New order);
     heap_refused = λ three. absurd (unrefused three);
@@ -75,7 +75,7 @@ module _ {D : Type 0} (shown : ShownDevice D) (was : D) where
     uncalled = λ six. refl;
     no_memory = told;
   }
-  none_uncalled machine Contents sink Rejects earlier old new status unrefused unfailed told Standing = record {
+  none_uncalled machine Contents sink kind Rejects earlier old new status unrefused unfailed told Standing = record {
     images = λ tells. leaves_none shown _ was;
     calls = within_uncalled Standing;
     heap_refused = λ three. absurd (unrefused three);
@@ -84,7 +84,7 @@ module _ {D : Type 0} (shown : ShownDevice D) (was : D) where
     uncalled = λ six. tt;
     no_memory = told;
   }
-  none_uncalled machine Contents sink Rejects earlier old new status unrefused unfailed told Upgraded = record {
+  none_uncalled machine Contents sink kind Rejects earlier old new status unrefused unfailed told Upgraded = record {
     images = λ tells. leaves_none shown _ was;
     calls = within_uncalled Upgraded;
     heap_refused = λ three. absurd (unrefused three);

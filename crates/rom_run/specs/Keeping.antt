@@ -131,8 +131,8 @@ module _ {D K : Type 0} (shown : ShownDevice D) (sink : ShownSink K) where
     pub failed : FailedLast (shown.faults was) (shown.faults now) (shown.failing now)
     pub told : IsLineWrittenOrCutShort sink old new (codes "device failed")
 
-  -- The heap isn't opened, to be worked on or to be upgraded, likewise: it is as an opening that is refused so leaves it, with no call more. No call failed; or where the regions differ, the last one may have.
-  pub record IsUnopened (Refuses : List ℕ → Why → Type 0) (was now : D) (old new : K) : Type 0 where
+  -- The heap of an object of this kind isn't opened, to be worked on or to be upgraded, likewise: it is as an opening that is refused so leaves it, with no call more. No call failed; or where the regions differ, the last one may have.
+  pub record IsUnopened (kind : ℕ) (Refuses : List ℕ → Why → Type 0) (was now : D) (old new : K) : Type 0 where
     pub why : Why
     pub by_name : HasName why
     pub refused : IsTrue shown.tells_words → Refuses (shown.words was) why
@@ -141,11 +141,11 @@ module _ {D K : Type 0} (shown : ShownDevice D) (sink : ShownSink K) where
     pub within : WithinOpening shown was now
     pub images : IsTrue shown.tells_images → Leaves shown (Mended (named_order (shown.words was)) (shown.words was)) was now
     pub unfailed : ((offset main back : ℕ) → why ≢ Twins offset main back) → shown.faults now ≡ shown.faults was
-    pub told : IsLineWrittenOrCutShort sink old new (refusal_line why)
+    pub told : IsLineWrittenOrCutShort sink old new (refusal_line kind why)
 
-  module _ {S : Type 0} (Contents : ℕ → List ℕ → S → ℕ → Type 0) (Rejects : ℕ → List ℕ → Unfit → Type 0) (earlier : Earlier S) where
+  module _ {S : Type 0} (Contents : ℕ → List ℕ → S → ℕ → Type 0) (kind : ℕ) (Rejects : ℕ → List ℕ → Unfit → Type 0) (earlier : Earlier S) where
     -- why a heap is refused by name: one that is upgraded by what the version before says of the region that counts
     abbrev pub IsHeapRefused : Heap → D → D → K → K → Type 0
     IsHeapRefused (New order) was now old new = IsUnmade order was now old new
-    IsHeapRefused Standing was now old new = IsUnopened (IsRefusal Contents Rejects) was now old new
-    IsHeapRefused Upgraded was now old new = IsUnopened (IsUpgradeRefusal earlier) was now old new
+    IsHeapRefused Standing was now old new = IsUnopened kind (IsRefusal Contents Rejects) was now old new
+    IsHeapRefused Upgraded was now old new = IsUnopened kind (IsUpgradeRefusal earlier) was now old new

@@ -20,7 +20,7 @@ use Rattle.rom_run.specs.Use.{HasNotRun, HasRead, HasRun, IsStatus, Use, heap_of
 use Rattle.rom_run.specs.Working.{HasMade, HasNone, HasSession, IsDeviceKept, IsStill}
 
 -- of a program's object, device, sources and sink; which scripts it plays, and what it prints of their results
-module _ {S C Q R A D X K : Type 0} (machine : Machine S C Q R A) (Contents : ℕ → List ℕ → S → ℕ → Type 0) (Rejects : ℕ → List ℕ → Unfit → Type 0) (earlier : Earlier S) (shown : ShownDevice D) (source : ShownSource X) (sink : ShownSink K)
+module _ {S C Q R A D X K : Type 0} (machine : Machine S C Q R A) (Contents : ℕ → List ℕ → S → ℕ → Type 0) (kind : ℕ) (Rejects : ℕ → List ℕ → Unfit → Type 0) (earlier : Earlier S) (shown : ShownDevice D) (source : ShownSource X) (sink : ShownSink K)
     (AreRun : List X → List (List (Step C Q)) → Type 0) (Prints : Story S → List (List (LineResult R A)) → K → K → ℕ → Type 0) where
   -- What follows from the promises below, where the status printed is that of the results (`Completing.antt`): whoever reads those need not read these.
   pub record Corollaries (asked : Option Use) (was now : D) (sources left : Vec X) (old new : K) (status : ℕ) (session : Option SessionSeen) : Type 0 where
@@ -41,7 +41,7 @@ module _ {S C Q R A D X K : Type 0} (machine : Machine S C Q R A) (Contents : �
     pub story : IfSome asked (λ does. IfSome session (HasSession machine Contents shown (heap_of does) was now (HasReplies machine AreRun Prints sources.items old new status)))
     pub still : IfSome session (λ s. EachStory machine Contents s (IsStill Contents shown asked was now))
     -- else what a stop may leave, and why scripts were not run, or a heap not shown or not upgraded
-    pub none : IfSome asked (λ does. IsNone session → HasNone machine Contents shown sink Rejects earlier (heap_of does) was now old new status)
+    pub none : IfSome asked (λ does. IsNone session → HasNone machine Contents shown sink kind Rejects earlier (heap_of does) was now old new status)
     -- with 0 a heap that was to be made or upgraded is made or upgraded, as far as the device tells
     pub made : status ≡ 0 → HasMade machine Contents earlier shown sink asked was now old new
     -- the device keeps its length and, where it tells its words, those outside of the heap, or all of them

@@ -47,12 +47,12 @@ module _ {S C Q R A : Type 0} (machine : Machine S C Q R A) (Contents : ℕ → 
     pub told : EachStory machine Contents session (P session.callers)
     pub certain : EachStory machine Contents session (λ story. AllByRecursion (λ v. IsCommittedAt story v.moments (length v.seen)) session.callers)
 
-  module _ {K : Type 0} (sink : ShownSink K) (Rejects : ℕ → List ℕ → Unfit → Type 0) (earlier : Earlier S) where
+  module _ {K : Type 0} (sink : ShownSink K) (kind : ℕ) (Rejects : ℕ → List ℕ → Unfit → Type 0) (earlier : Earlier S) where
     -- There is no session: what a stop may leave, how often the device was called at most, and by the status why.
     pub record HasNone (heap : Heap) (was now : D) (old new : K) (status : ℕ) : Type 0 where
       pub images : IsTrue shown.tells_images → IsLeft machine Contents shown earlier heap was now
       pub calls : IsCalledWithin shown heap was now
-      pub heap_refused : status ≡ 3 → IsHeapRefused shown sink Contents Rejects earlier heap was now old new
+      pub heap_refused : status ≡ 3 → IsHeapRefused shown sink Contents kind Rejects earlier heap was now old new
       pub device_failed : status ≡ 7 → HasDeviceFailed shown sink was now old new
       pub unfailed : status ≡ 6 → shown.faults now ≡ shown.faults was
       pub uncalled : status ≡ 6 → IsUncalled shown heap was now

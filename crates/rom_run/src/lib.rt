@@ -19,6 +19,7 @@
 mod ended;
 mod format;
 mod heap;
+mod malformed;
 mod output;
 mod plain;
 mod play;
@@ -37,6 +38,7 @@ mod worked;
 pub use ended::Ended;
 pub use format::make_heap;
 pub use heap::Heap;
+pub use malformed::kind_name;
 pub use output::{Output, ResultText};
 pub use plain::{
     Plain, asked_by, file_and_order, file_and_scripts, file_and_stream, is_name, plain_files,

@@ -241,7 +241,7 @@ where
     O::Answer: Print + Send + Sync,
     requires { length scripts.items ≡ length (plain_scripts (plain_command words.now)) }
     // All that is promised of the command that the words are; the record's fields say it one by one.
-    ensures promise { Promise O.machine O.Contents O.Rejects O.earlier D.shown S.shown
+    ensures promise { Promise O.machine O.Contents O.KIND O.Rejects O.earlier D.shown S.shown
         K.shown (AreScripts L.Reads S.shown) (IsText K.shown (texts_of O.Reply.shown O.Answer.shown))
         (plain_use (plain_command words.now)) device result.device scripts result.scripts out.old out.new
         result.status result.session }

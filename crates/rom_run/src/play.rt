@@ -33,7 +33,7 @@ use std::thread::Threads;
 pub fn end_without_memory<O: Object, D: Device, K: Sink>(device: D, out: &mut K) -> Worked<D>
     ensures worked { result ≡ without_session device Status.NoMemory }
     // Whichever heap was asked for, there is none to work on.
-    ensures none { (heap : Heap) → HasNoHeap O.machine O.Contents D.shown K.shown O.Rejects
+    ensures none { (heap : Heap) → HasNoHeap O.machine O.Contents D.shown K.shown O.KIND O.Rejects
         O.earlier heap device out.old out.new result }
     ensures told { IsLineWrittenOrCutShort K.shown out.old out.new (codes "no memory") }
     ensures writing { StopsWriting K.shown out.old out.new }
@@ -63,15 +63,19 @@ fn end_unmade<D: Device, K: Sink>(unmade: Unmade<D>, out: &mut K) -> Worked<D>
     }
 }
 
-/// Prints why no heap was opened or upgraded.
-pub(crate) fn end_unopened<D: Device, K: Sink>(refused: Refused<D>, out: &mut K) -> Worked<D>
+/// Prints why no heap of an object of this kind was opened or upgraded.
+pub(crate) fn end_unopened<D: Device, K: Sink>(
+    kind: u64,
+    refused: Refused<D>,
+    out: &mut K,
+) -> Worked<D>
     ensures worked { result ≡ without_session refused.device (refusing.refusal_status refused.why) }
-    ensures told { IsLineWrittenOrCutShort K.shown out.old out.new (refusal_line refused.why) }
+    ensures told { IsLineWrittenOrCutShort K.shown out.old out.new (refusal_line kind refused.why) }
     ensures writing { StopsWriting K.shown out.old out.new }
     ensures rest { K.shown.rest out.new ≡ K.shown.rest out.old }
 {
     let Refused { device, why } = refused;
-    tell_refusal(out, why);
+    tell_refusal(out, kind, why);
     Worked {
         device,
         status: refusal_status(why),
@@ -150,7 +154,7 @@ where
     ensures unprinted { OnOk result (out.new ≡ out.old) }
     // After an error there is no heap to work on: it is refused by name (3), memory was short (6), or the device
     // failed (7).
-    ensures none { IfErr result (HasNoHeap O.machine O.Contents D.shown K.shown O.Rejects O.earlier
+    ensures none { IfErr result (HasNoHeap O.machine O.Contents D.shown K.shown O.KIND O.Rejects O.earlier
         heap device out.old out.new) }
     ensures writing { StopsWriting K.shown out.old out.new }
     ensures rest { K.shown.rest out.new ≡ K.shown.rest out.old }
@@ -163,7 +167,7 @@ where
         Heap::Standing => match play::<D, O, R, G>(rt, alloc, device, scripts, gate) {
             Ok(played) => Ok(played),
             Err(Unplayed::NoRoom(device)) => Err(end_without_memory::<O, D, K>(device, out)),
-            Err(Unplayed::Unopened(refused)) => Err(end_unopened(refused, out)),
+            Err(Unplayed::Unopened(refused)) => Err(end_unopened(O::KIND, refused, out)),
         },
         Heap::Upgraded => unreachable!(),
     }
@@ -211,7 +215,7 @@ where
         result.device (HavePlayed O.machine (IsOutput K.shown T.shown)
         (map (λ v. v.items) scripts.now) out.old out.new (exit_number result.status))) }
     // Without a session: what a stop may leave, the most calls of the device, and the cause of 3, 6 or 7.
-    ensures none { IsNone result.session → HasNone O.machine O.Contents D.shown K.shown O.Rejects
+    ensures none { IsNone result.session → HasNone O.machine O.Contents D.shown K.shown O.KIND O.Rejects
         O.earlier heap device result.device out.old out.new (exit_number result.status) }
     // The device keeps its length and, where it tells its words, those outside of the heap.
     ensures kept { IsDeviceKept D.shown heap device result.device }

@@ -55,7 +55,7 @@ where
     O::Answer: Send + Sync,
     requires order { IfSome asked IsAskedOf }
     requires sources { IfSome asked (HasSources (length scripts.items)) }
-    ensures { HasEnded O.machine O.Contents O.Rejects O.earlier D.shown S.shown
+    ensures { HasEnded O.machine O.Contents O.KIND O.Rejects O.earlier D.shown S.shown
         K.shown (AreScripts L.Reads S.shown) (IsOutput K.shown T.shown) (asked_use asked) device
         result.device scripts result.scripts out.old out.new result.status result.session }
 {
@@ -103,7 +103,7 @@ where
     requires order { IfSome asked IsAskedOf }
     requires sources { IfSome asked (HasSources (length scripts.items)) }
     // All that is promised of this command; the record's fields say it one by one.
-    ensures promise { Promise O.machine O.Contents O.Rejects O.earlier D.shown S.shown
+    ensures promise { Promise O.machine O.Contents O.KIND O.Rejects O.earlier D.shown S.shown
         K.shown (AreScripts L.Reads S.shown) (IsOutput K.shown T.shown) (asked_use asked) device result.device scripts result.scripts out.old out.new result.status
         result.session }
 {

@@ -1,35 +1,17 @@
 //! What is told where a heap is not opened, not made or not upgraded.
-ghost use Rattle.std.specs.Prelude.{◌≡◌, ◌++◌, codes, decimal};
+ghost use Rattle.std.specs.Prelude.{◌≡◌, ◌++◌, decimal};
 ghost use Rattle.rom_text.specs.Runs.{IsLineWrittenOrCutShort};
-ghost use Rattle.rom_run.specs.Refusing.{refusal_line, refusal_status, too_small_line, unmade_line, unmade_status};
+ghost use Rattle.rom_run.specs.Refusing.{refusal_line, refusal_status, too_small_line, twins_line, unmade_line, unmade_status};
 ghost use Rattle.rom_run.specs.Refusing as refusing;
 ghost use Rattle.rom_open.specs.declared.new_heap.NotFormatted.TheVariants.{Refused};
-ghost use Rattle.rom_open.specs.declared.reasons.Why.TheVariants.{Malformed, Twins};
 
+use crate::malformed::tell_malformed;
 use crate::status::Status;
 use crate::telling::tell;
 use itoa::Buffer;
 use rom_header::FormatRefused;
-use rom_model::Rule;
 use rom_open::{NotFormatted, Why};
 use rom_text::Sink;
-
-fn rule_name(rule: Rule) -> &'static str
-    ensures { result.now ≡ refusing.rule_name rule }
-{
-    match rule {
-        Rule::Root => "root",
-        Rule::Link => "link",
-        Rule::Pad => "pad",
-        Rule::Ends => "ends",
-        Rule::Count => "count",
-        Rule::Order => "order",
-        Rule::Bucket => "bucket",
-        Rule::Repeat => "repeat",
-        Rule::Tree => "tree",
-        Rule::Stamp => "stamp",
-    }
-}
 
 /// A name, and the number behind it.
 fn tell_number<O: Sink>(out: &mut O, name: &str, number: u64)
@@ -51,7 +33,7 @@ fn tell_too_small<O: Sink>(out: &mut O, need: u64, have: u64)
 }
 
 fn tell_twins<O: Sink>(out: &mut O, offset: u64, main: u64, back: u64)
-    ensures told { IsLineWrittenOrCutShort O.shown out.old out.new (refusal_line (Twins offset main back)) }
+    ensures told { IsLineWrittenOrCutShort O.shown out.old out.new (twins_line offset main back) }
     ensures rest { O.shown.rest out.new ≡ O.shown.rest out.old }
 {
     let mut of_offset = Buffer::new();
@@ -73,21 +55,9 @@ fn tell_twins<O: Sink>(out: &mut O, offset: u64, main: u64, back: u64)
     );
 }
 
-fn tell_malformed<O: Sink>(out: &mut O, offset: u64, rule: Rule)
-    ensures told { IsLineWrittenOrCutShort O.shown out.old out.new (refusal_line (Malformed offset rule)) }
-    ensures rest { O.shown.rest out.new ≡ O.shown.rest out.old }
-{
-    let mut of_offset = Buffer::new();
-    let offset = of_offset.format(offset);
-    tell(
-        out,
-        &["refused: malformed at ", offset, ", rule ", rule_name(rule)],
-    );
-}
-
-/// Says why a heap is not opened, or not upgraded.
-pub fn tell_refusal<O: Sink>(out: &mut O, why: Why)
-    ensures told { IsLineWrittenOrCutShort O.shown out.old out.new (refusal_line why) }
+/// Says why a heap is not opened, or not upgraded, of an object of this kind.
+pub fn tell_refusal<O: Sink>(out: &mut O, kind: u64, why: Why)
+    ensures told { IsLineWrittenOrCutShort O.shown out.old out.new (refusal_line kind why) }
     ensures rest { O.shown.rest out.new ≡ O.shown.rest out.old }
 {
     match why {
@@ -99,7 +69,11 @@ pub fn tell_refusal<O: Sink>(out: &mut O, why: Why)
         Why::Twins { offset, main, back } => tell_twins(out, offset, main, back),
         Why::OldRegion => tell(out, &["refused: region version 1"]),
         Why::NewRegion => tell(out, &["refused: region version 2"]),
-        Why::Malformed { offset, rule } => tell_malformed(out, offset, rule),
+        Why::Malformed {
+            offset,
+            rule,
+            found,
+        } => tell_malformed(out, kind, offset, rule, found),
         Why::Device => tell(out, &["device failed"]),
         Why::OutOfMemory => tell(out, &["no memory"]),
     }

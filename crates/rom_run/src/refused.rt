@@ -19,7 +19,7 @@ pub fn end_refused<O: Object, D: Device, K: Sink>(refused: Refused<D>, out: &mut
     // If it was refused on the device `was`, there is no heap to work on there.
     ensures none { (was : D) →
         HasBeenRefused D.shown O.Contents O.Rejects was refused.device refused.why →
-        HasNoHeap O.machine O.Contents D.shown K.shown O.Rejects O.earlier Standing was out.old out.new result }
+        HasNoHeap O.machine O.Contents D.shown K.shown O.KIND O.Rejects O.earlier Standing was out.old out.new result }
     // It was refused by name (3), memory was short (6), or the device failed (7).
     ensures statuses { (result.status ≡ Status.HeapRefused) ⊎ (result.status ≡ Status.NoMemory)
         ⊎ (result.status ≡ Status.DeviceFailed) }
@@ -27,5 +27,5 @@ pub fn end_refused<O: Object, D: Device, K: Sink>(refused: Refused<D>, out: &mut
     ensures writing { StopsWriting K.shown out.old out.new }
     ensures rest { K.shown.rest out.new ≡ K.shown.rest out.old }
 {
-    end_unopened(refused, out)
+    end_unopened(O::KIND, refused, out)
 }

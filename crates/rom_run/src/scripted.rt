@@ -47,7 +47,7 @@ where
     requires order { IsPlayable heap }
     requires callers { (0 < length scripts.items) × (length scripts.items ≤ 16) }
     // It ends as a command that plays scripts of sources on this heap.
-    ensures { HasEnded O.machine O.Contents O.Rejects O.earlier D.shown S.shown K.shown
+    ensures { HasEnded O.machine O.Contents O.KIND O.Rejects O.earlier D.shown S.shown K.shown
         (AreScripts L.Reads S.shown) (IsOutput K.shown T.shown) (Some (Plays heap Read)) device
         result.device scripts result.scripts out.old out.new result.status result.session }
 {

@@ -56,7 +56,7 @@ pub fn open_heap<O: Object, D: Device, K: Sink>(
     ensures unprinted { OnOk result (out.new ≡ out.old) }
     // After an error there is no heap to work on: it is refused by name (3), memory was short (6), or the device
     // failed (7).
-    ensures none { IfErr result (HasNoHeap O.machine O.Contents D.shown K.shown O.Rejects O.earlier
+    ensures none { IfErr result (HasNoHeap O.machine O.Contents D.shown K.shown O.KIND O.Rejects O.earlier
         Standing device out.old out.new) }
     ensures writing { StopsWriting K.shown out.old out.new }
     ensures rest { K.shown.rest out.new ≡ K.shown.rest out.old }
@@ -80,6 +80,6 @@ pub fn open_heap<O: Object, D: Device, K: Sink>(
                 session,
             })
         }
-        Err(refused) => Err(end_unopened(refused, out)),
+        Err(refused) => Err(end_unopened(O::KIND, refused, out)),
     }
 }

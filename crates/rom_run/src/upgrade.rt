@@ -29,7 +29,7 @@ pub fn upgrade_heap<O: Renew, D: Device, K: Sink>(
         ⊎ (exit_number result.status ≡ 6) ⊎ (exit_number result.status ≡ 7) }
     ensures none_ran { IsNone result.session }
     // There is no session: what a stop may leave, the most calls of the device, and the cause of 3, 6 or 7.
-    ensures none { HasNone O.machine O.Contents D.shown K.shown O.Rejects O.earlier Upgraded device
+    ensures none { HasNone O.machine O.Contents D.shown K.shown O.KIND O.Rejects O.earlier Upgraded device
         result.device out.old out.new (exit_number result.status) }
     // With 0 the device holds in version 2 the state and the count that it held in version 1, and so does
     // what a stop leaves, as far as it tells.
@@ -52,6 +52,6 @@ pub fn upgrade_heap<O: Renew, D: Device, K: Sink>(
                 session: None,
             }
         }
-        Err(refused) => end_unopened(refused, out),
+        Err(refused) => end_unopened(O::KIND, refused, out),
     }
 }

@@ -131,7 +131,7 @@ pub(crate) fn drill_heap<R: Threads + Wait + Sync, D: Device + Send, O: Sink, G:
     ensures session { IfSome result.session (HasSession trio Contents D.shown (New 12) device
         result.device (HaveDrilled O.shown start callers calls out.old out.new
         (exit_number result.status))) }
-    ensures none { IsNone result.session → HasNone trio Contents D.shown O.shown Rejects earlier
+    ensures none { IsNone result.session → HasNone trio Contents D.shown O.shown 1 Rejects earlier
         (New 12) device result.device out.old out.new (exit_number result.status) }
     ensures kept { IsDeviceKept D.shown (New 12) device result.device }
     ensures sink_failed { exit_number result.status ≡ 5 → WriteFailed O.shown out.old out.new }

@@ -49,7 +49,7 @@ fn run_command<R: Threads + Wait + Sync, D: Device + Send, S: Source, O: Sink, G
     ensures still { IfSome result.session (λ session. EachStory trio Contents session
         (IsStill Contents D.shown (use_of (command words.now)) device result.device)) }
     ensures none { IfSome (use_of (command words.now)) (λ does. IsNone result.session → HasNone trio
-        Contents D.shown O.shown Rejects earlier (heap_of does) device result.device out.old out.new
+        Contents D.shown O.shown 1 Rejects earlier (heap_of does) device result.device out.old out.new
         result.status) }
     ensures made { result.status ≡ 0 → HasMade trio Contents earlier D.shown O.shown
         (use_of (command words.now)) device result.device out.old out.new }
@@ -133,7 +133,7 @@ pub fn run<R: Threads + Wait + Sync, D: Device + Send, S: Source, O: Sink, G: Ga
     requires { length scripts.items ≡ length (scripts_of (command words.now)) }
 
     // What the words ask for is done so, and printed so: the facts are the record's fields.
-    ensures promise { Promise trio Contents Rejects earlier D.shown S.shown O.shown
+    ensures promise { Promise trio Contents 1 Rejects earlier D.shown S.shown O.shown
         (AreRun S.shown (command words.now)) (IsPrinted O.shown (command words.now))
         (use_of (command words.now)) device result.device scripts result.scripts out.old out.new
         result.status result.session }

@@ -44,7 +44,7 @@ pub(crate) fn show_heap<D: Device, O: Sink>(alloc: Global, device: D, out: &mut 
         result.device (IsStatShown O.shown out.old out.new)) }
     ensures still { IfSome result.session (λ session. EachStory trio Contents session
         (IsAsBefore Contents D.shown device result.device)) }
-    ensures none { IsNone result.session → HasNone trio Contents D.shown O.shown Rejects earlier
+    ensures none { IsNone result.session → HasNone trio Contents D.shown O.shown 1 Rejects earlier
         Standing device result.device out.old out.new (exit_number result.status) }
     ensures kept { IsDeviceKept D.shown Standing device result.device }
     ensures unfailed { exit_number result.status ≡ 0 →

@@ -36,7 +36,7 @@ module _ {D W : Type 0} (shown : ShownDevice D) (sink : ShownSink W) where
     pub bytes : Ships (sunk sink given false) ((shown_stream sink).state left) (head_text head ++ frames story.opening_count story.history)
 
 -- of a program's object, device, peers, output and sink of frames, and how lines and results are written
-module _ {S C Q R A D P K W : Type 0} (machine : Machine S C Q R A) (Contents : ℕ → List ℕ → S → ℕ → Type 0) (Rejects : ℕ → List ℕ → Unfit → Type 0) (earlier : Earlier S) (shown : ShownDevice D) (peer : ShownPeer Caller P) (out : ShownSink K)
+module _ {S C Q R A D P K W : Type 0} (machine : Machine S C Q R A) (Contents : ℕ → List ℕ → S → ℕ → Type 0) (kind : ℕ) (Rejects : ℕ → List ℕ → Unfit → Type 0) (earlier : Earlier S) (shown : ShownDevice D) (peer : ShownPeer Caller P) (out : ShownSink K)
     (texts : Texts R A) (Reads : List ℕ → Step C Q → Type 0) (sink : ShownSink W) (drawn : HeapName) (was now : D) (before after : List P) (old new : K) (status : ℕ) (session : Option SessionSeen) (given : W) (left : FrameStream W) where
   -- The head of what the heap does from then on was read, if one stands there: no call of the device failed, and what the head says is certain.
   pub record IsHeadRead (met : D) (head : Option Head) : Type 0 where
@@ -64,7 +64,7 @@ module _ {S C Q R A D P K W : Type 0} (machine : Machine S C Q R A) (Contents : 
 
   -- The stream has begun: it ends as a talk that ships, which tells why where there is no heap, and then no peer is met either.
   abbrev pub IsTalkHad : D → FrameStream W → Type 0
-  IsTalkHad met begun = (((shown_stream sink).state begun).failing ≡ false) × ShippingPromise machine Contents Rejects earlier shown peer out texts Reads (shown_stream sink) met now before after old new status session begun left
+  IsTalkHad met begun = (((shown_stream sink).state begun).failing ≡ false) × ShippingPromise machine Contents kind Rejects earlier shown peer out texts Reads (shown_stream sink) met now before after old new status session begun left
 
   -- Peers talk to the heap of a device, its head is streamed and then each update that is done, and it ends so.
   pub record StreamingPromise : Type 0 where

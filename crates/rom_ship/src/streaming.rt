@@ -94,7 +94,7 @@ where
     requires fresh { All (IsFresh P.shown) peers.items }
     requires drawn { IsNamed drawn }
     // All that is promised; the record's fields say it one by one.
-    ensures promise { StreamingPromise O.machine O.Contents O.Rejects O.earlier D.shown P.shown K.shown
+    ensures promise { StreamingPromise O.machine O.Contents O.KIND O.Rejects O.earlier D.shown P.shown K.shown
         (texts_of T.shown O.Answer.shown) L.Reads W.shown drawn device result.0.device peers.items
         result.0.peers.items out.old out.new result.0.status result.0.session sink result.1 }
 {

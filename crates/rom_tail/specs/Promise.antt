@@ -76,7 +76,7 @@ pub record TailPromise {D X K : Type 0} (shown : ShownDevice D) (source : ShownS
   -- and what a caller was told lasts
   pub told_lasts : IfSome session (λ s. EachStory trio Contents s (λ story. AllByRecursion (LastsFor shown Contents (on_words trio) story now) s.callers))
   -- else what a stop may leave, and why it was not opened; and the stream was not read
-  pub none : IsNone session → HasNone trio Contents shown sink Rejects earlier Standing was now old new status
+  pub none : IsNone session → HasNone trio Contents shown sink 1 Rejects earlier Standing was now old new status
   pub unread : IsNone session → left ≡ inputs
   -- the device
   pub kept : IsDeviceKept shown Standing was now

@@ -125,7 +125,7 @@ fn tail_heap<D: Device + Send, S: Source, O: Sink, R: Wait, G: Gate>(
     ensures kept { IfOk result (λ f. IsDeviceKept D.shown Standing device f.closed.device) }
     ensures unprinted { OnOk result (out.new ≡ out.old) }
     ensures short { IfOk result (λ f. f.stop ≢ Stop.TooLong) }
-    ensures none { IfErr result (HasNoHeap trio Contents D.shown O.shown Rejects earlier Standing
+    ensures none { IfErr result (HasNoHeap trio Contents D.shown O.shown 1 Rejects earlier Standing
         device out.old out.new) }
     ensures unread { OnErr result (stream.new ≡ stream.old) }
     ensures asked_once { IsAskedOnce S.shown stream.old stream.new }
@@ -155,7 +155,7 @@ fn tail_only<D: Device + Send, S: Source, O: Sink, R: Wait, G: Gate>(
     ensures kept { IfOk result (λ f. IsDeviceKept D.shown Standing device f.closed.device) }
     ensures unprinted { OnOk result (out.new ≡ out.old) }
     ensures short { IfOk result (λ f. f.stop ≢ Stop.TooLong) }
-    ensures none { IfErr result (HasNoHeap trio Contents D.shown O.shown Rejects earlier Standing
+    ensures none { IfErr result (HasNoHeap trio Contents D.shown O.shown 1 Rejects earlier Standing
         device out.old out.new) }
     ensures unread { OnErr result (inputs.new ≡ inputs.old) }
     ensures many { length inputs.new ≡ length inputs.old }
@@ -233,7 +233,7 @@ pub fn follow_stream<D: Device + Send, S: Source, O: Sink, R: Wait, G: Gate>(
         result.device (λ callers story. OfOne inputs.items result.scripts.items (λ was now.
         IsToldOfTail D.shown device result.device S.shown O.shown was now out.old out.new
         result.status story))) }
-    ensures none { IsNone result.session → HasNone trio Contents D.shown O.shown Rejects earlier
+    ensures none { IsNone result.session → HasNone trio Contents D.shown O.shown 1 Rejects earlier
         Standing device result.device out.old out.new result.status }
     ensures unread { IsNone result.session → result.scripts.items ≡ inputs.items }
     ensures kept { IsDeviceKept D.shown Standing device result.device }

@@ -39,9 +39,9 @@ use Rattle.rom_talk.specs.Talks.{HaveTalked}
 use Rattle.rom_talk.proofs.TopEnding.{all_stay, some_unheard, some_unsaid, talk_ends, talk_faulted, talk_unheard, talk_unsaid}
 use Rattle.rom_talk.proofs.TopPlayed.{of_talks, opened_played}
 
-module _ {S C Q R A D P K : Type 0} (machine : Machine S C Q R A) (Contents : ℕ → List ℕ → S → ℕ → Type 0) (Rejects : ℕ → List ℕ → Unfit → Type 0) (earlier : Earlier S) (shown : ShownDevice D) (peer : ShownPeer Caller P) (sink : ShownSink K) (texts : Texts R A) (Reads : List ℕ → Step C Q → Type 0) where
+module _ {S C Q R A D P K : Type 0} (machine : Machine S C Q R A) (Contents : ℕ → List ℕ → S → ℕ → Type 0) (kind : ℕ) (Rejects : ℕ → List ℕ → Unfit → Type 0) (earlier : Earlier S) (shown : ShownDevice D) (peer : ShownPeer Caller P) (sink : ShownSink K) (texts : Texts R A) (Reads : List ℕ → Step C Q → Type 0) where
   -- Where there is no heap to talk to, the status is that of a heap that is refused (3), of no memory (6), or of a device that failed (7).
-  module _ (was now : D) (peers : List P) (old new : K) (why : Why) (none : HasNone machine Contents shown sink Rejects earlier Standing was now old new (exit_number (refusal_status why))) where
+  module _ (was now : D) (peers : List P) (old new : K) (why : Why) (none : HasNone machine Contents shown sink kind Rejects earlier Standing was now old new (exit_number (refusal_status why))) where
     numbers : (exit_number (refusal_status why) ≡ 3) ⊎ (exit_number (refusal_status why) ≡ 6) ⊎ (exit_number (refusal_status why) ≡ 7)
     numbers = go (refusal_ends why)
       where
@@ -69,10 +69,10 @@ module _ {S C Q R A D P K : Type 0} (machine : Machine S C Q R A) (Contents : �
     ends_talk n (inr (inr is)) = inr (inr (inr (inr (inr (inr is)))))
 
     named : (tells : IsTrue shown.tells_words) → exit_number (refusal_status why) ≡ 3 → IsRefusedByName Contents Rejects earlier Standing (shown.words was)
-    named tells is = by_name Contents Rejects earlier shown was tells sink now old new Standing (none.heap_refused is)
+    named tells is = by_name Contents Rejects earlier shown was tells kind sink now old new Standing (none.heap_refused is)
 
     pub promise_without : IsDeviceKept shown Standing was now → StopsWriting sink old new → sink.rest new ≡ sink.rest old →
-        TalkPromise machine Contents Rejects earlier shown peer sink texts Reads was now peers peers old new (exit_number (refusal_status why)) None
+        TalkPromise machine Contents kind Rejects earlier shown peer sink texts Reads was now peers peers old new (exit_number (refusal_status why)) None
     promise_without kept writing rest = record {
       statuses = ends_talk _ numbers;
       met = λ met. let number = numbers in absurd (omega (arith, number, met));
@@ -97,19 +97,19 @@ module _ {S C Q R A D P K : Type 0} (machine : Machine S C Q R A) (Contents : �
     }
 
   -- the heap was not opened
-  pub promise_refused : (was now : D) (peers : List P) (old new : K) (why : Why) → HasBeenRefused shown Contents Rejects was now why → IsLineWrittenOrCutShort sink old new (refusal_line why) → StopsWriting sink old new → sink.rest new ≡ sink.rest old →
-      TalkPromise machine Contents Rejects earlier shown peer sink texts Reads was now peers peers old new (exit_number (refusal_status why)) None
+  pub promise_refused : (was now : D) (peers : List P) (old new : K) (why : Why) → HasBeenRefused shown Contents Rejects was now why → IsLineWrittenOrCutShort sink old new (refusal_line kind why) → StopsWriting sink old new → sink.rest new ≡ sink.rest old →
+      TalkPromise machine Contents kind Rejects earlier shown peer sink texts Reads was now peers peers old new (exit_number (refusal_status why)) None
   promise_refused was now peers old new why failed told writing rest =
       promise_without was now peers old new why
-      (none_opened machine Contents shown sink Rejects earlier was now old new why failed.refused failed.sizes failed.faults failed.images failed.calls failed.within told)
+      (none_opened machine Contents shown sink kind Rejects earlier was now old new why failed.refused failed.sizes failed.faults failed.images failed.calls failed.within told)
       (record { size = failed.size; outside = failed.outside; spared = tt }) writing rest
 
   -- There was no memory for the callers, and the device was not called.
   pub promise_unmet : (was : D) (peers : List P) (old new : K) → IsLineWrittenOrCutShort sink old new (codes "no memory") → StopsWriting sink old new → sink.rest new ≡ sink.rest old →
-      TalkPromise machine Contents Rejects earlier shown peer sink texts Reads was was peers peers old new 6 None
+      TalkPromise machine Contents kind Rejects earlier shown peer sink texts Reads was was peers peers old new 6 None
   promise_unmet was peers old new told writing rest =
       promise_without was was peers old new OutOfMemory
-      (none_uncalled shown was machine Contents sink Rejects earlier old new 6 (λ three. omega (arith, three)) (λ seven. omega (arith, seven)) (λ six. told) Standing)
+      (none_uncalled shown was machine Contents sink kind Rejects earlier old new 6 (λ three. omega (arith, three)) (λ seven. omega (arith, seven)) (λ six. told) Standing)
       (kept_uncalled shown was Standing) writing rest
 
   -- The heap was opened, and the peers talked to it.
@@ -178,7 +178,7 @@ module _ {S C Q R A D P K : Type 0} (machine : Machine S C Q R A) (Contents : �
     unrefused tells refused =
         begins Contents Rejects earlier Standing (shown.words was) tt (at_hand Contents Rejects earlier shown was tells machine Standing session.story.0 (session.each session.story.0 session.story.1).opening) refused
 
-    pub promise_talked : (out : K) → TalkPromise machine Contents Rejects earlier shown peer sink texts Reads was closed.device before after out out status (Some closed.session)
+    pub promise_talked : (out : K) → TalkPromise machine Contents kind Rejects earlier shown peer sink texts Reads was closed.device before after out out status (Some closed.session)
     promise_talked out = record {
       statuses = ends_one status statuses;
       met = λ met. refl;

@@ -45,7 +45,7 @@ module _ {D P K : Type 0} (shown : ShownDevice D) (peer : ShownPeer Caller P) (s
     pub of_peers : (i : ℕ) (one other : P) → slice_get before i ≡ Some one → slice_get after i ≡ Some other → (Rose (peer.unheard one) (peer.unheard other) → ⊥) × (Rose (peer.unsaid one) (peer.unsaid other) → ⊥)
 
 -- of a program's object, device, peers and sink, and how lines and results are written
-module _ {S C Q R A D P K : Type 0} (machine : Machine S C Q R A) (Contents : ℕ → List ℕ → S → ℕ → Type 0) (Rejects : ℕ → List ℕ → Unfit → Type 0) (earlier : Earlier S) (shown : ShownDevice D) (peer : ShownPeer Caller P) (sink : ShownSink K)
+module _ {S C Q R A D P K : Type 0} (machine : Machine S C Q R A) (Contents : ℕ → List ℕ → S → ℕ → Type 0) (kind : ℕ) (Rejects : ℕ → List ℕ → Unfit → Type 0) (earlier : Earlier S) (shown : ShownDevice D) (peer : ShownPeer Caller P) (sink : ShownSink K)
     (texts : Texts R A) (Reads : List ℕ → Step C Q → Type 0) where
   -- With 3 the heap is refused by name; and where it is, and no call of the device fails, it is 3, unless memory is short (6).
   pub record RefusesExactly (was now : D) (status : ℕ) : Type 0 where
@@ -67,7 +67,7 @@ module _ {S C Q R A D P K : Type 0} (machine : Machine S C Q R A) (Contents : �
     -- no more lines of a caller tell of a fault than the device counted
     pub few_faults : IfSome session (λ s. EachStory machine Contents s (HasFewFaults machine shown was now))
     -- else what a stop may leave, and why there is no heap to talk to, which the sink is told
-    pub none : IsNone session → HasNone machine Contents shown sink Rejects earlier Standing was now old new status
+    pub none : IsNone session → HasNone machine Contents shown sink kind Rejects earlier Standing was now old new status
     -- then no peer is met, heard or told anything
     pub unmet : IsNone session → after ≡ before
     -- and where there is one the sink is told nothing
@@ -85,13 +85,13 @@ module _ {S C Q R A D P K : Type 0} (machine : Machine S C Q R A) (Contents : �
     pub rest : sink.rest new ≡ sink.rest old
 
 -- so, and of who is handed what is done
-module _ {S C Q R A D P K W : Type 0} (machine : Machine S C Q R A) (Contents : ℕ → List ℕ → S → ℕ → Type 0) (Rejects : ℕ → List ℕ → Unfit → Type 0) (earlier : Earlier S) (shown : ShownDevice D) (peer : ShownPeer Caller P) (sink : ShownSink K)
+module _ {S C Q R A D P K W : Type 0} (machine : Machine S C Q R A) (Contents : ℕ → List ℕ → S → ℕ → Type 0) (kind : ℕ) (Rejects : ℕ → List ℕ → Unfit → Type 0) (earlier : Earlier S) (shown : ShownDevice D) (peer : ShownPeer Caller P) (sink : ShownSink K)
     (texts : Texts R A) (Reads : List ℕ → Step C Q → Type 0) (ship : ShownShipper W) where
   -- Peers talk to the heap of a device, what is done is handed on, and it ends so.
   pub record ShippingPromise (was now : D) (before after : List P) (old new : K) (status : ℕ) (session : Option SessionSeen) (shipper left : W) : Type 0 where
     -- The status to which the talk alone leads. All that is promised of a talk holds with it: handing on changes nothing else.
     pub told : ℕ
-    pub talk : TalkPromise machine Contents Rejects earlier shown peer sink texts Reads was now before after old new told session
+    pub talk : TalkPromise machine Contents kind Rejects earlier shown peer sink texts Reads was now before after old new told session
     pub status_is : status ≡ shipping_status told (ship.state left).failing
     -- the text of the session's history was handed on, all of it, or some of it from its front and then handing on has failed
     pub shipped : IfSome session (λ s. EachStory machine Contents s (λ story. IsTrue ship.tells → Ships (ship.state shipper) (ship.state left) (text_from ship.text story.opening_count (map update_of story.history))))

@@ -58,8 +58,9 @@ fn end_as<D, P, W: Shipper>(
     (ended, shipper)
 }
 
-/// Says why there is no heap to talk to.
+/// Says why there is no heap of an object of this kind to talk to.
 fn end_without<D: Device, P, K: Sink, W: Shipper>(
+    kind: u64,
     device: D,
     peers: Vec<P>,
     why: Why,
@@ -73,11 +74,11 @@ fn end_without<D: Device, P, K: Sink, W: Shipper>(
       session = None;
     } }
     ensures shipper { result.1 ≡ shipper }
-    ensures told { IsLineWrittenOrCutShort K.shown out.old out.new (refusal_line why) }
+    ensures told { IsLineWrittenOrCutShort K.shown out.old out.new (refusal_line kind why) }
     ensures writing { StopsWriting K.shown out.old out.new }
     ensures rest { K.shown.rest out.new ≡ K.shown.rest out.old }
 {
-    tell_refusal(out, why);
+    tell_refusal(out, kind, why);
     end_as(refusal_status(why), device, peers, None, shipper)
 }
 
@@ -116,12 +117,13 @@ where
     // Handing on has not failed yet.
     requires on { IsTrue W.shown.tells → (W.shown.state shipper).failing ≡ false }
     // All that is promised of a talk, and what is handed on of it.
-    ensures promise { ShippingPromise O.machine O.Contents O.Rejects O.earlier D.shown P.shown K.shown
+    ensures promise { ShippingPromise O.machine O.Contents O.KIND O.Rejects O.earlier D.shown P.shown K.shown
         (texts_of T.shown O.Answer.shown) L.Reads W.shown device result.0.device peers.items
         result.0.peers.items out.old out.new result.0.status result.0.session shipper result.1 }
 {
     let Ok(talkers) = Vec::with_capacity(alloc, peers.len()) else {
-        return end_without::<D, P, K, W>(device, peers, Why::OutOfMemory, out, shipper);
+        let why = Why::OutOfMemory;
+        return end_without::<D, P, K, W>(O::KIND, device, peers, why, out, shipper);
     };
     match open_store::<D, O>(alloc, device, peers.len() as u32) {
         Ok(opening) => {
@@ -136,7 +138,7 @@ where
         }
         Err(refused) => {
             let Refused { device, why } = refused;
-            end_without::<D, P, K, W>(device, peers, why, out, shipper)
+            end_without::<D, P, K, W>(O::KIND, device, peers, why, out, shipper)
         }
     }
 }
@@ -161,7 +163,7 @@ where
     // Nothing has passed with any peer that tells its log.
     requires fresh { All (IsFresh P.shown) peers.items }
     // All that is promised of a talk; the record's fields say it one by one.
-    ensures promise { TalkPromise O.machine O.Contents O.Rejects O.earlier D.shown P.shown K.shown
+    ensures promise { TalkPromise O.machine O.Contents O.KIND O.Rejects O.earlier D.shown P.shown K.shown
         (texts_of T.shown O.Answer.shown) L.Reads device result.device peers.items
         result.peers.items out.old out.new result.status result.session }
 {

@@ -109,6 +109,7 @@ static REFUSED: [(&[(usize, u64)], Why); 8] = [
         Why::Malformed {
             offset: 17,
             rule: Rule::Tree,
+            found: 5,
         },
     ),
     // Of both the difference of the regions is told.
@@ -138,7 +139,13 @@ fn words_are_refused_by_the_first_test_that_fails(rt: HostRuntime) -> Result<(),
         let words = heap(alloc, 2, &region, &TORN, &[])?;
         let left = heap(alloc, 0, &region, &region, &[])?;
         let (offset, rule) = (*offset, *rule);
-        let want = (Some(Why::Malformed { offset, rule }), [].as_slice());
+        let found = region.get(offset as usize).copied().unwrap_or(0);
+        let why = Why::Malformed {
+            offset,
+            rule,
+            found,
+        };
+        let want = (Some(why), [].as_slice());
         let told = opens(alloc, words.as_slice(), &[], want, left.as_slice())?;
         right("broken", row, told)?;
     }

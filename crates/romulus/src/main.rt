@@ -25,6 +25,7 @@ fn main(rt: HostRuntime) -> ExitCode {
         let status = on_device!(device, |device| {
             run(&rt, rt.alloc(), &words, device, sources, &mut out, &NoGate).status
         });
+        program.tell_kind_of(status, &wanted.device);
         Ok(status)
     });
     program.end(USAGE, called)

@@ -21,22 +21,23 @@ fn main(rt: HostRuntime) -> ExitCode {
     let called = program.begin().and_then(|words| {
         if let Some(callers) = read_talk(&words) {
             program.spare(callers.file.as_str());
+            let file = callers.file.as_str().to_string(rt.alloc())?;
             let opened = open_talk(&rt, &program, callers.file, callers.names)?;
             let Some(Talk { device, peers }) = opened else {
                 tell(&mut program.output(), &["no thread"]);
                 return Ok(Status::NoMemory.number());
             };
             let mut out = program.output();
-            return Ok(
-                talk::<GuardedLedger, LedgerLines, LedgerText, _, _, _, _, _>(
-                    &rt,
-                    rt.alloc(),
-                    device,
-                    peers,
-                    &mut out,
-                    &NoGate,
-                ).status,
-            );
+            let status = talk::<GuardedLedger, LedgerLines, LedgerText, _, _, _, _, _>(
+                &rt,
+                rt.alloc(),
+                device,
+                peers,
+                &mut out,
+                &NoGate,
+            ).status;
+            program.tell_kind(status, file.as_str());
+            return Ok(status);
         }
         let wanted = files_of(rt.alloc(), &words)?;
         let Opened { device, sources } = open_all(&mut program, &wanted, Reading::First)?;
@@ -44,6 +45,7 @@ fn main(rt: HostRuntime) -> ExitCode {
         let status = on_device!(device, |device| {
             run_ledger(&rt, rt.alloc(), &words, device, sources, &mut out, &NoGate).status
         });
+        program.tell_kind_of(status, &wanted.device);
         Ok(status)
     });
     program.end(USAGE, called)

@@ -153,15 +153,19 @@ fn main(rt: HostRuntime) -> ExitCode {
         if let Some(file) = adopted_file(&words) {
             program.spare(file.as_str());
             let mut device = heap_of(&program, file.as_str())?;
-            return Ok(adopt_and_tell::<FileDevice, Trio, _>(&mut device, &mut program.output()));
+            let status = adopt_and_tell::<FileDevice, Trio, _>(&mut device, &mut program.output());
+            program.tell_kind(status, file.as_str());
+            return Ok(status);
         }
         let (words, anonymous) = split_option(rt.alloc(), words)?;
         let wanted = files_of(rt.alloc(), &words)?;
         let Opened { device, sources } = open_all(&mut program, &wanted, reading_of(&words))?;
         let inputs = peek_all(rt.alloc(), sources)?;
-        Ok(on_device!(device, |device| {
+        let status = on_device!(device, |device| {
             run_words(&rt, &program, &words, anonymous, device, inputs)
-        }))
+        });
+        program.tell_kind_of(status, &wanted.device);
+        Ok(status)
     });
     program.end(USAGE, called)
 }

@@ -38,6 +38,7 @@ fn main(rt: HostRuntime) -> ExitCode {
             return Ok(Status::NotACommand.number());
         };
         program.spare(callers.file.as_str());
+        let (teller, file) = (program, callers.file.as_str().to_string(rt.alloc())?);
         let mut sink = None;
         if let Some(stream) = stream {
             sink = sink_of(&program, stream, callers.names);
@@ -56,6 +57,7 @@ fn main(rt: HostRuntime) -> ExitCode {
             let ended = talk::<Trio, TrioLines, TrioLines, _, _, _, _, _>(
                 &rt, alloc, device, peers, &mut out, &NoGate,
             );
+            teller.tell_kind(ended.status, file.as_str());
             return Ok(ended.status);
         };
         let Some(drawn) = drawn_name(&program) else {
@@ -65,6 +67,7 @@ fn main(rt: HostRuntime) -> ExitCode {
         let (ended, _) = talk_streaming::<Trio, TrioLines, TrioLines, _, _, _, _, _, _>(
             &rt, alloc, device, peers, &mut out, &NoGate, sink, drawn,
         );
+        teller.tell_kind(ended.status, file.as_str());
         Ok(ended.status)
     });
     program.end(USAGE, called)

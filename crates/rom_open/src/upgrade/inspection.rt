@@ -4,6 +4,7 @@ ghost use Rattle.rom_model.specs.Blocks.{region_len};
 ghost use Rattle.rom_open.specs.Upgrading.{IsUnfitOld};
 
 use crate::Why;
+use crate::image::word_at;
 use rom_header::Geometry;
 use rom_model::{KIND, Renew, Unfit, VERSION};
 use std::alloc::Global;
@@ -27,7 +28,14 @@ pub(crate) fn inspect_earlier<O: Renew>(
     }
     match O::inspect_old(alloc, image, geometry.order()) {
         Ok(()) => Ok(()),
-        Err(Unfit::Malformed { offset, rule }) => Err(Why::Malformed { offset, rule }),
+        Err(Unfit::Malformed { offset, rule }) => {
+            let found = word_at(image, offset);
+            Err(Why::Malformed {
+                offset,
+                rule,
+                found,
+            })
+        }
         Err(Unfit::OutOfMemory) => Err(Why::OutOfMemory),
         // There is no version before version 1.
         Err(Unfit::Old) => unreachable!(),

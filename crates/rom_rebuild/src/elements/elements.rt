@@ -11,14 +11,13 @@ use rom_set::SET_LINK;
 use std::alloc::{AllocError, Global};
 
 /// The elements of a region: those of the queue, first to last, then the numbers of the set, which
-/// rise, and then the map's keys, which rise, with their values.
+/// fall, and then the map's keys, which rise, with their values.
 ///
-/// The numbers of the set rise, so that people can compare two scripts. The price: each `add` of the script
-/// passes all numbers before its own. So n of them take some n^2 / 2 steps, where falling numbers would take
-/// some n. What the greatest set takes is told in `crates/romulus_dump/README.md`.
+/// The numbers of the set fall, so that each `add` of the script meets no number below its own, and passes none.
 #[derive(Drop)]
 pub struct Elements {
     queue: Vec<u64>,
+    // They rise, as they stand in their chain.
     members: Vec<u64>,
     keys: Vec<u64>,
     // Of each key, in the same order.
@@ -34,6 +33,7 @@ impl Elements {
     ghost use Rattle.rom_model.specs.State.{State};
     ghost use Rattle.rom_model.specs.VecSpace.{words_of_space};
     ghost use Rattle.rom_rebuild.specs.Elements.{AreElements, ElementFits, ElementSeen, elements_in};
+    ghost use Rattle.rom_rebuild.specs.Filling.{AreLists};
 
     /// Those of a region. Each list gets the room that the region's counts name, and no more; the words
     /// stay.
@@ -41,12 +41,20 @@ impl Elements {
     /// They are taken before the first line is printed, since the keys must be sorted, and the script's
     /// length must be known. At order 16 this takes at most 983,040 bytes. An inspection takes 1,179,648
     /// bytes, and gives them back before it answers.
-    pub fn of(alloc: Global, space: &mut VecSpace, order: u32) -> Result<Elements, AllocError>
+    pub(crate) fn of(
+        alloc: Global,
+        space: &mut VecSpace,
+        order: u32,
+    ) -> Result<Elements, AllocError>
         requires order { IsOrder order }
         requires region { IsWellFormed order (words_of_space space.old) }
         // The elements are those of the state that the region stands for, in the order of a script.
         ensures are { IfOk result (λ elements. (s : State) (k : ℕ) →
             Contents order (words_of_space space.old) s k → AreElements s (elements_in elements)) }
+        // Each list has the elements of one structure.
+        ensures lists { IfOk result (λ elements. (s : State) (k : ℕ) →
+            Contents order (words_of_space space.old) s k →
+            AreLists s elements.queue.items elements.members.items elements.keys.items) }
         // The numbers of the elements have at most 64 bits.
         ensures fit { IfOk result (λ elements. AllByRecursion ElementFits (elements_in elements)) }
         ensures words { words_of_space space.new ≡ words_of_space space.old }
@@ -67,8 +75,29 @@ impl Elements {
         })
     }
 
+    /// The values of the queue, first to last.
+    pub(crate) fn queue(&self) -> &[u64]
+        ensures { result.now ≡ self.now.queue.items }
+    {
+        &self.queue
+    }
+
+    /// The numbers of the set, which rise.
+    pub(crate) fn members(&self) -> &[u64]
+        ensures { result.now ≡ self.now.members.items }
+    {
+        &self.members
+    }
+
+    /// The keys of the map, which rise.
+    pub(crate) fn keys(&self) -> &[u64]
+        ensures { result.now ≡ self.now.keys.items }
+    {
+        &self.keys
+    }
+
     /// How many there are.
-    pub fn len(&self) -> u64
+    pub(crate) fn count(&self) -> u64
         requires { length (elements_in self.now) < 2 ^ 64 }
         ensures { result ≡ length (elements_in self.now) }
     {
@@ -76,7 +105,7 @@ impl Elements {
     }
 
     /// The element at an index, counted from 0.
-    pub fn at(&self, i: u64) -> Element
+    pub(crate) fn at(&self, i: u64) -> Element
         requires { i < length (elements_in self.now) }
         ensures { (d : ElementSeen) → slice_index_or (elements_in self.now) i d ≡ result }
     {
@@ -86,7 +115,7 @@ impl Elements {
         }
         let i = i - self.queue.len();
         if i < self.members.len() {
-            return Element::Member(self.members[i]);
+            return Element::Member(self.members[self.members.len() - 1 - i]);
         }
         let i = i - self.members.len();
         Element::Pair(self.keys[i], self.values[i])

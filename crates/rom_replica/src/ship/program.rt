@@ -38,7 +38,7 @@ pub fn run_primary<R: Threads + Wait + Sync, D: Device + Send, S: Source, O: Sin
     requires order { IfSome asked IsAskedOf }
     requires sources { IfSome asked (HasSources (length scripts.items)) }
     // What became of the request, with frames as its text: the fields of the record `Promise` say it.
-    ensures promise { Promise trio Contents Rejects earlier D.shown S.shown O.shown
+    ensures promise { Promise trio Contents 1 Rejects earlier D.shown S.shown O.shown
         (AreScripts ReadsTrio S.shown) (AreShipped O.shown) (asked_use asked) device result.device scripts
         result.scripts out.old out.new result.status result.session }
 {

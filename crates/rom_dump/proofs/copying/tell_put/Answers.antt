@@ -6,4 +6,4 @@ use Rattle.rom_dump.proofs.copying.tell_put.Goals as goal
 
 pub returns-in-Ok-clause-told : goal.returns-in-Ok-clause-told
 returns-in-Ok-clause-told g c =
-    subst (λ (p : Result (Unit {0}) FormatRefused). IsLineWrittenOrCutShort g.O.Sink.shown c.args.out.now c.tell_copied.new.out (put_line c.args.order c.args.count p)) (sym c.in-Ok.is) c.tell_copied.ensures.told
+    subst (λ (p : Result (Unit {0}) FormatRefused). IsLineWrittenOrCutShort g.O.Sink.shown c.args.out.now c.tell_made.new.out (put_line c.args.made c.args.order c.args.count p)) (sym c.in-Ok.is) c.tell_made.ensures.told

@@ -6,4 +6,4 @@ use Rattle.rom_dump.proofs.copying.tell_untaken.Goals as goal
 
 pub returns-in-Unfinished-clause-told : goal.returns-in-Unfinished-clause-told
 returns-in-Unfinished-clause-told g c =
-    subst (λ (p : Untaken). IsLineWrittenOrCutShort g.O.Sink.shown c.args.out.now c.tell_unfinished.new.out (untaken_line p)) (sym c.in-Unfinished.is) c.tell_unfinished.ensures.told
+    subst (λ (p : Untaken). IsLineWrittenOrCutShort g.O.Sink.shown c.args.out.now c.tell_unfinished.new.out (untaken_line c.args.kind p)) (sym c.in-Unfinished.is) c.tell_unfinished.ensures.told

@@ -22,7 +22,7 @@ use Rattle.rom_replica.proofs.program.run_replica.Goals as goal
 -- a command that follows no stream keeps the promise of a program
 kept : {D X K : Type 0} (shown : ShownDevice D) (source : ShownSource X) (sink : ShownSink K) (was now : D) (inputs left : Vec X) (old new : K) (status : ℕ) (session : Option SessionSeen) (plain : Plain) →
     ((file stream : Bor Name) → plain ≡ Follow file stream → ⊥) →
-    Promise trio Contents Rejects earlier shown source sink (AreScripts ReadsTrio source) (AreShipped sink) (plain_use (plain_command_read (Some plain))) was now inputs left old new status session →
+    Promise trio Contents 1 Rejects earlier shown source sink (AreScripts ReadsTrio source) (AreShipped sink) (plain_use (plain_command_read (Some plain))) was now inputs left old new status session →
     ReplicaPromise shown source sink (plain_command_read (Some plain)) was now inputs left old new status session
 kept shown source sink was now inputs left old new status session (Try scripts) not is = is
 kept shown source sink was now inputs left old new status session (Run file scripts) not is = is

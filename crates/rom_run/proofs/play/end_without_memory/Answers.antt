@@ -6,7 +6,7 @@ pub returns-clause-none : goal.returns-clause-none
 returns-clause-none g c = λ heap.
     let o = g.O.Object in
     record {
-      none = none_uncalled g.D.Device.shown c.args.device o.machine o.Contents g.K.Sink.shown o.Rejects o.earlier c.args.out.now c.tell.new.out 6 (λ three. omega (arith, three)) (λ seven. omega (arith, seven)) (λ six. c.tell.ensures.told) heap;
+      none = none_uncalled g.D.Device.shown c.args.device o.machine o.Contents g.K.Sink.shown o.KIND o.Rejects o.earlier c.args.out.now c.tell.new.out 6 (λ three. omega (arith, three)) (λ seven. omega (arith, seven)) (λ six. c.tell.ensures.told) heap;
       kept = kept_uncalled g.D.Device.shown c.args.device heap;
       statuses = inr (inl refl);
       ran = refl;

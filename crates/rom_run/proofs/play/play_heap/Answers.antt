@@ -1,5 +1,7 @@
-use Rattle.std.proofs.Common.{refl, rules}
+use Rattle.std.proofs.Common.{refl, rules, subst}
 use Rattle.rom_store.specs.Openings.{HasBeenRefused}
+use Rattle.rom_text.specs.Runs.{IsLineWrittenOrCutShort}
+use Rattle.rom_run.specs.Refusing.{refusal_line}
 use Rattle.rom_run.proofs.Sessions.{kept_made, made_session, standing_session, unrefused}
 use Rattle.rom_run.proofs.Showing.{none_made, none_opened, refusal_ends, unmade_ends}
 use Rattle.rom_run.proofs.play.play_heap.Goals as goal
@@ -36,7 +38,7 @@ returns-in-Err-clause-none g c =
     let ended = c.end_unmade.ensures in
     let failed = c.in-Err.ensures.unmade in
     rw (c.in-New.is, ended.worked) record {
-      none = none_made o.machine o.Contents g.D.Device.shown g.K.Sink.shown o.Rejects o.earlier c.args.device c.in-Err.unmade.device c.args.out.now c.end_unmade.new.out c.in-New.order c.in-Err.unmade.why
+      none = none_made o.machine o.Contents g.D.Device.shown g.K.Sink.shown o.KIND o.Rejects o.earlier c.args.device c.in-Err.unmade.device c.args.out.now c.end_unmade.new.out c.in-New.order c.in-Err.unmade.why
           failed.refused failed.sizes failed.calls failed.faults failed.images failed.memory failed.within ended.told;
       kept = kept_made g.D.Device.shown c.in-New.order c.args.device c.in-Err.unmade.device failed.size failed.outside failed.spared;
       statuses = unmade_ends c.in-Err.unmade.why;
@@ -50,8 +52,8 @@ returns-in-Err-Unopened-clause-none g c =
     let left = c.in-Err-Unopened.refused in
     let failed : HasBeenRefused g.D.Device.shown o.Contents o.Rejects c.args.device left.device left.why = search rules in
     rw (c.in-Standing.is, ended.worked) record {
-      none = none_opened o.machine o.Contents g.D.Device.shown g.K.Sink.shown o.Rejects o.earlier c.args.device left.device c.args.out.now c.end_unopened.new.out left.why
-          failed.refused failed.sizes failed.faults failed.images failed.calls failed.within ended.told;
+      none = none_opened o.machine o.Contents g.D.Device.shown g.K.Sink.shown o.KIND o.Rejects o.earlier c.args.device left.device c.args.out.now c.end_unopened.new.out left.why
+          failed.refused failed.sizes failed.faults failed.images failed.calls failed.within (subst (λ kind. IsLineWrittenOrCutShort g.K.Sink.shown c.args.out.now c.end_unopened.new.out (refusal_line kind left.why)) c.KIND.ensures ended.told);
       kept = record { size = failed.size; outside = failed.outside; spared = tt };
       statuses = refusal_ends left.why;
       ran = refl;

@@ -26,7 +26,7 @@ returns g c =
     let output = g.T.Output.shown in
     let is = c.run_command.ensures in
     let ended = c.run_command.result in
-    let both = ends o.machine o.Contents o.Rejects o.earlier g.D.Device.shown source sink (AreScripts g.L.Lines.Reads source) (IsOutput sink output)
+    let both = ends o.machine o.Contents o.KIND o.Rejects o.earlier g.D.Device.shown source sink (AreScripts g.L.Lines.Reads source) (IsOutput sink output)
     c.args.device ended.device c.args.scripts.items ended.scripts.items c.args.out.now c.run_command.new.out (output_faulted sink output) (output_unread sink output)
     (asked_use c.args.asked) ended.status ended.session
     (record {

@@ -53,7 +53,7 @@ returns-in-Err g c =
       none =
           let status = c.in-Err.status in
           let otherwise = unread_otherwise status c.in-Err.ensures.statuses in
-          (λ none. none_uncalled g.D.Device.shown c.args.device o.machine o.Contents g.K.Sink.shown o.Rejects o.earlier c.args.out.now c.read_scripts.new.out (exit_number status) otherwise.0 otherwise.1
+          (λ none. none_uncalled g.D.Device.shown c.args.device o.machine o.Contents g.K.Sink.shown o.KIND o.Rejects o.earlier c.args.out.now c.read_scripts.new.out (exit_number status) otherwise.0 otherwise.1
           (λ six. unread_memory g.S.Source.shown g.K.Sink.shown c.deref_mut.result.now c.read_scripts.new.sources c.args.out.now c.read_scripts.new.out status c.in-Err.ensures.unread six) c.args.heap);
       made = λ _. tt;
       kept = kept_uncalled g.D.Device.shown c.args.device c.args.heap;

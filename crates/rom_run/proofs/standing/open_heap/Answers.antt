@@ -10,6 +10,8 @@ use Rattle.rom_open.specs.Refusals.{named_order}
 use Rattle.rom_open.specs.Within.{CallsOfOrder, HasOpened, LiesAtRest}
 use Rattle.rom_store.specs.Sessions.{IsStoryOf, unchanged}
 use Rattle.rom_store.proofs.Tracing.{went_none}
+use Rattle.rom_text.specs.Runs.{IsLineWrittenOrCutShort}
+use Rattle.rom_run.specs.Refusing.{refusal_line}
 use Rattle.rom_run.proofs.Lawful.{nothing_done}
 use Rattle.rom_run.proofs.Leaving.{held_now, held_opening, leaves_by, mends_within}
 use Rattle.rom_run.proofs.Showing.{none_opened, refusal_ends}
@@ -102,8 +104,8 @@ returns-in-Err-clause-none g c =
     let failed = c.in-Err.ensures in
     let refused = c.in-Err.refused in
     rw ended.worked record {
-      none = none_opened o.machine o.Contents shown g.K.Sink.shown o.Rejects o.earlier c.args.device refused.device c.args.out.now c.end_unopened.new.out refused.why
-          failed.answer failed.opens.sizes failed.opens.faults failed.opens.images failed.opens.calls failed.opens.within ended.told;
+      none = none_opened o.machine o.Contents shown g.K.Sink.shown o.KIND o.Rejects o.earlier c.args.device refused.device c.args.out.now c.end_unopened.new.out refused.why
+          failed.answer failed.opens.sizes failed.opens.faults failed.opens.images failed.opens.calls failed.opens.within (subst (λ kind. IsLineWrittenOrCutShort g.K.Sink.shown c.args.out.now c.end_unopened.new.out (refusal_line kind refused.why)) c.KIND.ensures ended.told);
       kept = record {
         size = failed.opens.left.size;
         outside = λ told. mends_within (named_order (shown.words c.args.device)) (shown.words c.args.device) (shown.words refused.device) (failed.opens.left.words told);

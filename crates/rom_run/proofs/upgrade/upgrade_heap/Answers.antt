@@ -3,6 +3,7 @@ use Rattle.rom_header.specs.Held.{Holds}
 use Rattle.rom_text.specs.Runs.{IsLineWrittenOrCutShort}
 use Rattle.rom_open.specs.Refusals.{named_order}
 use Rattle.rom_open.specs.Upgrading.{IsWholeHeap}
+use Rattle.rom_run.specs.Refusing.{refusal_line}
 use Rattle.rom_run.proofs.Joined.{two_pieces}
 use Rattle.rom_run.proofs.Showing.{none_upgraded}
 use Rattle.rom_run.proofs.upgrade.upgrade_heap.Goals as goal
@@ -45,5 +46,6 @@ returns-in-Err-clause-none g c =
     let ended = c.end_unopened.ensures in
     let failed = c.in-Err.ensures in
     rw ended.worked
-    (none_upgraded o.machine o.Contents g.D.Device.shown g.K.Sink.shown o.Rejects o.earlier c.args.device c.in-Err.refused.device c.args.out.now c.end_unopened.new.out c.in-Err.refused.why
-    failed.answer failed.sizes failed.faults failed.images failed.calls failed.within_upgrade (λ not. (failed.opens not).within) (λ told not. (failed.opens not).images told) ended.told)
+    (none_upgraded o.machine o.Contents g.D.Device.shown g.K.Sink.shown o.KIND o.Rejects o.earlier c.args.device c.in-Err.refused.device c.args.out.now c.end_unopened.new.out c.in-Err.refused.why
+    failed.answer failed.sizes failed.faults failed.images failed.calls failed.within_upgrade (λ not. (failed.opens not).within) (λ told not. (failed.opens not).images told)
+    (subst (λ kind. IsLineWrittenOrCutShort g.K.Sink.shown c.args.out.now c.end_unopened.new.out (refusal_line kind c.in-Err.refused.why)) c.KIND.ensures ended.told))

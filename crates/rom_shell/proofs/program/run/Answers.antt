@@ -19,7 +19,7 @@ returns-clause-promise g c =
     let asked = command c.args.words.now in
     let is = c.run_command.ensures in
     let ended = c.run_command.result in
-    let both = ends trio Contents Rejects earlier shown source sink (AreRun source asked) (IsPrinted sink asked)
+    let both = ends trio Contents 1 Rejects earlier shown source sink (AreRun source asked) (IsPrinted sink asked)
     c.args.device ended.device c.args.scripts.items ended.scripts.items c.args.out.now c.run_command.new.out (printed_faulted sink asked) (printed_unread sink asked)
     (use_of asked) ended.status ended.session
     (record {

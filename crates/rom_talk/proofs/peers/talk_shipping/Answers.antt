@@ -1,7 +1,8 @@
-use Rattle.std.proofs.Common.{refl}
-use Rattle.rom_run.specs.Refusing.{refusal_status}
+use Rattle.std.proofs.Common.{refl, subst}
+use Rattle.rom_run.specs.Refusing.{refusal_line, refusal_status}
 use Rattle.rom_run.specs.Statuses.{exit_number}
 use Rattle.rom_rule.specs.Views.{base_of}
+use Rattle.rom_text.specs.Runs.{IsLineWrittenOrCutShort}
 use Rattle.rom_text.specs.Text.{texts_of}
 use Rattle.rom_talk.proofs.TopPromise.{promise_refused, promise_talked, promise_unmet}
 use Rattle.rom_talk.proofs.TopShipping.{stories_shipped}
@@ -14,7 +15,7 @@ returns-in_default g c =
     rw (ended.ended, ended.shipper) record {
       promise = record {
         told = 6;
-        talk = promise_unmet o.machine o.Contents o.Rejects o.earlier g.D.Device.shown g.P.Peer.shown g.K.Sink.shown (texts_of g.T.PrintReplies.shown g.O.Answer.Print.shown) g.L.Lines.Reads
+        talk = promise_unmet o.machine o.Contents o.KIND o.Rejects o.earlier g.D.Device.shown g.P.Peer.shown g.K.Sink.shown (texts_of g.T.PrintReplies.shown g.O.Answer.Print.shown) g.L.Lines.Reads
             c.args.device c.args.peers.items c.args.out.now c.end_without.new.out ended.told ended.writing ended.rest;
         status_is = refl;
         shipped = tt;
@@ -33,7 +34,7 @@ returns-in-Ok-open_store g c =
     rw (c.end_as.ensures.ended, c.end_as.ensures.shipper, c.parts-device.ensures.device, c.parts-device.ensures.session) record {
       promise = record {
         told = exit_number talked.status;
-        talk = promise_talked o.machine o.Contents o.Rejects o.earlier g.D.Device.shown g.P.Peer.shown g.K.Sink.shown (texts_of g.T.PrintReplies.shown g.O.Answer.Print.shown) g.L.Lines.Reads
+        talk = promise_talked o.machine o.Contents o.KIND o.Rejects o.earlier g.D.Device.shown g.P.Peer.shown g.K.Sink.shown (texts_of g.T.PrintReplies.shown g.O.Answer.Print.shown) g.L.Lines.Reads
             (λ order words s k held. (laws.contents_within order words s k held).2) only_now
             c.args.device c.in-Ok-open_store.opening c.args.peers.items talked.peers.items (exit_number talked.status) talked.closed c.in-Ok-open_store.ensures.opened talks c.args.out.now;
         status_is = refl;
@@ -51,8 +52,9 @@ returns-in-Err g c =
     rw (ended.ended, ended.shipper) record {
       promise = record {
         told = exit_number (refusal_status left.why);
-        talk = promise_refused o.machine o.Contents o.Rejects o.earlier g.D.Device.shown g.P.Peer.shown g.K.Sink.shown (texts_of g.T.PrintReplies.shown g.O.Answer.Print.shown) g.L.Lines.Reads
-            c.args.device left.device c.args.peers.items c.args.out.now c.end_without-in-Err.new.out left.why c.in-Err.ensures.refused ended.told ended.writing ended.rest;
+        talk = promise_refused o.machine o.Contents o.KIND o.Rejects o.earlier g.D.Device.shown g.P.Peer.shown g.K.Sink.shown (texts_of g.T.PrintReplies.shown g.O.Answer.Print.shown) g.L.Lines.Reads
+            c.args.device left.device c.args.peers.items c.args.out.now c.end_without-in-Err.new.out left.why c.in-Err.ensures.refused
+            (subst (λ kind. IsLineWrittenOrCutShort g.K.Sink.shown c.args.out.now c.end_without-in-Err.new.out (refusal_line kind left.why)) c.KIND-in-Err.ensures ended.told) ended.writing ended.rest;
         status_is = refl;
         shipped = tt;
         unshipped = λ none. refl;
