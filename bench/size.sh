@@ -8,7 +8,7 @@ most=${1:-40960}
 cd "$(dirname "$0")/../crates" || exit 1
 command -v nm >/dev/null || { echo "nm is not here, so no size was seen"; exit 1; }
 wrong=0
-for program in romulus romulus_blob romulus_order romulus_ledger romulus_replica romulus_dump romulus_talk bank rom_bench; do
+for program in romulus romulus_blob romulus_order romulus_ledger romulus_replica romulus_dump romulus_talk bank jobs tally rom_bench; do
     made=$program/out/$program
     [ -f "$made" ] || { echo "build it first: cd crates/$program && rt run"; wrong=1; continue; }
     largest=$(nm -S -t d --defined-only "$made" | awk '$3 ~ /^[tTwW]$/ && $2 + 0 > most { most = $2 + 0; name = $4 } END { print most + 0, name }')

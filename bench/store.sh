@@ -3,7 +3,8 @@
 # the map's one key and `peek` at a queue of one number, and those of an update. A count is what so many
 # make more than none, over how many they are. So too those of a pass at a table of sixteen callers, who each
 # post a call before it, and take the answer after it: the figure has both. Each call gives the map's one key
-# another value. There are a tenth as many passes.
+# another value. There are a tenth as many passes. Each read and update is counted once more by a `Caller` of
+# `rom_caller`.
 # Usage, from any folder: bench/store.sh [TIMES]
 times=${1:-10000}
 [ "$times" -ge 10 ] || { echo "usage: bench/store.sh [TIMES], at least 10" >&2; exit 2; }
@@ -35,5 +36,6 @@ measure() {
 }
 for work in get peek update; do
     measure "$work" "$times" 1 store "$work"
+    measure "$work by a caller that asks for nothing" "$times" 1 caller "$work"
 done
 measure "a pass of sixteen calls" "$((times / 10))" 16 pass

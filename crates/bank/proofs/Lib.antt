@@ -1,7 +1,4 @@
--- Moves keep the total, and what the history of a bank holds.
+-- What a teller's calls leave, that moves keep the total, and what the history of tellers has.
 pub mod Moving
-pub mod Splitting
 pub mod Telling
-pub mod Sharing
-pub mod Closing
-pub mod Refusing
+pub mod Whole

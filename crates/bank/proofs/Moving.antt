@@ -1,5 +1,5 @@
 -- A move leaves the sum of the map's values.
-use Rattle.std.proofs.Common.{◌≡◌, ◌≢◌, inl, inr, ℕ, ◌+◌, ◌-◌, ◌≤◌, ◌^◌, Bool, true, false, cond, List, [], ◌∷◌, map, refl, sym, ◌∙◌, ap, subst, arith}
+use Rattle.std.proofs.Common.{◌≡◌, ◌≢◌, inl, inr, ℕ, ◌+◌, ◌-◌, ◌≤◌, ◌^◌, Bool, true, false, cond, List, [], ◌∷◌, map, refl, sym, ◌∙◌, ap, subst, arith, rules}
 use Rattle.std.specs.Prelude.{◌==◌, nat_lt, ◌&&◌, T, Option, None, Some, option_map, if◌then◌else◌}
 use Rattle.std.specs.List.{sum_by}
 use Rattle.std.specs.declared.cmp.Ordering.{Ordering}
@@ -22,17 +22,13 @@ use Rattle.std.specs.List.{AllByRecursion}
 use Rattle.bank.specs.Moved.{IsMove}
 
 first : (a b : Bool) → T (a && b) → T a
-first true b p = tt
-first false b p = p
+first a b p = search rules
 
 second : (a b : Bool) → T (a && b) → T b
-second true b p = p
-second false b p = absurd p
+second a b p = search rules
 
 less : (o : Ordering) → T (is_lt o) → o ≡ Less
-less Less p = refl
-less Equal p = absurd p
-less Greater p = absurd p
+less o p = search rules
 
 module _ {V : Type 0} (f : V → ℕ) where
   -- the weight of a value, where there is one
@@ -81,8 +77,7 @@ abbrev sum_in : finite.FinMap nat_cmp Stamped → ℕ
 sum_in pairs = sum_by of_kept (finite.values pairs)
 
 weight_is : (o : Option Stamped) (u : ℕ) → option_map of_kept o ≡ Some u → weight of_kept o ≡ u
-weight_is None u is = absurd (let no : None ≡ Some u = is in cc)
-weight_is (Some kept) u is = let same : Some kept.value ≡ Some u = is in cc
+weight_is o u is = search rules
 
 shift_keeps : (s : State) (stamp a b d u w : ℕ) → value_of s a ≡ Some u → value_of s b ≡ Some w → total_of (shift s stamp a b d u w).0 ≡ total_of s
 shift_keeps s stamp a b d u w at_a at_b = elim (cases_lt u d) [
@@ -108,8 +103,7 @@ shift_keeps s stamp a b d u w at_a at_b = elim (cases_lt u d) [
         omega (arith, first, last, had, has, enough)
 
     fits : (t : Bool) → sum_in (written once stamp b (w + d)) ≡ sum_in s.pairs → (let done : State × SingleReply = if t then (record s { pairs = written once stamp b (w + d) }, Moved) else (s, Over) in total_of done.0 ≡ total_of s)
-    fits true is = is
-    fits false is = refl
+    fits t is = search rules
 
 transfer_keeps : (s : State) (stamp a b d : ℕ) (had has : Option ℕ) → value_of s a ≡ had → value_of s b ≡ has → total_of (transfer s stamp a b d had has).0 ≡ total_of s
 transfer_keeps s stamp a b d (Some u) (Some w) at_a at_b = shift_keeps s stamp a b d u w at_a at_b

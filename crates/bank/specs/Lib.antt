@@ -1,4 +1,4 @@
--- Moves, what a bank promises, and what its callers have seen and were told.
+-- Moves, what tellers count, and what follows for the history.
 pub mod Moved
 pub mod Promise
 pub mod Tellers

@@ -6,8 +6,8 @@
 //! A counter is an object (`counter`), a language (`language`) and one call (`program`). That call
 //! promises of a counter, in the same record, what the program of queues, sets and maps promises of
 //! these. It shows that nothing below it knows more of an object than `Object`, `Lines` and `Print` tell.
-//! Its page, `README.md`, has the `main` that makes a program of it. Nothing stands on it but tests of its
-//! runs, in `rom_plain_rows`.
+//! Its page, `README.md`, has a `main` for scripts. On it stand the program `tally`, and tests of its runs, in
+//! `rom_plain_rows`.
 #![tactic(auto)]
 
 mod counter;

@@ -14,6 +14,8 @@ pub enum Command {
     Count(Calls, u64),
     /// So much of this work by the one caller of a store in memory.
     Store(Work, u64),
+    /// So much of this work by the one caller of a heap in memory that asks for nothing.
+    Caller(Work, u64),
     /// So many passes on a heap in memory, before each of which sixteen callers post a call.
     Pass(u64),
 }
@@ -36,6 +38,7 @@ impl Command {
             ("open", None) => Some(Command::Open(what)),
             ("pass", None) => Some(Command::Pass(what.as_str().parse::<u64>().ok()?)),
             ("count", Some(calls)) => Some(Command::Count(Calls::of(what.as_str())?, calls)),
+            ("caller", Some(times)) => Some(Command::Caller(Work::of(what.as_str())?, times)),
             ("store", Some(times)) => Some(Command::Store(Work::of(what.as_str())?, times)),
             _ => None,
         }

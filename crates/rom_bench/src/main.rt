@@ -1,4 +1,4 @@
-//! Makes calls on a heap in memory, reads and updates of a store, and passes, for their instructions to be
+//! Makes calls on a heap in memory, reads and updates of a store and of a `Caller`, and passes, for their instructions to be
 //! counted; and makes and opens a heap in a file.
 //!
 //! It knows which calls to repeat and how often; nothing is promised of what they answer.
@@ -7,6 +7,7 @@
 //! does not panic and that it meets the conditions of what it calls.
 #![tactic(auto)]
 
+mod callers;
 mod calls;
 mod command;
 mod heap;
@@ -23,7 +24,7 @@ const USAGE: &str = "rom_bench make FILE ORDER | open FILE
 rom_bench count CALL CALLS
 a CALL is enq, deq, add, add-middle, rem, rem-middle, put, again, del, move, has, has-middle, get, peek, len, total
 or nothing, and at most 1000 are made
-rom_bench store WORK TIMES
+rom_bench store WORK TIMES | caller WORK TIMES
 a WORK is get, peek or update
 rom_bench pass PASSES";
 
@@ -74,6 +75,7 @@ fn main(rt: HostRuntime) -> io::Result<ExitCode> {
         Command::Count(calls, many) => tell(&rt, Some(calls::count(rt.alloc(), calls, many)?))?,
         // Readers are waited for with the handle that `main` alone has.
         Command::Store(work, times) => tell(&rt, stores::make(&rt, rt.alloc(), work, times)?)?,
+        Command::Caller(work, times) => tell(&rt, callers::work(&rt, work, times)?)?,
         Command::Pass(many) => tell(&rt, passes::make(&rt, rt.alloc(), many)?)?,
     };
     if is_done {

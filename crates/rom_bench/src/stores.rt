@@ -24,10 +24,10 @@ pub const ORDER: u32 = 4;
 pub const WORDS: u64 = 232;
 
 /// The map's one key.
-const KEY: u64 = 7;
+pub const KEY: u64 = 7;
 
 /// Its value, and the queue's one number.
-const VALUE: u64 = 9;
+pub const VALUE: u64 = 9;
 
 /// What the caller does again and again.
 #[derive(Clone, Copy)]
