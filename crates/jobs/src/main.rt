@@ -20,6 +20,11 @@ fn is_done(told: Updated<Reply>) -> bool {
     matches!(told, Updated::Done(Reply::Queued | Reply::Head(_), _))
 }
 
+// Does a job, then acknowledges it. Whether both went well.
+fn do_job(rt: &(impl Wait + Print), caller: &mut impl Calls<Trio>, job: u64) -> bool {
+    println!(rt; "job {job}").is_ok() && is_done(caller.update(rt, &Call::Deq))
+}
+
 impl<R: Wait + Clock + Print> Work<Trio, R> for Jobs {
     type Out = bool;
 
@@ -33,13 +38,8 @@ impl<R: Wait + Clock + Print> Work<Trio, R> for Jobs {
             // Looked at first, so that no job is overlooked.
             let all_in = self.0.load(atomic::Ordering::SeqCst);
             match caller.query(&Query::Peek).0 {
-                Answer::Head(job) => {
-                    // What a job is to do stands here.
-                    let worked = println!(rt; "job {job}").is_ok();
-                    if !worked || !is_done(caller.update(rt, &Call::Deq)) {
-                        return false;
-                    }
-                }
+                Answer::Head(job) if !do_job(rt, caller, job) => return false,
+                Answer::Head(_) => {}
                 _ if all_in => return true,
                 _ => thread::sleep(rt, time::Duration::from_millis(1)),
             }

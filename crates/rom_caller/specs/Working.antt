@@ -15,7 +15,7 @@ module _ {S : Type 0} (Contents : ℕ → List ℕ → S → ℕ → Type 0) (ta
     pub new : IsNewCaller Contents table base i caller
 
   -- that of some caller
-  pub record IsReady (pass : Option Caller) : Type 0 where
+  pub record IsForSome (pass : Option Caller) : Type 0 where
     pub index : ℕ
     pub is : IsFor index pass
 

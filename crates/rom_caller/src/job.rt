@@ -3,7 +3,7 @@ ghost use Rattle.std.specs.Prelude.{◌≡◌, ◌*◌, ◌+◌, ◌≤◌, ◌<
 ghost use Rattle.rom_store.specs.Callers.{IsNewCaller, IsNumberedCaller};
 ghost use Rattle.rom_store.specs.Closing.{kept_in};
 ghost use Rattle.rom_store.specs.Indexed.{Indexed};
-ghost use Rattle.rom_caller.specs.Working.{HasComeBack, HasDone, IsFor, IsReady};
+ghost use Rattle.rom_caller.specs.Working.{HasComeBack, HasDone, IsFor, IsForSome};
 
 use crate::caller::Caller;
 use crate::who::Who;
@@ -58,7 +58,7 @@ fn work_one<D: Device, O: Object, N: Label, W: Work<O, R>, R: Wait>(
     job: &mut Job<W::Out>,
 )
     requires opened { (s : O.State) × (k : ℕ) × O.Contents N.base.order N.base.image s k }
-    requires ready { IsReady O.Contents N.table N.base job.old.pass }
+    requires ready { IsForSome O.Contents N.table N.base job.old.pass }
     ensures { HasComeBack O.Contents N.table N.base (W.Did room.now.work.now) job.old.pass job.new.pass job.new.out }
 {
     let pass = job.pass.take().unwrap();
@@ -84,7 +84,7 @@ where
     O::Answer: Send + Sync,
     W::Out: Send,
     requires opened { (s : O.State) × (k : ℕ) × O.Contents N.base.order N.base.image s k }
-    requires ready { All (λ j. IsReady O.Contents N.table N.base j.pass) jobs.old }
+    requires ready { All (λ j. IsForSome O.Contents N.table N.base j.pass) jobs.old }
     ensures done { (j : ℕ) (a : _) (b : _) → slice_get jobs.old j ≡ Some a →
         slice_get jobs.new j ≡ Some b →
         HasComeBack O.Contents N.table N.base (W.Did room.now.work.now) a.pass b.pass b.out }

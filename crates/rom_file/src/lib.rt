@@ -13,7 +13,8 @@ ghost use Rattle.rom_model.specs.Blocks.{IsOrder};
 ghost use Rattle.rom_rule.specs.Places.{AreCallers};
 ghost use Rattle.rom_caller.specs.Worked.{HasRun};
 
-use rom_caller::{Mode, Ran, Work, with_callers};
+pub use rom_caller::Ran;
+use rom_caller::{Mode, Work, with_callers};
 use rom_device::FileDevice;
 use rom_header::Geometry;
 pub use rom_host::Program;

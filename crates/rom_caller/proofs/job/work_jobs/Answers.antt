@@ -2,14 +2,14 @@ use Rattle.std.proofs.Common.{subst, sym, length, arith, ap}
 use Rattle.std.specs.Prelude.{All}
 use Rattle.rom_store.specs.Indexed.{Indexed}
 use Rattle.rom_store.proofs.Places.{all_of, written_back}
-use Rattle.rom_caller.specs.Working.{IsFor, IsReady}
+use Rattle.rom_caller.specs.Working.{IsFor, IsForSome}
 use Rattle.rom_caller.proofs.Gathering.{all_done}
 use Rattle.rom_caller.proofs.job.work_jobs.Goals as goal
 
 pub work_all-requires-clause-ready : goal.work_all-requires-clause-ready
 work_all-requires-clause-ready g c κs within =
-    subst (All (λ j. IsReady g.O.Object.Contents g.N.Label.table g.N.Label.base j.pass)) (sym c.as_mut_slice.ensures.value)
-    (all_of _ (λ j. IsReady g.O.Object.Contents g.N.Label.table g.N.Label.base j.pass) _ (λ i job next. record { index = _; is = next }) c.requires.next)
+    subst (All (λ j. IsForSome g.O.Object.Contents g.N.Label.table g.N.Label.base j.pass)) (sym c.as_mut_slice.ensures.value)
+    (all_of _ (λ j. IsForSome g.O.Object.Contents g.N.Label.table g.N.Label.base j.pass) _ (λ i job next. record { index = _; is = next }) c.requires.next)
 
 pub returns-clause-done : goal.returns-clause-done
 returns-clause-done g c =
